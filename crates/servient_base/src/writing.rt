@@ -1,0 +1,15 @@
+//! Writing into a caller's slice, piece behind piece.
+
+ghost use Rattle.std.specs.Prelude.{◌≡◌, ◌+◌, ◌≤◌, ◌++◌, length, take, drop};
+
+/// Writes bytes at a place of `out`, and returns the place behind them.
+pub fn put_bytes(out: &mut [u8], at: usize, bytes: &[u8]) -> usize
+    requires { at + length bytes.now ≤ length out.old }
+    ensures end { result ≡ at + length bytes.now }
+    ensures bytes { take result out.new ≡ take at out.old ++ bytes.now }
+    ensures rest { drop result out.new ≡ drop result out.old }
+{
+    let end = at + bytes.len();
+    out[at..end].copy_from_slice(bytes);
+    end
+}

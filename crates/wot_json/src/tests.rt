@@ -1,0 +1,68 @@
+//! Texts of whole numbers by hand, and each public call once.
+
+use crate::{Bytes, Text, Tree, copy, quoted, text_of, write};
+use std::test::Fail;
+
+#[test]
+fn texts_of_whole_numbers(rt: HostRuntime) -> Result<(), Fail> {
+    let alloc = rt.alloc();
+    let table = [
+        (0, "0"),
+        (7, "7"),
+        (-1, "-1"),
+        (100, "100"),
+        (i64::MAX, "9223372036854775807"),
+        (i64::MIN, "-9223372036854775808"),
+    ];
+    for (number, text) in table {
+        let tree = copy(alloc, &Tree::Int(number))?;
+        assert_eq!(rt;
+            text_of(alloc, &tree)?.as_slice(),
+            text.as_bytes(),
+            "{number}"
+        );
+        let mut out = [b'#'; 24];
+        let count = write(&tree, &mut out).expect(&rt, "there is room");
+        assert!(rt; out.starts_with(text.as_bytes()), "{number}");
+        assert_eq!(rt; count, text.len());
+    }
+    let mut short = [0u8; 2];
+    assert_eq!(rt; write(&Tree::Int(100), &mut short), None);
+    Ok(())
+}
+
+#[test]
+fn texts_are_quoted(rt: HostRuntime) -> Result<(), Fail> {
+    let alloc = rt.alloc();
+    let table = [
+        ("", "\"\""),
+        ("s.txt", "\"s.txt\""),
+        ("a\"b\\c", "\"a\\\"b\\\\c\""),
+        ("\u{8}\t\n\u{c}\r", "\"\\b\\t\\n\\f\\r\""),
+        ("\u{0}\u{1f}\u{7f}/", "\"\\u0000\\u001f\u{7f}/\""),
+        ("é😀", "\"é😀\""),
+    ];
+    for (text, quotation) in table {
+        assert_eq!(rt;
+            quoted(alloc, text)?.as_slice(),
+            quotation.as_bytes(),
+            "{text}"
+        );
+    }
+    Ok(())
+}
+
+#[test]
+fn bytes_and_texts_are_made_and_given_back(rt: HostRuntime) -> Result<(), Fail> {
+    let alloc = rt.alloc();
+    let mut bytes = Bytes::new(alloc);
+    assert!(rt; bytes.is_empty());
+    bytes.push(1)?;
+    bytes.extend(&[2, 3])?;
+    assert_eq!(rt; bytes.len(), 3);
+    let bytes = Bytes::from_vec(bytes.into_vec());
+    assert_eq!(rt; bytes.as_slice(), [1, 2, 3].as_slice());
+    let text = Text::from_string(Text::copy_of(alloc, "lamp")?.into_string());
+    assert_eq!(rt; text.as_str(), "lamp");
+    Ok(())
+}

@@ -1,0 +1,98 @@
+//! Writing a message.
+
+ghost use Rattle.std.specs.Prelude.{◌≡◌, ◌≤◌, ◌<◌, ◌+◌, ◌/◌, ◌^◌, ◌++◌, length, take, drop, IfOk, OnErr};
+ghost use Rattle.coap_msg.specs.Grammar.{CoapMessage, header, payload_spelling, spelling};
+ghost use Rattle.coap_msg.specs.Grammar.{IsClass, HasHeaderAlone, Spells};
+ghost use Rattle.coap_msg.specs.PlainMessage.{plain_message};
+
+use crate::message::PAYLOAD_MARKER;
+use crate::{NoRoom, Opts, Type4};
+use servient_base::put_bytes;
+
+/// A message that is to be written.
+#[derive(Drop)]
+pub struct Plain<'a> {
+    /// Whether it is confirmable, non-confirmable, an acknowledgement or a reset.
+    pub kind: Type4,
+    /// The code: class in the upper three bits, detail in the lower five.
+    pub code: u8,
+    /// The message ID.
+    pub id: u16,
+    /// The token.
+    pub token: &'a [u8],
+    /// The options in their order.
+    pub options: &'a Opts<'a>,
+    /// The payload; where it is empty, no payload marker is written.
+    pub payload: &'a [u8],
+}
+
+/// Writes a message at the front of `out`, and returns how many bytes it has.
+pub fn encode(message: &Plain<'_>, out: &mut [u8]) -> Result<usize, NoRoom>
+    requires token { length message.now.token.now ≤ 8 }
+    requires class { IsClass (message.now.code / 32) }
+    requires empty { message.now.code ≡ 0 → HasHeaderAlone (plain_message message.now) }
+
+    ensures within { IfOk result (λ n. n ≤ length out.new) }
+    ensures spells { IfOk result (λ n. Spells (plain_message message.now) (take n out.new)) }
+    ensures only { IfOk result (λ n. (m : CoapMessage) → Spells m (take n out.new) →
+        m ≡ plain_message message.now) }
+    ensures rest { IfOk result (λ n. drop n out.new ≡ drop n out.old) }
+
+    ensures unchanged { OnErr result (out.new ≡ out.old) }
+    ensures no_room { OnErr result (length out.old < length (spelling (plain_message message.now))) }
+{
+    if (out.len() as u128) < spelled_length(message) {
+        return Err(NoRoom);
+    }
+    let at = put_bytes(out, 0, &header_bytes(message));
+    let at = put_bytes(out, at, message.token);
+    let at = put_bytes(out, at, message.options.as_bytes());
+    Ok(put_payload(out, at, message.payload))
+}
+
+/// How many bytes a message has, in a type in which no sum of lengths overflows.
+fn spelled_length(message: &Plain<'_>) -> u128
+    ensures { result ≡ length (spelling (plain_message message.now)) }
+{
+    4 + message.token.len() as u128
+        + message.options.as_bytes().len() as u128
+        + payload_length(message.payload)
+}
+
+/// How many bytes a payload has with its marker.
+fn payload_length(payload: &[u8]) -> u128
+    ensures value { result ≡ length (payload_spelling payload.now) }
+    ensures bound { result ≤ length payload.now + 1 }
+{
+    if payload.is_empty() {
+        0
+    } else {
+        1 + payload.len() as u128
+    }
+}
+
+/// The four bytes of a header.
+fn header_bytes(message: &Plain<'_>) -> [u8; 4]
+    requires { length message.now.token.now ≤ 8 }
+    ensures bytes { result ≡ header (plain_message message.now) }
+    ensures code { message.now.code < 2 ^ 8 }
+    ensures id { message.now.id < 2 ^ 16 }
+{
+    let first = 64 * 1 + 16 * message.kind.bits() + message.token.len() as u8;
+    let [high, low] = message.id.to_be_bytes();
+    [first, message.code, high, low]
+}
+
+/// Writes the payload marker and a payload, or nothing for an empty one; returns the place behind.
+fn put_payload(out: &mut [u8], at: usize, payload: &[u8]) -> usize
+    requires { at + length (payload_spelling payload.now) ≤ length out.old }
+    ensures end { result ≡ at + length (payload_spelling payload.now) }
+    ensures bytes { take result out.new ≡ take at out.old ++ payload_spelling payload.now }
+    ensures rest { drop result out.new ≡ drop result out.old }
+{
+    if payload.is_empty() {
+        return at;
+    }
+    let at = put_bytes(out, at, &[PAYLOAD_MARKER]);
+    put_bytes(out, at, payload)
+}

@@ -1,0 +1,15 @@
+//! Laws of the grammar, as contracts of functions that do nothing.
+
+ghost use Rattle.std.specs.Prelude.{◌≡◌, ℕ, List};
+ghost use Rattle.coap_msg.specs.Grammar.{CoapMessage, IsWellFormed, Spells};
+
+/// A message within the bounds has exactly one spelling.
+pub fn one_spelling()
+    ensures { (m : CoapMessage) → IsWellFormed m →
+        (b : List ℕ) × Spells m b × ((other : List ℕ) → Spells m other → other ≡ b) }
+{}
+
+/// A list of bytes spells at most one message.
+pub fn one_message()
+    ensures { (m n : CoapMessage) (b : List ℕ) → Spells m b → Spells n b → m ≡ n }
+{}

@@ -1,0 +1,76 @@
+//! A CoAP message over the bytes that it was read from.
+
+use crate::Options;
+use thiserror::Error;
+
+/// The byte between the options and the payload (RFC 7252, section 3).
+pub const PAYLOAD_MARKER: u8 = 255;
+
+/// The type of a message (RFC 7252, section 3).
+#[derive(Clone, Copy, Debug, PartialEq, Eq)]
+pub enum Type4 {
+    /// Confirmable.
+    Con,
+    /// Non-confirmable.
+    Non,
+    /// Acknowledgement.
+    Ack,
+    /// Reset.
+    Rst,
+}
+
+impl Type4 {
+    ghost use Rattle.std.specs.Prelude.{◌≡◌, ◌<◌};
+    ghost use Rattle.coap_msg.specs.Grammar.{type_bits};
+
+    /// The type of these two bits.
+    pub(crate) fn from_bits(bits: u8) -> Type4
+        requires { bits < 4 }
+        ensures { type_bits result ≡ bits }
+    {
+        match bits {
+            0 => Type4::Con,
+            1 => Type4::Non,
+            2 => Type4::Ack,
+            _ => Type4::Rst,
+        }
+    }
+
+    /// The two bits of the type.
+    pub(crate) fn bits(self) -> u8
+        ensures value { result ≡ type_bits self }
+        ensures two { result < 4 }
+    {
+        match self {
+            Type4::Con => 0,
+            Type4::Non => 1,
+            Type4::Ack => 2,
+            Type4::Rst => 3,
+        }
+    }
+}
+
+/// Why bytes are no message that is taken.
+#[derive(Clone, Copy, Debug, PartialEq, Eq, Error)]
+pub enum MsgFault {
+    /// The bytes spell no message (RFC 7252, section 3), or one that is not taken so far.
+    #[error("the bytes are no message that is taken")]
+    Malformed,
+}
+
+/// A message that was read; token, options and payload lie in the bytes that it was read from.
+#[derive(Drop)]
+pub struct Message<'a> {
+    /// Whether it is confirmable, non-confirmable, an acknowledgement or a reset.
+    pub kind: Type4,
+    /// The code: class in the upper three bits, detail in the lower five.
+    pub code: u8,
+    /// The message ID.
+    pub id: u16,
+    /// The token, of at most 8 bytes.
+    pub token: &'a [u8],
+    /// The options in their order.
+    pub options: Options<'a>,
+    /// The payload; empty where there is no payload marker.
+    pub payload: &'a [u8],
+}

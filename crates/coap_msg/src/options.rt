@@ -1,0 +1,111 @@
+//! The options of a message that was read, over the bytes that spell them (RFC 7252, section 3.1).
+
+ghost use Rattle.std.specs.Prelude.{◌≡◌, ◌<◌, ◌≤◌, option_map, IfSome};
+ghost use Rattle.coap_msg.specs.Reading.{number_at, option_at, options_of};
+ghost use Rattle.coap_msg.specs.OptionsLeft.{options_left};
+
+use std::marker::Model;
+
+/// The options of a message, seen as the list of their numbers and values.
+#[derive(Drop)]
+pub struct Options<'a> {
+    bytes: &'a [u8],
+}
+
+impl<'a> Model for Options<'a> {
+    ghost use Rattle.std.specs.Prelude.{List};
+    ghost use Rattle.coap_msg.specs.Grammar.{CoapOption};
+    ghost use Rattle.coap_msg.specs.Reading.{options_of};
+
+    ghost Value = { List CoapOption };
+
+    ghost view = { λ o. options_of o.bytes.now };
+}
+
+impl<'a> Options<'a> {
+    /// The options that these bytes spell.
+    pub(crate) fn of(bytes: &'a [u8]) -> Options<'a>
+        ensures { result ≡ options_of bytes.now }
+    {
+        Options { bytes }
+    }
+
+    /// Goes over the options in their order: number and value of each.
+    pub fn iter(&self) -> OptionsIter<'a>
+        ensures { options_left result ≡ self.now }
+    {
+        OptionsIter {
+            rest: self.bytes,
+            last: 0,
+        }
+    }
+}
+
+/// The options of a message from one of them on.
+#[derive(Drop)]
+pub struct OptionsIter<'a> {
+    rest: &'a [u8],
+    last: u16,
+}
+
+impl<'a> Iterator for OptionsIter<'a> {
+    type Item = (u16, &'a [u8]);
+
+    ghost use Rattle.std.specs.Iterator.{YieldsFirstBy, item_count};
+    ghost use Rattle.coap_msg.specs.OptionsLeft.{options_left, option_of_item};
+
+    ghost next_gives = { YieldsFirstBy option_of_item options_left };
+
+    ghost remaining = { item_count options_left };
+
+    fn next(&mut self) -> Option<(u16, &'a [u8])> {
+        match take_option(self.last, self.rest) {
+            Some((number, value, next)) => {
+                self.last = number;
+                self.rest = next;
+                Some((number, value))
+            }
+            None => None,
+        }
+    }
+}
+
+/// The number of a nibble and the extended bytes at the front, and the bytes behind.
+#[tactic(auto, unfolding(crate::specs::Reading::number_at))]
+fn take_number(nibble: u8, bytes: &[u8]) -> Option<(usize, &[u8])>
+    requires { nibble < 16 }
+    ensures value { option_map (λ taken. (taken.0, taken.1.now)) result ≡ number_at nibble bytes.now }
+    ensures bound { IfSome result (λ taken. taken.0 ≤ 65804) }
+{
+    match nibble {
+        0..=12 => Some((nibble as usize, bytes)),
+        13 => {
+            let (extended, rest) = bytes.split_first()?;
+            Some((*extended as usize + 13, rest))
+        }
+        14 => match bytes {
+            [high, low, rest @ ..] => Some((256 * (*high as usize) + *low as usize + 269, rest)),
+            _ => None,
+        },
+        _ => None,
+    }
+}
+
+/// Number and value of the option at the front, behind one of the number `last`, and the bytes behind.
+#[tactic(auto, unfolding(crate::specs::Reading::option_at))]
+pub fn take_option(last: u16, bytes: &[u8]) -> Option<(u16, &[u8], &[u8])>
+    ensures { option_map (λ taken. ((taken.0, taken.1.now), taken.2.now)) result ≡ option_at last bytes.now }
+{
+    let (first, rest) = bytes.split_first()?;
+    let (delta, rest) = take_number(*first / 16, rest)?;
+    let (size, rest) = take_number(*first % 16, rest)?;
+    if rest.len() < size {
+        return None;
+    }
+    let number = last as usize + delta;
+    if number > 65535 {
+        return None;
+    }
+    let (value, rest) = rest.split_at(size);
+    Some((number as u16, value, rest))
+}

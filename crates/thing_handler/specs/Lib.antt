@@ -1,0 +1,3 @@
+pub mod Handler
+pub mod InMemory
+pub mod Turns

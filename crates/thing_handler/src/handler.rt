@@ -1,0 +1,75 @@
+//! What a handler is asked, what it answers, and what is known of it.
+
+use servient_base::NoMemory;
+use std::alloc::Global;
+use wot_json::Tree;
+
+/// What kind of affordance a handler stands behind (TD 1.1, section 5.3.1.2).
+#[derive(Clone, Copy, Debug, PartialEq, Eq)]
+pub enum Kind {
+    Property,
+    Action,
+    Event,
+}
+
+/// What a handler is asked.
+#[derive(Debug, Drop)]
+pub enum CallKind {
+    /// The value of the property.
+    Read,
+}
+
+/// What a handler answers.
+#[derive(Debug, Drop)]
+pub enum Answer {
+    /// The value that was asked for.
+    Value(Tree),
+    /// The handler doesn't do what it was asked, for a reason of its own that the number names.
+    Refused(u16),
+}
+
+/// One call and its answer.
+#[derive(Debug, Drop)]
+pub struct Turn {
+    /// The number of the turn in its run, counted from 0 over all handlers.
+    pub number: u64,
+    pub what: CallKind,
+    pub answer: Answer,
+}
+
+/// What stands behind an affordance.
+pub trait Handler: Drop {
+    ghost use Rattle.std.specs.Prelude.{◌≡◌};
+    ghost use Rattle.thing_handler.specs.Handler.{Seen, AnswersCall};
+
+    /// Its kind, its turns and how often it found no memory.
+    ghost seen: { Self → Seen };
+
+    /// What it stands behind; this never changes.
+    fn kind(&self) -> Kind
+        ensures { result ≡ (seen self.now).kind };
+
+    /// One call. It makes exactly one turn, or finds no memory.
+    fn call(&mut self, alloc: Global, number: u64, what: &CallKind) -> Result<Answer, NoMemory>
+        ensures { AnswersCall (seen self.old) (seen self.new) number what.now result };
+
+    /// The turns made so far, in order.
+    fn turns(&self) -> &[Turn]
+        ensures { result.now ≡ (seen self.now).turns };
+}
+
+impl Handler for Box<dyn Handler> {
+    ghost seen = { λ b. (Handler-box b).seen b.value };
+
+    fn kind(&self) -> Kind {
+        (**self).kind()
+    }
+
+    fn call(&mut self, alloc: Global, number: u64, what: &CallKind) -> Result<Answer, NoMemory> {
+        (**self).call(alloc, number, what)
+    }
+
+    fn turns(&self) -> &[Turn] {
+        (**self).turns()
+    }
+}

@@ -1,0 +1,76 @@
+//! The handlers of a servient, each in its slot.
+
+ghost use Rattle.std.specs.Prelude.{◌≡◌, ◌<◌, ◌^◌, map, vec_len};
+
+use crate::{Answer, CallKind, Handler, Kind, Turn};
+use servient_base::NoMemory;
+use std::alloc::Global;
+
+/// Handlers, each in its slot; slots count from 0.
+#[derive(Drop)]
+pub struct Rack {
+    alloc: Global,
+    list: Vec<Box<dyn Handler>>,
+    ghost few: { vec_len list < 2 ^ 32 },
+}
+
+/// What a rack does. The crates above take any rack by this trait.
+pub trait Handlers: Drop {
+    ghost use Rattle.std.specs.Prelude.{◌≡◌, ◌<◌, ◌^◌, List, length, slice_get, IfSome};
+    ghost use Rattle.thing_handler.specs.Handler.{Seen, CallsHandler};
+
+    /// What is seen of each handler, in the order of their slots.
+    ghost slots: { Self → List Seen };
+
+    /// How many slots there are.
+    fn len(&self) -> usize
+        ensures count { result ≡ length (slots self.now) }
+        ensures few { result < 2 ^ 32 };
+
+    /// What the handler in this slot stands behind.
+    fn kind(&self, slot: usize) -> Kind
+        requires { slot < length (slots self.now) }
+        ensures { IfSome (slice_get (slots self.now) slot) (λ h. result ≡ h.kind) };
+
+    /// The turns of the handler in this slot, in order.
+    fn turns(&self, slot: usize) -> &[Turn]
+        requires { slot < length (slots self.now) }
+        ensures { IfSome (slice_get (slots self.now) slot) (λ h. result.now ≡ h.turns) };
+
+    /// One call of the handler in this slot. The others keep their turns and their counts.
+    fn call(&mut self, slot: usize, number: u64, what: &CallKind) -> Result<Answer, NoMemory>
+        requires { slot < length (slots self.old) }
+        ensures { CallsHandler (slots self.old) (slots self.new) slot number what.now result };
+}
+
+impl Rack {
+    /// A rack of these handlers, the first in slot 0.
+    pub fn new(alloc: Global, list: Vec<Box<dyn Handler>>) -> Rack
+        requires { vec_len list < 2 ^ 32 }
+        ensures { ⟦<Rack as Handlers>⟧.slots result ≡ map (λ b. seen b) list.items }
+    {
+        Rack { alloc, list }
+    }
+}
+
+impl Handlers for Rack {
+    ghost use Rattle.std.specs.Prelude.{map};
+
+    ghost slots = { λ r. map (λ b. (Handler-box b).seen b.value) r.list.items };
+
+    fn len(&self) -> usize {
+        self.list.len()
+    }
+
+    fn kind(&self, slot: usize) -> Kind {
+        self.list[slot].kind()
+    }
+
+    fn turns(&self, slot: usize) -> &[Turn] {
+        self.list[slot].turns()
+    }
+
+    fn call(&mut self, slot: usize, number: u64, what: &CallKind) -> Result<Answer, NoMemory> {
+        self.list[slot].call(self.alloc, number, what)
+    }
+}

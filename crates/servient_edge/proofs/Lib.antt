@@ -1,0 +1,3 @@
+pub mod GivenEvents
+pub mod BytesInTurns
+pub mod ToldLaws

@@ -1,0 +1,11 @@
+-- What is seen of an output over a writer.
+use Rattle.std.specs.Prelude.{ℕ}
+use Rattle.servient_edge.specs.declared.out_real.OutReal.{OutReal}
+
+-- the writer
+abbrev pub writer_of : {W : Type 0} → OutReal W → W
+writer_of o = o.writer
+
+-- how often a write failed
+abbrev pub fault_count : {W : Type 0} → OutReal W → ℕ
+fault_count o = o.faults

@@ -1,0 +1,117 @@
+//! The files of the machine. What they hold isn't told, nor which reads were made.
+
+ghost use Rattle.std.specs.Prelude.{◌≡◌, ◌≢◌, ◌≤◌, ◌<◌, ◌↔◌, length, IfOk, IfSome, IsErrAnd};
+ghost use Rattle.std.specs.IoError.{error_kind};
+
+use crate::{Files, Got};
+use std::alloc::Global;
+use std::io::{ErrorKind, Read};
+use std::{fs, io, rt};
+use wot_json::Bytes;
+
+const BUFFER_BYTES: usize = 4096;
+
+/// The files of the machine. It counts what fails.
+#[derive(Drop)]
+pub struct FilesReal<R: rt::Files + Drop> {
+    rt: R,
+    faults: u64,
+}
+
+impl<R: rt::Files + Drop> FilesReal<R> {
+    ghost use Rattle.servient_edge.specs.FilesReal.{fault_count};
+
+    /// The files that this runtime has.
+    pub fn new(rt: R) -> FilesReal<R>
+        ensures { fault_count result ≡ 0 }
+    {
+        FilesReal { rt, faults: 0 }
+    }
+}
+
+/// Reads to the end, where a read gives no byte, but not past the limit. What a reader has left is told
+/// of readers in memory alone.
+fn read_whole<F: Read>(alloc: Global, file: &mut F, limit: usize, into: &mut Bytes) -> Got
+    ensures present { result ≢ Got.Absent }
+    ensures within_limit { result ≡ Got.Whole → length into.new ≤ limit }
+    ensures whole { result ≡ Got.Whole → IfSome (F.remaining file.old) (λ all. into.new ≡ all) }
+    ensures too_long { result ≡ Got.TooLong → IfSome (F.remaining file.old) (λ all. limit < length all) }
+{
+    let mut bytes = Bytes::new(alloc);
+    let mut buffer = [0; BUFFER_BYTES];
+    for _ in 0..u64::MAX {
+        match file.read(&mut buffer) {
+            Ok(0) => {
+                *into = bytes;
+                return Got::Whole;
+            }
+            Ok(count) => {
+                if count > limit - bytes.len() {
+                    return Got::TooLong;
+                }
+                match bytes.extend(&buffer[..count]) {
+                    Ok(()) => {}
+                    Err(_) => return Got::NoMemory,
+                }
+            }
+            Err(_) => return Got::Failed,
+        }
+    }
+    Got::Failed
+}
+
+/// Reads a file that was to be opened. Every error but that there is no such file is a failure.
+fn read_opened<F: Read + Drop>(
+    alloc: Global,
+    opened: io::Result<F>,
+    limit: usize,
+    into: &mut Bytes,
+) -> Got
+    ensures absent { (result ≡ Got.Absent) ↔ IsErrAnd opened (λ e. error_kind e ≡ ErrorKind.NotFound) }
+    ensures within_limit { result ≡ Got.Whole → length into.new ≤ limit }
+    ensures whole { result ≡ Got.Whole
+        → IfOk opened (λ file. IfSome (F.remaining file) (λ all. into.new ≡ all)) }
+    ensures too_long { result ≡ Got.TooLong
+        → IfOk opened (λ file. IfSome (F.remaining file) (λ all. limit < length all)) }
+{
+    match opened {
+        Ok(mut file) => read_whole(alloc, &mut file, limit, into),
+        Err(error) => {
+            if error.kind() == ErrorKind::NotFound {
+                Got::Absent
+            } else {
+                Got::Failed
+            }
+        }
+    }
+}
+
+impl<R: rt::Files + Drop> Files for FilesReal<R> {
+    ghost use Rattle.std.specs.Prelude.{◌≡◌, ◌≢◌, ◌≤◌, None, length};
+    ghost use Rattle.servient_base.specs.Count.{Rose};
+    ghost use Rattle.servient_edge.specs.Told.{one_more};
+    ghost use Rattle.servient_edge.specs.Files.{ReadsFile};
+    ghost use Rattle.servient_edge.specs.FilesReal.{fault_count};
+
+    ghost held = { λ f. None };
+
+    ghost reads = { λ f. None };
+
+    ghost faults = { fault_count };
+
+    /// An interruption counts as a failure, as every error does but that there is no such file.
+    fn read(&mut self, alloc: Global, name: &str, limit: usize, into: &mut Bytes) -> Got
+        ensures file { ReadsFile None name.now limit result into.new }
+        ensures failed { result ≡ Got.Failed → Rose (fault_count self.old) (fault_count self.new) }
+        ensures faults { fault_count self.old ≤ fault_count self.new }
+
+        ensures counted { result ≡ Got.Failed → fault_count self.new ≡ one_more (fault_count self.old) }
+        ensures no_fault { result ≢ Got.Failed → fault_count self.new ≡ fault_count self.old }
+    {
+        let got = read_opened(alloc, fs::open(&self.rt, name), limit, into);
+        if got == Got::Failed {
+            self.faults = self.faults.saturating_add(1);
+        }
+        got
+    }
+}

@@ -1,0 +1,33 @@
+//! The outside of the servient: the network, the files and the output.
+//!
+//! Each is a trait whose ghost members say what is known of it (the events given, the acts made, the
+//! bytes written, how often it failed), with a version in memory, which tells all of that; but a network
+//! in memory that gives its Stop again, or has lost an act for want of memory, tells no more of events or
+//! of acts. The files and the output have an adapter to the machine too, which tells only its count of
+//! faults.
+#![tactic(auto)]
+
+mod calls;
+mod events;
+mod files;
+mod files_memory;
+mod files_real;
+mod net;
+mod net_memory;
+mod out;
+mod out_memory;
+mod out_real;
+#[cfg(test)]
+mod tests;
+
+pub use calls::Calls;
+pub use events::Events;
+pub use files::{FileRead, Files, Got, Held, HeldFile};
+pub use files_memory::FilesMemory;
+pub use files_real::FilesReal;
+pub use net::{Act, Event, EventWithBytes, Net, Next, What};
+pub use net_memory::NetMemory;
+pub use out::{Out, Put};
+pub use out_memory::OutMemory;
+pub use out_real::OutReal;
+pub use servient_base::NoMemory;

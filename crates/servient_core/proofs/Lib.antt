@@ -1,0 +1,6 @@
+pub mod StepLaws
+pub mod RunLaws
+pub mod ComingLaws
+pub mod ServingLaws
+pub mod ActLaws
+pub mod ReplyLengths

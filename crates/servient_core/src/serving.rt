@@ -1,0 +1,50 @@
+//! Serving a network, event by event.
+
+ghost use Rattle.std.specs.Prelude.{◌<◌, length};
+ghost use Rattle.servient_core.specs.Serving.{Serves};
+
+use crate::{Net, Next, Servient, What};
+use thing_handler::Handlers;
+
+/// Room for the bytes of one event.
+const BUFFER_BYTES: usize = 4096;
+
+/// How serving ended.
+#[derive(Clone, Copy, Debug, PartialEq, Eq)]
+pub enum Served {
+    /// A Stop came; it was the last event that was taken.
+    Stopped,
+    /// The network failed.
+    Failed,
+    /// The budget of events was taken, and none of them was a Stop.
+    Spent,
+}
+
+/// Takes the events of the network one after another, until a Stop or a failure comes, and at most
+/// `budget` of them. Want of memory shows as in `Servient::step`.
+pub fn serve<N: Net, R: Handlers>(
+    servient: &mut Servient,
+    net: &mut N,
+    rack: &mut R,
+    budget: u64,
+) -> Served
+    requires { servient.old.slot < length (R.slots rack.old) }
+    ensures { Serves servient.old servient.new (R.slots rack.old) (R.slots rack.new)
+        (N.events net.old) (N.events net.new) (N.acts net.old) (N.acts net.new)
+        (N.left net.old) (N.faults net.old) (N.faults net.new) budget result }
+{
+    let mut buffer = [0u8; BUFFER_BYTES];
+    for count in 0..budget {
+        match net.next(&mut buffer) {
+            Next::Failed => return Served::Failed,
+            Next::Got(event) => {
+                let size = event.what.byte_count();
+                servient.step(net, rack, &event, &buffer[..size]);
+                if let What::Stop = event.what {
+                    return Served::Stopped;
+                }
+            }
+        }
+    }
+    Served::Spent
+}

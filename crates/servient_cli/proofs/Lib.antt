@@ -1,0 +1,6 @@
+pub mod DecimalTexts
+pub mod HexTexts
+pub mod FieldTexts
+pub mod LineTexts
+pub mod ScriptTexts
+pub mod ReplayLaws

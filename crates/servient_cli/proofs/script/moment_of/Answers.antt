@@ -1,0 +1,28 @@
+use Rattle.std.proofs.Common.{arith}
+use Rattle.servient_cli.proofs.FieldTexts.{cut_line}
+use Rattle.servient_cli.proofs.script.moment_of.Goals as goal
+
+pub returns-in_err-moment-clause-found : goal.returns-in_err-moment-clause-found
+returns-in_err-moment-clause-found c = λ moment what bound utf8 is.
+    let cut =
+    cut_line _ moment c.args.line.now what c.from_utf8.result c.in_ok-ok.field-0 c.split_once.result
+    c.from_utf8.ensures.cases c.in_ok-ok.ensures.value c.split_once.ensures.cases (omega (arith, bound)) is in
+    absurd (rw c.in_err-moment.was at cut)
+
+pub returns-in_err-number-clause-found : goal.returns-in_err-number-clause-found
+returns-in_err-number-clause-found c = λ moment what bound utf8 is.
+    let cut =
+    cut_line _ moment c.args.line.now what c.from_utf8.result c.in_ok-ok.field-0 c.split_once.result
+    c.from_utf8.ensures.cases c.in_ok-ok.ensures.value c.split_once.ensures.cases (omega (arith, bound)) is in
+    let parts = rw c.in_ok-moment.was at cut in
+    let read = c.number.ensures.found moment (omega (arith, bound)) parts.0 in
+    absurd (cc (read, c.in_err-number.was))
+
+pub returns-clause-found : goal.returns-clause-found
+returns-clause-found c = λ moment what bound utf8 is.
+    let cut =
+    cut_line _ moment c.args.line.now what c.from_utf8.result c.in_ok-ok.field-0 c.split_once.result
+    c.from_utf8.ensures.cases c.in_ok-ok.ensures.value c.split_once.ensures.cases (omega (arith, bound)) is in
+    let parts = rw c.in_ok-moment.was at cut in
+    let read = c.number.ensures.found moment (omega (arith, bound)) parts.0 in
+    (cc (read, c.in_ok-number.was), parts.1)

@@ -1,0 +1,4 @@
+pub mod Script
+pub mod Print
+pub mod Command
+pub mod Ending

@@ -1,0 +1,40 @@
+-- What a replay prints: its acts in order, and then its turns by number, each on a line of its own.
+use Rattle.std.specs.Prelude.{ℕ, List, ◌++◌, codes, decimal}
+use Rattle.std.specs.List.{flat_map}
+use Rattle.wot_json.specs.Json.{json_text}
+use Rattle.thing_handler.specs.declared.handler.CallKind.{CallKind}
+use Rattle.thing_handler.specs.declared.handler.CallKind.TheVariants.{Read}
+use Rattle.thing_handler.specs.declared.handler.Answer.{Answer}
+use Rattle.thing_handler.specs.declared.handler.Answer.TheVariants.{Value, Refused}
+use Rattle.thing_handler.specs.declared.handler.Turn.{Turn}
+use Rattle.thing_handler.specs.Turns.{RunTurn}
+use Rattle.servient_edge.specs.declared.net.Act.{Act}
+use Rattle.servient_edge.specs.declared.net.Act.TheVariants as act
+use Rattle.servient_cli.specs.Script.{datagram_text}
+
+-- the line of an act, as a script would write the datagram
+abbrev pub act_line : Act → List ℕ
+act_line (act.Datagram to bytes) = datagram_text to bytes ++ codes "\n"
+
+-- what a handler was asked
+abbrev pub call_text : CallKind → List ℕ
+call_text Read = codes "read"
+
+-- what it answered
+abbrev pub answer_text : Answer → List ℕ
+answer_text (Value tree) = codes "value " ++ json_text tree
+answer_text (Refused n) = codes "refused " ++ decimal n
+
+-- the line of a turn: `turn NUMBER SLOT CALL = ANSWER`
+abbrev pub turn_line : RunTurn → List ℕ
+turn_line t =
+    codes "turn " ++ decimal t.number ++ codes " " ++ decimal t.slot ++ codes " " ++ call_text t.what
+    ++ codes " = " ++ answer_text t.answer ++ codes "\n"
+
+-- the lines of some acts, and then those of some turns
+abbrev pub print_text : List Act → List RunTurn → List ℕ
+print_text acts turns = flat_map act_line acts ++ flat_map turn_line turns
+
+-- a turn that a handler kept, with the slot of that handler
+abbrev pub in_slot : ℕ → Turn → RunTurn
+in_slot slot t = record { number = t.number; slot = slot; what = t.what; answer = t.answer }

@@ -1,0 +1,15 @@
+//! The commands: words, scripts, the print, and the top call.
+//!
+//! `servient_main` is what the program does. Its contract, `Ends` of `specs/Command.antt`, says for each
+//! exit status why it came and what was written.
+#![tactic(auto)]
+
+mod command;
+mod ending;
+mod main_call;
+mod print;
+mod replay;
+mod script;
+
+pub use main_call::servient_main;
+pub use script::{Script, ScriptFault};

@@ -1,0 +1,113 @@
+//! The print of acts and turns.
+
+ghost use Rattle.std.specs.Prelude.{◌≡◌, ◌++◌, codes, map, OnOk};
+ghost use Rattle.std.specs.List.{flat_map};
+ghost use Rattle.servient_cli.specs.Script.{datagram_text, endpoint_text, hex_text};
+ghost use Rattle.servient_cli.specs.Print.{act_line, answer_text, call_text, in_slot, turn_line};
+
+use coap_msg::Endpoint;
+use itoa::{Buffer, Integer};
+use servient_edge::Act;
+use std::alloc::Global;
+use thing_handler::{Answer, CallKind, Turn};
+use wot_json::{Bytes, NoMemory, text_of};
+
+/// Puts the lines of acts at the end, in order.
+pub fn put_acts(alloc: Global, out: &mut Bytes, acts: &[Act]) -> Result<(), NoMemory>
+    ensures { OnOk result (out.new ≡ out.old ++ flat_map act_line acts.now) }
+{
+    for act in acts {
+        match act {
+            Act::Datagram(to, bytes) => put_datagram(alloc, out, *to, bytes.as_slice())?,
+        }
+    }
+    Ok(())
+}
+
+/// Puts the lines of turns of one slot at the end, in order.
+pub fn put_turns(
+    alloc: Global,
+    out: &mut Bytes,
+    slot: usize,
+    turns: &[Turn],
+) -> Result<(), NoMemory>
+    ensures { OnOk result (out.new ≡ out.old ++ flat_map turn_line (map (in_slot slot) turns.now)) }
+{
+    for turn in turns {
+        put_turn(alloc, out, slot, turn)?;
+    }
+    Ok(())
+}
+
+/// Puts the line of a datagram at the end.
+fn put_datagram(alloc: Global, out: &mut Bytes, to: Endpoint, bytes: &[u8]) -> Result<(), NoMemory>
+    ensures { OnOk result (out.new ≡ out.old ++ (datagram_text to bytes.now ++ codes "\n")) }
+{
+    out.extend(b"data ")?;
+    put_number(out, to.host)?;
+    out.extend(b":")?;
+    put_number(out, to.port)?;
+    out.extend(b" ")?;
+    put_hex(alloc, out, bytes)?;
+    out.extend(b"\n")
+}
+
+/// Puts the line of a turn at the end.
+fn put_turn(alloc: Global, out: &mut Bytes, slot: usize, turn: &Turn) -> Result<(), NoMemory>
+    ensures { OnOk result (out.new ≡ out.old ++ turn_line (in_slot slot turn.now)) }
+{
+    out.extend(b"turn ")?;
+    put_number(out, turn.number)?;
+    out.extend(b" ")?;
+    put_number(out, slot)?;
+    out.extend(b" ")?;
+    put_call(out, &turn.what)?;
+    out.extend(b" = ")?;
+    put_answer(alloc, out, &turn.answer)?;
+    out.extend(b"\n")
+}
+
+/// Puts what a handler was asked at the end.
+fn put_call(out: &mut Bytes, what: &CallKind) -> Result<(), NoMemory>
+    ensures { OnOk result (out.new ≡ out.old ++ call_text what.now) }
+{
+    match what {
+        CallKind::Read => out.extend(b"read"),
+    }
+}
+
+/// Puts what a handler answered at the end.
+fn put_answer(alloc: Global, out: &mut Bytes, answer: &Answer) -> Result<(), NoMemory>
+    ensures { OnOk result (out.new ≡ out.old ++ answer_text answer.now) }
+{
+    match answer {
+        Answer::Value(tree) => {
+            let text = text_of(alloc, tree)?;
+            out.extend(b"value ")?;
+            out.extend(text.as_slice())
+        }
+        Answer::Refused(number) => {
+            out.extend(b"refused ")?;
+            put_number(out, *number)
+        }
+    }
+}
+
+/// Puts bytes at the end as lower-case hexadecimal digits, or `-` for none.
+fn put_hex(alloc: Global, out: &mut Bytes, bytes: &[u8]) -> Result<(), NoMemory>
+    ensures { OnOk result (out.new ≡ out.old ++ hex_text bytes.now) }
+{
+    if bytes.is_empty() {
+        return out.extend(b"-");
+    }
+    let text = hex::encode(alloc, bytes)?;
+    out.extend(text.as_bytes())
+}
+
+/// Puts a number at the end in decimal.
+pub fn put_number<I: Integer>(out: &mut Bytes, number: I) -> Result<(), NoMemory>
+    ensures { OnOk result (out.new ≡ out.old ++ I.text number) }
+{
+    let mut buffer = Buffer::new();
+    out.extend(buffer.format(number).as_bytes())
+}

@@ -1,0 +1,237 @@
+//! Replay scripts: text files of events, one on each line.
+//!
+//! The grammar stands in specs/Script.antt. `Script::read` goes from line to line, `event_of` reads one
+//! line, and each function below it one field. All of them read exactly what the grammar writes.
+
+ghost use Rattle.std.specs.Prelude.{◌≡◌, ◌≢◌, ◌<◌, ◌≤◌, ℕ, List, [], ◌∷◌, ◌++◌, ◌==◌, ◌&&◌, ◌||◌, nat_lt, slice_index, length, All, codes, decimal, IfOk, IfSome, IsSomeAnd, MatchOption, MatchResult};
+ghost use Rattle.std.specs.Char.{is_ascii_uppercase};
+ghost use Rattle.std.specs.List.{list_any};
+ghost use Rattle.std.specs.Str.{IsUtf8};
+ghost use Rattle.coap_msg.specs.declared.endpoint.Endpoint.{Endpoint};
+ghost use Rattle.servient_edge.specs.declared.net.EventWithBytes.{EventWithBytes};
+ghost use Rattle.servient_cli.specs.Script.{hex_text, endpoint_text, datagram_text, line_text, IsScriptEndpoint, IsScriptEvent, IsScript, IsFirstBadLine};
+
+#[cfg(test)]
+mod tests;
+
+use coap_msg::Endpoint;
+use hex::FromHexError;
+use servient_edge::{Event, EventWithBytes, Events, What};
+use std::alloc::{AllocError, Global};
+use std::marker::Model;
+use std::str;
+use thiserror::Error;
+use wot_json::{Bytes, NoMemory};
+
+/// The latest moment of an event, in milliseconds.
+const LATEST_MOMENT: u64 = 1_000_000_000_000_000;
+
+/// The most bytes of a datagram.
+const MOST_BYTES: usize = 2048;
+
+/// Each line ends with it.
+const LINE_FEED: u8 = b'\n';
+
+/// Why some bytes are no script.
+#[derive(Debug, Drop, Error)]
+pub enum ScriptFault {
+    /// The first line, counted from 1, that is not in the grammar.
+    #[error("line {0} is not in the grammar of scripts")]
+    Line(u32),
+    /// There was no memory.
+    #[error("no memory")]
+    NoMemory,
+}
+
+impl From<NoMemory> for ScriptFault {
+    ghost use Rattle.std.specs.Prelude.{◌≡◌};
+    ghost use Rattle.servient_cli.specs.declared.script.ScriptFault.TheVariants as fault;
+
+    ghost from_gives = { λ _ e. e ≡ fault.NoMemory };
+
+    fn from(_: NoMemory) -> Self {
+        ScriptFault::NoMemory
+    }
+}
+
+/// A plus (43) or a leading zero (48) stands at the front; `parse` takes those, and the grammar does not.
+fn has_sign_or_leading_zero(text: &str) -> bool
+    ensures { result ≡ ((slice_index text.now 0 == 43)
+        || ((slice_index text.now 0 == 48) && nat_lt 1 (length text.now))) }
+{
+    text.starts_with('+') || (text.starts_with('0') && text.len() > 1)
+}
+
+/// The number that a text writes in decimal, if it is at most `most`.
+fn number(text: &str, most: u64) -> Option<u64>
+    ensures text { IfSome result (λ n. text.now ≡ decimal n) }
+    ensures bound { IfSome result (λ n. n ≤ most) }
+    ensures found { (n : ℕ) → n ≤ most → text.now ≡ decimal n → result ≡ Some n }
+{
+    if has_sign_or_leading_zero(text) {
+        return None;
+    }
+    match text.parse::<u64>() {
+        Ok(number) if number <= most => Some(number),
+        _ => None,
+    }
+}
+
+/// The endpoint that `H:P` names.
+fn endpoint_of(text: &str) -> Option<Endpoint>
+    ensures text { IfSome result (λ e. text.now ≡ endpoint_text e) }
+    ensures bounds { IfSome result IsScriptEndpoint }
+    ensures found { (e : Endpoint) → IsScriptEndpoint e → text.now ≡ endpoint_text e → result ≡ Some e }
+{
+    let (host, port) = text.split_once(':')?;
+    let host = number(host, u64::from(u32::MAX))?;
+    let port = number(port, u64::from(u16::MAX))?;
+    Some(Endpoint {
+        host: u128::from(host),
+        port: port as u16,
+    })
+}
+
+/// An upper-case letter stands in a text; `hex::decode` takes those, and the grammar does not.
+fn has_upper_case(text: &str) -> bool
+    ensures { result ≡ list_any is_ascii_uppercase text.now }
+{
+    text.bytes().any(|byte| byte.is_ascii_uppercase())
+}
+
+/// The bytes that HEX writes: at least two lower-case digits, or `-` for none.
+fn bytes_of(alloc: Global, text: &str) -> Result<Option<Bytes>, NoMemory>
+    ensures text { IfOk result (λ o. IfSome o (λ bytes. text.now ≡ hex_text bytes)) }
+    ensures bounds { IfOk result (λ o.
+        IfSome o (λ bytes. (length bytes ≤ MOST_BYTES) × All (λ b. b < 256) bytes)) }
+    ensures found { (bytes : List ℕ) → length bytes ≤ MOST_BYTES → All (λ b. b < 256) bytes
+        → text.now ≡ hex_text bytes → IfOk result (λ o. o ≡ Some bytes) }
+{
+    if text == "-" {
+        return Ok(Some(Bytes::new(alloc)));
+    }
+    if text.is_empty() || text.len() > 2 * MOST_BYTES || has_upper_case(text) {
+        return Ok(None);
+    }
+    match hex::decode(alloc, text) {
+        Ok(bytes) => Ok(Some(Bytes::from_vec(bytes))),
+        Err(fault) => match fault {
+            FromHexError::OutOfMemory => Err(AllocError),
+            _ => Ok(None),
+        },
+    }
+}
+
+/// The datagram that `data H:P HEX` says: from where it came, and its bytes.
+fn datagram_of(alloc: Global, text: &str) -> Result<Option<(Endpoint, Bytes)>, NoMemory>
+    ensures text { IfOk result (λ o. IfSome o (λ d. text.now ≡ datagram_text d.0 d.1)) }
+    ensures bounds { IfOk result (λ o.
+        IfSome o (λ d. IsScriptEndpoint d.0 × (length d.1 ≤ MOST_BYTES) × All (λ b. b < 256) d.1)) }
+    ensures found { (from : Endpoint) (bytes : List ℕ) → IsScriptEndpoint from
+        → length bytes ≤ MOST_BYTES → All (λ b. b < 256) bytes → text.now ≡ datagram_text from bytes
+        → IfOk result (λ o. o ≡ Some (from, bytes)) }
+{
+    let Some(fields) = text.strip_prefix("data ") else {
+        return Ok(None);
+    };
+    let Some((from, digits)) = fields.split_once(' ') else {
+        return Ok(None);
+    };
+    let Some(from) = endpoint_of(from) else {
+        return Ok(None);
+    };
+    let Some(bytes) = bytes_of(alloc, digits)? else {
+        return Ok(None);
+    };
+    Ok(Some((from, bytes)))
+}
+
+/// The moment at the front of a line, and what stands behind the blank that follows it.
+fn moment_of(line: &[u8]) -> Option<(u64, &str)>
+    ensures text { IfSome result (λ r. line.now ≡ decimal r.0 ++ codes " " ++ r.1.now) }
+    ensures bound { IfSome result (λ r. r.0 ≤ LATEST_MOMENT) }
+    ensures found { (moment : ℕ) (what : List ℕ) → moment ≤ LATEST_MOMENT → IsUtf8 line.now
+        → line.now ≡ decimal moment ++ codes " " ++ what
+        → IsSomeAnd result (λ r. (r.0 ≡ moment) × (r.1.now ≡ what)) }
+{
+    let (moment, what) = str::from_utf8(line).ok()?.split_once(' ')?;
+    Some((number(moment, LATEST_MOMENT)?, what))
+}
+
+/// The event of a line, which stands here without its line feed.
+fn event_of(alloc: Global, line: &[u8]) -> Result<Option<EventWithBytes>, NoMemory>
+    ensures text { IfOk result (λ o. IfSome o (λ e. line.now ++ codes "\n" ≡ line_text e)) }
+    ensures bounds { IfOk result (λ o. IfSome o IsScriptEvent) }
+    ensures found { (e : EventWithBytes) → IsScriptEvent e → line.now ++ codes "\n" ≡ line_text e
+        → IfOk result (λ o. o ≡ Some e) }
+{
+    let Some((moment, what)) = moment_of(line) else {
+        return Ok(None);
+    };
+    let Some((from, bytes)) = datagram_of(alloc, what)? else {
+        return Ok(None);
+    };
+    let what = What::Datagram(from, bytes.len());
+    Ok(Some(EventWithBytes {
+        event: Event { moment, what },
+        bytes,
+    }))
+}
+
+/// The first line, without its line feed, and what follows that.
+fn first_line(bytes: &[u8]) -> Option<(&[u8], &[u8])>
+    ensures { MatchOption result (All (λ b. b ≢ LINE_FEED) bytes.now)
+        (λ r. (bytes.now ≡ r.0.now ++ LINE_FEED ∷ r.1.now) × All (λ b. b ≢ LINE_FEED) r.0.now) }
+{
+    let place = bytes.iter().position(|byte| *byte == LINE_FEED)?;
+    Some((&bytes[..place], &bytes[place + 1..]))
+}
+
+/// The events of a script. Contracts see the list of them.
+#[derive(Drop)]
+pub struct Script {
+    events: Events,
+}
+
+impl Model for Script {
+    ghost use Rattle.std.specs.Prelude.{List};
+    ghost use Rattle.servient_edge.specs.declared.net.EventWithBytes.{EventWithBytes};
+
+    ghost Value = { List EventWithBytes };
+
+    ghost view = { λ s. s.events };
+}
+
+impl Script {
+    /// Reads a script of at most 16 MiB. Nothing behind the first line that is not in the grammar is read.
+    pub fn read(alloc: Global, bytes: &[u8]) -> Result<Script, ScriptFault>
+        requires { length bytes.now ≤ 16777216 }
+        ensures found { IfOk result (λ s. IsScript bytes.now s) }
+        ensures only { (events : List EventWithBytes) → IsScript bytes.now events
+            → MatchResult result (λ s. s ≡ events) (λ e. e ≡ ScriptFault.NoMemory) }
+        ensures line { (n : ℕ) → result ≡ Err (ScriptFault.Line n) → IsFirstBadLine bytes.now n }
+    {
+        let mut events = Events::new(alloc);
+        let mut rest = bytes;
+        'lines: while !rest.is_empty() {
+            let number = events.len() as u32 + 1;
+            let Some((line, more)) = first_line(rest) else {
+                return Err(ScriptFault::Line(number));
+            };
+            let Some(event) = event_of(alloc, line)? else {
+                return Err(ScriptFault::Line(number));
+            };
+            events.push(event)?;
+            rest = more;
+        }
+        Ok(Script { events })
+    }
+
+    /// The events, in the order of the lines.
+    pub fn into_events(self) -> Events
+        ensures { result ≡ self }
+    {
+        let Script { events } = self;
+        events
+    }
+}

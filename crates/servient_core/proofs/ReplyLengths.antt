@@ -4,7 +4,7 @@ use Rattle.std.specs.Prelude.{Result, Ok, Err, OnErr, IsOk}
 use Rattle.std.proofs.lemmas.Bool.{leb-true}
 use Rattle.std.proofs.lemmas.Fmt.{length-decimal-le}
 use Rattle.wot_json.specs.declared.tree.Tree.{Tree}
-use Rattle.wot_json.specs.declared.tree.Tree.TheVariants.{Int}
+use Rattle.wot_json.specs.declared.tree.Tree.TheVariants as json
 use Rattle.coap_msg.specs.declared.opts.NoRoom.{NoRoom}
 use Rattle.coap_msg.specs.Grammar.{CoapMessage, option_spelling, options_spelling, payload_spelling, spelling}
 use Rattle.servient_core.specs.declared.outcome.Outcome.TheVariants as outcome
@@ -12,10 +12,15 @@ use Rattle.servient_core.specs.Outcomes.{is_status, IsShort}
 
 -- a value of the property has at most three digits
 pub content_short : (tree : Tree) → is_status tree ≡ true → IsShort (outcome.Content tree)
-content_short (Int (pos n)) is =
+content_short (json.Int (pos n)) is =
     let small : n ≤ 100 = leb-true n 100 is in
     omega (arith, length-decimal-le 3 n (omega arith) (omega arith) (omega arith))
-content_short (Int (negsuc n)) is = absurd cc
+content_short (json.Int (negsuc n)) is = absurd cc
+content_short json.Null is = absurd cc
+content_short (json.Bool b) is = absurd cc
+content_short (json.Text s) is = absurd cc
+content_short (json.List vs) is = absurd cc
+content_short (json.Obj ms) is = absurd cc
 
 -- the option that names a format has two bytes
 pub format_length : length (options_spelling 0 ((12, 50 ∷ []) ∷ [])) ≡ 2

@@ -57,7 +57,7 @@ pub data ComesTo (s : State) (path : List CoapOption) (before after : List ℕ) 
   has_no_number : path ≡ status_path → s.turns ≡ 4294967295 → o ≡ outcome.CallsUsed → turns ≡ [] → ComesTo s path before after o turns
   -- the handler was called and found no memory, as its count tells
   finds_no_memory : path ≡ status_path → s.turns < 4294967295 → RoseAt s.slot before after → o ≡ outcome.Memory → turns ≡ [] → ComesTo s path before after o turns
-  -- the handler was called once, and its answer decides
+  -- the handler answered, and its answer decides
   reads : (answer : Answer) → path ≡ status_path → s.turns < 4294967295 → o ≡ outcome_of answer → turns ≡ read_turn s answer ∷ [] → ComesTo s path before after o turns
 
 -- The reply to a Non-confirmable request: Non-confirmable, with the servient's next message ID and the

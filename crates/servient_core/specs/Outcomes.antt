@@ -2,7 +2,7 @@
 use Rattle.std.specs.Prelude.{ℕ, ◌+◌, ◌*◌, ◌≤◌, length, pos, negsuc, Bool, false, nat_le, List, [], ◌∷◌, ◌++◌, codes, if◌then◌else◌}
 use Rattle.std.specs.Fmt.{decimal}
 use Rattle.wot_json.specs.declared.tree.Tree.{Tree}
-use Rattle.wot_json.specs.declared.tree.Tree.TheVariants.{Int}
+use Rattle.wot_json.specs.declared.tree.Tree.TheVariants as json
 use Rattle.wot_json.specs.Json.{json_text}
 use Rattle.coap_msg.specs.Grammar.{CoapOption}
 use Rattle.thing_handler.specs.declared.handler.Answer.{Answer}
@@ -12,8 +12,13 @@ use Rattle.servient_core.specs.declared.outcome.Outcome.TheVariants as outcome
 
 -- the values of the built-in property: the whole numbers from 0 to 100
 abbrev pub is_status : Tree → Bool
-is_status (Int (pos n)) = nat_le n 100
-is_status (Int (negsuc n)) = false
+is_status (json.Int (pos n)) = nat_le n 100
+is_status (json.Int (negsuc n)) = false
+is_status json.Null = false
+is_status (json.Bool b) = false
+is_status (json.Text s) = false
+is_status (json.List vs) = false
+is_status (json.Obj ms) = false
 
 -- a value that the property can't have, and a refusal, are the device's fault or choice and no content
 abbrev pub outcome_of : Answer → Outcome

@@ -157,6 +157,8 @@ fn outcome_of(answer: Answer) -> Outcome
 fn is_status(tree: &Tree) -> bool
     ensures { result ≡ is_status_value tree.now }
 {
-    let Tree::Int(number) = tree;
-    (0..=100).contains(number)
+    match tree {
+        Tree::Int(number) => (0..=100).contains(number),
+        _ => false,
+    }
 }

@@ -99,7 +99,7 @@ fn each_outcome_has_its_reply(rt: HostRuntime) -> Result<(), Fail> {
     for (number, turn) in turns.iter().enumerate() {
         let value = match &turn.answer {
             Answer::Value(Tree::Int(value)) => Some(*value),
-            Answer::Refused(_) => None,
+            _ => None,
         };
         assert_eq!(rt; turn.number, number as u64);
         assert_eq!(rt; value, answered[number]);

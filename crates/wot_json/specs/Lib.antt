@@ -1,1 +1,5 @@
+pub mod Tree
+pub mod Meaning
+pub mod Falls
 pub mod Json
+pub mod Writing

@@ -1,6 +1,6 @@
 //! Texts of whole numbers by hand, and each public call once.
 
-use crate::{Bytes, Text, Tree, copy, quoted, text_of, write};
+use crate::{Bytes, Items, Members, Text, Tree, copy, quoted, text_of, write};
 use std::test::Fail;
 
 #[test]
@@ -28,6 +28,44 @@ fn texts_of_whole_numbers(rt: HostRuntime) -> Result<(), Fail> {
     }
     let mut short = [0u8; 2];
     assert_eq!(rt; write(&Tree::Int(100), &mut short), None);
+    Ok(())
+}
+
+#[test]
+fn texts_of_lists_and_objects(rt: HostRuntime) -> Result<(), Fail> {
+    let alloc = rt.alloc();
+    let mut items = Items::new(alloc);
+    items.push(Tree::Null)?;
+    items.push(Tree::Bool(true))?;
+    items.push(Tree::List(Items::new(alloc)))?;
+    items.push(Tree::Text(Text::copy_of(alloc, "x\"")?))?;
+    assert_eq!(rt; items.len(), 4);
+    let mut members = Members::new(alloc);
+    members.push(Text::copy_of(alloc, "a")?, Tree::List(items))?;
+    members.push(Text::copy_of(alloc, "b")?, Tree::Obj(Members::new(alloc)))?;
+    members.push(Text::copy_of(alloc, "ba")?, Tree::Bool(false))?;
+    assert_eq!(rt; members.len(), 3);
+    let tree = copy(alloc, &Tree::Obj(members))?;
+    let text = b"{\"a\":[null,true,[],\"x\\\"\"],\"b\":{},\"ba\":false}";
+    assert_eq!(rt; text_of(alloc, &tree)?.as_slice(), text.as_slice());
+    let mut room = [0u8; 44];
+    assert_eq!(rt; text.len(), room.len());
+    assert_eq!(rt; write(&tree, &mut room), Some(44));
+    assert_eq!(rt; room.as_slice(), text.as_slice());
+    let mut short = [0u8; 43];
+    assert_eq!(rt; write(&tree, &mut short), None);
+    Ok(())
+}
+
+#[test]
+fn a_long_text_takes_more_room(rt: HostRuntime) -> Result<(), Fail> {
+    let alloc = rt.alloc();
+    let mut items = Items::new(alloc);
+    for _ in 0..100 {
+        items.push(Tree::Int(7))?;
+    }
+    let text = text_of(alloc, &Tree::List(items))?;
+    assert_eq!(rt; text.len(), 201);
     Ok(())
 }
 

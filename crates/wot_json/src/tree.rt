@@ -1,52 +1,172 @@
-//! JSON values, and the text of each.
+//! JSON values, and an equal copy of each.
 
-ghost use Rattle.std.specs.Prelude.{◌≡◌, ◌≤◌, ◌<◌, length, take, drop, IfSome, IfNone, IfOk};
-ghost use Rattle.wot_json.specs.Json.{json_text};
-
-use crate::Bytes;
-use itoa::Buffer;
-use servient_base::{NoMemory, put_bytes};
+use crate::Text;
+use servient_base::NoMemory;
 use std::alloc::Global;
+use std::marker::Model;
 
-/// A JSON value (RFC 8259, section 3).
+/// A JSON value (RFC 8259, section 3) whose numbers are whole.
 #[derive(Debug, Drop)]
+#[cycle(tree)]
 pub enum Tree {
+    Null,
+    Bool(bool),
     /// A whole number of 64 bits with sign.
     Int(i64),
+    Text(Text),
+    List(Items),
+    Obj(Members),
 }
 
-/// Writes the text of a tree to the front of `out`, and returns its length. It takes no memory.
-/// There is none where the text is longer than `out`, whose contents are then open.
-pub fn write(tree: &Tree, out: &mut [u8]) -> Option<usize>
-    ensures length { IfSome result (λ n. n ≡ length (json_text tree.now)) }
-    ensures within { IfSome result (λ n. n ≤ length out.old) }
-    ensures text { IfSome result (λ n. take n out.new ≡ json_text tree.now) }
-    ensures rest { IfSome result (λ n. drop n out.new ≡ drop n out.old) }
-    ensures none { IfNone result (length out.old < length (json_text tree.now)) }
-{
-    let Tree::Int(number) = tree;
-    let mut buffer = Buffer::new();
-    let digits = buffer.format(*number).as_bytes();
-    if digits.len() > out.len() {
-        return None;
+/// The elements of a list. Contracts see the list of their values.
+#[derive(Debug, Drop)]
+#[cycle(tree)]
+pub struct Items {
+    pub(crate) list: Vec<Tree>,
+}
+
+impl Model for Items {
+    ghost use Rattle.std.specs.Prelude.{List};
+    ghost use Rattle.wot_json.specs.Tree.{Json, most_nesting, elements_code};
+
+    ghost Value = { List Json };
+
+    ghost coded = { elements_code };
+
+    ghost use Rattle.wot_json.specs.Meaning.{json_items};
+
+    ghost view = { λ i. json_items i.list.items };
+
+    ghost size = { most_nesting };
+
+    ghost use Rattle.std.proofs.Common.{arith};
+    ghost use Rattle.wot_json.specs.Falls.{most_le};
+
+    ghost size_decreases = { λ a h. omega (arith, most_le a.list.items) };
+}
+
+/// The members of an object, in the byte order of their names, each name once. Contracts see the list of
+/// names and values.
+#[derive(Debug, Drop)]
+#[cycle(tree)]
+pub struct Members {
+    pub(crate) list: Vec<(Text, Tree)>,
+}
+
+impl Model for Members {
+    ghost use Rattle.std.specs.Prelude.{List, ℕ};
+    ghost use Rattle.wot_json.specs.Tree.{Json, most_member_nesting, members_code, AreOrdered};
+
+    ghost Value = { List (List ℕ × Json) };
+
+    ghost coded = { members_code };
+
+    ghost use Rattle.wot_json.specs.Meaning.{json_members};
+
+    ghost view = { λ m. json_members m.list.items };
+
+    ghost invariant = { λ m. AreOrdered (json_members m.list.items) };
+
+    ghost size = { most_member_nesting };
+
+    ghost use Rattle.std.proofs.Common.{arith};
+    ghost use Rattle.wot_json.specs.Falls.{most_member_le};
+
+    ghost size_decreases = { λ a h. omega (arith, most_member_le a.list.items) };
+}
+
+ghost use Rattle.std.specs.Prelude.{◌≡◌, ◌++◌, [], ◌∷◌, length, IfOk, OnErr, OnOk};
+ghost use Rattle.wot_json.specs.Tree.{AreOrdered};
+ghost use Rattle.wot_json.specs.Meaning.{json_of};
+
+impl Items {
+    /// No elements.
+    pub fn new(alloc: Global) -> Self
+        ensures { result ≡ [] }
+    {
+        Items {
+            list: Vec::new(alloc),
+        }
     }
-    Some(put_bytes(out, 0, digits))
+
+    /// How many elements there are.
+    pub fn len(&self) -> usize
+        ensures { result ≡ length self.now }
+    {
+        self.list.len()
+    }
+
+    /// Puts an element at the end.
+    pub fn push(&mut self, item: Tree) -> Result<(), NoMemory>
+        ensures ok { OnOk result (self.new ≡ self.old ++ json_of item ∷ []) }
+        ensures err { OnErr result (self.new ≡ self.old) }
+    {
+        self.list.push(item)?;
+        Ok(())
+    }
 }
 
-/// The text of a tree.
-pub fn text_of(alloc: Global, tree: &Tree) -> Result<Bytes, NoMemory>
-    ensures { IfOk result (λ b. b ≡ json_text tree.now) }
-{
-    let Tree::Int(number) = tree;
-    let mut buffer = Buffer::new();
-    Bytes::copy_of(alloc, buffer.format(*number).as_bytes())
+impl Members {
+    /// No members.
+    pub fn new(alloc: Global) -> Self
+        ensures { result ≡ [] }
+    {
+        Members {
+            list: Vec::new(alloc),
+        }
+    }
+
+    /// How many members there are.
+    pub fn len(&self) -> usize
+        ensures { result ≡ length self.now }
+    {
+        self.list.len()
+    }
+
+    /// Puts a member at the end; its name stands behind all others in byte order.
+    pub fn push(&mut self, name: Text, value: Tree) -> Result<(), NoMemory>
+        requires { AreOrdered (self.old ++ (name, json_of value) ∷ []) }
+        ensures ok { OnOk result (self.new ≡ self.old ++ (name, json_of value) ∷ []) }
+        ensures err { OnErr result (self.new ≡ self.old) }
+    {
+        self.list.push((name, value))?;
+        Ok(())
+    }
 }
 
 /// An equal tree.
-pub fn copy(_alloc: Global, tree: &Tree) -> Result<Tree, NoMemory>
+#[cycle(copy)]
+pub fn copy(alloc: Global, tree: &Tree) -> Result<Tree, NoMemory>
     ensures { IfOk result (λ t. t ≡ tree.now) }
 {
     match tree {
+        Tree::Null => Ok(Tree::Null),
+        Tree::Bool(truth) => Ok(Tree::Bool(*truth)),
         Tree::Int(number) => Ok(Tree::Int(*number)),
+        Tree::Text(text) => Ok(Tree::Text(Text::copy_of(alloc, text.as_str())?)),
+        Tree::List(items) => Ok(Tree::List(copy_items(alloc, items)?)),
+        Tree::Obj(members) => Ok(Tree::Obj(copy_members(alloc, members)?)),
     }
+}
+
+#[cycle(copy)]
+fn copy_items(alloc: Global, items: &Items) -> Result<Items, NoMemory>
+    ensures { IfOk result (λ i. i ≡ items.now) }
+{
+    let mut copies = Vec::with_capacity(alloc, items.list.len())?;
+    for item in &items.list {
+        copies.push(copy(alloc, item)?)?;
+    }
+    Ok(Items { list: copies })
+}
+
+#[cycle(copy)]
+fn copy_members(alloc: Global, members: &Members) -> Result<Members, NoMemory>
+    ensures { IfOk result (λ m. m ≡ members.now) }
+{
+    let mut copies = Vec::with_capacity(alloc, members.list.len())?;
+    for (name, member) in &members.list {
+        copies.push((Text::copy_of(alloc, name.as_str())?, copy(alloc, member)?))?;
+    }
+    Ok(Members { list: copies })
 }

@@ -1,0 +1,19 @@
+-- The value that a tree of the code stands for.
+use Rattle.std.specs.Prelude.{ℕ, List, map}
+use Rattle.wot_json.specs.Tree.{Json, null, boolean, integer, string, array, object, elements_of, members_of}
+use Rattle.wot_json.specs.declared.tree.Tree.{Tree}
+use Rattle.wot_json.specs.declared.tree.Tree.TheVariants as tree
+
+abbrev pub json_of : Tree → Json
+json_of tree.Null = null
+json_of (tree.Bool b) = boolean b
+json_of (tree.Int z) = integer z
+json_of (tree.Text s) = string s
+json_of (tree.List vs) = array (elements_of vs)
+json_of (tree.Obj ms) = object (members_of ms)
+
+abbrev pub json_items : List Tree → List Json
+json_items = map json_of
+
+abbrev pub json_members : List (List ℕ × Tree) → List (List ℕ × Json)
+json_members = map (λ m. (m.0, json_of m.1))

@@ -1,4 +1,4 @@
-//! Texts of whole numbers by hand, and each public call once.
+//! Texts of trees by hand, and each public call once.
 
 use crate::{Bytes, Items, Members, Text, Tree, copy, quoted, text_of, write};
 use std::test::Fail;

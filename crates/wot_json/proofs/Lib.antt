@@ -1,2 +1,5 @@
+pub mod EqualTrees
+pub mod Nesting
+pub mod NameLookup
 pub mod Pieces
 pub mod TreeTexts

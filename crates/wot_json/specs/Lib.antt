@@ -3,3 +3,4 @@ pub mod Meaning
 pub mod Falls
 pub mod Json
 pub mod Writing
+pub mod Lookup

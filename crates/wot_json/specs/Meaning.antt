@@ -15,5 +15,8 @@ json_of (tree.Obj ms) = object (members_of ms)
 abbrev pub json_items : List Tree → List Json
 json_items = map json_of
 
+abbrev pub json_member : List ℕ × Tree → List ℕ × Json
+json_member m = (m.0, json_of m.1)
+
 abbrev pub json_members : List (List ℕ × Tree) → List (List ℕ × Json)
-json_members = map (λ m. (m.0, json_of m.1))
+json_members = map json_member

@@ -8,11 +8,13 @@
 mod bytes;
 #[cfg(test)]
 mod tests;
+mod equality;
 mod text;
 mod tree;
 mod writing;
 
 pub use bytes::Bytes;
+pub use equality::is_equal;
 pub use servient_base::NoMemory;
 pub use text::Text;
 pub use tree::{Items, Members, Tree, copy};

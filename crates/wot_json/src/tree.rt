@@ -3,6 +3,7 @@
 use crate::Text;
 use servient_base::NoMemory;
 use std::alloc::Global;
+use std::cmp::Ordering;
 use std::marker::Model;
 
 /// A JSON value (RFC 8259, section 3) whose numbers are whole.
@@ -75,9 +76,12 @@ impl Model for Members {
     ghost size_decreases = { λ a h. omega (arith, most_member_le a.list.items) };
 }
 
-ghost use Rattle.std.specs.Prelude.{◌≡◌, ◌++◌, [], ◌∷◌, length, IfOk, OnErr, OnOk};
+ghost use Rattle.std.specs.Prelude.{◌≡◌, ◌++◌, [], ◌∷◌, length, option_map, IfOk, OnErr, OnOk};
+ghost use Rattle.std.specs.Cmp.Lexicographic.{slice_cmp};
+ghost use Rattle.std.specs.Ordering.{nat_cmp};
 ghost use Rattle.wot_json.specs.Tree.{AreOrdered};
-ghost use Rattle.wot_json.specs.Meaning.{json_of};
+ghost use Rattle.wot_json.specs.Meaning.{json_of, json_items, json_members};
+ghost use Rattle.wot_json.specs.Lookup.{member_named};
 
 impl Items {
     /// No elements.
@@ -94,6 +98,20 @@ impl Items {
         ensures { result ≡ length self.now }
     {
         self.list.len()
+    }
+
+    /// The elements of a vector, which is taken over as it is.
+    pub fn from_vec(list: Vec<Tree>) -> Self
+        ensures { result ≡ json_items list.items }
+    {
+        Items { list }
+    }
+
+    /// The elements as a slice.
+    pub fn as_slice(&self) -> &[Tree]
+        ensures { json_items result.now ≡ self.now }
+    {
+        self.list.as_slice()
     }
 
     /// Puts an element at the end.
@@ -121,6 +139,26 @@ impl Members {
         ensures { result ≡ length self.now }
     {
         self.list.len()
+    }
+
+    /// The members as a slice of names and values, in the byte order of the names.
+    pub fn as_slice(&self) -> &[(Text, Tree)]
+        ensures { json_members result.now ≡ self.now }
+    {
+        self.list.as_slice()
+    }
+
+    /// The value of the member of this name, found by halving.
+    pub fn get(&self, name: &str) -> Option<&Tree>
+        ensures { option_map (λ t. json_of t.now) result ≡ member_named name.now self.now }
+    {
+        let order = |member: &(Text, Tree)| -> Ordering
+            ensures { result ≡ slice_cmp nat_cmp member.now.0 name.entry.now }
+        { member.0.as_str().cmp(name) };
+        match self.list.binary_search_by(order) {
+            Ok(place) => Some(&self.list[place].1),
+            Err(_) => None,
+        }
     }
 
     /// Puts a member at the end; its name stands behind all others in byte order.

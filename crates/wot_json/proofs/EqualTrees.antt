@@ -1,0 +1,48 @@
+-- When two arrays and two objects are the same value.
+use Rattle.std.proofs.Common.{◌≡◌, ℕ, zero, suc, ◌+◌, ◌<◌, List, [], ◌∷◌, ◌↔◌, IsTrue, Bool, ◌++◌, map, length, get_or, take, false, refl, sym, ap, subst, ◌∙◌, arith}
+use mathlib.Core.Bool.{false≢true}
+use Rattle.std.proofs.lemmas.List.{map_more, get_or-map}
+use Rattle.wot_json.specs.Tree.{Json, array, object, Elements, no_elements, element, Members, no_members, member, elements_of, members_of}
+use Rattle.wot_json.specs.Meaning.{json_of, json_items, json_members}
+use Rattle.wot_json.specs.declared.tree.Tree.{Tree}
+
+-- the list of the elements
+abbrev pub listed : Elements → List Json
+listed no_elements = []
+listed (element v es) = v ∷ listed es
+
+pub listed_lem : (vs : List Json) → listed (elements_of vs) ≡ vs
+listed_lem [] = refl
+listed_lem (v ∷ vs) = ap (λ (ws : List Json). v ∷ ws) (listed_lem vs)
+
+-- the list of the members
+abbrev pub listed_members : Members → List (List ℕ × Json)
+listed_members no_members = []
+listed_members (member n v ms) = (n, v) ∷ listed_members ms
+
+pub listed_members_lem : (ms : List (List ℕ × Json)) → listed_members (members_of ms) ≡ ms
+listed_members_lem [] = refl
+listed_members_lem (m ∷ ms) = ap (λ (ns : List (List ℕ × Json)). m ∷ ns) (listed_members_lem ms)
+
+-- arrays are the same where their elements are
+pub arrays_equal : (xs ys : List Json) (r : Bool) → (IsTrue r ↔ (xs ≡ ys)) → IsTrue r ↔ (array (elements_of xs) ≡ array (elements_of ys))
+arrays_equal xs ys r e =
+    (λ yes'. ap (λ (vs : List Json). array (elements_of vs)) (e.0 yes'),
+     λ same. let inside : elements_of xs ≡ elements_of ys = cc in e.1 (sym (listed_lem xs) ∙ ap listed inside ∙ listed_lem ys))
+
+-- objects are the same where their members are
+pub objects_equal : (xs ys : List (List ℕ × Json)) (r : Bool) → (IsTrue r ↔ (xs ≡ ys)) → IsTrue r ↔ (object (members_of xs) ≡ object (members_of ys))
+objects_equal xs ys r e =
+    (λ yes'. ap (λ (ms : List (List ℕ × Json)). object (members_of ms)) (e.0 yes'),
+     λ same. let inside : members_of xs ≡ members_of ys = cc in e.1 (sym (listed_members_lem xs) ∙ ap listed_members inside ∙ listed_members_lem ys))
+
+-- two lists that stand for the same so far, and at the next place
+pub same_more : {X Y : Type 0} (f : X → Y) (xs ys : List X) (i : ℕ) (d : X) → i < length xs → i < length ys → map f (take i xs) ≡ map f (take i ys) → f (get_or xs i d) ≡ f (get_or ys i d) → map f (take (i + 1) xs) ≡ map f (take (i + 1) ys)
+same_more {X} {Y} f xs ys i d in_xs in_ys before here =
+    map_more f xs i d in_xs ∙ (λ k. before k ++ here k ∷ []) ∙ sym (map_more f ys i d in_ys)
+
+-- two lists that stand for different things at a place aren't the same
+pub differ_at : {X Y : Type 0} (f : X → Y) (xs ys : List X) (i : ℕ) (x y : X) (vs ws : List Y) (r : Bool) → i < length xs → i < length ys → x ≡ get_or xs i x → y ≡ get_or ys i y → map f xs ≡ vs → map f ys ≡ ws → r ≡ false → (f x ≡ f y → IsTrue r) → IsTrue false ↔ (vs ≡ ws)
+differ_at {X} {Y} f xs ys i x y vs ws r in_xs in_ys x_is y_is vs_is ws_is differs tested =
+    (λ never. absurd (false≢true never),
+     λ same. subst IsTrue differs (tested (ap f x_is ∙ sym (get_or-map f xs i x (f x) in_xs) ∙ ap (λ (us : List Y). get_or us i (f x)) (vs_is ∙ same ∙ sym ws_is) ∙ get_or-map f ys i y (f x) in_ys ∙ sym (ap f y_is))))

@@ -3,3 +3,5 @@ pub mod Nesting
 pub mod NameLookup
 pub mod Pieces
 pub mod TreeTexts
+pub mod Tokens
+

@@ -4,3 +4,4 @@ pub mod Falls
 pub mod Json
 pub mod Writing
 pub mod Lookup
+pub mod Places

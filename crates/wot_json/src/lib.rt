@@ -6,15 +6,17 @@
 #![tactic(auto)]
 
 mod bytes;
+mod equality;
+mod places;
 #[cfg(test)]
 mod tests;
-mod equality;
 mod text;
 mod tree;
 mod writing;
 
 pub use bytes::Bytes;
 pub use equality::is_equal;
+pub use places::{below, below_index};
 pub use servient_base::NoMemory;
 pub use text::Text;
 pub use tree::{Items, Members, Tree, copy};

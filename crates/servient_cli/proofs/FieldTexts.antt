@@ -12,7 +12,7 @@ use Rattle.std.proofs.lemmas.Str.Pattern.{IsSplitOnceResult, split_after}
 use Rattle.coap_msg.specs.declared.endpoint.Endpoint.{Endpoint}
 use Rattle.hex.specs.Hex.{encode_lower}
 use Rattle.servient_cli.specs.Script.{IsScriptEndpoint, datagram_text, endpoint_text, hex_text}
-use Rattle.servient_cli.proofs.DecimalTexts.{AllDigits-decimal, split_after_number}
+use Rattle.servient_base.proofs.DecimalTexts.{AllDigits-decimal, split_after_number}
 use Rattle.servient_cli.proofs.HexTexts.{all_lower-encode_lower, is_lower_digit}
 
 -- a byte that may stand in a field

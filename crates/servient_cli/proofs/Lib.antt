@@ -1,4 +1,3 @@
-pub mod DecimalTexts
 pub mod HexTexts
 pub mod FieldTexts
 pub mod LineTexts

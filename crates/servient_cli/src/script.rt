@@ -16,6 +16,7 @@ mod tests;
 
 use coap_msg::Endpoint;
 use hex::FromHexError;
+use servient_base::parse_decimal;
 use servient_edge::{Event, EventWithBytes, Events, What};
 use std::alloc::{AllocError, Global};
 use std::marker::Model;
@@ -54,29 +55,6 @@ impl From<NoMemory> for ScriptFault {
     }
 }
 
-/// A plus (43) or a leading zero (48) stands at the front; `parse` takes those, and the grammar does not.
-fn has_sign_or_leading_zero(text: &str) -> bool
-    ensures { result ≡ ((slice_index text.now 0 == 43)
-        || ((slice_index text.now 0 == 48) && nat_lt 1 (length text.now))) }
-{
-    text.starts_with('+') || (text.starts_with('0') && text.len() > 1)
-}
-
-/// The number that a text writes in decimal, if it is at most `most`.
-fn number(text: &str, most: u64) -> Option<u64>
-    ensures text { IfSome result (λ n. text.now ≡ decimal n) }
-    ensures bound { IfSome result (λ n. n ≤ most) }
-    ensures found { (n : ℕ) → n ≤ most → text.now ≡ decimal n → result ≡ Some n }
-{
-    if has_sign_or_leading_zero(text) {
-        return None;
-    }
-    match text.parse::<u64>() {
-        Ok(number) if number <= most => Some(number),
-        _ => None,
-    }
-}
-
 /// The endpoint that `H:P` names.
 fn endpoint_of(text: &str) -> Option<Endpoint>
     ensures text { IfSome result (λ e. text.now ≡ endpoint_text e) }
@@ -84,8 +62,8 @@ fn endpoint_of(text: &str) -> Option<Endpoint>
     ensures found { (e : Endpoint) → IsScriptEndpoint e → text.now ≡ endpoint_text e → result ≡ Some e }
 {
     let (host, port) = text.split_once(':')?;
-    let host = number(host, u64::from(u32::MAX))?;
-    let port = number(port, u64::from(u16::MAX))?;
+    let host = parse_decimal(host, u64::from(u32::MAX))?;
+    let port = parse_decimal(port, u64::from(u16::MAX))?;
     Some(Endpoint {
         host: u128::from(host),
         port: port as u16,
@@ -155,7 +133,7 @@ fn moment_of(line: &[u8]) -> Option<(u64, &str)>
         → IsSomeAnd result (λ r. (r.0 ≡ moment) × (r.1.now ≡ what)) }
 {
     let (moment, what) = str::from_utf8(line).ok()?.split_once(' ')?;
-    Some((number(moment, LATEST_MOMENT)?, what))
+    Some((parse_decimal(moment, LATEST_MOMENT)?, what))
 }
 
 /// The event of a line, which stands here without its line feed.

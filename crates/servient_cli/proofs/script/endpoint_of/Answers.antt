@@ -11,22 +11,22 @@ pub returns-in_err-host-2-clause-found : goal.returns-in_err-host-2-clause-found
 returns-in_err-host-2-clause-found c = λ e bounds is.
     let cut = cut_endpoint e c.args.text.now c.split_once.result c.split_once.ensures.cases bounds is in
     let parts = rw c.in_ok-host.was at cut in
-    let host = c.number.ensures.found e.host (omega (arith, c.from.ensures, bounds)) parts.0 in
+    let host = c.parse_decimal.ensures.found e.host (omega (arith, c.from.ensures, bounds)) parts.0 in
     cc (host, c.in_err-host-2.was)
 
 pub returns-in_err-port-clause-found : goal.returns-in_err-port-clause-found
 returns-in_err-port-clause-found c = λ e bounds is.
     let cut = cut_endpoint e c.args.text.now c.split_once.result c.split_once.ensures.cases bounds is in
     let parts = rw c.in_ok-host.was at cut in
-    let port = c.number-2.ensures.found e.port (omega (arith, c.from-2.ensures, bounds)) parts.1 in
+    let port = c.parse_decimal-2.ensures.found e.port (omega (arith, c.from-2.ensures, bounds)) parts.1 in
     cc (port, c.in_err-port.was)
 
 pub returns-clause-found : goal.returns-clause-found
 returns-clause-found c = λ e bounds is.
     let cut = cut_endpoint e c.args.text.now c.split_once.result c.split_once.ensures.cases bounds is in
     let parts = rw c.in_ok-host.was at cut in
-    let host = c.number.ensures.found e.host (omega (arith, c.from.ensures, bounds)) parts.0 in
-    let port = c.number-2.ensures.found e.port (omega (arith, c.from-2.ensures, bounds)) parts.1 in
+    let host = c.parse_decimal.ensures.found e.host (omega (arith, c.from.ensures, bounds)) parts.0 in
+    let port = c.parse_decimal-2.ensures.found e.port (omega (arith, c.from-2.ensures, bounds)) parts.1 in
     let same_host : c.from-3.result ≡ e.host = cc (c.from-3.ensures, host, c.in_ok-host-2.was) in
     let same_port : c.in_ok-port.port ≡ e.port = cc (port, c.in_ok-port.was) in
     rw (same_host, same_port)

@@ -1,6 +1,6 @@
 use Rattle.std.proofs.Common.{◌≡◌, ◌^◌, ◌<◌, true, false, sym, ◌∙◌, arith}
-use Rattle.servient_cli.proofs.DecimalTexts.{decimal_from_parse, has_sign_or_leading_zero, no_sign_or_leading_zero, parse_gives_number}
-use Rattle.servient_cli.proofs.script.number.Goals as goal
+use Rattle.servient_base.proofs.DecimalTexts.{decimal_from_parse, has_sign_or_leading_zero, no_sign_or_leading_zero, parse_gives_number}
+use Rattle.servient_base.proofs.decimal.parse_decimal.Goals as goal
 
 pub returns-then-has_sign_or_leading_zero-clause-found : goal.returns-then-has_sign_or_leading_zero-clause-found
 returns-then-has_sign_or_leading_zero-clause-found c = λ n bound is.

@@ -1,4 +1,4 @@
--- Numbers in decimal, as the fields of a script have them.
+-- Numbers in decimal, as scripts and pointers have them.
 use Rattle.std.proofs.Common.{◌≡◌, ◌≢◌, ℕ, ◌^◌, ◌<◌, ◌≤◌, List, ◌∷◌, ◌++◌, length, get_or, slice_index, nat_lt, decimal, Bool, true, false, ◌==◌, ◌||◌, ◌&&◌, Option, Result, Ok, MatchOption, Bor, sym, ap, subst, ◌∙◌, arith, inl, inr}
 use Rattle.std.specs.Int.{IsInRange}
 use Rattle.std.specs.Result.{OkIff}

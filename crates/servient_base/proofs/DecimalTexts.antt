@@ -17,6 +17,10 @@ numerals = numerals_by_value (AllDigits 10) tells_digits
 pub AllDigits-decimal : (n : ℕ) → n < 2 ^ 64 → AllDigits 10 (decimal n)
 AllDigits-decimal n fits = ((decimal_is_IsNumeral n fits).0).1
 
+-- each of its bytes is a digit
+pub decimal_digit_at : (n : ℕ) → n < 2 ^ 64 → (k : ℕ) → k < length (decimal n) → IsInRange 48 57 (get_or (decimal n) k 0)
+decimal_digit_at n fits k within = digit_at (decimal n) k (AllDigits-decimal n fits) within
+
 -- its first byte is a digit
 first_digit : (n : ℕ) → n < 2 ^ 64 → IsInRange 48 57 (get_or (decimal n) 0 0)
 first_digit n fits = digit_at (decimal n) 0 (AllDigits-decimal n fits) (decimal_nonempty n fits)

@@ -2,24 +2,17 @@
 use Rattle.std.proofs.Common.{◌≡◌, ℕ, zero, suc, ◌+◌, ◌<◌, List, [], ◌∷◌, ◌↔◌, IsTrue, Bool, ◌++◌, map, length, get_or, take, false, refl, sym, ap, subst, ◌∙◌, arith}
 use mathlib.Core.Bool.{false≢true}
 use Rattle.std.proofs.lemmas.List.{map_more, get_or-map}
-use Rattle.wot_json.specs.Tree.{Json, array, object, Elements, no_elements, element, Members, no_members, member, elements_of, members_of}
+use Rattle.wot_json.specs.Tree.{Json, array, object, elements_of, members_of}
+use Rattle.wot_json.specs.Lookup.{listed, listed_members}
 use Rattle.wot_json.specs.Meaning.{json_of, json_items, json_members}
 use Rattle.wot_json.specs.declared.tree.Tree.{Tree}
 
--- the list of the elements
-abbrev pub listed : Elements → List Json
-listed no_elements = []
-listed (element v es) = v ∷ listed es
-
+-- the elements of an array are its elements
 pub listed_lem : (vs : List Json) → listed (elements_of vs) ≡ vs
 listed_lem [] = refl
 listed_lem (v ∷ vs) = ap (λ (ws : List Json). v ∷ ws) (listed_lem vs)
 
--- the list of the members
-abbrev pub listed_members : Members → List (List ℕ × Json)
-listed_members no_members = []
-listed_members (member n v ms) = (n, v) ∷ listed_members ms
-
+-- the members of an object are its members
 pub listed_members_lem : (ms : List (List ℕ × Json)) → listed_members (members_of ms) ≡ ms
 listed_members_lem [] = refl
 listed_members_lem (m ∷ ms) = ap (λ (ns : List (List ℕ × Json)). m ∷ ns) (listed_members_lem ms)

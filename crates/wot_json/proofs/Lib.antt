@@ -1,3 +1,4 @@
+pub mod PointerTexts
 pub mod EqualTrees
 pub mod Nesting
 pub mod NameLookup

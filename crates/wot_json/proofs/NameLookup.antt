@@ -1,11 +1,13 @@
 -- Which member a search by halving finds among names in order.
-use Rattle.std.proofs.Common.{◌≡◌, ◌≢◌, ℕ, zero, suc, ◌+◌, ◌<◌, ◌≤◌, List, [], ◌∷◌, length, get_or, Option, Some, None, Bool, true, false, if◌then◌else◌, refl, sym, ap, subst, ◌∙◌, arith, map}
+use Rattle.std.proofs.Common.{◌≡◌, ◌≢◌, ℕ, zero, suc, ◌+◌, ◌<◌, ◌≤◌, List, [], ◌∷◌, length, get_or, Option, Some, None, Bool, true, false, if◌then◌else◌, refl, sym, ap, subst, inl, inr, ◌∙◌, arith, map}
 use Rattle.std.specs.Str.{bytes_eq}
 use Rattle.std.specs.Ordering.{nat_cmp, ordering_index, ordering_reverse, is_eq, is_lt}
 use Rattle.std.specs.declared.cmp.Ordering.{Ordering}
 use Rattle.std.specs.declared.cmp.Ordering.TheVariants.{Less, Equal, Greater}
 use Rattle.std.specs.Cmp.Lexicographic.{slice_cmp, nat_list_cmp_total}
-use Rattle.std.specs.List.Sorted.{IsSortedBy, IsNonDecreasingBy}
+use Rattle.std.specs.List.{HoldsAt}
+use Rattle.std.specs.List.Sorted.{IsNonDecreasingBy, IsPartitionPoint}
+use Rattle.std.proofs.lemmas.Bool.{cases_lt}
 use Rattle.std.proofs.lemmas.List.Sorted.{searchable_from_sorted}
 use Rattle.std.proofs.lemmas.Cmp.{alike_right}
 use Rattle.std.proofs.lemmas.Map.Text.{is_eq-slice_cmp}
@@ -13,6 +15,7 @@ use Rattle.wot_json.specs.Tree.{Json, AreOrdered}
 use Rattle.wot_json.specs.Meaning.{json_of, json_members}
 use Rattle.wot_json.specs.Lookup.{member_named}
 use Rattle.wot_json.specs.declared.tree.Tree.{Tree}
+use Rattle.wot_json.specs.declared.tree.Tree.TheVariants as tree
 
 abbrev Named : Type 0
 Named = List ℕ × Tree
@@ -63,3 +66,26 @@ none_found [] name d others = refl
 none_found (m ∷ ms) name d others =
     let first = others 0 (omega arith) in
     rw (eq_from_cmp m.0 name first.0 first.1 ∙ first.2) (none_found ms name d (λ k within. others (suc k) (omega arith)))
+
+-- how a name of the list compares to the one that is looked for
+abbrev pub order_of : List ℕ → Named → Ordering
+order_of name m = slice_cmp nat_cmp m.0 name
+
+-- a search by halving that ends at a member, found the member of this name
+pub found_by_halving : (ms slice : List Named) (vs : List (List ℕ × Json)) (name : List ℕ) (k : ℕ) (m : Named) → slice ≡ ms → json_members ms ≡ vs → AreOrdered (json_members ms)
+    → k < length slice → HoldsAt (λ n. order_of name n ≡ Equal) slice k → m ≡ get_or ms k m → Some (json_of m.1) ≡ member_named name vs
+found_by_halving ms slice vs name k m slice_is vs_is ordered within equal m_is =
+    let same : order_of name (get_or ms k m) ≡ Equal = rw slice_is at (equal m) in
+    ap (λ (n : Named). Some (json_of n.1)) m_is ∙ found_at ms name k m ordered (rw slice_is at within) same ∙ ap (member_named name) vs_is
+
+-- one that ends between two members, found that no member has this name
+pub missing_by_halving : (ms slice : List Named) (vs : List (List ℕ × Json)) (name : List ℕ) (i : ℕ) → slice ≡ ms → json_members ms ≡ vs → AreOrdered (json_members ms)
+    → (IsNonDecreasingBy (λ n. ordering_index (order_of name n)) slice → IsPartitionPoint (λ n. order_of name n ≡ Less) (λ n. order_of name n ≡ Greater) slice i) → None ≡ member_named name vs
+missing_by_halving ms slice vs name i slice_is vs_is ordered parted =
+    let d : Named = (name, tree.Null) in
+    let parts = parted (rw slice_is (comparisons_rise ms name ordered)) in
+    none_found ms name d (λ k within. elim (cases_lt k i) [
+      | inl below ↦ (Less, rw slice_is at (parts.0 k d (omega arith) below), refl)
+      | inr above ↦ (Greater, rw slice_is at (parts.1 k d above (rw slice_is within)), refl)
+    ])
+    ∙ ap (member_named name) vs_is

@@ -5,3 +5,4 @@ pub mod Json
 pub mod Writing
 pub mod Lookup
 pub mod Places
+pub mod Pointer

@@ -7,6 +7,7 @@
 
 mod bytes;
 mod equality;
+mod lookup;
 mod places;
 #[cfg(test)]
 mod tests;
@@ -16,6 +17,7 @@ mod writing;
 
 pub use bytes::Bytes;
 pub use equality::is_equal;
+pub use lookup::{BadPointer, pointer};
 pub use places::{below, below_index};
 pub use servient_base::NoMemory;
 pub use text::Text;

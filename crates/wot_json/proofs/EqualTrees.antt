@@ -19,15 +19,17 @@ listed_members_lem (m ∷ ms) = ap (λ (ns : List (List ℕ × Json)). m ∷ ns)
 
 -- arrays are the same where their elements are
 pub arrays_equal : (xs ys : List Json) (r : Bool) → (IsTrue r ↔ (xs ≡ ys)) → IsTrue r ↔ (array (elements_of xs) ≡ array (elements_of ys))
-arrays_equal xs ys r e =
-    (λ yes'. ap (λ (vs : List Json). array (elements_of vs)) (e.0 yes'),
-     λ same. let inside : elements_of xs ≡ elements_of ys = cc in e.1 (sym (listed_lem xs) ∙ ap listed inside ∙ listed_lem ys))
+arrays_equal xs ys r e = (
+  λ yes'. ap (λ (vs : List Json). array (elements_of vs)) (e.0 yes'),
+  λ same. let inside : elements_of xs ≡ elements_of ys = cc in e.1 (sym (listed_lem xs) ∙ ap listed inside ∙ listed_lem ys),
+)
 
 -- objects are the same where their members are
 pub objects_equal : (xs ys : List (List ℕ × Json)) (r : Bool) → (IsTrue r ↔ (xs ≡ ys)) → IsTrue r ↔ (object (members_of xs) ≡ object (members_of ys))
-objects_equal xs ys r e =
-    (λ yes'. ap (λ (ms : List (List ℕ × Json)). object (members_of ms)) (e.0 yes'),
-     λ same. let inside : members_of xs ≡ members_of ys = cc in e.1 (sym (listed_members_lem xs) ∙ ap listed_members inside ∙ listed_members_lem ys))
+objects_equal xs ys r e = (
+  λ yes'. ap (λ (ms : List (List ℕ × Json)). object (members_of ms)) (e.0 yes'),
+  λ same. let inside : members_of xs ≡ members_of ys = cc in e.1 (sym (listed_members_lem xs) ∙ ap listed_members inside ∙ listed_members_lem ys),
+)
 
 -- two lists that stand for the same so far, and at the next place
 pub same_more : {X Y : Type 0} (f : X → Y) (xs ys : List X) (i : ℕ) (d : X) → i < length xs → i < length ys → map f (take i xs) ≡ map f (take i ys) → f (get_or xs i d) ≡ f (get_or ys i d) → map f (take (i + 1) xs) ≡ map f (take (i + 1) ys)
@@ -36,6 +38,7 @@ same_more {X} {Y} f xs ys i d in_xs in_ys before here =
 
 -- two lists that stand for different things at a place aren't the same
 pub differ_at : {X Y : Type 0} (f : X → Y) (xs ys : List X) (i : ℕ) (x y : X) (vs ws : List Y) (r : Bool) → i < length xs → i < length ys → x ≡ get_or xs i x → y ≡ get_or ys i y → map f xs ≡ vs → map f ys ≡ ws → r ≡ false → (f x ≡ f y → IsTrue r) → IsTrue false ↔ (vs ≡ ws)
-differ_at {X} {Y} f xs ys i x y vs ws r in_xs in_ys x_is y_is vs_is ws_is differs tested =
-    (λ never. absurd (false≢true never),
-     λ same. subst IsTrue differs (tested (ap f x_is ∙ sym (get_or-map f xs i x (f x) in_xs) ∙ ap (λ (us : List Y). get_or us i (f x)) (vs_is ∙ same ∙ sym ws_is) ∙ get_or-map f ys i y (f x) in_ys ∙ sym (ap f y_is))))
+differ_at {X} {Y} f xs ys i x y vs ws r in_xs in_ys x_is y_is vs_is ws_is differs tested = (
+  λ never. absurd (false≢true never),
+  λ same. subst IsTrue differs (tested (ap f x_is ∙ sym (get_or-map f xs i x (f x) in_xs) ∙ ap (λ (us : List Y). get_or us i (f x)) (vs_is ∙ same ∙ sym ws_is) ∙ get_or-map f ys i y (f x) in_ys ∙ sym (ap f y_is))),
+)

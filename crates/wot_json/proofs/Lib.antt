@@ -1,3 +1,6 @@
+pub mod MergeLaws
+pub mod MemberOrder
+pub mod MemberCuts
 pub mod PointerTexts
 pub mod EqualTrees
 pub mod Nesting
@@ -5,4 +8,3 @@ pub mod NameLookup
 pub mod Pieces
 pub mod TreeTexts
 pub mod Tokens
-

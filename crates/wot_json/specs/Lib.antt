@@ -6,3 +6,5 @@ pub mod Writing
 pub mod Lookup
 pub mod Places
 pub mod Pointer
+pub mod Merge
+pub mod Cutting

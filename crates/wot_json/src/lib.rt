@@ -8,6 +8,7 @@
 mod bytes;
 mod equality;
 mod lookup;
+mod merging;
 mod places;
 #[cfg(test)]
 mod tests;
@@ -18,6 +19,7 @@ mod writing;
 pub use bytes::Bytes;
 pub use equality::is_equal;
 pub use lookup::{BadPointer, pointer};
+pub use merging::merge_patch;
 pub use places::{below, below_index};
 pub use servient_base::NoMemory;
 pub use text::Text;

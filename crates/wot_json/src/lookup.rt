@@ -71,7 +71,7 @@ fn value_at_tokens<'a>(tree: &'a Tree, tokens: &str) -> Option<&'a Tree>
 fn first_token(tokens: &str) -> (&str, Option<&str>)
     ensures cut { (token : List ℕ) → (further : List (List ℕ)) → tokens.now ≡ token_text token ++ place_text further
         → (result.0.now ≡ token_text token) × MatchOption result.1 (further ≡ [])
-            (λ rest. (next : List ℕ) × (more : List (List ℕ)) × (further ≡ next ∷ more) × (rest.now ≡ token_text next ++ place_text more)) }
+        (λ rest. (next : List ℕ) × (more : List (List ℕ)) × (further ≡ next ∷ more) × (rest.now ≡ token_text next ++ place_text more)) }
     ensures shorter { IfSome result.1 (λ rest. length rest.now < length tokens.now) }
 {
     match tokens.split_once('/') {

@@ -11,7 +11,7 @@ returns-in-Some c = λ name is.
     let only : (n : ℕ) → n < 2 ^ 64 → name ≡ decimal n → c.in-Some.index ≡ n = λ n fits digits. cc (read.found n (omega arith) (is ∙ ap token_text digits ∙ number_token n fits)) in
     element_read list.result.now c.args.items.now c.in-Some.index c.get.result list.ensures c.get.ensures.lookup.3
     ∙ element_found name c.args.items.now 0 c.in-Some.index (number_name name c.args.token.now c.in-Some.index (omega (arith, read.bound)) is read.text) only (omega arith)
-      (few_elements list.result.now c.args.items.now list.ensures (omega (arith, list.type_inv)))
+    (few_elements list.result.now c.args.items.now list.ensures (omega (arith, list.type_inv)))
 
 pub returns-in-None : goal.returns-in-None
 returns-in-None c = λ name is.

@@ -1,3 +1,5 @@
+pub mod OrderedTrees
+pub mod MergeTwice
 pub mod MergeLaws
 pub mod MemberOrder
 pub mod MemberCuts

@@ -70,7 +70,7 @@ with_behind name w [] before = refl
 with_behind name w (m ∷ ms) before = rw before.0
 
 -- a name compares and tests as equal to itself
-itself : (name : List ℕ) → (slice_cmp nat_cmp name name ≡ Equal) × (bytes_eq name name ≡ true)
+pub itself : (name : List ℕ) → (slice_cmp nat_cmp name name ≡ Equal) × (bytes_eq name name ≡ true)
 itself name = elim (compares name name) [
   | less is test ↦ absurd (no_less name is)
   | equal is same test ↦ (is, test)
@@ -98,11 +98,11 @@ changed_first name (array es) w (Some x) behind before = rw (itself name).0
 changed_first name (object os) w None behind before = with_behind name w behind before
 changed_first name (object os) w (Some x) behind before = rw (itself name).0
 
-named_fronts : (name : List ℕ) (before ms : List Field) → StandsBehindAll name before → member_named name (before ++ ms) ≡ member_named name ms
+pub named_fronts : (name : List ℕ) (before ms : List Field) → StandsBehindAll name before → member_named name (before ++ ms) ≡ member_named name ms
 named_fronts name [] ms behind = refl
 named_fronts name (m ∷ before) ms behind = named_front name m (before ++ ms) behind.0 ∙ named_fronts name before ms behind.1
 
-changed_fronts : (name : List ℕ) (v w : Json) (before ms : List Field) → StandsBehindAll name before → changed name v w (before ++ ms) ≡ before ++ changed name v w ms
+pub changed_fronts : (name : List ℕ) (v w : Json) (before ms : List Field) → StandsBehindAll name before → changed name v w (before ++ ms) ≡ before ++ changed name v w ms
 changed_fronts name v w [] ms behind = refl
 changed_fronts name v w (m ∷ before) ms behind =
     changed_front name v w m (before ++ ms) behind.0 ∙ ap (λ (xs : List Field). m ∷ xs) (changed_fronts name v w before ms behind.1)

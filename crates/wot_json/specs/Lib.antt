@@ -8,3 +8,4 @@ pub mod Places
 pub mod Pointer
 pub mod Merge
 pub mod Cutting
+pub mod Order

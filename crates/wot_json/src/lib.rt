@@ -7,6 +7,7 @@
 
 mod bytes;
 mod equality;
+mod laws;
 mod lookup;
 mod merging;
 mod places;
@@ -18,6 +19,7 @@ mod writing;
 
 pub use bytes::Bytes;
 pub use equality::is_equal;
+pub use laws::{merging_twice, names_are_ordered};
 pub use lookup::{BadPointer, pointer};
 pub use merging::merge_patch;
 pub use places::{below, below_index};

@@ -8,6 +8,9 @@ ghost use Rattle.wot_json.specs.Meaning.{json_of};
 ghost use Rattle.wot_json.specs.Places.{token_text, place_text};
 ghost use Rattle.wot_json.specs.Pointer.{IsPointer, escapes, element_at, part_at, value_at};
 
+#[cfg(test)]
+mod tests;
+
 use crate::{Items, Members, Text, Tree};
 use servient_base::parse_decimal;
 use std::cmp::Ordering;

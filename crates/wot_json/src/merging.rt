@@ -7,6 +7,9 @@ ghost use Rattle.wot_json.specs.Meaning.{json_of, json_members};
 ghost use Rattle.wot_json.specs.Merge.{merge, merged, members_under, added};
 ghost use Rattle.wot_json.specs.Tree.{AreOrdered, members_of, null};
 
+#[cfg(test)]
+mod tests;
+
 use crate::{Members, Text, Tree, copy};
 use servient_base::NoMemory;
 use std::alloc::Global;

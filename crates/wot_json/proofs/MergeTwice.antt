@@ -8,7 +8,7 @@ use Rattle.wot_json.specs.Tree.{Json, null, boolean, integer, string, array, obj
 use Rattle.wot_json.specs.Lookup.{member_named, listed_members}
 use Rattle.wot_json.specs.Cutting.{StandsBefore, StandsBeforeAll, StandsBehindAll, with_first}
 use Rattle.wot_json.specs.Merge.{with_member, without_member, changed, merge, merged, members_under}
-use Rattle.wot_json.specs.Order.{HasOrder, MembersHaveOrder}
+use Rattle.wot_json.specs.WellFormed.{IsWellFormed, MembersAreWellFormed}
 use Rattle.wot_json.proofs.EqualTrees.{listed_members_lem}
 use Rattle.wot_json.proofs.MemberOrder.{Compares, less, equal, greater, compares, before_other, before_others, rest_ordered}
 use Rattle.wot_json.proofs.MergeLaws.{itself, named_fronts, changed_fronts}
@@ -208,18 +208,18 @@ made_again name (object os) ms same (x, holds) =
     ∙ ap (λ (w : Json). with_member name w ms) (same x) ∙ with_held name (merge x (object os)) ms holds
 
 mutual
-  pub merges_twice : (p : Json) → HasOrder p → (t : Json) → merge (merge t p) p ≡ merge t p
-  merges_twice null order t = refl
-  merges_twice (boolean b) order t = refl
-  merges_twice (integer z) order t = refl
-  merges_twice (string s) order t = refl
-  merges_twice (array es) order t = refl
-  merges_twice (object changes) order t =
+  pub merges_twice : (p : Json) → IsWellFormed p → (t : Json) → merge (merge t p) p ≡ merge t p
+  merges_twice null formed t = refl
+  merges_twice (boolean b) formed t = refl
+  merges_twice (integer z) formed t = refl
+  merges_twice (string s) formed t = refl
+  merges_twice (array es) formed t = refl
+  merges_twice (object changes) formed t =
       let once : List Field = merged (members_under t) changes in
       ap (λ (xs : List Field). object (members_of (merged xs changes))) (listed_members_lem once)
-      ∙ ap (λ (xs : List Field). object (members_of xs)) (changes_again changes order.1 once (are_made (members_under t) changes order.0))
+      ∙ ap (λ (xs : List Field). object (members_of xs)) (changes_again changes formed.1 once (are_made (members_under t) changes formed.0))
 
-  changes_again : (changes : Members) → MembersHaveOrder changes → (ms : List Field) → AreMade changes ms → merged ms changes ≡ ms
-  changes_again no_members order ms made = refl
-  changes_again (member n v changes) order ms made =
-      ap (λ (xs : List Field). merged xs changes) (made_again n v ms (merges_twice v order.0) made.0) ∙ changes_again changes order.1 ms made.1
+  changes_again : (changes : Members) → MembersAreWellFormed changes → (ms : List Field) → AreMade changes ms → merged ms changes ≡ ms
+  changes_again no_members formed ms made = refl
+  changes_again (member n v changes) formed ms made =
+      ap (λ (xs : List Field). merged xs changes) (made_again n v ms (merges_twice v formed.1) made.0) ∙ changes_again changes formed.2 ms made.1

@@ -8,4 +8,6 @@ pub mod Places
 pub mod Pointer
 pub mod Merge
 pub mod Cutting
-pub mod Order
+pub mod WellFormed
+pub mod Reading
+pub mod Faults

@@ -1,37 +1,60 @@
-//! Laws of trees, as contracts of functions that nothing calls.
+//! Laws of trees and their texts, as contracts of functions that no code needs to call.
 
-ghost use Rattle.std.specs.Prelude.{◌≡◌};
+ghost use Rattle.std.specs.Prelude.{◌≡◌, ◌≤◌, Some};
+ghost use Rattle.wot_json.specs.Json.{text_of};
 ghost use Rattle.wot_json.specs.Meaning.{json_of};
 ghost use Rattle.wot_json.specs.Merge.{merge};
-ghost use Rattle.wot_json.specs.Order.{HasOrder};
+ghost use Rattle.wot_json.specs.Reading.{tree_of, max_depth};
+ghost use Rattle.wot_json.specs.Tree.{Json, elements_of, members_of, AreOrdered};
+ghost use Rattle.wot_json.specs.WellFormed.{depth, IsWellFormed, ElementsAreWellFormed, MembersAreWellFormed};
 
-use crate::Tree;
+use crate::{Items, Members, Tree};
+
+/// The text of a value that nests no deeper than is allowed is read as that value.
+pub fn text_is_read_back()
+    ensures { (v : Json) → IsWellFormed v → depth v ≤ max_depth → tree_of (text_of v) ≡ Some v }
+{}
 
 /// Merging a patch twice is merging it once.
-pub fn merging_twice(target: &Tree, patch: &Tree)
-    ensures { merge (merge (json_of target.now) (json_of patch.now)) (json_of patch.now)
-        ≡ merge (json_of target.now) (json_of patch.now) }
-{
-    names_are_ordered(patch);
-}
+pub fn merging_twice_is_merging_once()
+    ensures { (target patch : Json) → IsWellFormed patch → merge (merge target patch) patch ≡ merge target patch }
+{}
 
-/// The members of every object in a tree stand in the byte order of their names, each name once: it goes
-/// through the tree and opens each object, whose type says so.
-#[cycle(order)]
-pub fn names_are_ordered(tree: &Tree)
-    ensures { HasOrder (json_of tree.now) }
+/// Each tree is well formed, so that the laws above hold of it. It goes through the whole tree.
+#[cycle(formed)]
+pub fn tree_is_well_formed(tree: &Tree)
+    ensures { IsWellFormed (json_of tree.now) }
 {
     match tree {
-        Tree::List(items) => {
-            for item in &items.list {
-                names_are_ordered(item);
-            }
+        Tree::Null => {}
+        Tree::Bool(_truth) => {}
+        Tree::Int(number) => {
+            let _fits = *number;
         }
-        Tree::Obj(members) => {
-            for member in &members.list {
-                names_are_ordered(&member.1);
-            }
+        Tree::Text(text) => {
+            let _utf8 = text.as_str();
         }
-        _ => {}
+        Tree::List(items) => items_are_well_formed(items),
+        Tree::Obj(members) => members_are_well_formed(members),
+    }
+}
+
+#[cycle(formed)]
+fn items_are_well_formed(items: &Items)
+    ensures { ElementsAreWellFormed (elements_of items.now) }
+{
+    for item in &items.list {
+        tree_is_well_formed(item);
+    }
+}
+
+#[cycle(formed)]
+fn members_are_well_formed(members: &Members)
+    ensures ordered { AreOrdered members.now }
+    ensures members { MembersAreWellFormed (members_of members.now) }
+{
+    for (name, member) in &members.list {
+        let _utf8 = name.as_str();
+        tree_is_well_formed(member);
     }
 }

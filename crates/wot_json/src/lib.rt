@@ -1,8 +1,9 @@
 //! JSON trees: their values, their text, and the texts and byte lists that the crates above keep.
 //!
 //! A `Tree` is a JSON value (RFC 8259) whose numbers are whole and have 64 bits with sign; the members of an
-//! object have distinct names and stand in their byte order. `write` and `text_of` give the one text of a tree,
-//! `json_text` of `specs/Json.antt`, and `quoted` that of a text.
+//! object have distinct names and stand in their byte order. `read` gives the tree of a JSON text; `write` and
+//! `text_of` give the one text of a tree, `json_text` of `specs/Json.antt`, and `quoted` that of a text. `pointer`
+//! finds what stands at a place (RFC 6901), and `merge_patch` changes one tree by another (RFC 7396).
 #![tactic(auto)]
 
 mod bytes;
@@ -11,6 +12,7 @@ mod laws;
 mod lookup;
 mod merging;
 mod places;
+mod reading;
 #[cfg(test)]
 mod tests;
 mod text;
@@ -19,10 +21,11 @@ mod writing;
 
 pub use bytes::Bytes;
 pub use equality::is_equal;
-pub use laws::{merging_twice, names_are_ordered};
+pub use laws::{merging_twice_is_merging_once, text_is_read_back, tree_is_well_formed};
 pub use lookup::{BadPointer, pointer};
 pub use merging::merge_patch;
 pub use places::{below, below_index};
+pub use reading::{ReadFault, read};
 pub use servient_base::NoMemory;
 pub use text::Text;
 pub use tree::{Items, Members, Tree, copy};

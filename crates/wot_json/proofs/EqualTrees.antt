@@ -1,11 +1,9 @@
 -- When two arrays and two objects are the same value.
-use Rattle.std.proofs.Common.{◌≡◌, ℕ, zero, suc, ◌+◌, ◌<◌, List, [], ◌∷◌, ◌↔◌, IsTrue, Bool, ◌++◌, map, length, get_or, take, false, refl, sym, ap, subst, ◌∙◌, arith}
+use Rattle.std.proofs.Common.{◌≡◌, ℕ, ◌+◌, ◌<◌, List, [], ◌∷◌, ◌↔◌, IsTrue, Bool, ◌++◌, map, length, get_or, take, false, refl, sym, ap, subst, ◌∙◌}
 use mathlib.Core.Bool.{false≢true}
 use Rattle.std.proofs.lemmas.List.{map_more, get_or-map}
 use Rattle.wot_json.specs.Tree.{Json, array, object, elements_of, members_of}
 use Rattle.wot_json.specs.Lookup.{listed, listed_members}
-use Rattle.wot_json.specs.Meaning.{json_of, json_items, json_members}
-use Rattle.wot_json.specs.declared.tree.Tree.{Tree}
 
 -- the elements of an array are its elements
 pub listed_lem : (vs : List Json) → listed (elements_of vs) ≡ vs

@@ -1,16 +1,15 @@
 -- Members in order, cut at a name.
-use Rattle.std.proofs.Common.{◌≡◌, ◌≢◌, ℕ, zero, suc, ◌+◌, ◌<◌, ◌≤◌, List, [], ◌∷◌, ◌++◌, length, get_or, take, drop, map, Option, Some, None, Bool, true, false, refl, sym, ap, subst, ◌∙◌, arith, length-drop}
+use Rattle.std.proofs.Common.{◌≡◌, ℕ, zero, suc, ◌+◌, ◌<◌, ◌≤◌, List, [], ◌∷◌, ◌++◌, length, get_or, take, drop, Some, None, refl, sym, ap, subst, ◌∙◌, arith, length-drop}
 use Rattle.std.specs.Ordering.{nat_cmp, ordering_reverse, is_eq}
 use Rattle.std.specs.declared.cmp.Ordering.{Ordering}
 use Rattle.std.specs.declared.cmp.Ordering.TheVariants.{Less, Equal, Greater}
 use Rattle.std.specs.Cmp.Lexicographic.{slice_cmp, nat_list_cmp_total}
-use Rattle.std.specs.Str.{bytes_eq}
 use Rattle.std.proofs.lemmas.List.{map-append, take-append-drop, get_or-drop}
 use Rattle.std.proofs.lemmas.Map.Text.{is_eq-slice_cmp}
 use Rattle.std.proofs.lemmas.Slice.Eq.{bytes_eq-Decides}
-use Rattle.wot_json.specs.Tree.{Json, AreOrdered}
+use Rattle.wot_json.specs.Tree.{AreOrdered}
 use Rattle.wot_json.specs.Meaning.{json_of, json_members, json_member}
-use Rattle.wot_json.specs.Cutting.{IsCutAt, StandsBefore, StandsBeforeAll, StandsBehindAll, with_first}
+use Rattle.wot_json.specs.Cutting.{IsCutAt, StandsBefore, StandsBeforeAll, StandsBehindAll}
 use Rattle.wot_json.specs.declared.tree.Tree.{Tree}
 use Rattle.wot_json.specs.declared.tree.Tree.TheVariants as tree
 use Rattle.wot_json.proofs.NameLookup.{rest_ordered}

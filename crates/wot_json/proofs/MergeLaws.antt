@@ -1,14 +1,14 @@
 -- Laws of merge patch.
-use Rattle.std.proofs.Common.{◌≡◌, ◌≢◌, ℕ, List, [], ◌∷◌, ◌++◌, Option, Some, None, unwrap_or, Bool, true, false, if◌then◌else◌, refl, sym, ap, subst, ◌∙◌, append_assoc}
-use Rattle.std.specs.Ordering.{nat_cmp, match_ordering}
-use Rattle.std.specs.declared.cmp.Ordering.TheVariants.{Less, Equal, Greater}
+use Rattle.std.proofs.Common.{◌≡◌, ℕ, List, [], ◌∷◌, ◌++◌, Option, Some, None, unwrap_or, true, refl, sym, ap, subst, ◌∙◌, append_assoc}
+use Rattle.std.specs.Ordering.{nat_cmp}
+use Rattle.std.specs.declared.cmp.Ordering.TheVariants.{Equal}
 use Rattle.std.specs.Cmp.Lexicographic.{slice_cmp, nat_list_cmp_total}
 use Rattle.std.specs.Str.{bytes_eq}
 use Rattle.wot_json.specs.Tree.{Json, null, boolean, integer, string, array, object, Members, no_members, member, members_of, AreOrdered}
-use Rattle.wot_json.specs.Lookup.{member_named, listed_members}
+use Rattle.wot_json.specs.Lookup.{member_named}
 use Rattle.wot_json.specs.Cutting.{IsCutAt, StandsBefore, StandsBeforeAll, StandsBehindAll, with_first}
-use Rattle.wot_json.specs.Merge.{with_member, without_member, changed, added, merge, merged, members_under}
-use Rattle.wot_json.proofs.MemberOrder.{Compares, less, equal, greater, compares, behind_Greater, behind_other, before_other, rest_ordered, before_all, before_others, ordered_with}
+use Rattle.wot_json.specs.Merge.{with_member, without_member, changed, added, merge, merged}
+use Rattle.wot_json.proofs.MemberOrder.{less, equal, greater, compares, behind_Greater, behind_other, before_other, rest_ordered, before_others, ordered_with}
 
 abbrev Field : Type 0
 Field = List ℕ × Json

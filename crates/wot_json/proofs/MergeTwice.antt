@@ -1,16 +1,15 @@
 -- Merging a patch twice is merging it once.
-use Rattle.std.proofs.Common.{◌≡◌, ◌≢◌, ℕ, List, [], ◌∷◌, ◌++◌, Option, Some, None, unwrap_or, Bool, true, false, refl, sym, ap, subst, ◌∙◌}
+use Rattle.std.proofs.Common.{◌≡◌, ℕ, List, [], ◌∷◌, ◌++◌, Option, Some, unwrap_or, true, false, refl, sym, ap, subst, ◌∙◌}
 use mathlib.Core.Bool.{false≢true}
-use Rattle.std.specs.Ordering.{nat_cmp}
-use Rattle.std.specs.Cmp.Lexicographic.{slice_cmp, nat_list_cmp_total}
+use Rattle.std.specs.Cmp.Lexicographic.{nat_list_cmp_total}
 use Rattle.std.specs.Str.{bytes_eq}
-use Rattle.wot_json.specs.Tree.{Json, null, boolean, integer, string, array, object, Elements, Members, no_members, member, members_of, AreOrdered}
+use Rattle.wot_json.specs.Tree.{Json, null, boolean, integer, string, array, object, Members, no_members, member, members_of, AreOrdered}
 use Rattle.wot_json.specs.Lookup.{member_named, listed_members}
-use Rattle.wot_json.specs.Cutting.{StandsBefore, StandsBeforeAll, StandsBehindAll, with_first}
+use Rattle.wot_json.specs.Cutting.{StandsBefore, StandsBeforeAll, StandsBehindAll}
 use Rattle.wot_json.specs.Merge.{with_member, without_member, changed, merge, merged, members_under}
 use Rattle.wot_json.specs.WellFormed.{IsWellFormed, MembersAreWellFormed}
 use Rattle.wot_json.proofs.EqualTrees.{listed_members_lem}
-use Rattle.wot_json.proofs.MemberOrder.{Compares, less, equal, greater, compares, before_other, before_others, rest_ordered}
+use Rattle.wot_json.proofs.MemberOrder.{less, equal, greater, compares, before_other, before_others, rest_ordered}
 use Rattle.wot_json.proofs.MergeLaws.{itself, named_fronts, changed_fronts}
 
 abbrev Field : Type 0

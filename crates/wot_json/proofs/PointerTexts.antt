@@ -5,10 +5,9 @@ use Rattle.std.specs.List.{HoldsAt}
 use Rattle.std.proofs.lemmas.List.{length-map}
 use Rattle.std.specs.Cmp.Lexicographic.{slice_cmp}
 use Rattle.std.specs.Ordering.{nat_cmp, ordering_then}
-use Rattle.std.specs.declared.cmp.Ordering.TheVariants.{Less, Equal, Greater}
-use Rattle.std.specs.Prelude.{slice_get, decimal, if◌then◌else◌, Bool, true, false, option_map, MatchOption, Option, Some, None, ◌-◌, ◌^◌}
+use Rattle.std.specs.declared.cmp.Ordering.TheVariants.{Greater}
+use Rattle.std.specs.Prelude.{slice_get, decimal, Bool, true, false, option_map, MatchOption, Option, Some, None, ◌-◌, ◌^◌}
 use Rattle.std.specs.Str.{bytes_eq}
-use Rattle.std.specs.Int.{IsInRange}
 use mathlib.Core.Bool.{false≢true}
 use Rattle.std.proofs.lemmas.Bool.{cases_eq}
 use Rattle.std.proofs.lemmas.Slice.Eq.{bytes_eq-Decides}

@@ -20,10 +20,13 @@ fn found<R: Abort>(rt: &R, alloc: Global, tree: &Tree, at: &str) -> Result<Strin
 #[test]
 fn pointers_lead_to_parts(rt: HostRuntime) -> Result<(), Fail> {
     let alloc = rt.alloc();
-    let document = "{\"foo\":[\"bar\",\"baz\"],\"\":0,\"a/b\":1,\"c%d\":2,\"e^f\":3,\"g|h\":4,\"i\\\\j\":5,\
+    let document =
+        "{\"foo\":[\"bar\",\"baz\"],\"\":0,\"a/b\":1,\"c%d\":2,\"e^f\":3,\"g|h\":4,\"i\\\\j\":5,\
         \"k\\\"l\":6,\" \":7,\"m~n\":8,\"~1\":9,\"o\":{\"0\":{\"p\":null}}}";
     let tree = read(alloc, document.as_bytes())?;
-    let whole = pointer(&tree, "").expect(&rt, "a pointer").expect(&rt, "the whole");
+    let whole = pointer(&tree, "")
+        .expect(&rt, "a pointer")
+        .expect(&rt, "the whole");
     assert!(rt; is_equal(whole, &tree));
     let table = [
         ("/foo", "[\"bar\",\"baz\"]"),

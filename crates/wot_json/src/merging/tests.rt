@@ -8,7 +8,11 @@ fn patches_change_targets(rt: HostRuntime) -> Result<(), Fail> {
     let alloc = rt.alloc();
     let table = [
         ("{\"a\":\"b\"}", "{\"a\":\"c\"}", "{\"a\":\"c\"}"),
-        ("{\"a\":\"b\"}", "{\"b\":\"c\"}", "{\"a\":\"b\",\"b\":\"c\"}"),
+        (
+            "{\"a\":\"b\"}",
+            "{\"b\":\"c\"}",
+            "{\"a\":\"b\",\"b\":\"c\"}",
+        ),
         ("{\"a\":\"b\"}", "{\"a\":null}", "{}"),
         ("{\"a\":\"b\",\"b\":\"c\"}", "{\"a\":null}", "{\"b\":\"c\"}"),
         ("{\"a\":[\"b\"]}", "{\"a\":\"c\"}", "{\"a\":\"c\"}"),
@@ -25,7 +29,11 @@ fn patches_change_targets(rt: HostRuntime) -> Result<(), Fail> {
         ("{\"a\":\"foo\"}", "\"bar\"", "\"bar\""),
         ("{\"e\":null}", "{\"a\":1}", "{\"a\":1,\"e\":null}"),
         ("[1,2]", "{\"a\":\"b\",\"c\":null}", "{\"a\":\"b\"}"),
-        ("{}", "{\"a\":{\"bb\":{\"ccc\":null}}}", "{\"a\":{\"bb\":{}}}"),
+        (
+            "{}",
+            "{\"a\":{\"bb\":{\"ccc\":null}}}",
+            "{\"a\":{\"bb\":{}}}",
+        ),
         (
             "{\"a\":1,\"b\":{\"c\":2}}",
             "{\"a\":null,\"b\":{\"d\":3}}",
@@ -41,9 +49,17 @@ fn patches_change_targets(rt: HostRuntime) -> Result<(), Fail> {
         let target = read(alloc, target.as_bytes())?;
         let patch = read(alloc, patch.as_bytes())?;
         let merged = merge_patch(alloc, &target, &patch)?;
-        assert_eq!(rt; text_of(alloc, &merged)?.as_slice(), expected.as_bytes(), "{expected}");
+        assert_eq!(rt;
+            text_of(alloc, &merged)?.as_slice(),
+            expected.as_bytes(),
+            "{expected}"
+        );
         let again = merge_patch(alloc, &merged, &patch)?;
-        assert_eq!(rt; text_of(alloc, &again)?.as_slice(), expected.as_bytes(), "{expected}, again");
+        assert_eq!(rt;
+            text_of(alloc, &again)?.as_slice(),
+            expected.as_bytes(),
+            "{expected}, again"
+        );
     }
     Ok(())
 }

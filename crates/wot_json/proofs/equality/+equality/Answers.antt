@@ -1,4 +1,4 @@
-use Rattle.std.proofs.Common.{rules, ◌≡◌, ◌↔◌, IsTrue, ℕ, ◌+◌, ◌<◌, ◌≤◌, ◌∙◌, length, get_or, Bool, true, false, List, arith, sym, ap, map}
+use Rattle.std.proofs.Common.{arith}
 use Rattle.wot_json.specs.Meaning.{json_of, json_member}
 use Rattle.wot_json.proofs.EqualTrees.{arrays_equal, objects_equal, differ_at}
 use Rattle.wot_json.proofs.equality.+equality.Goals as goal

@@ -1,6 +1,4 @@
-use Rattle.std.proofs.Common.{rules, ◌≡◌, ◌∷◌, [], ◌++◌, List, ℕ, length, arith, sym, ◌∙◌, ap}
-use Rattle.wot_json.specs.Places.{token_text}
-use Rattle.wot_json.proofs.PointerTexts.{compare_rest, compare_longer}
+use Rattle.wot_json.proofs.PointerTexts.{compare_longer}
 use Rattle.wot_json.proofs.lookup.compare.Goals as goal
 
 pub returns-in-None : goal.returns-in-None

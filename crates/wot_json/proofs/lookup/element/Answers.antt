@@ -1,6 +1,5 @@
-use Rattle.std.proofs.Common.{◌≡◌, ◌∙◌, ◌<◌, ◌^◌, ℕ, List, decimal, arith, length, sym, ap}
+use Rattle.std.proofs.Common.{◌≡◌, ◌∙◌, ◌<◌, ◌^◌, ℕ, decimal, arith, ap}
 use Rattle.wot_json.specs.Places.{token_text}
-use Rattle.wot_json.specs.Pointer.{element_at}
 use Rattle.wot_json.proofs.PointerTexts.{element_found, element_missing, element_read, few_elements, number_name, number_token}
 use Rattle.wot_json.proofs.lookup.element.Goals as goal
 

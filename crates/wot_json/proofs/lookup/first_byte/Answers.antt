@@ -1,5 +1,4 @@
-use Rattle.std.proofs.Common.{◌≡◌, ◌∷◌, [], List, ℕ, ◌∙◌, ◌⊎◌, inl, inr, sym, ap}
-use Rattle.wot_json.specs.Places.{token_text}
+use Rattle.std.proofs.Common.{◌∙◌, inl, inr, sym}
 use Rattle.wot_json.proofs.PointerTexts.{token_none, begins_plain, begins_escaped, tilde_is_no_token, escaped_token}
 use Rattle.wot_json.proofs.lookup.first_byte.Goals as goal
 

@@ -1,6 +1,6 @@
-use Rattle.std.proofs.Common.{◌≡◌, ◌++◌, ◌+◌, ◌*◌, ◌<◌, ◌≤◌, ◌∙◌, ℕ, List, ◌∷◌, [], drop, get_or, length, arith, sym, ap, subst, add-one, drop-cons}
+use Rattle.std.proofs.Common.{◌≡◌, ◌++◌, ◌+◌, ◌<◌, ◌∙◌, ℕ, List, ◌∷◌, drop, get_or, length, arith, sym, ap, subst, add-one, drop-cons}
 use Rattle.std.proofs.lemmas.List.{map-append, drop_all}
-use Rattle.wot_json.specs.Tree.{Json, nesting, most_member_nesting, members_of, member, AreOrdered}
+use Rattle.wot_json.specs.Tree.{Json, members_of, AreOrdered}
 use Rattle.wot_json.specs.Meaning.{json_of, json_member, json_members}
 use Rattle.wot_json.specs.Merge.{merged}
 use Rattle.wot_json.specs.declared.tree.Tree.{Tree}

@@ -1,4 +1,4 @@
-use Rattle.std.proofs.Common.{◌≡◌, ◌∙◌, true, false, sym, ap, subst}
+use Rattle.std.proofs.Common.{◌∙◌, sym}
 use mathlib.Core.Bool.{false≢true}
 use Rattle.std.proofs.lemmas.Slice.Eq.{bytes_eq-Decides}
 use Rattle.wot_json.proofs.MemberCuts.{cut_found, cut_between, cut_end, rest_in_order, behind_in_order}

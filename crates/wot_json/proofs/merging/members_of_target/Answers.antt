@@ -1,4 +1,4 @@
-use Rattle.std.proofs.Common.{◌≡◌, ◌∙◌, sym, ap}
+use Rattle.std.proofs.Common.{◌∙◌, sym, ap}
 use Rattle.wot_json.specs.Meaning.{json_members}
 use Rattle.wot_json.proofs.EqualTrees.{listed_members_lem}
 use Rattle.wot_json.proofs.merging.members_of_target.Goals as goal

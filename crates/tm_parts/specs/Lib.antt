@@ -1,0 +1,7 @@
+pub mod Placeholders
+pub mod Pieces
+pub mod Substitution
+pub mod Holes
+pub mod Kept
+pub mod Library
+pub mod References

@@ -1,0 +1,9 @@
+pub mod Found
+pub mod FirstFaults
+pub mod Multiples
+pub mod Rows
+pub mod Steps
+pub mod NodeMeaning
+pub mod AcceptingSteps
+pub mod NodeSizes
+pub mod CompilingSteps

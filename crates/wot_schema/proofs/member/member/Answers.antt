@@ -1,0 +1,7 @@
+use Rattle.std.proofs.Common.{sym, ◌∙◌}
+use Rattle.wot_schema.proofs.Found.{found-members_of}
+use Rattle.wot_schema.proofs.member.member.Goals as goal
+
+-- src/member.rt:17:1
+pub returns : goal.returns
+returns c = c.get.ensures ∙ sym (found-members_of c.args.name.now c.args.members.now)

@@ -1,0 +1,12 @@
+-- The names of the types of values.
+use Rattle.std.specs.Prelude.{ℕ, List, codes}
+use Rattle.wot_schema.specs.declared.kind.Kind.{Kind}
+use Rattle.wot_schema.specs.declared.kind.Kind.TheVariants as kind
+
+abbrev pub kind_name : Kind → List ℕ
+kind_name kind.Boolean = codes "boolean"
+kind_name kind.Integer = codes "integer"
+kind_name kind.String = codes "string"
+kind_name kind.Null = codes "null"
+kind_name kind.Array = codes "array"
+kind_name kind.Object = codes "object"

@@ -1,0 +1,10 @@
+pub mod Values
+pub mod Acceptance
+pub mod Faults
+pub mod Kinds
+pub mod Counts
+pub mod Numbers
+pub mod Rules
+pub mod Nodes
+pub mod NodeFalls
+pub mod Alike

@@ -1,0 +1,68 @@
+//! Data schemas.
+
+ghost use Rattle.std.specs.Prelude.{◌≡◌, ◌⊎◌, ◌↔◌, [], IsTrue, IfOk, OnOk, IfErr};
+ghost use Rattle.wot_json.specs.Meaning.{json_of};
+ghost use Rattle.wot_schema.specs.Acceptance.{Accepts};
+ghost use Rattle.wot_schema.specs.Faults.{schema_faults, IsFirstFault};
+
+use crate::SchemaFault;
+use crate::accepting::accepts;
+use crate::compiling::compile;
+use crate::node::Node;
+use std::alloc::Global;
+use std::marker::Model;
+use wot_json::{Tree, copy};
+
+/// A data schema (TD 1.1, section 5.3.2), compiled, with the tree that it was read from. Contracts see it as
+/// that tree.
+#[derive(Debug, Drop)]
+pub struct Schema {
+    tree: Tree,
+    root: Node,
+}
+
+impl Model for Schema {
+    ghost use Rattle.std.specs.Prelude.{List};
+    ghost use Rattle.wot_json.specs.Tree.{Json, json_code};
+    ghost use Rattle.wot_json.specs.Meaning.{json_of};
+    ghost use Rattle.wot_schema.specs.Nodes.{schema_of};
+    ghost use Rattle.wot_schema.specs.Alike.{AcceptAlike};
+
+    ghost Value = { Json };
+
+    ghost coded = { json_code };
+
+    ghost view = { λ s. json_of s.tree };
+
+    ghost invariant = { λ s. AcceptAlike (schema_of s.root) (json_of s.tree) };
+}
+
+impl Schema {
+    /// The schema of a tree, or its first fault: those of the table in docs/PROFILE.md come in its order, and then
+    /// those of the schemas below, of `oneOf`, of `items` and of `properties`. Each has the JSON Pointer (RFC 6901)
+    /// of its place. The time is in proportion to the size of the tree, and for a text of a place to its length.
+    pub fn read(alloc: Global, tree: &Tree) -> Result<Schema, SchemaFault>
+        ensures ok { IfOk result (λ s. s ≡ json_of tree.now) }
+        ensures faultless { OnOk result (schema_faults (json_of tree.now) ≡ []) }
+        ensures fault { IfErr result (IsFirstFault (schema_faults (json_of tree.now))) }
+    {
+        let root = compile(alloc, "", tree)?;
+        let tree = copy(alloc, tree)?;
+        Ok(Schema { tree, root })
+    }
+
+    /// The schema accepts the value. It takes no memory, and its time is at most in proportion to the size of the
+    /// schema times that of the value.
+    pub fn accepts(&self, value: &Tree) -> bool
+        ensures { IsTrue result ↔ Accepts self.now (json_of value.now) }
+    {
+        accepts(&self.root, value)
+    }
+
+    /// The tree of the schema.
+    pub fn tree(&self) -> &Tree
+        ensures { json_of result.now ≡ self.now }
+    {
+        &self.tree
+    }
+}

@@ -3,13 +3,14 @@
 ghost use Rattle.std.specs.Prelude.{IfOk};
 ghost use Rattle.servient_edge.specs.Network.{IsWithinBounds};
 
+use crate::replays::{NONE, run_on};
 use coap_msg::Endpoint;
 use servient_core::{Served, Servient, serve};
 use servient_edge::{Act, Calls, Event, EventWithBytes, Events, NetMemory, What};
 use std::alloc::{AllocError, Global};
 use std::test::Fail;
 use thing_handler::{Answer, Handler, Handlers, Kind, Rack, Scripted};
-use wot_json::{Bytes, Tree};
+use wot_json::{Bytes, Tree, read};
 
 /// A Non-confirmable GET of the built-in property.
 const GET_STATUS: &str = "51010001aab46c616d700a70726f7065727469657306737461747573";
@@ -104,6 +105,53 @@ fn each_outcome_has_its_reply(rt: HostRuntime) -> Result<(), Fail> {
         assert_eq!(rt; turn.number, number as u64);
         assert_eq!(rt; value, answered[number]);
     }
+    Ok(())
+}
+
+#[test]
+fn values_that_the_property_cannot_have_are_no_answer(rt: HostRuntime) -> Result<(), Fail> {
+    let alloc = rt.alloc();
+    let values = [
+        "\"on\"",
+        "[7]",
+        "{\"b\":1,\"a\":[2,{}]}",
+        "null",
+        "true",
+        "-1",
+        "101",
+    ];
+    let mut answers = Vec::new(alloc);
+    let mut script = Vec::new(alloc);
+    for value in values {
+        answers.push(Answer::Value(read(alloc, value.as_bytes())?))?;
+        script.extend_from_slice(b"0 data 1:5683 ")?;
+        script.extend_from_slice(GET_STATUS.as_bytes())?;
+        script.push(b'\n')?;
+    }
+    let scripted = Scripted::new(alloc, Kind::Property, answers);
+    let (status, text) = run_on(
+        alloc,
+        Box::new(alloc, scripted)?,
+        &["replay", "s.txt"],
+        ("s.txt", script.as_slice()),
+        &NONE,
+    )?;
+    assert_eq!(rt; status, 0);
+    let printed = b"data 1:5683 51a00000aaff616e73776572\n\
+        data 1:5683 51a00001aaff616e73776572\n\
+        data 1:5683 51a00002aaff616e73776572\n\
+        data 1:5683 51a00003aaff616e73776572\n\
+        data 1:5683 51a00004aaff616e73776572\n\
+        data 1:5683 51a00005aaff616e73776572\n\
+        data 1:5683 51a00006aaff616e73776572\n\
+        turn 0 0 read = value \"on\"\n\
+        turn 1 0 read = value [7]\n\
+        turn 2 0 read = value {\"a\":[2,{}],\"b\":1}\n\
+        turn 3 0 read = value null\n\
+        turn 4 0 read = value true\n\
+        turn 5 0 read = value -1\n\
+        turn 6 0 read = value 101\n";
+    assert_eq!(rt; text.as_slice(), printed.as_slice());
     Ok(())
 }
 

@@ -28,6 +28,18 @@ pub fn run(
     file: (&str, &[u8]),
     faults: &Faults,
 ) -> Result<(u8, Vec<u8>), Fail> {
+    let cell = Cell::new(alloc, Tree::Int(7));
+    run_on(alloc, Box::new(alloc, cell)?, words, file, faults)
+}
+
+/// The status and the output of these words over one file, on the property of this handler.
+pub fn run_on(
+    alloc: Global,
+    handler: Box<dyn Handler>,
+    words: &[&str],
+    file: (&str, &[u8]),
+    faults: &Faults,
+) -> Result<(u8, Vec<u8>), Fail> {
     let mut given = Vec::new(alloc);
     for word in words {
         given.push(Text::copy_of(alloc, word)?)?;
@@ -41,7 +53,7 @@ pub fn run(
     let mut net = NetMemory::new(alloc, Events::new(alloc), Calls::new(alloc))?;
     let mut out = OutMemory::new(alloc, 1_048_576, calls(alloc, faults.put)?)?;
     let mut list: Vec<Box<dyn Handler>> = Vec::new(alloc);
-    list.push(Box::new(alloc, Cell::new(alloc, Tree::Int(7)))?)?;
+    list.push(handler)?;
     let mut rack = Rack::new(alloc, list);
     let status = servient_main(
         alloc,

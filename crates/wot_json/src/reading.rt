@@ -9,7 +9,7 @@ ghost use Rattle.serde_json.specs.View.{view, items_view, members_view};
 ghost use Rattle.wot_json.specs.Faults.{IsNotJson, NamesFirst};
 ghost use Rattle.wot_json.specs.Meaning.{json_of};
 ghost use Rattle.wot_json.specs.Places.{index_text, step_text};
-ghost use Rattle.wot_json.specs.Reading.{value_of, tree_of, tree_of_value, tree_of_items, tree_of_members, below, wrong_numbers, wrong_in_items, wrong_in_members, IsTooDeep, IsFirstWrong};
+ghost use Rattle.wot_json.specs.Reading.{value_of, tree_of, tree_of_value, tree_of_items, tree_of_members, behind, wrong_numbers, wrong_in_items, wrong_in_members, IsTooDeep, IsFirstWrong};
 ghost use Rattle.wot_json.specs.Tree.{elements_of, members_of};
 
 #[cfg(test)]
@@ -66,7 +66,8 @@ pub fn read(alloc: Global, bytes: &[u8]) -> Result<Tree, ReadFault>
     ensures ok { IfOk result (λ t. tree_of bytes.now ≡ Some (json_of t)) }
     ensures not_json { result ≡ Err ReadFault.NotJson → value_of bytes.now ≡ None }
     ensures too_deep { result ≡ Err ReadFault.TooDeep → IsTooDeep bytes.now }
-    ensures not_integer { (pointer : List ℕ) → result ≡ Err (ReadFault.NotInteger pointer) → IsFirstWrong bytes.now pointer }
+    ensures not_integer { (pointer : List ℕ) → result ≡ Err (ReadFault.NotInteger pointer)
+        → IsFirstWrong bytes.now pointer }
     ensures no_tree { IfErr result (λ f. f ≢ ReadFault.NoMemory → tree_of bytes.now ≡ None) }
 {
     let value = parsed(alloc, bytes)?;
@@ -179,7 +180,8 @@ fn convert_members(alloc: Global, members: &Map<String, Value>) -> Result<Member
 
 /// The fault of an element, seen from its list.
 fn in_element(alloc: Global, index: usize, fault: ReadFault) -> ReadFault
-    ensures { (places : List (List (List ℕ))) → NamesFirst places fault → NamesFirst (below (index_text index) places) result }
+    ensures { (places : List (List (List ℕ))) → NamesFirst places fault
+        → NamesFirst (behind (index_text index) places) result }
 {
     let mut buffer = Buffer::new();
     further_out(alloc, buffer.format(index), fault)
@@ -187,7 +189,8 @@ fn in_element(alloc: Global, index: usize, fault: ReadFault) -> ReadFault
 
 /// A fault, seen from one step further out.
 fn further_out(alloc: Global, token: &str, fault: ReadFault) -> ReadFault
-    ensures { (places : List (List (List ℕ))) → NamesFirst places fault → NamesFirst (below token.now places) result }
+    ensures { (places : List (List (List ℕ))) → NamesFirst places fault
+        → NamesFirst (behind token.now places) result }
 {
     match fault {
         ReadFault::NotInteger(place) => match pointer_through(alloc, token, place.as_str()) {

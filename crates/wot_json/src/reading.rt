@@ -102,8 +102,8 @@ fn nests_within(value: &Value, levels: u8) -> bool
 }
 
 #[cycle(nests)]
-fn items_nest_within(items: &Vec<Value>, levels: u8) -> bool
-    ensures { IsTrue result ↔ (items_depth (items_view items.now.items) ≤ levels) }
+fn items_nest_within(items: &[Value], levels: u8) -> bool
+    ensures { IsTrue result ↔ (items_depth (items_view items.now) ≤ levels) }
 {
     for item in items {
         if !nests_within(item, levels) {
@@ -145,9 +145,9 @@ fn convert(alloc: Global, value: &Value) -> Result<Tree, ReadFault>
 }
 
 #[cycle(convert)]
-fn convert_items(alloc: Global, items: &Vec<Value>) -> Result<Items, ReadFault>
-    ensures ok { IfOk result (λ i. tree_of_items (items_view items.now.items) ≡ Some (elements_of i)) }
-    ensures err { IfErr result (NamesFirst (wrong_in_items 0 (items_view items.now.items))) }
+fn convert_items(alloc: Global, items: &[Value]) -> Result<Items, ReadFault>
+    ensures ok { IfOk result (λ i. tree_of_items (items_view items.now) ≡ Some (elements_of i)) }
+    ensures err { IfErr result (NamesFirst (wrong_in_items 0 (items_view items.now))) }
 {
     let mut elements = Items {
         list: Vec::with_capacity(alloc, items.len())?,

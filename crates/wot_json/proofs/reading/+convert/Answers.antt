@@ -1,8 +1,7 @@
-use Rattle.std.proofs.Common.{◌≡◌, ◌++◌, ◌∷◌, length, List, ℕ, arith, sym, ap, subst, ◌∙◌, [], string_bytes}
-use Rattle.serde_json.specs.View.{items_view}
+use Rattle.std.proofs.Common.{◌≡◌, ◌++◌, ◌∷◌, length, List, ℕ, arith, ap, subst, ◌∙◌, [], string_bytes}
 use Rattle.std.proofs.lemmas.Grind.{common_steps}
 use Rattle.std.proofs.lemmas.List.{length_push}
-use Rattle.wot_json.specs.Reading.{wrong_in_items, tree_of_items, behind}
+use Rattle.wot_json.specs.Reading.{behind}
 use Rattle.wot_json.specs.Faults.{NamesFirst}
 use Rattle.wot_json.proofs.Converting.{items_more, items_all, items_places_more, item_fault, members_more, members_all, members_places_more, member_fault, names_more, ordered_as_entries}
 use Rattle.wot_json.proofs.reading.+convert.Goals as goal
@@ -10,23 +9,22 @@ use Rattle.wot_json.proofs.reading.+convert.Goals as goal
 pub convert_items-returns-in-Err-clause-err : goal.convert_items-returns-in-Err-clause-err
 convert_items-returns-in-Err-clause-err t c =
     let l = c.loop-item in
-    item_fault _ c.deref-item-items.result.now l.item-index c.len-in-Err.result c.item-item.result c.in-Err.fault _ (omega arith) c.item-item.is (c.len-in-Err.ensures ∙ l.invariant.count)
-    (ap (λ vs. wrong_in_items 0 (items_view vs)) (sym c.deref-item-items.ensures.value) ∙ l.invariant.places) c.in-Err.ensures.err c.in_element.ensures
+    item_fault _ c.args.items.now l.item-index c.len.result c.item-item.result c.in-Err.fault _ (omega arith) c.item-item.is (c.len.ensures ∙ l.invariant.count)
+    l.invariant.places c.in-Err.ensures.err c.in_element.ensures
 
 pub convert_items-loop-item-preserved : goal.convert_items-loop-item-preserved
 convert_items-loop-item-preserved t c =
     let l = c.loop-item in
     let grown = c.in_ok-push-in-Ok.ensures.ok in record {
       count = omega (arith, ap length grown, length_push l.elements);
-      tree = items_more _ l.elements _ c.deref-item-items.result.now l.item-index c.item-item.result _ (omega arith) c.item-item.is l.invariant.tree c.in-Ok.ensures.ok grown;
-      places = items_places_more _ c.deref-item-items.result.now l.item-index c.item-item.result _ (omega arith) c.item-item.is l.invariant.places c.in-Ok.ensures.ok;
+      tree = items_more _ l.elements _ c.args.items.now l.item-index c.item-item.result _ (omega arith) c.item-item.is l.invariant.tree c.in-Ok.ensures.ok grown;
+      places = items_places_more _ c.args.items.now l.item-index c.item-item.result _ (omega arith) c.item-item.is l.invariant.places c.in-Ok.ensures.ok;
     }
 
 pub convert_items-returns-clause-ok : goal.convert_items-returns-clause-ok
 convert_items-returns-clause-ok t c =
     let l = c.loop-item in
-    items_all _ l.elements c.deref-item-items.result.now l.item-index (omega arith)
-    (ap (λ vs. tree_of_items (items_view vs)) (sym c.deref-item-items.ensures.value) ∙ l.invariant.tree)
+    items_all _ l.elements c.args.items.now l.item-index (omega arith) l.invariant.tree
 
 pub convert_members-loop-name-preserved : goal.convert_members-loop-name-preserved
 convert_members-loop-name-preserved t c =

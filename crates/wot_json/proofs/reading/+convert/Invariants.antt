@@ -8,8 +8,8 @@ use Rattle.wot_json.proofs.reading.+convert.Given as goal
 abbrev pub invariant-convert_items-loop-item : goal.invariant-convert_items-loop-item
 invariant-convert_items-loop-item l = record {
   count : length l.elements ≡ l.item-index;
-  tree : tree_of_items (items_view l.item-items) ≡ option_map (elements_before l.elements) (tree_of_items (items_view (drop l.item-index l.item-items)));
-  places : wrong_in_items 0 (items_view l.item-items) ≡ wrong_in_items l.item-index (items_view (drop l.item-index l.item-items));
+  tree : tree_of_items (items_view l.items) ≡ option_map (elements_before l.elements) (tree_of_items (items_view (drop l.item-index l.items)));
+  places : wrong_in_items 0 (items_view l.items) ≡ wrong_in_items l.item-index (items_view (drop l.item-index l.items));
 }
 
 abbrev pub invariant-convert_members-loop-name : goal.invariant-convert_members-loop-name

@@ -5,8 +5,8 @@ use Rattle.wot_json.proofs.reading.+nests.Given as goal
 
 abbrev pub invariant-items_nest_within-loop-item : goal.invariant-items_nest_within-loop-item
 invariant-items_nest_within-loop-item l = record {
-  left : items_depth (items_view (drop l.item-index l.item-items)) ≤ items_depth (items_view l.item-items);
-  done : items_depth (items_view (drop l.item-index l.item-items)) ≤ l.levels → items_depth (items_view l.item-items) ≤ l.levels;
+  left : items_depth (items_view (drop l.item-index l.items)) ≤ items_depth (items_view l.items);
+  done : items_depth (items_view (drop l.item-index l.items)) ≤ l.levels → items_depth (items_view l.items) ≤ l.levels;
 }
 
 abbrev pub invariant-members_nest_within-loop-name : goal.invariant-members_nest_within-loop-name

@@ -1,14 +1,13 @@
 -- The steps in which a value is held against a node.
-use Rattle.std.proofs.Common.{◌≡◌, ◌↔◌, ℕ, List, Option, Some, None, IfSome, IsTrue, Bool, true, false, map, refl, subst, sym}
-use Rattle.std.specs.Prelude.{Vec, ⊤}
+use Rattle.std.proofs.Common.{◌≡◌, ◌↔◌, ℕ, List, Some, None, IsTrue, Bool, true, false, map, refl, subst}
+use Rattle.std.specs.Prelude.{Vec}
 use Rattle.std.specs.declared.alloc.Global.{Global}
-use Rattle.std.specs.Option.{option_map}
 use Rattle.wot_json.specs.Tree.{Json, null, boolean, integer, string, array, object, Elements, Members, elements_of, members_of}
 use Rattle.wot_json.specs.Meaning.{json_of}
 use Rattle.wot_json.specs.declared.tree.Tree.{Tree}
 use Rattle.wot_json.specs.declared.tree.Tree.TheVariants as tree
 use Rattle.wot_schema.specs.Values.{EachElement, IfArray, IfObject}
-use Rattle.wot_schema.specs.Acceptance.{Accepts, one_of, items, properties, Within, Asks, ExactlyOne, InOrder, AcceptMembers}
+use Rattle.wot_schema.specs.Acceptance.{Accepts, items, properties, Within, Asks, ExactlyOne, InOrder, AcceptMembers}
 use Rattle.wot_schema.specs.Rules.{IsAllowed}
 use Rattle.wot_schema.specs.Nodes.{node_members, schema_of, schemas_of, list_of, items_of, properties_of}
 use Rattle.wot_schema.specs.declared.node.Node.{Node}

@@ -1,6 +1,6 @@
 -- The steps in which the tree of a schema is compiled.
-use Rattle.std.proofs.Common.{◌≡◌, ◌↔◌, ◌≤◌, ◌<◌, ◌+◌, ◌++◌, ℕ, List, [], ◌∷◌, length, get_or, take, drop, Option, Some, None, IfSome, IfOk, OnOk, IfErr, Ok, Err, Result, Bool, true, false, map, codes, refl, sym, ap, subst, ◌∙◌, inl, inr, arith, if◌then◌else◌}
-use Rattle.std.specs.Prelude.{Vec, ⊤}
+use Rattle.std.proofs.Common.{◌≡◌, ◌↔◌, ◌≤◌, ◌<◌, ◌+◌, ◌++◌, ℕ, List, [], ◌∷◌, length, get_or, take, drop, Option, Some, None, IfSome, IfOk, OnOk, IfErr, Ok, Err, Result, true, false, map, codes, refl, sym, ap, subst, ◌∙◌, inl, inr, arith, if◌then◌else◌}
+use Rattle.std.specs.Prelude.{Vec}
 use Rattle.std.specs.declared.alloc.Global.{Global}
 use Rattle.std.specs.Option.{option_map, option_map_or}
 use Rattle.std.specs.Str.{bytes_eq}
@@ -8,20 +8,18 @@ use Rattle.std.proofs.lemmas.List.{take_more, map-append}
 use Rattle.wot_json.specs.Tree.{Json, null, boolean, integer, string, array, object, Elements, no_elements, element, Members, no_members, member, elements_of, members_of, nesting, members_nesting}
 use Rattle.wot_json.specs.Meaning.{json_of, json_items, json_members}
 use Rattle.wot_json.specs.declared.tree.Tree.{Tree}
-use Rattle.wot_json.specs.declared.tree.Tree.TheVariants as tree
 use Rattle.wot_schema.specs.declared.fault.SchemaFault.{SchemaFault}
 use Rattle.wot_schema.specs.Values.{found, EachElement, IfArray, IfObject}
 use Rattle.wot_schema.specs.Acceptance.{Accepts, Holder, one_of, items, properties, name_of, Within, Asks, ExactlyOne, AcceptNone, InOrder, AcceptMembers}
-use Rattle.wot_schema.specs.Faults.{faults_at, faults_within, faults_below, faults_of_list, faults_of_members, place_of_member, place_of_element, table_faults, IsFirstFault}
+use Rattle.wot_schema.specs.Faults.{faults_at, faults_within, faults_below, faults_of_list, faults_of_members, place_of_member, place_of_element, IsFirstFault}
 use Rattle.wot_schema.specs.Alike.{AcceptAlike, AllAlike, NamedAlike}
 use Rattle.wot_schema.specs.Rules.{AreRulesOf}
 use Rattle.wot_schema.specs.Nodes.{node_members, schema_of, schemas_of, list_of, items_of, properties_of}
 use Rattle.wot_schema.specs.declared.node.Node.{Node}
 use Rattle.wot_schema.specs.declared.node.Node.TheInside.{Inside}
-use Rattle.wot_schema.specs.declared.node.ItemRule.{ItemRule}
 use Rattle.wot_schema.proofs.Rows.{rows_hold, rows_asked}
 use Rattle.wot_schema.proofs.NodeMeaning.{within_is, node_accepts, one_of_node, items_node, properties_node, holders}
-use Rattle.wot_schema.proofs.FirstFaults.{stops, goes_on}
+use Rattle.wot_schema.proofs.FirstFaults.{stops}
 use Rattle.wot_schema.proofs.Steps.{rest_at}
 
 -- a member nests no deeper than its object
@@ -174,33 +172,6 @@ free_list_absent ms is v = (λ h. absent_asks items ms is v, λ h. free_list v)
 
 pub free_named_absent : (ms : Members) → None ≡ found (codes "properties") ms → (v : Json) → Asks properties (properties_of []) v ↔ Within properties ms v
 free_named_absent ms is v = (λ h. absent_asks properties ms is v, λ h. free_named v)
-
--- a member of another form asks for nothing, and its faults are the table's
-pub other_alternatives : (t : Tree) → ((vs : List Json) → t ≡ tree.List vs → ⊥) → (p : List ℕ) → ((v : Json) → Asks one_of (json_of t) v) × (faults_below one_of p (json_of t) ≡ [])
-other_alternatives tree.Null other p = (λ v. tt, refl)
-other_alternatives (tree.Bool b) other p = (λ v. tt, refl)
-other_alternatives (tree.Int z) other p = (λ v. tt, refl)
-other_alternatives (tree.Text s) other p = (λ v. tt, refl)
-other_alternatives (tree.List vs) other p = absurd (other vs refl)
-other_alternatives (tree.Obj ms) other p = (λ v. tt, refl)
-
-pub other_items : (t : Tree) → ((vs : List Json) → t ≡ tree.List vs → ⊥) → ((ms : List (List ℕ × Json)) → t ≡ tree.Obj ms → ⊥) → (p : List ℕ) →
-    ((v : Json) → (Asks items (list_of []) v ↔ Asks items (json_of t) v)) × (faults_below items p (json_of t) ≡ [])
-other_items tree.Null no_list no_object p = (λ v. (λ h. tt, λ h. free_list v), refl)
-other_items (tree.Bool b) no_list no_object p = (λ v. (λ h. tt, λ h. free_list v), refl)
-other_items (tree.Int z) no_list no_object p = (λ v. (λ h. tt, λ h. free_list v), refl)
-other_items (tree.Text s) no_list no_object p = (λ v. (λ h. tt, λ h. free_list v), refl)
-other_items (tree.List vs) no_list no_object p = absurd (no_list vs refl)
-other_items (tree.Obj ms) no_list no_object p = absurd (no_object ms refl)
-
-pub other_properties : (t : Tree) → ((ms : List (List ℕ × Json)) → t ≡ tree.Obj ms → ⊥) → (p : List ℕ) →
-    ((v : Json) → (Asks properties (properties_of []) v ↔ Asks properties (json_of t) v)) × (faults_below properties p (json_of t) ≡ [])
-other_properties tree.Null other p = (λ v. (λ h. tt, λ h. free_named v), refl)
-other_properties (tree.Bool b) other p = (λ v. (λ h. tt, λ h. free_named v), refl)
-other_properties (tree.Int z) other p = (λ v. (λ h. tt, λ h. free_named v), refl)
-other_properties (tree.Text s) other p = (λ v. (λ h. tt, λ h. free_named v), refl)
-other_properties (tree.List vs) other p = (λ v. (λ h. tt, λ h. free_named v), refl)
-other_properties (tree.Obj ms) other p = absurd (other ms refl)
 
 -- one more schema of a list
 pub alike_more : (ss ts : List Json) (s t : Json) → AllAlike ss ts → AcceptAlike s t → AllAlike (ss ++ s ∷ []) (ts ++ t ∷ [])

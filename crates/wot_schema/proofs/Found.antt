@@ -1,5 +1,5 @@
 -- Members by their names, and lists that are not empty.
-use Rattle.std.proofs.Common.{◌≡◌, ◌<◌, ◌+◌, ℕ, true, map, List, [], ◌∷◌, length, Option, Some, refl, ap, arith, if◌then◌else◌}
+use Rattle.std.proofs.Common.{◌≡◌, ◌<◌, ℕ, true, map, List, [], ◌∷◌, length, Some, refl, ap, arith, if◌then◌else◌}
 use Rattle.std.specs.Str.{bytes_eq}
 use Rattle.wot_json.specs.Tree.{Json, string, array, elements_of, members_of}
 use Rattle.wot_json.specs.Lookup.{member_named}

@@ -1,5 +1,5 @@
 -- Multiples among the integers, and the remainder of the absolute value.
-use Rattle.std.proofs.Common.{◌≡◌, ℕ, ◌%◌, ℤ, pos, negsuc, ◌*ℤ◌, ◌+ℤ◌, sym, ap, ◌∙◌, suc, IsTrue, nat_eq, ◌↔◌, eqb-true, eq-eqb}
+use Rattle.std.proofs.Common.{◌≡◌, ℕ, ◌%◌, ℤ, pos, negsuc, ◌*ℤ◌, ◌+ℤ◌, sym, ap, ◌∙◌, IsTrue, nat_eq, ◌↔◌, eqb-true, eq-eqb}
 use Rattle.std.specs.Int.RustNames.{int_div, int_rem, unsigned_abs}
 use Rattle.std.specs.Prelude.{neg_ℤ}
 use Rattle.std.proofs.lemmas.Int.{quot-rem, unsigned_abs-mul}

@@ -1,20 +1,17 @@
 -- What the schema of a node asks of a value.
-use Rattle.std.proofs.Common.{◌≡◌, ◌↔◌, ◌&&◌, ℕ, List, [], ◌∷◌, Option, Some, None, IfSome, MatchBool, IsTrue, Bool, true, false, not, map, codes, refl, sym, ap, subst, ◌∙◌, if◌then◌else◌}
-use Rattle.std.specs.Prelude.{Vec, ⊤}
+use Rattle.std.proofs.Common.{◌≡◌, ◌↔◌, ◌&&◌, ℕ, List, [], ◌∷◌, Option, Some, None, IfSome, MatchBool, Bool, true, false, not, codes, refl, sym, ap, subst, if◌then◌else◌}
+use Rattle.std.specs.Prelude.{Vec}
 use Rattle.std.specs.Option.{option_map}
 use Rattle.std.specs.declared.alloc.Global.{Global}
 use Rattle.std.specs.Str.{bytes_eq}
 use Rattle.std.specs.Cmp.Lexicographic.{same_text}
-use Rattle.wot_json.specs.Tree.{Json, null, boolean, integer, string, array, object, Elements, Members, no_members, member, elements_of, members_of}
-use Rattle.wot_schema.specs.Values.{found, EachElement, IfArray, IfObject}
-use Rattle.wot_schema.specs.Acceptance.{Accepts, Rows, Holder, one_of, items, properties, name_of, Within, Asks, ExactlyOne, InOrder, AcceptMembers}
+use Rattle.wot_json.specs.Tree.{Json, Members, no_members, member, members_of}
+use Rattle.wot_schema.specs.Values.{found}
+use Rattle.wot_schema.specs.Acceptance.{Accepts, Holder, one_of, items, properties, name_of, Within, Asks}
 use Rattle.wot_schema.specs.Rules.{IsAllowed, AreRulesOf}
-use Rattle.wot_schema.specs.Numbers.{AreNumbersOf}
-use Rattle.wot_schema.specs.Nodes.{present, node_rows, node_members, schema_of, schemas_of, list_of, items_of, properties_of}
+use Rattle.wot_schema.specs.Nodes.{present, node_rows, node_members, schema_of, list_of, items_of, properties_of}
 use Rattle.wot_schema.specs.declared.node.Node.{Node}
 use Rattle.wot_schema.specs.declared.node.Node.TheInside.{Inside}
-use Rattle.wot_schema.specs.declared.node.ItemRule.{ItemRule}
-use Rattle.wot_schema.specs.declared.node.ItemRule.TheVariants as item
 use Rattle.wot_schema.proofs.Rows.{rows_hold, rows_asked}
 
 abbrev Row : Type 0

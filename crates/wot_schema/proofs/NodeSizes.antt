@@ -1,9 +1,9 @@
 -- How the sizes of nodes fall, by which the check sees that a recursion over them ends.
-use Rattle.std.proofs.Common.{◌≡◌, ◌≤◌, ◌+◌, ◌*◌, ℕ, List, [], ◌∷◌, map, ap, arith}
+use Rattle.std.proofs.Common.{◌≡◌, ◌≤◌, ◌+◌, ◌*◌, List, [], ◌∷◌, map, ap, arith}
 use Rattle.std.specs.Prelude.{Vec}
 use Rattle.std.specs.declared.alloc.Global.{Global}
 use denote.Param.Weighed.{most}
-use Rattle.wot_json.specs.Tree.{Json, nesting, elements_nesting, most_member_nesting, elements_of}
+use Rattle.wot_json.specs.Tree.{nesting, elements_nesting, most_member_nesting, elements_of}
 use Rattle.wot_schema.specs.Nodes.{node_members, schema_of, items_of}
 use Rattle.wot_schema.specs.NodeFalls.{items_nest}
 use Rattle.wot_schema.specs.declared.node.Node.{Node}

@@ -1,13 +1,13 @@
 -- That compiled rules ask what the rows of their schema ask.
-use Rattle.std.proofs.Common.{◌≡◌, ◌↔◌, ◌⊎◌, ◌≤◌, ℕ, ℤ, pos, ◌≤ℤ◌, ◌<ℤ◌, ◌*ℤ◌, List, [], ◌∷◌, Option, Some, None, IfSome, IsSome, map, codes, refl, sym, ap, subst, inl, inr, arith}
+use Rattle.std.proofs.Common.{◌≡◌, ◌↔◌, ◌≤◌, ℕ, ℤ, pos, ◌≤ℤ◌, ◌<ℤ◌, ◌*ℤ◌, List, [], ◌∷◌, Option, Some, None, IfSome, map, codes, ap, inl, inr, arith}
 use Rattle.std.specs.Prelude.{Vec, ⊤}
 use Rattle.std.proofs.lemmas.Int.{ints}
 use Rattle.std.specs.declared.alloc.Global.{Global}
 use Rattle.std.specs.Option.{option_map}
-use Rattle.wot_json.specs.Tree.{Json, null, boolean, integer, string, array, object, Elements, Members, elements_of, no_elements, element}
+use Rattle.wot_json.specs.Tree.{Json, null, boolean, integer, string, array, object, Elements, Members, elements_of}
 use Rattle.wot_json.specs.Meaning.{json_of, json_items}
 use Rattle.wot_json.specs.declared.tree.Tree.{Tree}
-use Rattle.wot_schema.specs.Values.{found, IfInteger, IfString, IfArray, IfObject, EachElement, SomeElement, element_count, code_points}
+use Rattle.wot_schema.specs.Values.{found, IfInteger, IfString, IfArray, IfObject, SomeElement, element_count, code_points}
 use Rattle.wot_schema.specs.Acceptance.{type_of, AreNamesIn, Rows}
 use Rattle.wot_schema.specs.Kinds.{kind_name}
 use Rattle.wot_schema.specs.declared.kind.Kind.{Kind}
@@ -15,7 +15,7 @@ use Rattle.wot_schema.specs.declared.counts.CountRange.{CountRange}
 use Rattle.wot_schema.specs.declared.numbers.NumberRules.{NumberRules}
 use Rattle.wot_schema.specs.declared.rules.Rules.{Rules}
 use Rattle.wot_schema.specs.Counts.{IsCountWithin}
-use Rattle.wot_schema.specs.Numbers.{IsNumberWithin, AreNumbersOf}
+use Rattle.wot_schema.specs.Numbers.{IsNumberWithin}
 use Rattle.wot_schema.specs.Rules.{IsAmong, HasAll, AreContentsAllowed, IsAllowed, AreRulesOf}
 
 -- a row asks of the member what it asks of what was read from it

@@ -1,5 +1,5 @@
 -- Steps of loops over schemas and values.
-use Rattle.std.proofs.Common.{◌≡◌, ◌↔◌, ◌⊎◌, ◌<◌, ◌+◌, ℕ, List, ◌∷◌, drop, get_or, length, map, Bool, true, false, IsTrue, MatchBool, sym, ap, subst, ◌∙◌, inl, inr}
+use Rattle.std.proofs.Common.{◌≡◌, ◌↔◌, ◌<◌, ◌+◌, ℕ, List, ◌∷◌, drop, get_or, length, map, Bool, true, false, MatchBool, sym, ap, subst, ◌∙◌, inl, inr}
 use Rattle.std.proofs.lemmas.List.{drop_more}
 use Rattle.wot_json.specs.Tree.{Json, elements_of}
 use Rattle.wot_json.specs.Meaning.{json_of, json_items}

@@ -1,5 +1,5 @@
 -- Which values a data schema accepts (TD 1.1 section 5.3.2, whose words are those of JSON Schema).
-use Rattle.std.specs.Prelude.{◌≡◌, ℕ, ℤ, pos, ◌≤ℤ◌, ◌<ℤ◌, ◌*ℤ◌, ◌⊎◌, List, Option, Some, None, IfSome, IsSome, MatchBool, ⊤, codes}
+use Rattle.std.specs.Prelude.{◌≡◌, ℕ, ℤ, pos, ◌≤ℤ◌, ◌<ℤ◌, ◌*ℤ◌, ◌⊎◌, List, IfSome, IsSome, MatchBool, ⊤, codes}
 use Rattle.std.specs.Str.{bytes_eq}
 use Rattle.wot_json.specs.Tree.{Json, null, boolean, integer, string, array, object, Elements, no_elements, element, Members, no_members, member}
 use Rattle.wot_schema.specs.Values.{found, IfInteger, IfString, IfArray, IfObject, EachElement, SomeElement, element_count, code_points}

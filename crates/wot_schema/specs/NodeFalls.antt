@@ -1,11 +1,11 @@
 -- That the nodes below a node nest less deep than it.
-use Rattle.std.specs.Prelude.{◌≡◌, ℕ, ◌+◌, ◌≤◌, List, [], ◌∷◌, ◌++◌, map, Option, Some, None, Vec, codes}
+use Rattle.std.specs.Prelude.{ℕ, ◌+◌, ◌≤◌, List, [], ◌∷◌, ◌++◌, map, Option, Some, None, Vec, codes}
 use Rattle.std.specs.declared.alloc.Global.{Global}
 use Rattle.std.proofs.Common.{arith}
 use Rattle.std.specs.Option.{option_map}
 use denote.Param.Weighed.{most}
 use Rattle.wot_json.specs.Tree.{Json, most_member_nesting, nesting, elements_nesting, members_nesting, elements_of, members_of}
-use Rattle.wot_schema.specs.Nodes.{present, node_rows, node_members, rule_rows, schema_of, list_of, items_of, properties_of}
+use Rattle.wot_schema.specs.Nodes.{present, node_members, rule_rows, schema_of, list_of, items_of, properties_of}
 use Rattle.wot_schema.specs.declared.node.Node.{Node}
 use Rattle.wot_schema.specs.declared.node.Node.TheInside.{Inside}
 use Rattle.wot_schema.specs.declared.node.ItemRule.{ItemRule}

@@ -1,7 +1,7 @@
 -- Words on JSON values that data schemas use.
-use Rattle.std.specs.Prelude.{ℕ, ◌+◌, ◌⊎◌, ℤ, List, [], ◌∷◌, length, Option, Some, None, ⊤, if◌then◌else◌}
+use Rattle.std.specs.Prelude.{ℕ, ◌+◌, ◌⊎◌, ℤ, List, length, Option, Some, None, ⊤, if◌then◌else◌}
 use Rattle.std.specs.Str.{bytes_eq, chars}
-use Rattle.wot_json.specs.Tree.{Json, null, boolean, integer, string, array, object, Elements, no_elements, element, Members, no_members, member}
+use Rattle.wot_json.specs.Tree.{Json, integer, string, array, object, Elements, no_elements, element, Members, no_members, member}
 
 -- the value of the member of this name, where there is one
 abbrev pub found : List ℕ → Members → Option Json

@@ -1,6 +1,6 @@
-use Rattle.std.proofs.Common.{◌≡◌, ◌↔◌, ◌++◌, [], ◌∷◌, ℕ, List, IfSome, map, codes, sym, ap, subst, ◌∙◌, arith}
+use Rattle.std.proofs.Common.{◌↔◌, ◌++◌, ℕ, List, IfSome, map, codes, sym, ap, subst, ◌∙◌, arith}
 use Rattle.std.proofs.lemmas.Result.{err_from_is_err_and}
-use Rattle.wot_json.specs.Tree.{Json, object, nesting, elements_of, members_of}
+use Rattle.wot_json.specs.Tree.{object, nesting, elements_of, members_of}
 use Rattle.wot_json.specs.Meaning.{json_of, json_items, json_members}
 use Rattle.wot_json.specs.declared.tree.Tree.{Tree}
 use Rattle.wot_json.proofs.Nesting.{element_nests, member_nests}

@@ -1,4 +1,3 @@
-use Rattle.std.proofs.Common.{[], ◌∷◌}
 use Rattle.std.proofs.lemmas.Result.{err_from_is_err_and}
 use Rattle.wot_json.specs.Tree.{members_of}
 use Rattle.wot_schema.proofs.FirstFaults.{table_stops, table_none, constant_none}

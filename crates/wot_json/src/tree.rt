@@ -143,7 +143,8 @@ impl Members {
 
     /// The members as a slice of names and values, in the byte order of the names.
     pub fn as_slice(&self) -> &[(Text, Tree)]
-        ensures { json_members result.now ≡ self.now }
+        ensures members { json_members result.now ≡ self.now }
+        ensures ordered { AreOrdered self.now }
     {
         self.list.as_slice()
     }

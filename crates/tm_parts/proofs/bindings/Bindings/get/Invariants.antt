@@ -1,0 +1,7 @@
+use Rattle.std.proofs.Common.{◌≡◌, drop}
+use Rattle.wot_json.specs.Meaning.{json_members}
+use Rattle.wot_json.specs.Lookup.{member_named}
+use Rattle.tm_parts.proofs.bindings.Bindings.get.Given as goal
+
+abbrev pub invariant-loop-bound : goal.invariant-loop-bound
+invariant-loop-bound l = member_named l.name (json_members (drop l.bound-index l.bound-items)) ≡ member_named l.name (json_members l.bound-items)

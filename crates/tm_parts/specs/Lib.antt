@@ -1,0 +1,3 @@
+pub mod Placeholders
+pub mod Pieces
+pub mod Substitution

@@ -1,4 +1,5 @@
 pub mod Cuts
 pub mod Fronts
+pub mod Models
 pub mod Texts
 pub mod Walks

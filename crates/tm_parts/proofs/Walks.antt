@@ -3,7 +3,8 @@ use Rattle.std.proofs.Common.{◌≡◌, ℕ, suc, ◌+◌, ◌<◌, ◌≤◌, 
 use Rattle.std.proofs.lemmas.List.{append-nil, drop_all}
 use Rattle.wot_json.specs.Meaning.{json_of, json_items, json_members}
 use Rattle.wot_json.specs.declared.tree.Tree.{Tree}
-use Rattle.wot_json.specs.Tree.{Json, Elements, element, elements_of, Members, member, members_of, AreOrdered}
+use Rattle.wot_json.proofs.Nesting.{element_nests, member_nests}
+use Rattle.wot_json.specs.Tree.{Json, nesting, most_nesting, most_member_nesting, Elements, element, elements_of, Members, member, members_of, AreOrdered}
 use Rattle.tm_parts.specs.Substitution.{Values, substituted, substituted_elements, substituted_members}
 
 -- the elements of a list, each with its values in place
@@ -59,3 +60,15 @@ next_in_order done list members place m name value values same ordered within he
     let front : AreOrdered (done ++ next ∷ []) = ordered_front (done ++ next ∷ []) later (subst AreOrdered (sym whole) (ordered_substituted members values ordered)) in
     let pair : ◌≡◌ {A = List ℕ × Json} next (name, value) = ap (λ (n : List ℕ). (n, substituted (json_of m.1) values)) (sym name_is) ∙ ap (λ (v : Json). (name, v)) (sym value_is) in
     subst (λ (n : List ℕ × Json). AreOrdered (done ++ n ∷ [])) pair front
+
+-- an element that is met on the way nests no deeper than the list
+pub element_met : (list : List Tree) (items : List Json) (place : ℕ) (t : Tree) → json_items list ≡ items → place < length list → t ≡ get_or list place t → nesting (json_of t) ≤ most_nesting items
+element_met list items place t same within here =
+    subst (λ (i : Tree). nesting (json_of i) ≤ most_nesting items) (sym here)
+      (subst (λ (vs : List Json). nesting (json_of (get_or list place t)) ≤ most_nesting vs) same (element_nests list place t within))
+
+-- and so does a member
+pub member_met : (list : List (List ℕ × Tree)) (members : List (List ℕ × Json)) (place : ℕ) (m : List ℕ × Tree) → json_members list ≡ members → place < length list → m ≡ get_or list place m → nesting (json_of m.1) ≤ most_member_nesting members
+member_met list members place m same within here =
+    subst (λ (n : List ℕ × Tree). nesting (json_of n.1) ≤ most_member_nesting members) (sym here)
+      (subst (λ (ms : List (List ℕ × Json)). nesting (json_of (get_or list place m).1) ≤ most_member_nesting ms) same (member_nests list place m within))

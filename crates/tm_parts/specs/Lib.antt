@@ -1,3 +1,6 @@
 pub mod Placeholders
 pub mod Pieces
 pub mod Substitution
+pub mod Holes
+pub mod Kept
+pub mod Library

@@ -2,9 +2,14 @@
 #![tactic(auto)]
 
 mod bindings;
+mod holes;
+mod library;
 mod placeholder;
+mod steps;
 mod substitution;
 
 pub use bindings::Bindings;
+pub use holes::first_hole;
+pub use library::{AddFault, Library};
 pub use servient_base::NoMemory;
 pub use substitution::{PartFault, substitute};

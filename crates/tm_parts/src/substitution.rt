@@ -11,9 +11,10 @@ ghost use Rattle.tm_parts.specs.Substitution.{substituted, substituted_elements,
 
 use crate::bindings::Bindings;
 use crate::placeholder::{Piece, first_piece, first_placeholder, whole_placeholder};
+use crate::steps::{into_element, into_member};
 use std::alloc::{AllocError, Global};
 use thiserror::Error;
-use wot_json::{Items, Members, Text, Tree, below, below_index, copy};
+use wot_json::{Items, Members, Text, Tree, below, copy};
 
 /// Why a model has no value with these bindings.
 #[derive(Debug, Drop, Error)]
@@ -46,8 +47,8 @@ impl PartFault {
         ensures { (result ≡ PartFault.NoMemory) ⊎ (result ≡ inside (step_text name.now) self) }
     {
         match self {
-            PartFault::InName(pointer) => match below(alloc, "", name) {
-                Ok(place) => behind(place, &pointer),
+            PartFault::InName(pointer) => match into_member(alloc, name, &pointer) {
+                Ok(pointer) => PartFault::InName(pointer),
                 Err(_) => PartFault::NoMemory,
             },
             other => other,
@@ -59,23 +60,12 @@ impl PartFault {
         ensures { (result ≡ PartFault.NoMemory) ⊎ (result ≡ inside (element_step index) self) }
     {
         match self {
-            PartFault::InName(pointer) => match below_index(alloc, "", index) {
-                Ok(place) => behind(place, &pointer),
+            PartFault::InName(pointer) => match into_element(alloc, index, &pointer) {
+                Ok(pointer) => PartFault::InName(pointer),
                 Err(_) => PartFault::NoMemory,
             },
             other => other,
         }
-    }
-}
-
-/// The fault of a name at a pointer that begins with this place.
-fn behind(place: Text, pointer: &Text) -> PartFault
-    ensures { (result ≡ PartFault.NoMemory) ⊎ (result ≡ PartFault.InName (place ++ pointer.now)) }
-{
-    let mut text = place.into_string();
-    match text.push_str(pointer.as_str()) {
-        Ok(()) => PartFault::InName(Text::from_string(text)),
-        Err(_) => PartFault::NoMemory,
     }
 }
 

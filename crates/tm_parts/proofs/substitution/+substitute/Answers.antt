@@ -1,19 +1,11 @@
-use Rattle.std.proofs.Common.{rules, ◌≡◌, ℕ, ◌+◌, ◌*◌, ◌<◌, ◌≤◌, List, [], ◌∷◌, ◌++◌, map, drop, length, get_or, sym, ap, subst, ◌∙◌, arith}
-use Rattle.wot_json.specs.Tree.{Json, nesting, most_nesting, most_member_nesting, elements_of, members_of, AreOrdered}
-use Rattle.wot_json.specs.Meaning.{json_of, json_items, json_members}
-use Rattle.wot_json.specs.declared.tree.Tree.{Tree}
-use Rattle.wot_json.proofs.Nesting.{element_nests, member_nests}
-use Rattle.tm_parts.specs.Substitution.{substituted, substituted_elements, substituted_members}
-use Rattle.tm_parts.proofs.Walks.{elements_done, members_done, next_in_order}
+use Rattle.std.proofs.Common.{arith, ◌∙◌}
+use Rattle.wot_json.specs.Meaning.{json_of}
+use Rattle.tm_parts.proofs.Walks.{element_met, member_met, elements_done, members_done, next_in_order}
 use Rattle.tm_parts.proofs.substitution.+substitute.Goals as goal
 
 pub substitute_items-substitute-requires : goal.substitute_items-substitute-requires
 substitute_items-substitute-requires t c =
-    let nests : nesting (json_of c.index-list-place.result) ≤ most_nesting c.args.items.now =
-      subst (λ (i : Tree). nesting (json_of i) ≤ most_nesting c.args.items.now) (sym c.index-list-place.is)
-        (subst (λ (vs : List Json). nesting (json_of (get_or c.as_slice-list.result.now c.loop-place.place c.index-list-place.result)) ≤ most_nesting vs) c.as_slice-list.ensures
-          (element_nests c.as_slice-list.result.now c.loop-place.place c.index-list-place.result c.loop-place-test.true)) in
-    (omega (arith, nests, c.decreases), tt)
+    (omega (arith, c.decreases, element_met c.as_slice-list.result.now c.args.items.now c.loop-place.place c.index-list-place.result c.as_slice-list.ensures c.loop-place-test.true c.index-list-place.is), tt)
 
 pub substitute_items-returns-clause-value : goal.substitute_items-returns-clause-value
 substitute_items-returns-clause-value t c =
@@ -21,11 +13,7 @@ substitute_items-returns-clause-value t c =
 
 pub substitute_members-substitute-requires : goal.substitute_members-substitute-requires
 substitute_members-substitute-requires t c =
-    let nests : nesting (json_of c.loop-name-item.result.1) ≤ most_member_nesting c.args.members.now =
-      subst (λ (m : List ℕ × Tree). nesting (json_of m.1) ≤ most_member_nesting c.args.members.now) (sym c.loop-name-item.is)
-        (subst (λ (ms : List (List ℕ × Json)). nesting (json_of (get_or c.as_slice-list.result.now c.loop-name.name-index c.loop-name-item.result).1) ≤ most_member_nesting ms) c.as_slice-list.ensures.members
-          (member_nests c.as_slice-list.result.now c.loop-name.name-index c.loop-name-item.result c.loop-name-test.true)) in
-    (omega (arith, nests, c.decreases), tt)
+    (omega (arith, c.decreases, member_met c.as_slice-list.result.now c.args.members.now c.loop-name.name-index c.loop-name-item.result c.as_slice-list.ensures.members c.loop-name-test.true c.loop-name-item.is), tt)
 
 pub substitute_members-push-requires : goal.substitute_members-push-requires
 substitute_members-push-requires t c =

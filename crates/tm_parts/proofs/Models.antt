@@ -1,0 +1,80 @@
+-- How the library's map answers, in terms of the list of models.
+use Rattle.std.proofs.Common.{◌≡◌, ℕ, List, [], ◌∷◌, map, refl, sym, ap, subst, rules, ◌∙◌, Bool, true, false, cond}
+use Rattle.std.specs.Prelude.{Option, Some, None, option_map, option_copied, is_some, IsSome, codes, String, string_bytes}
+use Rattle.std.proofs.Common.{Bor}
+use Rattle.std.specs.Str.{bytes_eq}
+use Rattle.std.specs.declared.alloc.Global.{Global}
+use Rattle.std.specs.Ordering.{is_eq, nat_cmp, match_ordering}
+use Rattle.std.specs.declared.cmp.Ordering.{Ordering}
+use Rattle.std.specs.declared.cmp.Ordering.TheVariants.{Less, Equal, Greater}
+use Rattle.std.specs.Cmp.Lexicographic.{slice_cmp}
+use Rattle.std.specs.Map.{lookup}
+use Rattle.std.specs.BTreeMap.{is_at, insert_entry}
+use Rattle.std.specs.String.{string_cmp}
+use Rattle.std.proofs.lemmas.Map.Text.{is_eq-slice_cmp}
+use Rattle.wot_json.specs.Tree.{Json, members_of}
+use Rattle.wot_json.specs.Meaning.{json_of}
+use Rattle.wot_json.specs.Lookup.{member_named}
+use Rattle.wot_json.specs.declared.tree.Tree.{Tree}
+use Rattle.tm_parts.specs.Kept.{kept_models}
+use Rattle.tm_parts.specs.Library.{with_model, member_value, is_thing_model, has_thing_model}
+use Rattle.wot_json.specs.declared.tree.Tree.TheVariants as tree
+
+-- what a lookup lends, by value
+pub lent_value : (r : Option (Bor Tree)) → option_map (λ t. json_of t.now) r ≡ option_map json_of (option_copied r)
+lent_value None = refl
+lent_value (Some t) = refl
+
+-- a choice, seen by its values
+mapped : (b : Bool) (t : Tree) (r : Option Tree) → option_map json_of (cond b (Some t) r) ≡ cond b (Some (json_of t)) (option_map json_of r)
+mapped true t r = refl
+mapped false t r = refl
+
+no_value : (r : Option Tree) → is_some r ≡ false → r ≡ None
+no_value None h = refl
+no_value (Some t) h = absurd (cc)
+
+has_value : (r : Option Tree) → is_some r ≡ true → IsSome (option_map json_of r)
+has_value None h = absurd (cc)
+has_value (Some t) h = search rules
+
+-- a lookup in the map is one in the list
+pub kept_found : (url : List ℕ) (entries : List (String Global × Tree)) → option_map json_of (lookup (is_at (λ k. slice_cmp nat_cmp url (string_bytes k))) entries) ≡ member_named url (kept_models entries)
+kept_found url [] = refl
+kept_found url (e ∷ es) =
+    mapped (is_at (λ k. slice_cmp nat_cmp url (string_bytes k)) e.0) e.1 (lookup (is_at (λ k. slice_cmp nat_cmp url (string_bytes k))) es)
+    ∙ ap (λ (b : Bool). cond b (Some (json_of e.1)) (option_map json_of (lookup (is_at (λ k. slice_cmp nat_cmp url (string_bytes k))) es))) (is_eq-slice_cmp url (string_bytes e.0))
+    ∙ ap (λ (r : Option Json). cond (bytes_eq url (string_bytes e.0)) (Some (json_of e.1)) r) (kept_found url es)
+
+placed : (o : Ordering) (before here behind : List (String Global × Tree)) → kept_models (match_ordering o before here behind) ≡ match_ordering o (kept_models before) (kept_models here) (kept_models behind)
+placed Less before here behind = refl
+placed Equal before here behind = refl
+placed Greater before here behind = refl
+
+-- an insertion into the map is one into the list
+pub kept_inserted : (entries : List (String Global × Tree)) (k : String Global) (t : Tree) → kept_models (insert_entry string_cmp entries k t) ≡ with_model (string_bytes k) (json_of t) (kept_models entries)
+kept_inserted [] k t = refl
+kept_inserted (e ∷ es) k t =
+    placed (slice_cmp nat_cmp (string_bytes k) (string_bytes e.0)) ((k, t) ∷ e ∷ es) ((e.0, t) ∷ es) (e ∷ insert_entry string_cmp es k t)
+    ∙ ap (λ (ms : List (List ℕ × Json)). match_ordering (slice_cmp nat_cmp (string_bytes k) (string_bytes e.0)) (kept_models ((k, t) ∷ e ∷ es)) (kept_models ((e.0, t) ∷ es)) ((string_bytes e.0, json_of e.1) ∷ ms)) (kept_inserted es k t)
+
+-- a member by its name, in the two forms of an object
+pub member_value_named : (name : List ℕ) (ms : List (List ℕ × Json)) → member_value name (members_of ms) ≡ member_named name ms
+member_value_named name [] = refl
+member_value_named name (m ∷ ms) =
+    ap (λ (r : Option Json). cond (bytes_eq name m.0) (Some m.1) r) (member_value_named name ms)
+
+-- an object is a model by what stands under `@type`
+pub model_by_type : (t : Tree) (ms : List (List ℕ × Json)) (types : Option Json) → t ≡ tree.Obj ms → types ≡ member_named (codes "@type") ms → is_thing_model (json_of t) ≡ elim types [ None ↦ false | Some v ↦ has_thing_model v ]
+model_by_type t ms types is found =
+    ap (λ (u : Tree). is_thing_model (json_of u)) is
+    ∙ ap (λ (o : Option Json). elim o as (λ _. Bool) [ None ↦ false | Some v ↦ has_thing_model v ]) (member_value_named (codes "@type") ms ∙ sym found)
+
+-- a map without an entry has no model there
+pub none_kept : (url : List ℕ) (entries : List (String Global × Tree)) → is_some (lookup (is_at (λ k. slice_cmp nat_cmp url (string_bytes k))) entries) ≡ false → member_named url (kept_models entries) ≡ None
+none_kept url entries none = sym (kept_found url entries) ∙ ap (λ (r : Option Tree). option_map json_of r) (no_value (lookup (is_at (λ k. slice_cmp nat_cmp url (string_bytes k))) entries) none)
+
+-- and one with an entry has
+pub some_kept : (url : List ℕ) (entries : List (String Global × Tree)) → is_some (lookup (is_at (λ k. slice_cmp nat_cmp url (string_bytes k))) entries) ≡ true → IsSome (member_named url (kept_models entries))
+some_kept url entries some =
+    subst (λ (o : Option Json). IsSome o) (kept_found url entries) (has_value (lookup (is_at (λ k. slice_cmp nat_cmp url (string_bytes k))) entries) some)

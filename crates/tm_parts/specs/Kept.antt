@@ -1,0 +1,10 @@
+-- What the types of the code stand for.
+use Rattle.std.specs.Prelude.{ℕ, List, map, String, string_bytes}
+use Rattle.std.specs.declared.alloc.Global.{Global}
+use Rattle.wot_json.specs.Tree.{Json}
+use Rattle.wot_json.specs.Meaning.{json_of}
+use Rattle.wot_json.specs.declared.tree.Tree.{Tree}
+
+-- models as the library's map keeps them
+abbrev pub kept_models : List (String Global × Tree) → List (List ℕ × Json)
+kept_models = map (λ entry. (string_bytes entry.0, json_of entry.1))

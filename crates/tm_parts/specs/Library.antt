@@ -1,0 +1,66 @@
+-- A library of Thing Models.
+use Rattle.std.specs.Prelude.{◌≡◌, ℕ, ◌||◌, Bool, true, false, List, [], ◌∷◌, codes, Option, Some, None, IsSome, MatchResult, if◌then◌else◌}
+use Rattle.std.specs.Str.{bytes_eq}
+use Rattle.std.specs.Ordering.{nat_cmp, match_ordering}
+use Rattle.std.specs.Cmp.Lexicographic.{slice_cmp}
+use Rattle.wot_json.specs.Tree.{Json, string, array, object, Elements, no_elements, element, Members, no_members, member}
+use Rattle.wot_json.specs.Lookup.{member_named}
+use Rattle.url.specs.Parser.{parse_url}
+use Rattle.tm_parts.specs.declared.library.AddFault.{AddFault}
+use Rattle.tm_parts.specs.declared.library.AddFault.TheVariants.{BadUrl, Twice, NotModel, NoMemory}
+
+-- models, each with the text of its URL, in the byte order of these texts
+abbrev pub Models : Type 0
+Models = List (List ℕ × Json)
+
+-- the models with one more, in its place
+abbrev pub with_model : List ℕ → Json → Models → Models
+with_model url model [] = (url, model) ∷ []
+with_model url model (m ∷ ms) = match_ordering (slice_cmp nat_cmp url m.0) ((url, model) ∷ m ∷ ms) ((m.0, model) ∷ ms) (m ∷ with_model url model ms)
+
+-- a text that may name a model: a URL (URL Standard, section 4.4) without a fragment, not even an empty one
+abbrev pub IsModelUrl : List ℕ → Type 0
+IsModelUrl url = MatchResult (parse_url None url) (λ parts. parts.fragment ≡ None) (λ fault. ⊥)
+
+-- the type that says that an object is a Thing Model (Thing Description 1.1, section 10)
+abbrev pub thing_model : List ℕ
+thing_model = codes "tm:ThingModel"
+
+-- this value is the text `tm:ThingModel`
+abbrev pub is_thing_model_text : Json → Bool
+is_thing_model_text (string s) = bytes_eq s thing_model
+is_thing_model_text v = false
+
+-- one of these elements is that text
+abbrev pub names_thing_model : Elements → Bool
+names_thing_model no_elements = false
+names_thing_model (element v es) = is_thing_model_text v || names_thing_model es
+
+-- types that contain `tm:ThingModel`: that text, or a list that has it
+abbrev pub has_thing_model : Json → Bool
+has_thing_model (array es) = names_thing_model es
+has_thing_model v = is_thing_model_text v
+
+-- the value of the member of this name, where the object has one
+abbrev pub member_value : List ℕ → Members → Option Json
+member_value name no_members = None
+member_value name (member n v ms) = if bytes_eq name n then Some v else member_value name ms
+
+-- an object whose `@type` contains `tm:ThingModel`
+abbrev pub is_thing_model : Json → Bool
+is_thing_model (object ms) = elim (member_value (codes "@type") ms) [ None ↦ false | Some types ↦ has_thing_model types ]
+is_thing_model v = false
+
+-- why a library takes no model: the first of these that holds
+abbrev pub HasAddFault : AddFault → List ℕ → Json → Models → Type 0
+HasAddFault BadUrl url model models = ¬ (IsModelUrl url)
+HasAddFault Twice url model models = IsModelUrl url × IsSome (member_named url models)
+HasAddFault NotModel url model models = IsModelUrl url × (member_named url models ≡ None) × (is_thing_model model ≡ false)
+HasAddFault NoMemory url model models = Unit {0}
+
+-- a model that a library takes
+pub record MayAdd (url : List ℕ) (model : Json) (models : Models) : Type 0 where
+  pub url_is : IsModelUrl url
+  pub new : member_named url models ≡ None
+  pub is_model : is_thing_model model ≡ true
+

@@ -12,12 +12,14 @@ use Rattle.std.specs.Map.{lookup}
 use Rattle.std.specs.BTreeMap.{is_at, insert_entry}
 use Rattle.std.specs.String.{string_cmp}
 use Rattle.std.proofs.lemmas.Map.Text.{is_eq-slice_cmp}
-use Rattle.wot_json.specs.Tree.{Json, members_of}
-use Rattle.wot_json.specs.Meaning.{json_of}
+use Rattle.wot_json.specs.Tree.{Json}
+use Rattle.wot_json.proofs.EqualTrees.{listed_lem, listed_members_lem}
+use Rattle.wot_json.specs.Meaning.{json_of, json_items}
 use Rattle.wot_json.specs.Lookup.{member_named}
 use Rattle.wot_json.specs.declared.tree.Tree.{Tree}
 use Rattle.tm_parts.specs.Kept.{kept_models}
-use Rattle.tm_parts.specs.Library.{with_model, member_value, is_thing_model, has_thing_model}
+use Rattle.tm_parts.specs.Library.{with_model, is_thing_model, is_thing_model_text, has_thing_model}
+use Rattle.std.specs.List.{list_any}
 use Rattle.wot_json.specs.declared.tree.Tree.TheVariants as tree
 
 -- what a lookup lends, by value
@@ -58,17 +60,11 @@ kept_inserted (e ∷ es) k t =
     placed (slice_cmp nat_cmp (string_bytes k) (string_bytes e.0)) ((k, t) ∷ e ∷ es) ((e.0, t) ∷ es) (e ∷ insert_entry string_cmp es k t)
     ∙ ap (λ (ms : List (List ℕ × Json)). match_ordering (slice_cmp nat_cmp (string_bytes k) (string_bytes e.0)) (kept_models ((k, t) ∷ e ∷ es)) (kept_models ((e.0, t) ∷ es)) ((string_bytes e.0, json_of e.1) ∷ ms)) (kept_inserted es k t)
 
--- a member by its name, in the two forms of an object
-pub member_value_named : (name : List ℕ) (ms : List (List ℕ × Json)) → member_value name (members_of ms) ≡ member_named name ms
-member_value_named name [] = refl
-member_value_named name (m ∷ ms) =
-    ap (λ (r : Option Json). cond (bytes_eq name m.0) (Some m.1) r) (member_value_named name ms)
-
 -- an object is a model by what stands under `@type`
 pub model_by_type : (t : Tree) (ms : List (List ℕ × Json)) (types : Option Json) → t ≡ tree.Obj ms → types ≡ member_named (codes "@type") ms → is_thing_model (json_of t) ≡ elim types [ None ↦ false | Some v ↦ has_thing_model v ]
 model_by_type t ms types is found =
     ap (λ (u : Tree). is_thing_model (json_of u)) is
-    ∙ ap (λ (o : Option Json). elim o as (λ _. Bool) [ None ↦ false | Some v ↦ has_thing_model v ]) (member_value_named (codes "@type") ms ∙ sym found)
+    ∙ ap (λ (o : Option Json). elim o as (λ _. Bool) [ None ↦ false | Some v ↦ has_thing_model v ]) (ap (λ (members : List (List ℕ × Json)). member_named (codes "@type") members) (listed_members_lem ms) ∙ sym found)
 
 -- a map without an entry has no model there
 pub none_kept : (url : List ℕ) (entries : List (String Global × Tree)) → is_some (lookup (is_at (λ k. slice_cmp nat_cmp url (string_bytes k))) entries) ≡ false → member_named url (kept_models entries) ≡ None
@@ -78,3 +74,8 @@ none_kept url entries none = sym (kept_found url entries) ∙ ap (λ (r : Option
 pub some_kept : (url : List ℕ) (entries : List (String Global × Tree)) → is_some (lookup (is_at (λ k. slice_cmp nat_cmp url (string_bytes k))) entries) ≡ true → IsSome (member_named url (kept_models entries))
 some_kept url entries some =
     subst (λ (o : Option Json). IsSome o) (kept_found url entries) (has_value (lookup (is_at (λ k. slice_cmp nat_cmp url (string_bytes k))) entries) some)
+
+-- a list of types, in the two forms of a list
+pub listed_types : (list : List Tree) (items : List Json) → json_items list ≡ items → list_any is_thing_model_text (json_items list) ≡ has_thing_model (json_of (tree.List items))
+listed_types list items same =
+    ap (λ (vs : List Json). list_any is_thing_model_text vs) (same ∙ sym (listed_lem items))

@@ -4,3 +4,4 @@ pub mod Substitution
 pub mod Holes
 pub mod Kept
 pub mod Library
+pub mod References

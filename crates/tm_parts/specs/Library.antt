@@ -1,10 +1,11 @@
 -- A library of Thing Models.
-use Rattle.std.specs.Prelude.{◌≡◌, ℕ, ◌||◌, Bool, true, false, List, [], ◌∷◌, codes, Option, Some, None, IsSome, MatchResult, if◌then◌else◌}
+use Rattle.std.specs.Prelude.{◌≡◌, ℕ, Bool, true, false, List, [], ◌∷◌, codes, Option, Some, None, IsSome, MatchResult}
+use Rattle.std.specs.List.{list_any}
 use Rattle.std.specs.Str.{bytes_eq}
 use Rattle.std.specs.Ordering.{nat_cmp, match_ordering}
 use Rattle.std.specs.Cmp.Lexicographic.{slice_cmp}
-use Rattle.wot_json.specs.Tree.{Json, string, array, object, Elements, no_elements, element, Members, no_members, member}
-use Rattle.wot_json.specs.Lookup.{member_named}
+use Rattle.wot_json.specs.Tree.{Json, string, array, object}
+use Rattle.wot_json.specs.Lookup.{listed, listed_members, member_named}
 use Rattle.url.specs.Parser.{parse_url}
 use Rattle.tm_parts.specs.declared.library.AddFault.{AddFault}
 use Rattle.tm_parts.specs.declared.library.AddFault.TheVariants.{BadUrl, Twice, NotModel, NoMemory}
@@ -31,24 +32,14 @@ abbrev pub is_thing_model_text : Json → Bool
 is_thing_model_text (string s) = bytes_eq s thing_model
 is_thing_model_text v = false
 
--- one of these elements is that text
-abbrev pub names_thing_model : Elements → Bool
-names_thing_model no_elements = false
-names_thing_model (element v es) = is_thing_model_text v || names_thing_model es
-
 -- types that contain `tm:ThingModel`: that text, or a list that has it
 abbrev pub has_thing_model : Json → Bool
-has_thing_model (array es) = names_thing_model es
+has_thing_model (array es) = list_any is_thing_model_text (listed es)
 has_thing_model v = is_thing_model_text v
-
--- the value of the member of this name, where the object has one
-abbrev pub member_value : List ℕ → Members → Option Json
-member_value name no_members = None
-member_value name (member n v ms) = if bytes_eq name n then Some v else member_value name ms
 
 -- an object whose `@type` contains `tm:ThingModel`
 abbrev pub is_thing_model : Json → Bool
-is_thing_model (object ms) = elim (member_value (codes "@type") ms) [ None ↦ false | Some types ↦ has_thing_model types ]
+is_thing_model (object ms) = elim (member_named (codes "@type") (listed_members ms)) [ None ↦ false | Some types ↦ has_thing_model types ]
 is_thing_model v = false
 
 -- why a library takes no model: the first of these that holds

@@ -1,7 +1,7 @@
 //! The library of Thing Models.
 
 ghost use Rattle.std.specs.Prelude.{◌≡◌, ◌⊎◌, [], IfOk, IfErr, OnOk, OnErr, option_map};
-ghost use Rattle.wot_json.specs.Tree.{elements_of};
+ghost use Rattle.std.specs.List.{list_any};
 ghost use Rattle.wot_json.specs.Meaning.{json_of, json_items};
 ghost use Rattle.wot_json.specs.Lookup.{member_named};
 ghost use Rattle.tm_parts.specs.Library.{with_model, IsModelUrl, HasAddFault, MayAdd};
@@ -162,7 +162,7 @@ fn has_thing_model(types: &Tree) -> bool
 
 /// One of the values is `tm:ThingModel`.
 fn names_thing_model(items: &[Tree]) -> bool
-    ensures { result ≡ spec.names_thing_model (elements_of (json_items items.now)) }
+    ensures { result ≡ list_any spec.is_thing_model_text (json_items items.now) }
 {
     for item in items {
         if is_thing_model_text(item) {

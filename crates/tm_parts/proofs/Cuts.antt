@@ -23,14 +23,14 @@ name_goes_to_brace [] ys h = refl
 name_goes_to_brace (b ∷ name) ys h =
     let parts = and_parts (is_name_byte b) (list_all is_name_byte name) h in
     subst (λ (t : Bool). cond t (1 + prefix_len is_name_byte (name ++ 125 ∷ ys)) 0 ≡ length (b ∷ name)) (sym parts.0)
-      (omega (arith, name_goes_to_brace name ys parts.1))
+    (omega (arith, name_goes_to_brace name ys parts.1))
 
 -- the name is what stands behind the braces, as far as a name may go
 name_behind_braces : (name rest : List ℕ) → list_all is_name_byte name ≡ true → take_while is_name_byte (drop 2 (placeholder_text name ++ rest)) ≡ name
 name_behind_braces name rest h =
     let inner : (name ++ 125 ∷ 125 ∷ []) ++ rest ≡ name ++ (125 ∷ 125 ∷ rest) = append_assoc name (125 ∷ 125 ∷ []) rest in
     let whole : take_while is_name_byte (name ++ (125 ∷ 125 ∷ rest)) ≡ name =
-      ap (λ (n : ℕ). take n (name ++ (125 ∷ 125 ∷ rest))) (name_goes_to_brace name (125 ∷ rest) h) ∙ take-append_seam name (125 ∷ 125 ∷ rest) in
+    ap (λ (n : ℕ). take n (name ++ (125 ∷ 125 ∷ rest))) (name_goes_to_brace name (125 ∷ rest) h) ∙ take-append_seam name (125 ∷ 125 ∷ rest) in
     ap (λ (xs : List ℕ). take_while is_name_byte xs) inner ∙ whole
 
 length-placeholder_text : (name : List ℕ) → length (placeholder_text name) ≡ length name + 4
@@ -44,9 +44,9 @@ names_front : (name rest : List ℕ) → is_name name ≡ true → names (placeh
 unfolding names
 names_front name rest h =
     let front : take (length name + 4) (placeholder_text name ++ rest) ≡ placeholder_text name =
-      ap (λ (n : ℕ). take n (placeholder_text name ++ rest)) (sym (length-placeholder_text name)) ∙ take-append_seam (placeholder_text name) rest in
+    ap (λ (n : ℕ). take n (placeholder_text name ++ rest)) (sym (length-placeholder_text name)) ∙ take-append_seam (placeholder_text name) rest in
     and_from (is_name name) (bytes_eq (take (length name + 4) (placeholder_text name ++ rest)) (placeholder_text name)) h
-      ((bytes_eq-Decides (take (length name + 4) (placeholder_text name ++ rest)) (placeholder_text name)).1 front)
+    ((bytes_eq-Decides (take (length name + 4) (placeholder_text name ++ rest)) (placeholder_text name)).1 front)
 
 named_front : (text name : List ℕ) → names text name ≡ true → (is_name name ≡ true) × (text ≡ placeholder_text name ++ drop (length name + 4) text)
 unfolding names
@@ -64,7 +64,7 @@ pub placeholder_at_front : (name rest : List ℕ) → is_name name ≡ true → 
 placeholder_at_front name rest h =
     let bytes : list_all is_name_byte name ≡ true = (and_parts (list_all is_name_byte name) (nat_lt 0 (length name)) (and_parts (list_all is_name_byte name && nat_lt 0 (length name)) (nat_le (length name) 64) h).0).0 in
     let at_name : cond (names (placeholder_text name ++ rest) name) (Some name) None ≡ Some name =
-      ap (λ (t : Bool). cond t (Some name) None) (names_front name rest h) in
+    ap (λ (t : Bool). cond t (Some name) None) (names_front name rest h) in
     placeholder_at_is (placeholder_text name ++ rest)
     ∙ subst (λ (n : List ℕ). cond (names (placeholder_text name ++ rest) n) (Some n) None ≡ Some name) (sym (name_behind_braces name rest bytes)) at_name
 
@@ -90,7 +90,7 @@ pub pieces_placeholder : (name rest : List ℕ) → is_name name ≡ true → pi
 pieces_placeholder name rest h =
     let T : List ℕ = 123 ∷ ((name ++ 125 ∷ 125 ∷ []) ++ rest) in
     let cut : pieces (123 ∷ T) ≡ placeholder name ∷ pieces_behind (length name + 3) T =
-      ap (λ (o : Option (List ℕ)). elim o as (λ _. List Piece) [ None ↦ plain 123 ∷ pieces_behind 0 T | Some n ↦ placeholder n ∷ pieces_behind (length n + 3) T ]) (placeholder_at_front name rest h) in
+    ap (λ (o : Option (List ℕ)). elim o as (λ _. List Piece) [ None ↦ plain 123 ∷ pieces_behind 0 T | Some n ↦ placeholder n ∷ pieces_behind (length n + 3) T ]) (placeholder_at_front name rest h) in
     let inner : List ℕ = 123 ∷ (name ++ 125 ∷ 125 ∷ []) in
     let count : length name + 3 ≡ length inner = omega (arith, length-append name (125 ∷ 125 ∷ [])) in
     let left : drop (length name + 3) T ≡ rest = ap (λ (n : ℕ). drop n T) count ∙ drop-append_seam inner rest in
@@ -111,13 +111,13 @@ pub pieces_no_brace : (n : ℕ) (bs : List ℕ) → n ≤ position_or_len (λ b.
 pieces_no_brace zero bs h = refl
 pieces_no_brace (suc n) [] h = refl
 pieces_no_brace (suc n) (b ∷ bs) h = elim (cases_Bool (b == 123)) [
-    | inl brace ↦
-        let none : suc n ≤ cond (not true) (1 + position_or_len (λ b. b == 123) bs) 0 = subst (λ (t : Bool). suc n ≤ cond (not t) (1 + position_or_len (λ b. b == 123) bs) 0) brace h in
-        absurd (omega (arith, none))
-    | inr other ↦
-        let within : suc n ≤ cond (not false) (1 + position_or_len (λ b. b == 123) bs) 0 = subst (λ (t : Bool). suc n ≤ cond (not t) (1 + position_or_len (λ b. b == 123) bs) 0) other h in
-        pieces_plain b bs (no_placeholder_here b bs other) ∙ ap (λ (ps : List Piece). plain b ∷ ps) (pieces_no_brace n bs (omega (arith, within)))
-  ]
+  | inl brace ↦
+      let none : suc n ≤ cond (not true) (1 + position_or_len (λ b. b == 123) bs) 0 = subst (λ (t : Bool). suc n ≤ cond (not t) (1 + position_or_len (λ b. b == 123) bs) 0) brace h in
+      absurd (omega (arith, none))
+  | inr other ↦
+      let within : suc n ≤ cond (not false) (1 + position_or_len (λ b. b == 123) bs) 0 = subst (λ (t : Bool). suc n ≤ cond (not t) (1 + position_or_len (λ b. b == 123) bs) 0) other h in
+      pieces_plain b bs (no_placeholder_here b bs other) ∙ ap (λ (ps : List Piece). plain b ∷ ps) (pieces_no_brace n bs (omega (arith, within)))
+]
 
 -- plain bytes have no names
 names_of_plain : (bytes : List ℕ) → flat_map piece_name (map plain bytes) ≡ []

@@ -38,17 +38,17 @@ take_while_ends x xs other =
 all_name_bytes : (xs : List ℕ) → list_all is_name_byte (take_while is_name_byte xs) ≡ true
 all_name_bytes [] = refl
 all_name_bytes (x ∷ xs) = elim (cases_Bool (is_name_byte x)) [
-    | inl may ↦ ap (λ (ys : List ℕ). list_all is_name_byte ys) (take_while_more x xs may) ∙ and_from (is_name_byte x) (list_all is_name_byte (take_while is_name_byte xs)) may (all_name_bytes xs)
-    | inr other ↦ ap (λ (ys : List ℕ). list_all is_name_byte ys) (take_while_ends x xs other)
-  ]
+  | inl may ↦ ap (λ (ys : List ℕ). list_all is_name_byte ys) (take_while_more x xs may) ∙ and_from (is_name_byte x) (list_all is_name_byte (take_while is_name_byte xs)) may (all_name_bytes xs)
+  | inr other ↦ ap (λ (ys : List ℕ). list_all is_name_byte ys) (take_while_ends x xs other)
+]
 
 -- some such bytes, but not too many, are a name
 pub is_name_if : (xs : List ℕ) → 0 < length (take_while is_name_byte xs) → length (take_while is_name_byte xs) ≤ 64 → is_name (take_while is_name_byte xs) ≡ true
 is_name_if xs some few =
     let name : List ℕ = take_while is_name_byte xs in
     and_from (list_all is_name_byte name && nat_lt 0 (length name)) (nat_le (length name) 64)
-      (and_from (list_all is_name_byte name) (nat_lt 0 (length name)) (all_name_bytes xs) (lt-ltb 0 (length name) some))
-      (le-leb (length name) 64 few)
+    (and_from (list_all is_name_byte name) (nat_lt 0 (length name)) (all_name_bytes xs) (lt-ltb 0 (length name) some))
+    (le-leb (length name) 64 few)
 
 name_byte_ascii : (b : ℕ) → is_name_byte b ≡ true → b < 128
 name_byte_ascii b h =
@@ -58,15 +58,15 @@ name_byte_ascii b h =
 names_are_ascii : (xs : List ℕ) → IsAscii (take_while is_name_byte xs)
 names_are_ascii [] = IsAscii-nil
 names_are_ascii (x ∷ xs) = elim (cases_Bool (is_name_byte x)) [
-    | inl may ↦ subst (λ (ys : List ℕ). IsAscii ys) (sym (take_while_more x xs may)) (IsAscii-cons x (take_while is_name_byte xs) (name_byte_ascii x may) (names_are_ascii xs))
-    | inr other ↦ subst (λ (ys : List ℕ). IsAscii ys) (sym (take_while_ends x xs other)) IsAscii-nil
-  ]
+  | inl may ↦ subst (λ (ys : List ℕ). IsAscii ys) (sym (take_while_more x xs may)) (IsAscii-cons x (take_while is_name_byte xs) (name_byte_ascii x may) (names_are_ascii xs))
+  | inr other ↦ subst (λ (ys : List ℕ). IsAscii ys) (sym (take_while_ends x xs other)) IsAscii-nil
+]
 
 -- a text may be cut behind the bytes that a name may have
 pub cut_behind_name : (xs : List ℕ) (n : ℕ) → IsUtf8 xs → n ≡ prefix_len is_name_byte xs → IsCharBoundary xs n
 cut_behind_name xs n text is =
     subst (λ (k : ℕ). IsCharBoundary xs k) (sym is)
-      (IsCharBoundary-from_take xs (prefix_len is_name_byte xs) text (prefix_len-le-length is_name_byte xs) (IsUtf8-from_ascii (take_while is_name_byte xs) (names_are_ascii xs)))
+    (IsCharBoundary-from_take xs (prefix_len is_name_byte xs) text (prefix_len-le-length is_name_byte xs) (IsUtf8-from_ascii (take_while is_name_byte xs) (names_are_ascii xs)))
 
 -- a text that doesn't begin with two braces
 pub none_without_braces : (text : List ℕ) → ((rest : List ℕ) → text ≡ 123 ∷ 123 ∷ rest → ⊥) → placeholder_at text ≡ None
@@ -86,21 +86,21 @@ name_parts inner name rest named is =
 pub none_without_end : (text inner behind : List ℕ) → text ≡ 123 ∷ 123 ∷ inner → behind ≡ drop (prefix_len is_name_byte inner) inner → ((rest : List ℕ) → behind ≡ 125 ∷ 125 ∷ rest → ⊥) → placeholder_at text ≡ None
 none_without_end text inner behind is behind_is h =
     placeholder_not_at_front text (λ name rest named text_is.
-      let inner_is : inner ≡ (name ++ 125 ∷ 125 ∷ []) ++ rest = cc in
-      h rest (behind_is ∙ (name_parts inner name rest named inner_is).1))
+    let inner_is : inner ≡ (name ++ 125 ∷ 125 ∷ []) ++ rest = cc in
+    h rest (behind_is ∙ (name_parts inner name rest named inner_is).1))
 
 -- two braces, but no name behind them
 pub none_without_name : (text inner name : List ℕ) → text ≡ 123 ∷ 123 ∷ inner → name ≡ take_while is_name_byte inner → (is_name name ≡ true → ⊥) → placeholder_at text ≡ None
 none_without_name text inner name is name_is h =
     placeholder_not_at_front text (λ other rest named text_is.
-      let inner_is : inner ≡ (other ++ 125 ∷ 125 ∷ []) ++ rest = cc in
-      h (subst (λ (n : List ℕ). is_name n ≡ true) (sym (name_is ∙ (name_parts inner other rest named inner_is).0)) named))
+    let inner_is : inner ≡ (other ++ 125 ∷ 125 ∷ []) ++ rest = cc in
+    h (subst (λ (n : List ℕ). is_name n ≡ true) (sym (name_is ∙ (name_parts inner other rest named inner_is).0)) named))
 
 -- a placeholder, found in its parts
 pub placeholder_in_parts : (text inner name behind rest : List ℕ) → text ≡ 123 ∷ 123 ∷ inner → name ≡ take_while is_name_byte inner → behind ≡ drop (prefix_len is_name_byte inner) inner → behind ≡ 125 ∷ 125 ∷ rest → 0 < length name → length name ≤ 64 → (text ≡ placeholder_text name ++ rest) × (is_name name ≡ true)
 placeholder_in_parts text inner name behind rest is name_is behind_is end some few =
     let named : is_name name ≡ true = subst (λ (n : List ℕ). is_name n ≡ true) (sym name_is)
-      (is_name_if inner (subst (λ (n : List ℕ). 0 < length n) name_is some) (subst (λ (n : List ℕ). length n ≤ 64) name_is few)) in
+    (is_name_if inner (subst (λ (n : List ℕ). 0 < length n) name_is some) (subst (λ (n : List ℕ). length n ≤ 64) name_is few)) in
     let split : inner ≡ name ++ behind = sym (take-append-drop (prefix_len is_name_byte inner) inner) ∙ ap (λ (n : List ℕ). n ++ drop (prefix_len is_name_byte inner) inner) (sym name_is) ∙ ap (λ (b : List ℕ). name ++ b) (sym behind_is) in
     let whole : inner ≡ (name ++ 125 ∷ 125 ∷ []) ++ rest = split ∙ ap (λ (b : List ℕ). name ++ b) end ∙ sym (append_assoc name (125 ∷ 125 ∷ []) rest) in
     (is ∙ ap (λ (xs : List ℕ). 123 ∷ 123 ∷ xs) whole, named)
@@ -117,7 +117,7 @@ plain_front [] n some h is = absurd (omega (arith, some))
 plain_front (b ∷ bs) n some h is =
     let count : n ≡ suc (position_or_len (λ b. b == 123) bs) = omega (arith, is) in
     subst (λ (k : ℕ). pieces (b ∷ bs) ≡ map plain (take k (b ∷ bs)) ++ pieces (drop k (b ∷ bs))) (sym count)
-      (pieces_plain b bs h ∙ ap (λ (ps : List Piece). plain b ∷ ps) (pieces_no_brace (position_or_len (λ b. b == 123) bs) bs (omega arith)))
+    (pieces_plain b bs h ∙ ap (λ (ps : List Piece). plain b ∷ ps) (pieces_no_brace (position_or_len (λ b. b == 123) bs) bs (omega arith)))
 
 -- a text may be cut before an opening brace
 pub cut_before_brace : (text : List ℕ) (n : ℕ) → 0 < length text → n ≡ 1 + position_or_len (λ b. b == 123) (drop 1 text) → IsCharBoundary text n
@@ -125,6 +125,7 @@ cut_before_brace [] n some is = absurd (omega (arith, some))
 cut_before_brace (b ∷ bs) n some is =
     let m : ℕ = position_or_len (λ b. b == 123) bs in
     let count : n ≡ suc m = omega (arith, is) in
-    subst (λ (k : ℕ). IsCharBoundary (b ∷ bs) k) (sym count)
-      (omega (arith, prefix_len-le-length (λ b. not (b == 123)) bs),
-       λ within high. absurd (let brace : get_or bs m 0 ≡ 123 = eqb-true (get_or bs m 0) 123 (not-false (get_or bs m 0 == 123) (prefix_len_stops (λ b. not (b == 123)) bs 0 (omega arith))) in omega (arith, brace)))
+    subst (λ (k : ℕ). IsCharBoundary (b ∷ bs) k) (sym count) (
+      omega (arith, prefix_len-le-length (λ b. not (b == 123)) bs),
+      λ within high. absurd (let brace : get_or bs m 0 ≡ 123 = eqb-true (get_or bs m 0) 123 (not-false (get_or bs m 0 == 123) (prefix_len_stops (λ b. not (b == 123)) bs 0 (omega arith))) in omega (arith, brace)),
+    )

@@ -34,8 +34,8 @@ pub elements_done : (done : List Json) (list : List Tree) (items : List Json) (p
 elements_done done list items place values same past all =
     let rest : drop place list ≡ [] = drop_all place list past in
     let whole : done ≡ map (λ v. substituted v values) items =
-      sym (append-nil done) ∙ ap (λ (ts : List Tree). done ++ map (λ v. substituted v values) (json_items ts)) (sym rest) ∙ all
-      ∙ ap (λ (vs : List Json). map (λ v. substituted v values) vs) same in
+    sym (append-nil done) ∙ ap (λ (ts : List Tree). done ++ map (λ v. substituted v values) (json_items ts)) (sym rest) ∙ all
+    ∙ ap (λ (vs : List Json). map (λ v. substituted v values) vs) same in
     ap elements_of whole ∙ elements_substituted items values
 
 -- after a walk through all members, theirs are
@@ -43,8 +43,8 @@ pub members_done : (done : List (List ℕ × Json)) (list : List (List ℕ × Tr
 members_done done list members place values same past all =
     let rest : drop place list ≡ [] = drop_all place list past in
     let whole : done ≡ map (λ m. (m.0, substituted m.1 values)) members =
-      sym (append-nil done) ∙ ap (λ (ts : List (List ℕ × Tree)). done ++ map (λ m. (m.0, substituted m.1 values)) (json_members ts)) (sym rest) ∙ all
-      ∙ ap (λ (ms : List (List ℕ × Json)). map (λ m. (m.0, substituted m.1 values)) ms) same in
+    sym (append-nil done) ∙ ap (λ (ts : List (List ℕ × Tree)). done ++ map (λ m. (m.0, substituted m.1 values)) (json_members ts)) (sym rest) ∙ all
+    ∙ ap (λ (ms : List (List ℕ × Json)). map (λ m. (m.0, substituted m.1 values)) ms) same in
     ap members_of whole ∙ members_substituted members values
 
 -- the next member stands behind those before it
@@ -54,9 +54,9 @@ next_in_order done list members place m name value values same ordered within he
     let later : List (List ℕ × Json) = map (λ m. (m.0, substituted m.1 values)) (json_members (drop (suc place) list)) in
     let rest : drop place list ≡ m ∷ drop (suc place) list = drop-cons list place m within ∙ ap (λ (n : List ℕ × Tree). n ∷ drop (suc place) list) (sym here) in
     let whole : (done ++ next ∷ []) ++ later ≡ map (λ m. (m.0, substituted m.1 values)) members =
-      append_assoc done (next ∷ []) later
-      ∙ ap (λ (ts : List (List ℕ × Tree)). done ++ map (λ m. (m.0, substituted m.1 values)) (json_members ts)) (sym rest) ∙ all
-      ∙ ap (λ (ms : List (List ℕ × Json)). map (λ m. (m.0, substituted m.1 values)) ms) same in
+    append_assoc done (next ∷ []) later
+    ∙ ap (λ (ts : List (List ℕ × Tree)). done ++ map (λ m. (m.0, substituted m.1 values)) (json_members ts)) (sym rest) ∙ all
+    ∙ ap (λ (ms : List (List ℕ × Json)). map (λ m. (m.0, substituted m.1 values)) ms) same in
     let front : AreOrdered (done ++ next ∷ []) = ordered_front (done ++ next ∷ []) later (subst AreOrdered (sym whole) (ordered_substituted members values ordered)) in
     let pair : ◌≡◌ {A = List ℕ × Json} next (name, value) = ap (λ (n : List ℕ). (n, substituted (json_of m.1) values)) (sym name_is) ∙ ap (λ (v : Json). (name, v)) (sym value_is) in
     subst (λ (n : List ℕ × Json). AreOrdered (done ++ n ∷ [])) pair front
@@ -65,10 +65,10 @@ next_in_order done list members place m name value values same ordered within he
 pub element_met : (list : List Tree) (items : List Json) (place : ℕ) (t : Tree) → json_items list ≡ items → place < length list → t ≡ get_or list place t → nesting (json_of t) ≤ most_nesting items
 element_met list items place t same within here =
     subst (λ (i : Tree). nesting (json_of i) ≤ most_nesting items) (sym here)
-      (subst (λ (vs : List Json). nesting (json_of (get_or list place t)) ≤ most_nesting vs) same (element_nests list place t within))
+    (subst (λ (vs : List Json). nesting (json_of (get_or list place t)) ≤ most_nesting vs) same (element_nests list place t within))
 
 -- and so does a member
 pub member_met : (list : List (List ℕ × Tree)) (members : List (List ℕ × Json)) (place : ℕ) (m : List ℕ × Tree) → json_members list ≡ members → place < length list → m ≡ get_or list place m → nesting (json_of m.1) ≤ most_member_nesting members
 member_met list members place m same within here =
     subst (λ (n : List ℕ × Tree). nesting (json_of n.1) ≤ most_member_nesting members) (sym here)
-      (subst (λ (ms : List (List ℕ × Json)). nesting (json_of (get_or list place m).1) ≤ most_member_nesting ms) same (member_nests list place m within))
+    (subst (λ (ms : List (List ℕ × Json)). nesting (json_of (get_or list place m).1) ≤ most_member_nesting ms) same (member_nests list place m within))

@@ -54,4 +54,3 @@ pub record MayAdd (url : List ℕ) (model : Json) (models : Models) : Type 0 whe
   pub url_is : IsModelUrl url
   pub new : member_named url models ≡ None
   pub is_model : is_thing_model model ≡ true
-

@@ -1,4 +1,8 @@
-//! Parts of Thing Models: placeholders.
+//! Parts of Thing Models: their placeholders, the library that keeps them, and references from one to another.
+//!
+//! A Thing Model is a JSON value whose texts may hold placeholders, `{{NAME}}` (Thing Description 1.1, section 10).
+//! `substitute` puts bound values in their places, or finds the first fault; `first_hole` finds the first that is
+//! left. `Library` keeps models by the texts of their URLs. `target` says where the text of a `tm:ref` leads.
 #![tactic(auto)]
 
 mod bindings;
@@ -8,6 +12,8 @@ mod placeholder;
 mod reference;
 mod steps;
 mod substitution;
+#[cfg(test)]
+mod tests;
 
 pub use bindings::Bindings;
 pub use holes::first_hole;

@@ -113,7 +113,11 @@ fn substitute_items(alloc: Global, items: &Items, bindings: &Bindings) -> Result
 }
 
 #[cycle(substitute)]
-fn substitute_members(alloc: Global, members: &Members, bindings: &Bindings) -> Result<Members, PartFault>
+fn substitute_members(
+    alloc: Global,
+    members: &Members,
+    bindings: &Bindings,
+) -> Result<Members, PartFault>
     ensures value { IfOk result (λ m. members_of m ≡ substituted_members (members_of members.now) bindings.now) }
     ensures faultless { OnOk result (member_faults (members_of members.now) bindings.now ≡ []) }
     ensures fault { IfErr result (λ e. IsFirstFault e (member_faults (members_of members.now) bindings.now)) }
@@ -174,7 +178,12 @@ fn fill(alloc: Global, text: &str, bindings: &Bindings) -> Result<Text, PartFaul
 }
 
 /// Puts what stands for a piece at the end of a text.
-fn put_piece(alloc: Global, out: &mut String, piece: Piece<'_>, bindings: &Bindings) -> Result<(), PartFault>
+fn put_piece(
+    alloc: Global,
+    out: &mut String,
+    piece: Piece<'_>,
+    bindings: &Bindings,
+) -> Result<(), PartFault>
     ensures value { OnOk result
         (string_bytes out.new ≡ string_bytes out.old ++ flat_map (piece_text bindings.now) (pieces_of piece.entry)) }
     ensures faultless { OnOk result (flat_map (piece_faults bindings.now) (pieces_of piece.entry) ≡ []) }
@@ -190,7 +199,12 @@ fn put_piece(alloc: Global, out: &mut String, piece: Piece<'_>, bindings: &Bindi
 }
 
 /// Puts the text that is bound to a name at the end of a text, or the placeholder where none is.
-fn put_placeholder(alloc: Global, out: &mut String, name: &str, bindings: &Bindings) -> Result<(), PartFault>
+fn put_placeholder(
+    alloc: Global,
+    out: &mut String,
+    name: &str,
+    bindings: &Bindings,
+) -> Result<(), PartFault>
     ensures value { OnOk result
         (string_bytes out.new ≡ string_bytes out.old ++ piece_text bindings.now (placeholder_piece name.now)) }
     ensures faultless { OnOk result (piece_faults bindings.now (placeholder_piece name.now) ≡ []) }

@@ -20,8 +20,14 @@ front_length text n is = ap (λ (k : ℕ). 1 + k) is
 
 pub overflow_add-length : goal.overflow_add-length
 overflow_add-length c =
-    omega (arith, c.length_before_brace-length.ensures, prefix_len-le-length (λ b. not (b == 123)) (take (length c.as_bytes.result.now - 1) (drop 1 c.as_bytes.result.now)),
-      length-take-le (length c.as_bytes.result.now - 1) (drop 1 c.as_bytes.result.now), length-drop 1 c.as_bytes.result.now, c.as_bytes.type_inv)
+    omega (
+      arith,
+      c.length_before_brace-length.ensures,
+      prefix_len-le-length (λ b. not (b == 123)) (take (length c.as_bytes.result.now - 1) (drop 1 c.as_bytes.result.now)),
+      length-take-le (length c.as_bytes.result.now - 1) (drop 1 c.as_bytes.result.now),
+      length-drop 1 c.as_bytes.result.now,
+      c.as_bytes.type_inv,
+    )
 
 pub split_at-requires : goal.split_at-requires
 split_at-requires c =
@@ -36,4 +42,4 @@ pub returns-in-None-clause-pieces : goal.returns-in-None-clause-pieces
 returns-in-None-clause-pieces c =
     let n = behind_first c.as_bytes.result.now c.args.text.now c.length_before_brace-length.result c.as_bytes.ensures.value c.length_before_brace-length.ensures in
     rw (c.split_at.ensures.front, c.split_at.ensures.back)
-      (plain_front c.args.text.now (1 + c.length_before_brace-length.result) c.requires (sym c.in-None.ensures.name) (front_length c.args.text.now c.length_before_brace-length.result n))
+    (plain_front c.args.text.now (1 + c.length_before_brace-length.result) c.requires (sym c.in-None.ensures.name) (front_length c.args.text.now c.length_before_brace-length.result n))

@@ -9,5 +9,5 @@ use Rattle.tm_parts.proofs.placeholder.first_placeholder.Goals as goal
 pub loop-rest-preserved : goal.loop-rest-preserved
 loop-rest-preserved c =
     let plain_text : pieces c.loop-rest.rest.now ≡ map plain c.in-Plain-default.field-0-0.now ++ pieces c.first_piece.result.1.now =
-      c.first_piece.ensures.pieces ∙ ap (λ (p : Piece). pieces_of p ++ pieces c.first_piece.result.1.now) c.in-Plain-default.is-0 in
+    c.first_piece.ensures.pieces ∙ ap (λ (p : Piece). pieces_of p ++ pieces c.first_piece.result.1.now) c.in-Plain-default.is-0 in
     (sym (placeholders_behind_plain c.loop-rest.rest.now c.in-Plain-default.field-0-0.now c.first_piece.result.1.now plain_text) ∙ c.loop-rest.invariant.0, search rules)

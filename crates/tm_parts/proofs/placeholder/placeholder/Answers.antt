@@ -26,7 +26,7 @@ returns-in_err-inner-clause-name c =
 pub split_at-requires : goal.split_at-requires
 split_at-requires c =
     cut_behind_name c.in_ok-inner.inner.now c.name_length.result (search rules)
-      (count_is c.as_bytes.result.now c.in_ok-inner.inner.now c.name_length.result c.as_bytes.ensures.value c.name_length.ensures)
+    (count_is c.as_bytes.result.now c.in_ok-inner.inner.now c.name_length.result c.as_bytes.ensures.value c.name_length.ensures)
 
 pub returns-in_err-rest-clause-name : goal.returns-in_err-rest-clause-name
 returns-in_err-rest-clause-name c =
@@ -34,9 +34,9 @@ returns-in_err-rest-clause-name c =
     let is : c.args.text.now ≡ 123 ∷ 123 ∷ c.in_ok-inner.inner.now = e.1.1 ∙ ap (λ (xs : List ℕ). 123 ∷ 123 ∷ xs) (sym e.2) in
     let count = count_is c.as_bytes.result.now c.in_ok-inner.inner.now c.name_length.result c.as_bytes.ensures.value c.name_length.ensures in
     let none : placeholder_at c.args.text.now ≡ None =
-      none_without_end c.args.text.now c.in_ok-inner.inner.now c.split_at.result.1.now is
-        (back_is c.in_ok-inner.inner.now c.split_at.result.1.now c.name_length.result count c.split_at.ensures.back)
-        c.in_err-rest.ensures.cases in
+    none_without_end c.args.text.now c.in_ok-inner.inner.now c.split_at.result.1.now is
+    (back_is c.in_ok-inner.inner.now c.split_at.result.1.now c.name_length.result count c.split_at.ensures.back)
+    c.in_err-rest.ensures.cases in
     rw c.from_residual-in_err-rest.ensures (sym none)
 
 pub returns-then-is_empty-clause-name : goal.returns-then-is_empty-clause-name
@@ -46,15 +46,15 @@ returns-then-is_empty-clause-name c =
     let count = count_is c.as_bytes.result.now c.in_ok-inner.inner.now c.name_length.result c.as_bytes.ensures.value c.name_length.ensures in
     let front = front_is c.in_ok-inner.inner.now c.split_at.result.0.now c.name_length.result count c.split_at.ensures.front in
     sym (none_without_name c.args.text.now c.in_ok-inner.inner.now c.split_at.result.0.now is front
-      (λ named.
-        let some = name_not_empty c.split_at.result.0.now named in
-        let few = name_not_long c.split_at.result.0.now named in
-        elim c.then-is_empty.branch [
-          | then-is_empty-via-then-is_empty w ↦
-              let empty : length c.split_at.result.0.now ≡ 0 = eqb-true (length c.split_at.result.0.now) 0 (sym w.if-is_empty.ensures) in
-              omega (arith, some, empty)
-          | then-is_empty-via-else-is_empty+then-name-gt-LONGEST_NAME w ↦ omega (arith, few, w.if-name-gt-LONGEST_NAME.true)
-        ]))
+    (λ named.
+    let some = name_not_empty c.split_at.result.0.now named in
+    let few = name_not_long c.split_at.result.0.now named in
+    elim c.then-is_empty.branch [
+      | then-is_empty-via-then-is_empty w ↦
+          let empty : length c.split_at.result.0.now ≡ 0 = eqb-true (length c.split_at.result.0.now) 0 (sym w.if-is_empty.ensures) in
+          omega (arith, some, empty)
+      | then-is_empty-via-else-is_empty+then-name-gt-LONGEST_NAME w ↦ omega (arith, few, w.if-name-gt-LONGEST_NAME.true)
+    ]))
 
 -- a name that has bytes
 not_empty : (name : List ℕ) → (length name == 0) ≡ false → 0 < length name
@@ -68,9 +68,9 @@ returns-clause-name c =
     let end : c.split_at.result.1.now ≡ 125 ∷ 125 ∷ c.in_ok-rest.rest.now = f.1.1 ∙ ap (λ (xs : List ℕ). 125 ∷ 125 ∷ xs) (sym f.2) in
     let count = count_is c.as_bytes.result.now c.in_ok-inner.inner.now c.name_length.result c.as_bytes.ensures.value c.name_length.ensures in
     let parts = placeholder_in_parts c.args.text.now c.in_ok-inner.inner.now c.split_at.result.0.now c.split_at.result.1.now c.in_ok-rest.rest.now is
-      (front_is c.in_ok-inner.inner.now c.split_at.result.0.now c.name_length.result count c.split_at.ensures.front)
-      (back_is c.in_ok-inner.inner.now c.split_at.result.1.now c.name_length.result count c.split_at.ensures.back)
-      end (not_empty c.split_at.result.0.now (sym c.if-is_empty.ensures)) c.if-name-gt-LONGEST_NAME.false in
+    (front_is c.in_ok-inner.inner.now c.split_at.result.0.now c.name_length.result count c.split_at.ensures.front)
+    (back_is c.in_ok-inner.inner.now c.split_at.result.1.now c.name_length.result count c.split_at.ensures.back)
+    end (not_empty c.split_at.result.0.now (sym c.if-is_empty.ensures)) c.if-name-gt-LONGEST_NAME.false in
     sym (ap (λ (xs : List ℕ). placeholder_at xs) parts.0 ∙ placeholder_at_front c.split_at.result.0.now c.in_ok-rest.rest.now parts.1)
 
 pub returns-clause-rest : goal.returns-clause-rest
@@ -81,7 +81,7 @@ returns-clause-rest c =
     let end : c.split_at.result.1.now ≡ 125 ∷ 125 ∷ c.in_ok-rest.rest.now = f.1.1 ∙ ap (λ (xs : List ℕ). 125 ∷ 125 ∷ xs) (sym f.2) in
     let count = count_is c.as_bytes.result.now c.in_ok-inner.inner.now c.name_length.result c.as_bytes.ensures.value c.name_length.ensures in
     let parts = placeholder_in_parts c.args.text.now c.in_ok-inner.inner.now c.split_at.result.0.now c.split_at.result.1.now c.in_ok-rest.rest.now is
-      (front_is c.in_ok-inner.inner.now c.split_at.result.0.now c.name_length.result count c.split_at.ensures.front)
-      (back_is c.in_ok-inner.inner.now c.split_at.result.1.now c.name_length.result count c.split_at.ensures.back)
-      end (not_empty c.split_at.result.0.now (sym c.if-is_empty.ensures)) c.if-name-gt-LONGEST_NAME.false in
+    (front_is c.in_ok-inner.inner.now c.split_at.result.0.now c.name_length.result count c.split_at.ensures.front)
+    (back_is c.in_ok-inner.inner.now c.split_at.result.1.now c.name_length.result count c.split_at.ensures.back)
+    end (not_empty c.split_at.result.0.now (sym c.if-is_empty.ensures)) c.if-name-gt-LONGEST_NAME.false in
     behind_placeholder c.args.text.now c.split_at.result.0.now c.in_ok-rest.rest.now parts.0

@@ -11,8 +11,8 @@ returns-in_err-name c =
 pub returns-then-is_empty : goal.returns-then-is_empty
 returns-then-is_empty c =
     sym (sole_if_alone c.args.text.now c.in_ok-name.name.now c.in_ok-name.rest.now
-      (pieces_after_placeholder c.args.text.now c.in_ok-name.name.now c.in_ok-name.rest.now (sym c.in_ok-name.ensures.name) c.in_ok-name.ensures.rest)
-      (eqb-true (length c.in_ok-name.rest.now) 0 (sym c.if-is_empty.ensures)))
+    (pieces_after_placeholder c.args.text.now c.in_ok-name.name.now c.in_ok-name.rest.now (sym c.in_ok-name.ensures.name) c.in_ok-name.ensures.rest)
+    (eqb-true (length c.in_ok-name.rest.now) 0 (sym c.if-is_empty.ensures)))
 
 -- a text that isn't empty
 some_bytes : (rest : List ℕ) → (length rest == 0) ≡ false → 0 < length rest
@@ -21,5 +21,5 @@ some_bytes rest h = let e = eqb-false (length rest) 0 h in omega arith
 pub returns-else-is_empty : goal.returns-else-is_empty
 returns-else-is_empty c =
     sym (not_sole_if_more c.args.text.now c.in_ok-name.name.now c.in_ok-name.rest.now
-      (pieces_after_placeholder c.args.text.now c.in_ok-name.name.now c.in_ok-name.rest.now (sym c.in_ok-name.ensures.name) c.in_ok-name.ensures.rest)
-      (some_bytes c.in_ok-name.rest.now (sym c.if-is_empty.ensures)))
+    (pieces_after_placeholder c.args.text.now c.in_ok-name.name.now c.in_ok-name.rest.now (sym c.in_ok-name.ensures.name) c.in_ok-name.ensures.rest)
+    (some_bytes c.in_ok-name.rest.now (sym c.if-is_empty.ensures)))

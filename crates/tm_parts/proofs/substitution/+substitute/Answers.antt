@@ -18,7 +18,7 @@ substitute_members-substitute-requires t c =
 pub substitute_members-push-requires : goal.substitute_members-push-requires
 substitute_members-push-requires t c =
     next_in_order c.loop-name.values c.as_slice-list.result.now c.args.members.now c.loop-name.name-index c.loop-name-item.result c.in_ok-copy_of-in-Ok.field-0 (json_of c.in-Ok.value) c.args.bindings.now
-      c.as_slice-list.ensures.members c.as_slice-list.ensures.ordered c.loop-name-test.true c.loop-name-item.is (c.in_ok-copy_of-in-Ok.ensures ∙ c.as_str.ensures) c.in-Ok.ensures.value c.loop-name.invariant.0
+    c.as_slice-list.ensures.members c.as_slice-list.ensures.ordered c.loop-name-test.true c.loop-name-item.is (c.in_ok-copy_of-in-Ok.ensures ∙ c.as_str.ensures) c.in-Ok.ensures.value c.loop-name.invariant.0
 
 pub substitute_members-returns-clause-value : goal.substitute_members-returns-clause-value
 substitute_members-returns-clause-value t c =

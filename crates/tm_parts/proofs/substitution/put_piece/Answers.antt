@@ -11,7 +11,7 @@ pub returns-in_ok-push_str-in-Plain-clause-value : goal.returns-in_ok-push_str-i
 returns-in_ok-push_str-in-Plain-clause-value c =
     c.in_ok-push_str-in-Plain.ensures.bytes
     ∙ ap (λ (bytes : List ℕ). string_bytes c.args.out.now ++ bytes)
-        (sym (ap (λ (p : Piece). flat_map (piece_text c.args.bindings.now) (pieces_of p)) c.in-Plain.is ∙ text_of_plain c.args.bindings.now c.in-Plain.text.now))
+    (sym (ap (λ (p : Piece). flat_map (piece_text c.args.bindings.now) (pieces_of p)) c.in-Plain.is ∙ text_of_plain c.args.bindings.now c.in-Plain.text.now))
 
 pub returns-in_ok-push_str-in-Plain-clause-faultless : goal.returns-in_ok-push_str-in-Plain-clause-faultless
 returns-in_ok-push_str-in-Plain-clause-faultless c =

@@ -6,22 +6,23 @@ use Rattle.tm_parts.proofs.Models.{none_kept, some_kept}
 use Rattle.tm_parts.proofs.library.Library.judge.Goals as goal
 
 pub returns-then-contains_key-clause-fault : goal.returns-then-contains_key-clause-fault
-returns-then-contains_key-clause-fault c =
-    (c.in_ok-judge_url.ensures.ok,
-     subst (λ (ms : List (List ℕ × Json)). IsSome (member_named c.args.url.now ms)) c.self.view_is
-       (some_kept c.args.url.now c.self.inside.models.entries (sym c.if-contains_key.ensures)))
+returns-then-contains_key-clause-fault c = (
+  c.in_ok-judge_url.ensures.ok,
+  subst (λ (ms : List (List ℕ × Json)). IsSome (member_named c.args.url.now ms)) c.self.view_is
+      (some_kept c.args.url.now c.self.inside.models.entries (sym c.if-contains_key.ensures)),
+)
 
 pub returns-then-not-is_thing_model-clause-fault : goal.returns-then-not-is_thing_model-clause-fault
 returns-then-not-is_thing_model-clause-fault c =
     let none : member_named c.args.url.now c.args.self.now ≡ None =
-      ap (λ (ms : List (List ℕ × Json)). member_named c.args.url.now ms) (sym c.self.view_is)
-      ∙ none_kept c.args.url.now c.self.inside.models.entries (sym c.if-contains_key.ensures) in
+    ap (λ (ms : List (List ℕ × Json)). member_named c.args.url.now ms) (sym c.self.view_is)
+    ∙ none_kept c.args.url.now c.self.inside.models.entries (sym c.if-contains_key.ensures) in
     (c.in_ok-judge_url.ensures.ok, none, sym c.if-not-is_thing_model.ensures)
 
 pub returns-clause-may : goal.returns-clause-may
 returns-clause-may c = record {
   url_is = c.in_ok-judge_url.ensures.ok;
   new = ap (λ (ms : List (List ℕ × Json)). member_named c.args.url.now ms) (sym c.self.view_is)
-    ∙ none_kept c.args.url.now c.self.inside.models.entries (sym c.if-contains_key.ensures);
+      ∙ none_kept c.args.url.now c.self.inside.models.entries (sym c.if-contains_key.ensures);
   is_model = sym c.if-not-is_thing_model.ensures;
 }

@@ -1,0 +1,247 @@
+//! Worked examples: texts with placeholders, faults and their places, the library, references.
+
+use crate::{AddFault, Bindings, Library, PartFault, RefFault, first_hole, substitute, target};
+use std::alloc::{AllocError, Global};
+use std::test::Fail;
+use wot_json::{Bytes, Items, Members, NoMemory, Text, Tree, text_of};
+
+fn text(alloc: Global, text: &str) -> Result<Tree, NoMemory> {
+    Ok(Tree::Text(Text::copy_of(alloc, text)?))
+}
+
+fn object(alloc: Global, name: &str, value: Tree) -> Result<Tree, NoMemory> {
+    let mut members = Members::new(alloc);
+    members.push(Text::copy_of(alloc, name)?, value)?;
+    Ok(Tree::Obj(members))
+}
+
+/// `A` is the text `{X}`, `B` the text `b`, `N` the number 5, and a second `N` a text; `MAX` is the number 100.
+fn bindings(alloc: Global) -> Result<Bindings, NoMemory> {
+    let mut bindings = Bindings::new(alloc);
+    bindings.push(Text::copy_of(alloc, "A")?, text(alloc, "{X}")?)?;
+    bindings.push(Text::copy_of(alloc, "B")?, text(alloc, "b")?)?;
+    bindings.push(Text::copy_of(alloc, "N")?, Tree::Int(5))?;
+    bindings.push(Text::copy_of(alloc, "N")?, text(alloc, "five")?)?;
+    bindings.push(Text::copy_of(alloc, "MAX")?, Tree::Int(100))?;
+    Ok(bindings)
+}
+
+/// The text of the model with its values, or the fault with its place or name.
+fn outcome(alloc: Global, model: &Tree) -> Result<Bytes, NoMemory> {
+    match substitute(alloc, model, &bindings(alloc)?) {
+        Ok(value) => text_of(alloc, &value),
+        Err(PartFault::InName(place)) => labelled(alloc, "in name ", place.as_str()),
+        Err(PartFault::NotText(name)) => labelled(alloc, "not text ", name.as_str()),
+        Err(PartFault::NoMemory) => Err(AllocError),
+    }
+}
+
+fn labelled(alloc: Global, label: &str, text: &str) -> Result<Bytes, NoMemory> {
+    let mut bytes = Bytes::copy_of(alloc, label.as_bytes())?;
+    bytes.extend(text.as_bytes())?;
+    Ok(bytes)
+}
+
+#[test]
+fn texts_with_placeholders(rt: HostRuntime) -> Result<(), Fail> {
+    let alloc = rt.alloc();
+    let table = [
+        ("{{MAX}}", "100"),
+        ("{{N}}", "5"),
+        ("{{A}}", "\"{X}\""),
+        ("{{{A}}}", "\"{{X}}\""),
+        ("é{{A}}/{{B}}}", "\"é{X}/b}\""),
+        ("{{C}}", "\"{{C}}\""),
+        ("{{C}}{{B}}{{", "\"{{C}}b{{\""),
+        ("{{}}{{B }}", "\"{{}}{{B }}\""),
+        ("", "\"\""),
+        ("x{{N}}", "not text N"),
+        ("{{B}}{{MAX}}{{N}}", "not text MAX"),
+    ];
+    for (written, wanted) in table {
+        let found = outcome(alloc, &text(alloc, written)?)?;
+        assert_eq!(rt; found.as_slice(), wanted.as_bytes(), "{written}");
+    }
+    Ok(())
+}
+
+#[test]
+fn names_of_placeholders(rt: HostRuntime) -> Result<(), Fail> {
+    let alloc = rt.alloc();
+    let longest = "0123456789abcdefghijklmnopqrstuvwxyzABCDEFGHIJKLMNOPQRSTUVWXYZ~!";
+    let table = [
+        (
+            "{{0123456789abcdefghijklmnopqrstuvwxyzABCDEFGHIJKLMNOPQRSTUVWXYZ~!}}",
+            longest,
+        ),
+        (
+            "{{0123456789abcdefghijklmnopqrstuvwxyzABCDEFGHIJKLMNOPQRSTUVWXYZ~!?}}",
+            "",
+        ),
+        ("{{a b}}", "a b"),
+        ("{{a{b}}", ""),
+        ("{{a}b}}", ""),
+        ("{{é}}", ""),
+        ("{{\u{7f}}}", ""),
+        ("{{\u{1f}}}", ""),
+        ("{{ ~}}", " ~"),
+        ("{{}}", ""),
+        ("{{{X}}}", "X"),
+        ("{{a}} {{b}}", "a"),
+        ("{{a", ""),
+    ];
+    assert_eq!(rt; longest.len(), 64);
+    for (written, wanted) in table {
+        match first_hole(alloc, &text(alloc, written)?)? {
+            Some((name, pointer)) => {
+                assert_eq!(rt; name.as_str(), wanted, "{written}");
+                assert_eq!(rt; pointer.as_str(), "", "{written}");
+            }
+            None => assert_eq!(rt; "", wanted, "{written}"),
+        }
+    }
+    Ok(())
+}
+
+#[test]
+fn places_of_faults(rt: HostRuntime) -> Result<(), Fail> {
+    let alloc = rt.alloc();
+
+    // An object's names come before its members, also before one whose name stands first.
+    let mut members = Members::new(alloc);
+    members.push(Text::copy_of(alloc, "a")?, text(alloc, "x{{N}}")?)?;
+    members.push(Text::copy_of(alloc, "{{A}}")?, Tree::Null)?;
+    let model = object(alloc, "properties", Tree::Obj(members))?;
+    assert_eq!(rt;
+        outcome(alloc, &model)?.as_slice(),
+        b"in name /properties/{{A}}".as_slice()
+    );
+
+    // A member comes before those behind it.
+    let mut members = Members::new(alloc);
+    members.push(Text::copy_of(alloc, "a")?, text(alloc, "x{{N}}")?)?;
+    members.push(
+        Text::copy_of(alloc, "b")?,
+        object(alloc, "{{A}}", Tree::Null)?,
+    )?;
+    let model = Tree::Obj(members);
+    assert_eq!(rt;
+        outcome(alloc, &model)?.as_slice(),
+        b"not text N".as_slice()
+    );
+
+    // Steps through lists and objects; a name with an unbound placeholder is a fault too.
+    let mut items = Items::new(alloc);
+    items.push(text(alloc, "{{N}}")?)?;
+    items.push(object(alloc, "a/b", object(alloc, "{{C}}", Tree::Null)?)?)?;
+    let model = object(alloc, "l", Tree::List(items))?;
+    assert_eq!(rt;
+        outcome(alloc, &model)?.as_slice(),
+        b"in name /l/1/a~1b/{{C}}".as_slice()
+    );
+    Ok(())
+}
+
+#[test]
+fn a_place_of_a_placeholder(rt: HostRuntime) -> Result<(), Fail> {
+    let alloc = rt.alloc();
+    // Names of members aren't looked at.
+    let mut items = Items::new(alloc);
+    items.push(Tree::Bool(true))?;
+    items.push(object(alloc, "{{C}}", text(alloc, "x{{H}}{{I}}")?)?)?;
+    let model = object(alloc, "l", Tree::List(items))?;
+    match first_hole(alloc, &model)? {
+        Some((name, pointer)) => {
+            assert_eq!(rt; name.as_str(), "H");
+            assert_eq!(rt; pointer.as_str(), "/l/1/{{C}}");
+        }
+        None => assert!(rt; false, "a placeholder is left"),
+    }
+    Ok(())
+}
+
+#[test]
+fn models_of_a_library(rt: HostRuntime) -> Result<(), Fail> {
+    let alloc = rt.alloc();
+    let mut library = Library::new(alloc);
+    let table = [
+        ("https://m/b", "tm:ThingModel", "kept"),
+        ("https://m/a", "tm:ThingModel", "kept"),
+        ("https://m/a", "tm:ThingModel", "twice"),
+        ("https://m/a", "Thing", "twice"),
+        ("https://M/a", "tm:ThingModel", "kept"),
+        ("https://m/c", "Thing", "no model"),
+        ("https://m/c", "tm:ThingModel", "kept"),
+        ("https://m/a#", "tm:ThingModel", "bad"),
+        ("https://m/d#x", "Thing", "bad"),
+        ("m/d", "tm:ThingModel", "bad"),
+    ];
+    for (url, of_type, wanted) in table {
+        let model = object(alloc, "@type", text(alloc, of_type)?)?;
+        let found = match library.add(url, model) {
+            Ok(()) => "kept",
+            Err(AddFault::BadUrl) => "bad",
+            Err(AddFault::Twice) => "twice",
+            Err(AddFault::NotModel) => "no model",
+            Err(AddFault::NoMemory) => "no memory",
+        };
+        assert_eq!(rt; found, wanted, "{url}");
+    }
+    let mut types = Items::new(alloc);
+    types.push(text(alloc, "Lamp")?)?;
+    types.push(text(alloc, "tm:ThingModel")?)?;
+    let model = object(alloc, "@type", Tree::List(types))?;
+    assert!(rt; library.add("https://m/e", model).is_ok());
+    assert!(rt;
+        matches!(
+            library.add("https://m/f", Tree::Null),
+            Err(AddFault::NotModel)
+        )
+    );
+    for (url, wanted) in [
+        ("https://m/a", true),
+        ("https://m/e", true),
+        ("https://m/f", false),
+        ("https://m/A", false),
+    ] {
+        assert_eq!(rt; library.get(url).is_some(), wanted, "{url}");
+    }
+    Ok(())
+}
+
+#[test]
+fn targets_of_references(rt: HostRuntime) -> Result<(), Fail> {
+    let alloc = rt.alloc();
+    let from = "https://M.example/a/b";
+    let table = [
+        ("#/x", "https://M.example/a/b", "/x"),
+        ("#", "https://M.example/a/b", ""),
+        (
+            "c#/properties/on",
+            "https://m.example/a/c",
+            "/properties/on",
+        ),
+        ("/c#/a%2Fb~1c", "https://m.example/c", "/a/b~1c"),
+        ("http://h:80/c#/%C3%A9", "http://h/c", "/é"),
+        ("c#/a#b", "https://m.example/a/c", "/a#b"),
+        ("?q#/%zz", "https://m.example/a/b?q", "/%zz"),
+        ("c", "", ""),
+        ("", "", ""),
+        ("c#x", "", ""),
+        ("c#/~", "", ""),
+        ("c#/~2", "", ""),
+        ("c#/%FF", "", ""),
+        ("http://[#/x", "", ""),
+    ];
+    for (written, url, pointer) in table {
+        match target(alloc, from, written) {
+            Ok(reference) => {
+                assert_eq!(rt; reference.url.as_str(), url, "{written}");
+                assert_eq!(rt; reference.pointer.as_str(), pointer, "{written}");
+            }
+            Err(RefFault::BadRef) => assert_eq!(rt; "", url, "{written}"),
+            Err(RefFault::NoMemory) => assert!(rt; false, "memory"),
+        }
+    }
+    Ok(())
+}

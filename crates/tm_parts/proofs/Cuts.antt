@@ -7,7 +7,7 @@ use Rattle.std.specs.Str.{bytes_eq}
 use Rattle.std.proofs.lemmas.Bool.{and_parts, and_from, cases_Bool, eqb-false}
 use Rattle.std.proofs.lemmas.Option.{cond_some}
 use Rattle.std.proofs.lemmas.Slice.Eq.{bytes_eq-Decides}
-use Rattle.std.proofs.lemmas.List.{take-append-drop}
+use Rattle.std.proofs.lemmas.List.{take-append-drop, drop_all}
 use Rattle.std.proofs.Math.Seq.{take-append_seam, drop-append_seam, drop-append-add}
 use Rattle.tm_parts.specs.Placeholders.{is_name_byte, is_name, placeholder_text, placeholder_at, Piece, plain, placeholder, pieces_behind, pieces, piece_name, placeholders, sole_placeholder}
 
@@ -153,3 +153,27 @@ pieces_after_placeholder text name rest is rest_is =
     let found = placeholder_at_gives text name is in
     ap (λ (xs : List ℕ). pieces xs) found.1 ∙ pieces_placeholder name (drop (length name + 4) text) found.0
     ∙ ap (λ (xs : List ℕ). placeholder name ∷ pieces xs) (sym rest_is)
+
+-- a piece as it is written
+abbrev pub written : Piece → List ℕ
+written (plain b) = b ∷ []
+written (placeholder name) = placeholder_text name
+
+-- what a text is where a placeholder begins it, from its second byte on
+behind_first_brace : (b : ℕ) (bs name : List ℕ) → placeholder_at (b ∷ bs) ≡ Some name → placeholder_text name ++ drop (length name + 3) bs ≡ b ∷ bs
+behind_first_brace b bs name is =
+    let count : length name + 4 ≡ suc (length name + 3) = omega arith in
+    sym ((placeholder_at_gives (b ∷ bs) name is).1 ∙ ap (λ (n : ℕ). placeholder_text name ++ drop n (b ∷ bs)) count)
+
+written_behind : (n : ℕ) (bs : List ℕ) → flat_map written (pieces_behind n bs) ≡ drop n bs
+written_behind n [] = sym (drop_all n [] (omega arith))
+written_behind (suc n) (b ∷ bs) = written_behind n bs
+written_behind zero (b ∷ bs) =
+    elim (placeholder_at (b ∷ bs)) as (λ o. placeholder_at (b ∷ bs) ≡ o → flat_map written (elim o as (λ _. List Piece) [ None ↦ plain b ∷ pieces_behind 0 bs | Some n ↦ placeholder n ∷ pieces_behind (length n + 3) bs ]) ≡ b ∷ bs) [
+      | None ↦ λ is. ap (λ (xs : List ℕ). b ∷ xs) (written_behind 0 bs)
+      | Some name ↦ λ is. ap (λ (xs : List ℕ). placeholder_text name ++ xs) (written_behind (length name + 3) bs) ∙ behind_first_brace b bs name is
+    ] refl
+
+-- the pieces of a text, written one behind another, are the text
+pub pieces_written : (text : List ℕ) → flat_map written (pieces text) ≡ text
+pieces_written text = written_behind 0 text

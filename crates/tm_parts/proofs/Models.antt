@@ -1,5 +1,5 @@
 -- How the library's map answers, in terms of the list of models.
-use Rattle.std.proofs.Common.{◌≡◌, ℕ, List, [], ◌∷◌, map, refl, sym, ap, subst, rules, ◌∙◌, Bool, true, false, cond}
+use Rattle.std.proofs.Common.{◌≡◌, ℕ, List, [], ◌∷◌, map, refl, sym, ap, subst, rules, ◌∙◌, inl, inr, Bool, true, false, cond}
 use Rattle.std.specs.Prelude.{Option, Some, None, option_map, option_copied, is_some, IsSome, codes, String, string_bytes}
 use Rattle.std.proofs.Common.{Bor}
 use Rattle.std.specs.Str.{bytes_eq}
@@ -11,6 +11,8 @@ use Rattle.std.specs.Cmp.Lexicographic.{slice_cmp}
 use Rattle.std.specs.Map.{lookup}
 use Rattle.std.specs.BTreeMap.{is_at, insert_entry}
 use Rattle.std.specs.String.{string_cmp}
+use Rattle.std.proofs.lemmas.Bool.{true≢false, cases_Bool}
+use Rattle.std.proofs.lemmas.Slice.Eq.{bytes_eq-Decides}
 use Rattle.std.proofs.lemmas.Map.Text.{is_eq-slice_cmp}
 use Rattle.wot_json.specs.Tree.{Json}
 use Rattle.wot_json.proofs.EqualTrees.{listed_lem, listed_members_lem}
@@ -79,3 +81,37 @@ some_kept url entries some =
 pub listed_types : (list : List Tree) (items : List Json) → json_items list ≡ items → list_any is_thing_model_text (json_items list) ≡ has_thing_model (json_of (tree.List items))
 listed_types list items same =
     ap (λ (vs : List Json). list_any is_thing_model_text vs) (same ∙ sym (listed_lem items))
+
+-- a name that isn't there is neither the first nor behind it
+absent_parts : (url : List ℕ) (m : List ℕ × Json) (ms : List (List ℕ × Json)) → member_named url (m ∷ ms) ≡ None → (bytes_eq url m.0 ≡ false) × (member_named url ms ≡ None)
+absent_parts url m ms none = elim (cases_Bool (bytes_eq url m.0)) [
+  | inl same ↦
+      let found : Some m.1 ≡ None = sym (ap (λ (b : Bool). cond b (Some m.1) (member_named url ms)) same) ∙ none in
+      absurd (cc (found))
+  | inr other ↦ (other, sym (ap (λ (b : Bool). cond b (Some m.1) (member_named url ms)) other) ∙ none)
+]
+
+-- of two names that differ, it's the same which is looked at first
+either_first : (one other : Bool) (x y : Json) (r : Option Json) → (one ≡ true → other ≡ true → ⊥) → cond one (Some x) (cond other (Some y) r) ≡ cond other (Some y) (cond one (Some x) r)
+either_first true true x y r apart = absurd (apart refl refl)
+either_first true false x y r apart = refl
+either_first false other x y r apart = refl
+
+-- what stands under a name once a model was put under a new one
+pub found_with_model : (name url : List ℕ) (model : Json) (ms : List (List ℕ × Json)) → member_named url ms ≡ None → member_named name (with_model url model ms) ≡ cond (bytes_eq name url) (Some model) (member_named name ms)
+found_with_model name url model [] none = refl
+found_with_model name url model (m ∷ ms) none =
+    let parts = absent_parts url m ms none in
+    elim (slice_cmp nat_cmp url m.0) as (λ o. slice_cmp nat_cmp url m.0 ≡ o → member_named name (match_ordering o ((url, model) ∷ m ∷ ms) ((m.0, model) ∷ ms) (m ∷ with_model url model ms)) ≡ cond (bytes_eq name url) (Some model) (member_named name (m ∷ ms))) [
+      | Less ↦ λ is. refl
+      | Equal ↦ λ is.
+          let same : true ≡ false = ap is_eq (sym is) ∙ is_eq-slice_cmp url m.0 ∙ parts.0 in
+          absurd (true≢false same)
+      | Greater ↦ λ is.
+          ap (λ (r : Option Json). cond (bytes_eq name m.0) (Some m.1) r) (found_with_model name url model ms parts.1)
+          ∙ either_first (bytes_eq name m.0) (bytes_eq name url) m.1 model (member_named name ms) (λ one other.
+          let here : name ≡ m.0 = (bytes_eq-Decides name m.0).0 one in
+          let there : name ≡ url = (bytes_eq-Decides name url).0 other in
+          let both : bytes_eq url m.0 ≡ true = (bytes_eq-Decides url m.0).1 (sym there ∙ here) in
+          true≢false (sym both ∙ parts.0))
+    ] refl

@@ -1,7 +1,8 @@
 //! The library of Thing Models.
 
-ghost use Rattle.std.specs.Prelude.{◌≡◌, ◌⊎◌, [], IfOk, IfErr, OnOk, OnErr, option_map};
+ghost use Rattle.std.specs.Prelude.{◌≡◌, ◌⊎◌, ℕ, List, [], if◌then◌else◌, IfErr, OnOk, OnErr, option_map};
 ghost use Rattle.std.specs.List.{list_any};
+ghost use Rattle.std.specs.Str.{bytes_eq};
 ghost use Rattle.wot_json.specs.Meaning.{json_of, json_items};
 ghost use Rattle.wot_json.specs.Lookup.{member_named};
 ghost use Rattle.tm_parts.specs.Library.{with_model, IsModelUrl, HasAddFault, MayAdd};
@@ -81,6 +82,8 @@ impl Library {
     /// proportion to the text, and to the logarithm of the number of models.
     pub fn add(&mut self, url: &str, model: Tree) -> Result<(), AddFault>
         ensures ok { OnOk result (self.new ≡ with_model url.now (json_of model) self.old) }
+        ensures found { OnOk result ((name : List ℕ) → member_named name self.new
+            ≡ (if bytes_eq name url.now then Some (json_of model) else member_named name self.old)) }
         ensures may { OnOk result (MayAdd url.now (json_of model) self.old) }
         ensures err { OnErr result (self.new ≡ self.old) }
         ensures fault { IfErr result (λ e. HasAddFault e url.now (json_of model) self.old) }

@@ -17,10 +17,11 @@ fn object(alloc: Global, name: &str, value: Tree) -> Result<Tree, NoMemory> {
 
 /// `A` is the text `{X}`, `B` the text `b`, `N` the number 5, and a second `N` a text; `MAX` is the number 100.
 fn bindings(alloc: Global) -> Result<Bindings, NoMemory> {
-    let mut bindings = Bindings::new(alloc);
-    bindings.push(Text::copy_of(alloc, "A")?, text(alloc, "{X}")?)?;
-    bindings.push(Text::copy_of(alloc, "B")?, text(alloc, "b")?)?;
-    bindings.push(Text::copy_of(alloc, "N")?, Tree::Int(5))?;
+    let mut list = Vec::new(alloc);
+    list.push((Text::copy_of(alloc, "A")?, text(alloc, "{X}")?))?;
+    list.push((Text::copy_of(alloc, "B")?, text(alloc, "b")?))?;
+    list.push((Text::copy_of(alloc, "N")?, Tree::Int(5)))?;
+    let mut bindings = Bindings::from_vec(list);
     bindings.push(Text::copy_of(alloc, "N")?, text(alloc, "five")?)?;
     bindings.push(Text::copy_of(alloc, "MAX")?, Tree::Int(100))?;
     Ok(bindings)
@@ -150,6 +151,7 @@ fn a_place_of_a_placeholder(rt: HostRuntime) -> Result<(), Fail> {
     items.push(Tree::Bool(true))?;
     items.push(object(alloc, "{{C}}", text(alloc, "x{{H}}{{I}}")?)?)?;
     let model = object(alloc, "l", Tree::List(items))?;
+    assert!(rt; Bindings::new(alloc).get("H").is_none());
     match first_hole(alloc, &model)? {
         Some((name, pointer)) => {
             assert_eq!(rt; name.as_str(), "H");

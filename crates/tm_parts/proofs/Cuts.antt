@@ -8,7 +8,7 @@ use Rattle.std.proofs.lemmas.Bool.{and_parts, and_from, cases_Bool, eqb-false}
 use Rattle.std.proofs.lemmas.Option.{cond_some}
 use Rattle.std.proofs.lemmas.Slice.Eq.{bytes_eq-Decides}
 use Rattle.std.proofs.lemmas.List.{take-append-drop, drop_all}
-use Rattle.std.proofs.Math.Seq.{take-append_seam, drop-append_seam, drop-append-add}
+use Rattle.std.proofs.Math.Seq.{take-append_seam, drop-append_seam}
 use Rattle.tm_parts.specs.Placeholders.{is_name_byte, is_name, placeholder_text, placeholder_at, Piece, plain, placeholder, pieces_behind, pieces, piece_name, placeholders, sole_placeholder}
 
 -- skipped bytes are dropped

@@ -1,6 +1,6 @@
 -- What the code finds at the front of a text, step by step.
-use Rattle.std.proofs.Common.{◌≡◌, ℕ, zero, suc, ◌+◌, ◌<◌, ◌≤◌, List, [], ◌∷◌, ◌++◌, length, take, drop, refl, sym, ap, subst, ◌∙◌, arith, Bool, true, false, cond, append_assoc, length-append, length-drop, inl, inr, get_or}
-use Rattle.std.specs.Prelude.{Option, Some, None, map, ◌&&◌, not, ◌==◌, nat_lt, nat_le, slice_index}
+use Rattle.std.proofs.Common.{◌≡◌, ℕ, suc, ◌+◌, ◌<◌, ◌≤◌, List, [], ◌∷◌, ◌++◌, length, take, drop, refl, sym, ap, subst, ◌∙◌, arith, Bool, true, false, cond, append_assoc, length-append, inl, inr, get_or}
+use Rattle.std.specs.Prelude.{None, map, ◌&&◌, not, ◌==◌, nat_lt, nat_le}
 use Rattle.std.specs.List.{list_all, prefix_len, take_while, position_or_len}
 use Rattle.std.specs.Str.{IsUtf8, IsAscii, IsCharBoundary}
 use Rattle.std.proofs.lemmas.Bool.{and_parts, and_from, cases_Bool, eqb-true, not-false, lt-ltb, le-leb, ltb-true, leb-true}
@@ -9,8 +9,8 @@ use Rattle.std.proofs.lemmas.Str.{IsUtf8-from_ascii, IsCharBoundary-from_take}
 use Rattle.std.proofs.lemmas.Str.Ascii.{IsAscii-nil, IsAscii-cons}
 use Rattle.std.proofs.lemmas.List.{take-append-drop}
 use Rattle.std.proofs.Math.Seq.{take-append_seam, drop-append_seam}
-use Rattle.tm_parts.specs.Placeholders.{is_name_byte, is_name, placeholder_text, placeholder_at, Piece, plain, placeholder, pieces}
-use Rattle.tm_parts.proofs.Cuts.{name_goes_to_brace, placeholder_at_front, placeholder_not_at_front, pieces_plain, pieces_no_brace}
+use Rattle.tm_parts.specs.Placeholders.{is_name_byte, is_name, placeholder_text, placeholder_at, Piece, plain, pieces}
+use Rattle.tm_parts.proofs.Cuts.{name_goes_to_brace, placeholder_not_at_front, pieces_plain, pieces_no_brace}
 
 -- a name's bytes
 bytes_of_name : (name : List ℕ) → is_name name ≡ true → list_all is_name_byte name ≡ true

@@ -15,8 +15,8 @@ is_name name = list_all is_name_byte name && nat_lt 0 (length name) && nat_le (l
 abbrev pub placeholder_text : List ℕ → List ℕ
 placeholder_text name = codes "{{" ++ name ++ codes "}}"
 
--- The name of the placeholder with which a text begins, where it begins with one. A name has no braces, so
--- it can only be what stands behind two bytes, as far as a name may go.
+-- The name of the placeholder with which a text begins, where it begins with one. A name has no braces, so it
+-- can only be what stands behind the first two bytes, as far as a name may go.
 unfoldable pub placeholder_at : List ℕ → Option (List ℕ)
 placeholder_at text =
     let name = take_while is_name_byte (drop 2 text) in

@@ -189,25 +189,31 @@ fn models_of_a_library(rt: HostRuntime) -> Result<(), Fail> {
         };
         assert_eq!(rt; found, wanted, "{url}");
     }
+    for (url, wanted) in [
+        ("https://m/a", true),
+        ("https://M/a", true),
+        ("https://m/A", false),
+        ("https://m/a#", false),
+    ] {
+        assert_eq!(rt; library.get(url).is_some(), wanted, "{url}");
+    }
+    Ok(())
+}
+
+#[test]
+fn types_of_a_model(rt: HostRuntime) -> Result<(), Fail> {
+    let alloc = rt.alloc();
+    let mut library = Library::new(alloc);
     let mut types = Items::new(alloc);
     types.push(text(alloc, "Lamp")?)?;
     types.push(text(alloc, "tm:ThingModel")?)?;
     let model = object(alloc, "@type", Tree::List(types))?;
-    assert!(rt; library.add("https://m/e", model).is_ok());
-    assert!(rt;
-        matches!(
-            library.add("https://m/f", Tree::Null),
-            Err(AddFault::NotModel)
-        )
-    );
-    for (url, wanted) in [
-        ("https://m/a", true),
-        ("https://m/e", true),
-        ("https://m/f", false),
-        ("https://m/A", false),
-    ] {
-        assert_eq!(rt; library.get(url).is_some(), wanted, "{url}");
-    }
+    assert!(rt; library.add("https://m/list", model).is_ok());
+    let model = object(alloc, "@types", text(alloc, "tm:ThingModel")?)?;
+    assert!(rt; library.add("https://m/other", model).is_err());
+    assert!(rt; library.add("https://m/null", Tree::Null).is_err());
+    assert!(rt; library.get("https://m/list").is_some());
+    assert!(rt; library.get("https://m/null").is_none());
     Ok(())
 }
 

@@ -1,7 +1,6 @@
 use Rattle.std.proofs.Common.{◌≡◌, ◌+◌, ◌*◌, drop}
 use Rattle.wot_json.specs.Tree.{nesting, most_nesting, most_member_nesting, elements_of, members_of}
 use Rattle.wot_json.specs.Meaning.{json_of, json_items, json_members}
-use Rattle.tm_parts.specs.Placeholders.{first_of}
 use Rattle.tm_parts.specs.Holes.{element_holes, member_holes}
 use Rattle.tm_parts.proofs.holes.+first_hole.Given as goal
 

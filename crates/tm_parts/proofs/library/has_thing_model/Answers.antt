@@ -1,5 +1,4 @@
-use Rattle.std.proofs.Common.{List, sym, ap, ◌∙◌}
-use Rattle.wot_json.specs.Tree.{Json}
+use Rattle.std.proofs.Common.{sym, ap, ◌∙◌}
 use Rattle.wot_json.specs.Meaning.{json_of}
 use Rattle.wot_json.specs.declared.tree.Tree.{Tree}
 use Rattle.tm_parts.specs.Library.{has_thing_model}

@@ -1,4 +1,4 @@
-use Rattle.std.proofs.Common.{sym, ◌∙◌, false}
+use Rattle.std.proofs.Common.{sym, ◌∙◌}
 use Rattle.std.specs.Prelude.{Some, None}
 use Rattle.wot_json.specs.Meaning.{json_of}
 use Rattle.tm_parts.proofs.Models.{model_by_type}

@@ -1,9 +1,8 @@
-use Rattle.std.proofs.Common.{◌≡◌, ℕ, ◌+◌, ◌-◌, ◌<◌, ◌≤◌, ◌==◌, ◌∷◌, ◌++◌, List, length, drop, take, sym, ap, subst, ◌∙◌, arith, length-drop}
-use Rattle.std.specs.Prelude.{map, not}
+use Rattle.std.proofs.Common.{◌≡◌, ℕ, ◌+◌, ◌-◌, ◌==◌, List, length, drop, take, sym, ap, ◌∙◌, arith, length-drop}
+use Rattle.std.specs.Prelude.{not}
 use Rattle.std.specs.List.{position_or_len}
 use Rattle.std.proofs.lemmas.List.{take_all, length-take-le}
 use Rattle.std.proofs.lemmas.List.Sums.{prefix_len-le-length}
-use Rattle.tm_parts.specs.Placeholders.{plain, pieces}
 use Rattle.tm_parts.proofs.Cuts.{pieces_after_placeholder}
 use Rattle.tm_parts.proofs.Fronts.{cut_before_brace, plain_front}
 use Rattle.tm_parts.proofs.placeholder.first_piece.Goals as goal

@@ -1,5 +1,5 @@
-use Rattle.std.proofs.Common.{rules, ◌≡◌, ℕ, List, ◌++◌, sym, ap, ◌∙◌}
-use Rattle.tm_parts.specs.Placeholders.{plain, pieces, placeholders}
+use Rattle.std.proofs.Common.{rules, ◌≡◌, ◌++◌, sym, ap, ◌∙◌}
+use Rattle.tm_parts.specs.Placeholders.{plain, pieces}
 use Rattle.std.specs.Prelude.{map}
 use Rattle.tm_parts.specs.Pieces.{pieces_of}
 use Rattle.tm_parts.specs.declared.placeholder.Piece.{Piece}

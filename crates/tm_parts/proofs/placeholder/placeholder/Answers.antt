@@ -1,8 +1,8 @@
-use Rattle.std.proofs.Common.{◌≡◌, ℕ, ◌+◌, ◌<◌, ◌≤◌, [], ◌∷◌, ◌++◌, ◌==◌, List, length, take, drop, sym, ap, subst, ◌∙◌, arith, rules, eqb-true, true, false}
+use Rattle.std.proofs.Common.{◌≡◌, ℕ, ◌<◌, ◌∷◌, ◌==◌, List, length, take, drop, sym, ap, ◌∙◌, arith, rules, eqb-true, false}
 use Rattle.std.proofs.lemmas.Bool.{eqb-false}
-use Rattle.std.specs.Prelude.{Option, Some, None, option_map}
+use Rattle.std.specs.Prelude.{None}
 use Rattle.std.specs.List.{prefix_len, take_while}
-use Rattle.tm_parts.specs.Placeholders.{is_name_byte, is_name, placeholder_at, placeholder_text}
+use Rattle.tm_parts.specs.Placeholders.{is_name_byte, placeholder_at}
 use Rattle.tm_parts.proofs.Cuts.{placeholder_at_front}
 use Rattle.tm_parts.proofs.Fronts.{none_without_braces, cut_behind_name, none_without_end, none_without_name, placeholder_in_parts, behind_placeholder, name_not_empty, name_not_long}
 use Rattle.tm_parts.proofs.placeholder.placeholder.Goals as goal

@@ -1,4 +1,4 @@
-use Rattle.std.proofs.Common.{◌≡◌, ◌==◌, ℕ, ◌<◌, List, length, sym, ap, ◌∙◌, arith, false}
+use Rattle.std.proofs.Common.{◌≡◌, ◌==◌, ℕ, ◌<◌, List, length, sym, arith, false}
 use Rattle.std.proofs.lemmas.Bool.{eqb-true, eqb-false}
 use Rattle.tm_parts.proofs.Cuts.{sole_if_alone, not_sole_if_more, not_sole_if_none, pieces_after_placeholder}
 use Rattle.tm_parts.proofs.placeholder.whole_placeholder.Goals as goal

@@ -1,5 +1,5 @@
 use Rattle.std.proofs.Common.{◌≡◌, List, ℕ, sym, ap, subst, ◌∙◌}
-use Rattle.std.specs.Prelude.{Option, None, IsSome}
+use Rattle.std.specs.Prelude.{None, IsSome}
 use Rattle.wot_json.specs.Tree.{Json}
 use Rattle.wot_json.specs.Lookup.{member_named}
 use Rattle.tm_parts.proofs.Models.{none_kept, some_kept}

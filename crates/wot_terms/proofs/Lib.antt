@@ -1,0 +1,3 @@
+pub mod Reported
+pub mod TableRows
+pub mod Listed

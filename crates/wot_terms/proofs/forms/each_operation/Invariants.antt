@@ -1,0 +1,9 @@
+use Rattle.std.proofs.Common.{◌≡◌, drop}
+use Rattle.wot_json.specs.Tree.{elements_of}
+use Rattle.wot_json.specs.Meaning.{json_items}
+use Rattle.wot_terms.specs.Operations.{is_operation}
+use Rattle.wot_terms.specs.Faults.{each_element, is, is_text_with}
+use Rattle.wot_terms.proofs.forms.each_operation.Given as goal
+
+abbrev pub invariant-loop-index : goal.invariant-loop-index
+invariant-loop-index l = each_element (is (is_text_with (is_operation l.place))) 0 (elements_of (json_items l.names)) ≡ each_element (is (is_text_with (is_operation l.place))) l.index (elements_of (json_items (drop l.index l.names)))

@@ -1,0 +1,10 @@
+use Rattle.std.proofs.Common.{[], ◌∷◌, codes, arith}
+use Rattle.wot_json.specs.Tree.{members_of}
+use Rattle.wot_terms.specs.Faults.{is, is_text_with}
+use Rattle.wot_terms.specs.Operations.{is_operation}
+use Rattle.wot_terms.proofs.Reported.{some_list}
+use Rattle.wot_terms.proofs.forms.operation_names.Goals as goal
+
+pub returns-in-List : goal.returns-in-List
+returns-in-List c =
+    rw c.in-List.is (some_list (is (is_text_with (is_operation c.args.place))) c.in-List.names c.each_operation.result (omega arith) (rw c.as_slice.ensures at c.each_operation.ensures))

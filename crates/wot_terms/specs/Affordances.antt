@@ -1,0 +1,59 @@
+-- The affordances of a Thing Description (TD 1.1 section 5.3.1).
+use Rattle.std.specs.Prelude.{ℕ, List, [], ◌∷◌, ◌++◌, Bool, true, false, Option, Some, None, codes}
+use Rattle.std.specs.Option.{option_map_or}
+use Rattle.wot_json.specs.Tree.{Json, boolean, object, Members, no_members, member}
+use Rattle.wot_schema.specs.Values.{found}
+use Rattle.wot_terms.specs.declared.kind.Kind.{Kind}
+use Rattle.wot_terms.specs.declared.kind.Kind.TheVariants as kind
+use Rattle.wot_terms.specs.declared.affordance.Affordance.{Affordance}
+use Rattle.wot_terms.specs.Faults.{holder}
+
+-- the member of this name, where the value is an object that has it
+abbrev pub part : List ℕ → Json → Option Json
+part name (object ms) = found name ms
+part name v = None
+
+-- a truth value of an affordance, which is false where it is absent
+abbrev pub is_true : Option Json → Bool
+is_true (Some (boolean b)) = b
+is_true o = false
+
+-- what is handed in: a property its own value (section 5.3.1.3), an action its input (section 5.3.1.4)
+abbrev pub input_of : Kind → Json → Option Json
+input_of kind.Property v = Some v
+input_of kind.Action v = part (codes "input") v
+input_of kind.Event v = None
+
+-- what comes back: of a property its own value, of an action its output, of an event its data (section 5.3.1.5)
+abbrev pub output_of : Kind → Json → Option Json
+output_of kind.Property v = Some v
+output_of kind.Action v = part (codes "output") v
+output_of kind.Event v = part (codes "data") v
+
+abbrev pub affordance_of : Kind → List ℕ → Json → Affordance
+affordance_of k name v = record {
+  kind = k;
+  name = name;
+  input = input_of k v;
+  output = output_of k v;
+  read_only = is_true (part (codes "readOnly") v);
+  write_only = is_true (part (codes "writeOnly") v);
+  observable = is_true (part (codes "observable") v);
+}
+
+-- the affordances of one kind, in byte order of their names
+abbrev pub named_affordances : Kind → Members → List Affordance
+named_affordances k no_members = []
+named_affordances k (member name v ms) = affordance_of k name v ∷ named_affordances k ms
+
+abbrev pub held_affordances : Kind → Json → List Affordance
+held_affordances k (object ms) = named_affordances k ms
+held_affordances k v = []
+
+abbrev pub affordances_in : Kind → Members → List Affordance
+affordances_in k ms = option_map_or (held_affordances k) (found (holder k) ms) []
+
+-- all affordances of a description: its properties, its actions and its events
+abbrev pub affordances_of : Json → List Affordance
+affordances_of (object ms) = affordances_in kind.Property ms ++ (affordances_in kind.Action ms ++ affordances_in kind.Event ms)
+affordances_of v = []

@@ -1,0 +1,5 @@
+pub mod Operations
+pub mod Faults
+pub mod Rows
+pub mod Affordances
+pub mod AffordanceCodes

@@ -1,0 +1,98 @@
+//! What is asked of one value, and of a member that has such a value.
+
+ghost use Rattle.std.specs.Prelude.{◌≡◌, [], map, IfSome, IfNone};
+ghost use Rattle.wot_schema.specs.Faults.{schema_faults, IsFirstFault};
+ghost use Rattle.wot_json.specs.Tree.{members_of};
+ghost use Rattle.wot_json.specs.Meaning.{json_of};
+ghost use Rattle.wot_terms.specs.Faults.{required as required_member, optional as optional_member, optional_each as each_optional_member, schema as schema_judge};
+ghost use Rattle.wot_terms.specs.Rows.{Reports, judge_of};
+
+use crate::fault::{Found, RowFault, in_member, missing, wrong};
+use crate::member::member;
+use std::alloc::Global;
+use wot_json::{Members, Tree};
+use wot_schema::{Schema, SchemaFault};
+
+/// What is asked of a value.
+#[derive(Clone, Copy, Debug)]
+pub(crate) enum Asked {
+    Anything,
+    Text,
+    TextNotEmpty,
+    TruthValue,
+    /// The name of the security scheme that asks for nothing (TD 1.1, section 5.3.3.1).
+    NoSecurity,
+    /// A data schema without a fault.
+    Schema,
+}
+
+impl Asked {
+    pub(crate) fn check(self, alloc: Global, value: &Tree) -> Found
+        ensures { Reports (judge_of self (json_of value.now)) result }
+    {
+        match (self, value) {
+            (Asked::Anything, _) | (Asked::Text, Tree::Text(_)) | (Asked::TruthValue, Tree::Bool(_)) => Ok(()),
+            (Asked::TextNotEmpty, Tree::Text(text)) if !text.as_str().is_empty() => Ok(()),
+            (Asked::NoSecurity, Tree::Text(text)) if text.as_str() == "nosec" => Ok(()),
+            (Asked::Schema, _) => schema(alloc, value),
+            _ => wrong(alloc),
+        }
+    }
+}
+
+/// The first fault of a data schema.
+pub(crate) fn schema(alloc: Global, value: &Tree) -> Found
+    ensures { Reports (schema_judge (json_of value.now)) result }
+{
+    match schema_fault(alloc, value) {
+        None => Ok(()),
+        Some(SchemaFault::Unsupported(place, _word)) => Err(RowFault::At(place)),
+        Some(SchemaFault::Malformed(place)) => Err(RowFault::At(place)),
+        Some(SchemaFault::NoMemory) => Err(RowFault::NoMemory),
+    }
+}
+
+fn schema_fault(alloc: Global, value: &Tree) -> Option<SchemaFault>
+    ensures none { IfNone result (schema_faults (json_of value.now) ≡ []) }
+    ensures some { IfSome result (IsFirstFault (schema_faults (json_of value.now))) }
+{
+    match Schema::read(alloc, value) {
+        Ok(_) => None,
+        Err(fault) => Some(fault),
+    }
+}
+
+/// The member of this name is there and is as asked.
+pub(crate) fn required(alloc: Global, members: &Members, name: &str, asked: Asked) -> Found
+    ensures { Reports (required_member name.now (judge_of asked) (members_of members.now)) result }
+{
+    match member(members, name) {
+        None => missing(alloc, name),
+        Some(value) => in_member(alloc, name, asked.check(alloc, value)),
+    }
+}
+
+/// The member of this name, where it is there, is as asked.
+pub(crate) fn optional(alloc: Global, members: &Members, name: &str, asked: Asked) -> Found
+    ensures { Reports (optional_member name.now (judge_of asked) (members_of members.now)) result }
+{
+    match member(members, name) {
+        None => Ok(()),
+        Some(value) => in_member(alloc, name, asked.check(alloc, value)),
+    }
+}
+
+/// The members of these names, as far as they are there, are as asked.
+pub(crate) fn optional_each(
+    alloc: Global,
+    members: &Members,
+    names: &[&'static str],
+    asked: Asked,
+) -> Found
+    ensures { Reports (each_optional_member (map (λ s. s.now) names.now) (judge_of asked) (members_of members.now)) result }
+{
+    for name in names {
+        optional(alloc, members, name, asked)?;
+    }
+    Ok(())
+}

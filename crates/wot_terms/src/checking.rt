@@ -1,0 +1,83 @@
+//! The table of conditions, in the order of its rows.
+
+ghost use Rattle.std.specs.Prelude.{◌≡◌, IfErr, OnOk, IsTrue};
+ghost use Rattle.wot_json.specs.Tree.{members_of, object};
+ghost use Rattle.wot_json.specs.Meaning.{json_of};
+ghost use Rattle.wot_terms.specs.Faults.{IsValid, faults_of, IsFirstFault};
+ghost use Rattle.wot_terms.specs.Rows.{Reports, row_places, fault_in};
+
+use crate::affordances::{AffordanceRow, each_affordance, each_form};
+use crate::asked::{Asked, optional, required};
+use crate::fault::{CheckFault, Found, RowFault, TdFault};
+use crate::forms::FormRow;
+use crate::rows::{
+    affordance_maps, context, links, root_forms, security, security_definitions, types, version,
+};
+use std::alloc::Global;
+use wot_json::{Members, Text, Tree};
+
+/// The description meets all conditions of the table in docs/PROFILE.md, or the first fault: of the rows in their
+/// order, and in a row of the places in preorder, an object in the byte order of its names. The time is in proportion
+/// to the size of the tree; a pointer is written only for the fault that is answered.
+pub fn check(alloc: Global, tree: &Tree) -> Result<(), CheckFault>
+    ensures valid { OnOk result (IsValid (json_of tree.now)) }
+    ensures fault { IfErr result (IsFirstFault (faults_of (json_of tree.now))) }
+{
+    match tree {
+        Tree::Obj(root) => check_rows(alloc, root),
+        _ => Err(CheckFault::Td(TdFault {
+            number: 1,
+            pointer: Text::from_string(String::new(alloc)),
+        })),
+    }
+}
+
+/// The first fault of the rows behind the first.
+fn check_rows(alloc: Global, root: &Members) -> Result<(), CheckFault>
+    ensures valid { OnOk result (IsValid (object (members_of root.now))) }
+    ensures fault { IfErr result (IsFirstFault (faults_of (object (members_of root.now)))) }
+{
+    for number in 2..19 {
+        match row(alloc, number, root) {
+            Ok(()) => {}
+            Err(fault) => return Err(in_row(number, fault)),
+        }
+    }
+    Ok(())
+}
+
+/// The fault of the row of this number.
+fn in_row(number: u8, fault: RowFault) -> CheckFault
+    ensures { result ≡ fault_in number fault }
+{
+    match fault {
+        RowFault::At(pointer) => CheckFault::Td(TdFault { number, pointer }),
+        RowFault::NoMemory => CheckFault::NoMemory,
+    }
+}
+
+/// What the row of this number finds.
+fn row(alloc: Global, number: u8, root: &Members) -> Found
+    ensures { Reports (row_places number (members_of root.now)) result }
+{
+    match number {
+        2 => context(alloc, root),
+        3 => required(alloc, root, "title", Asked::Text),
+        4 => security_definitions(alloc, root),
+        5 => security(alloc, root),
+        6 => optional(alloc, root, "id", Asked::TextNotEmpty),
+        7 => optional(alloc, root, "base", Asked::Text),
+        8 => types(alloc, root),
+        9 => affordance_maps(alloc, root),
+        10 => each_affordance(alloc, root, AffordanceRow::Forms),
+        11 => root_forms(alloc, root),
+        12 => each_form(alloc, root, FormRow::Href),
+        13 => each_form(alloc, root, FormRow::Operations),
+        14 => each_form(alloc, root, FormRow::Texts),
+        15 => each_affordance(alloc, root, AffordanceRow::Flags),
+        16 => each_affordance(alloc, root, AffordanceRow::Schemas),
+        17 => links(alloc, root),
+        18 => version(alloc, root),
+        _ => Ok(()),
+    }
+}

@@ -1,0 +1,169 @@
+//! The affordances of a valid description.
+
+use crate::{Affordance, Kind};
+use servient_base::NoMemory;
+use crate::member::member;
+use std::alloc::{AllocError, Global};
+use std::marker::Model;
+use wot_json::{Members, Text, Tree};
+use wot_schema::Schema;
+
+/// The affordances of a description. Contracts see the list of them.
+#[derive(Debug, Drop)]
+pub struct Description {
+    list: Vec<Affordance>,
+}
+
+impl Model for Description {
+    ghost use Rattle.std.specs.Prelude.{List};
+    ghost use Rattle.wot_terms.specs.declared.affordance.Affordance.{Affordance};
+    ghost use Rattle.wot_terms.specs.AffordanceCodes.{affordances_code};
+
+    ghost Value = { List Affordance };
+
+    ghost coded = { affordances_code };
+
+    ghost view = { λ d. d.list.items };
+}
+
+ghost use Rattle.std.specs.Prelude.{◌≡◌, ◌++◌, [], ◌∷◌, codes, IfOk, OnOk, option_map};
+ghost use Rattle.std.specs.Option.{option_map_or};
+ghost use Rattle.wot_json.specs.Tree.{members_of};
+ghost use Rattle.wot_json.specs.Meaning.{json_of, json_members};
+ghost use Rattle.wot_terms.specs.Faults.{IsValid};
+ghost use Rattle.wot_terms.specs.Affordances.{affordances_of, affordances_in, named_affordances, affordance_of, input_of, output_of, part as part_of, is_true as is_true_value};
+
+impl Description {
+    /// The affordances of a description that `check` takes: properties, actions and events, each in the byte order of
+    /// their names. The time is in proportion to the size of the tree.
+    pub fn of(alloc: Global, tree: &Tree) -> Result<Description, NoMemory>
+        requires { IsValid (json_of tree.now) }
+        ensures { IfOk result (λ d. d ≡ affordances_of (json_of tree.now)) }
+    {
+        let mut list = Vec::new(alloc);
+        if let Tree::Obj(root) = tree {
+            push_affordances(alloc, &mut list, root, Kind::Property)?;
+            push_affordances(alloc, &mut list, root, Kind::Action)?;
+            push_affordances(alloc, &mut list, root, Kind::Event)?;
+        }
+        Ok(Description { list })
+    }
+
+    /// The affordances, in their order.
+    pub fn affordances(&self) -> &[Affordance]
+        ensures { result.now ≡ self.now }
+    {
+        self.list.as_slice()
+    }
+}
+
+/// Puts the affordances of one kind at the end.
+fn push_affordances(
+    alloc: Global,
+    list: &mut Vec<Affordance>,
+    root: &Members,
+    kind: Kind,
+) -> Result<(), NoMemory>
+    ensures { OnOk result (list.new.items ≡ list.old.items ++ affordances_in kind (members_of root.now)) }
+{
+    match member(root, kind.holder()) {
+        Some(Tree::Obj(affordances)) => push_named(alloc, list, affordances.as_slice(), kind),
+        _ => Ok(()),
+    }
+}
+
+fn push_named(
+    alloc: Global,
+    list: &mut Vec<Affordance>,
+    affordances: &[(Text, Tree)],
+    kind: Kind,
+) -> Result<(), NoMemory>
+    ensures { OnOk result (list.new.items ≡ list.old.items ++ named_affordances kind (members_of (json_members affordances.now))) }
+{
+    for (name, value) in affordances {
+        let affordance = described(alloc, kind, name.as_str(), value)?;
+        push(list, affordance)?;
+    }
+    Ok(())
+}
+
+fn push(list: &mut Vec<Affordance>, affordance: Affordance) -> Result<(), NoMemory>
+    ensures { OnOk result (list.new.items ≡ list.old.items ++ affordance ∷ []) }
+{
+    list.push(affordance)?;
+    Ok(())
+}
+
+fn described(
+    alloc: Global,
+    kind: Kind,
+    name: &str,
+    value: &Tree,
+) -> Result<Affordance, NoMemory>
+    ensures { IfOk result (λ a. a ≡ affordance_of kind name.now (json_of value.now)) }
+{
+    let name = Text::copy_of(alloc, name)?;
+    let input = input(alloc, kind, value)?;
+    let output = output(alloc, kind, value)?;
+    Ok(Affordance {
+        kind,
+        name,
+        input,
+        output,
+        read_only: is_true(part(value, "readOnly")),
+        write_only: is_true(part(value, "writeOnly")),
+        observable: is_true(part(value, "observable")),
+    })
+}
+
+fn input(alloc: Global, kind: Kind, value: &Tree) -> Result<Option<Schema>, NoMemory>
+    ensures { IfOk result (λ o. o ≡ input_of kind (json_of value.now)) }
+{
+    match kind {
+        Kind::Property => schema(alloc, Some(value)),
+        Kind::Action => schema(alloc, part(value, "input")),
+        Kind::Event => Ok(None),
+    }
+}
+
+fn output(alloc: Global, kind: Kind, value: &Tree) -> Result<Option<Schema>, NoMemory>
+    ensures { IfOk result (λ o. o ≡ output_of kind (json_of value.now)) }
+{
+    match kind {
+        Kind::Property => schema(alloc, Some(value)),
+        Kind::Action => schema(alloc, part(value, "output")),
+        Kind::Event => schema(alloc, part(value, "data")),
+    }
+}
+
+/// The schema of a tree that has no fault, where there is one.
+fn schema(alloc: Global, tree: Option<&Tree>) -> Result<Option<Schema>, NoMemory>
+    ensures { IfOk result (λ o. o ≡ option_map (λ t. json_of t.now) tree.entry) }
+{
+    match tree {
+        None => Ok(None),
+        Some(tree) => match Schema::read(alloc, tree) {
+            Ok(schema) => Ok(Some(schema)),
+            Err(_) => Err(AllocError),
+        },
+    }
+}
+
+/// The member of this name, where the value is an object that has it.
+fn part<'a>(value: &'a Tree, name: &str) -> Option<&'a Tree>
+    ensures { option_map (λ t. json_of t.now) result ≡ part_of name.now (json_of value.now) }
+{
+    match value {
+        Tree::Obj(members) => member(members, name),
+        _ => None,
+    }
+}
+
+fn is_true(value: Option<&Tree>) -> bool
+    ensures { result ≡ is_true_value (option_map (λ t. json_of t.now) value.entry) }
+{
+    match value {
+        Some(Tree::Bool(truth)) => *truth,
+        _ => false,
+    }
+}

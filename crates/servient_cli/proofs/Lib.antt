@@ -1,5 +1,7 @@
+pub mod Endings
 pub mod HexTexts
 pub mod FieldTexts
 pub mod LineTexts
 pub mod ScriptTexts
+pub mod FaultlessEnds
 pub mod ReplayLaws

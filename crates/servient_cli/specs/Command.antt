@@ -1,10 +1,14 @@
 -- The command line, and what the program reports.
 --
--- So far there is one command, `replay SCRIPT`. It reads the script, runs its events on the built-in
--- property, and prints the acts and the turns. Each way in which it may end has a status and a text.
-use Rattle.std.specs.Prelude.{◌≡◌, ◌<◌, ◌≤◌, ◌⊎◌, ℕ, Bool, true, not, ◌==◌, IsTrue, List, [], ◌∷◌, ◌++◌, Option, Some, IfSome, IsSomeAnd, None, take, length, codes, decimal}
+-- There are two commands so far. `replay SCRIPT` reads the script, runs its events on the built-in property, and
+-- prints the acts and the turns. `check TD` reads a Thing Description and says whether it is valid, or its first
+-- fault. Each way in which a command may end has a status and a text.
+use Rattle.std.specs.Prelude.{◌≡◌, ◌<◌, ◌≤◌, ◌⊎◌, ℕ, Bool, true, not, ◌==◌, IsTrue, List, [], ◌∷◌, ◌++◌, Option, Some, IfSome, IsSomeAnd, None, slice_get, take, length, codes, decimal}
 use Rattle.servient_base.specs.Count.{Rose}
 use Rattle.wot_json.specs.Json.{json_string}
+use Rattle.wot_json.specs.Tree.{Json}
+use Rattle.wot_json.specs.Reading.{value_of, tree_of, IsTooDeep, IsFirstWrong}
+use Rattle.wot_terms.specs.Faults.{faults_of}
 use Rattle.thing_handler.specs.Handler.{Seen, misses_of}
 use Rattle.thing_handler.specs.Turns.{RunTurn, AreTurnsSince}
 use Rattle.servient_edge.specs.declared.files.HeldFile.{HeldFile}
@@ -15,6 +19,8 @@ use Rattle.servient_edge.specs.Told.{Continues}
 use Rattle.servient_edge.specs.Files.{content_of}
 use Rattle.servient_edge.specs.Ending.{with_stop}
 use Rattle.servient_core.specs.Machine.{State, Run, start}
+use Rattle.servient_cli.specs.declared.command.Task.{Task}
+use Rattle.servient_cli.specs.declared.command.Task.TheVariants.{Replay, Check}
 use Rattle.servient_cli.specs.Script.{IsScript, IsFirstBadLine}
 use Rattle.servient_cli.specs.Print.{print_text}
 
@@ -24,21 +30,28 @@ may_name_file [] = true
 may_name_file (b ∷ []) = true
 may_name_file (b ∷ c ∷ bytes) = not (b == 45)
 
--- the words are `replay SCRIPT`, and SCRIPT may name a file
-pub record IsReplay (words : List (List ℕ)) (name : List ℕ) : Type 0 where
-  pub words_are : words ≡ codes "replay" ∷ name ∷ []
+-- the word for a task, which its file follows
+abbrev pub word_of : Task → List ℕ
+word_of Replay = codes "replay"
+word_of Check = codes "check"
+
+-- the words are a task's and the name of its file
+pub record IsCommand (words : List (List ℕ)) (task : Task) (name : List ℕ) : Type 0 where
+  pub words_are : words ≡ word_of task ∷ name ∷ []
   pub file : IsTrue (may_name_file name)
 
--- the longest script, in bytes, and the most events of a run
-abbrev pub script_limit : ℕ
-script_limit = 16777216
+-- the longest script and the longest description, in bytes
+abbrev pub limit_of : Task → ℕ
+limit_of Replay = 16777216
+limit_of Check = 1048576
 
+-- the most events of a run
 abbrev pub event_budget : ℕ
 event_budget = 100000
 
--- the one read of a run: its script
-abbrev pub script_read : List ℕ → FileRead
-script_read name = record { name = name; limit = script_limit }
+-- the one read of a command: its file
+abbrev pub file_read : Task → List ℕ → FileRead
+file_read task name = record { name = name; limit = limit_of task }
 
 -- the lines for what went wrong; names are JSON texts
 abbrev pub usage_line : List ℕ
@@ -55,6 +68,14 @@ spent_line = codes "servient: spent\n"
 
 abbrev pub memory_line : List ℕ
 memory_line = codes "servient: memory\n"
+
+abbrev pub invalid_line : ℕ → List ℕ → List ℕ
+invalid_line number pointer = codes "servient: refused invalid " ++ decimal number ++ codes " " ++ json_string pointer ++ codes "\n"
+
+abbrev pub valid_line : List ℕ
+valid_line = codes "valid\n"
+
+-- ---- replaying a script
 
 -- How the run of a script ends: with all its events and the Stop behind them taken, status 0; or, where
 -- those are more than the budget, with the first of them taken, status 8 and a line that says so.
@@ -73,6 +94,40 @@ pub record IsReplayed (events : List EventWithBytes) (before after : List Seen) 
   pub made : AreTurnsSince before after 0 turns
   pub ends : EndsRun events acts turns status text
 
+-- How the replay of a file of this content ends, and the handlers before and after.
+pub data Replays (name content : List ℕ) (before after : List Seen) (status : ℕ) (text : List ℕ) : Type 0 where
+  -- a line of it is outside the grammar, and there are no events whose script it is; no handler was called
+  is_no_script : (line : ℕ) → IsFirstBadLine content line → ((events : List EventWithBytes) → ¬ (IsScript content events))
+      → after ≡ before → status ≡ 4 → text ≡ input_line name (codes "line " ++ decimal line) → Replays name content before after status text
+  -- it is the script of these events and no others, and they were run
+  is_run : (events : List EventWithBytes) → IsScript content events
+      → ((others : List EventWithBytes) → IsScript content others → events ≡ others)
+      → IsReplayed events before after status text → Replays name content before after status text
+
+-- ---- checking a description
+
+-- why bytes have no tree, as the line on a faulty file says it
+pub data HasNoTree (content what : List ℕ) : Type 0 where
+  -- they are no JSON text
+  is_no_json : value_of content ≡ None → what ≡ codes "json" → HasNoTree content what
+  -- it nests too deep
+  is_too_deep : IsTooDeep content → what ≡ codes "deep" → HasNoTree content what
+  -- a number in it isn't whole or needs more than 64 bits with sign, the first at this pointer
+  is_wrong_number : (pointer : List ℕ) → IsFirstWrong content pointer → what ≡ codes "number " ++ json_string pointer → HasNoTree content what
+
+-- How the check of a file of this content ends.
+pub data Checks (name content : List ℕ) (status : ℕ) (text : List ℕ) : Type 0 where
+  has_no_tree : (what : List ℕ) → tree_of content ≡ None → HasNoTree content what
+      → status ≡ 4 → text ≡ input_line name what → Checks name content status text
+  -- it has faults, and this is the first
+  is_refused : (v : Json) (number : ℕ) (pointer : List ℕ) → tree_of content ≡ Some v → slice_get (faults_of v) 0 ≡ Some (number, pointer)
+      → status ≡ 5 → text ≡ invalid_line number pointer → Checks name content status text
+  -- it has none
+  is_valid : (v : Json) → tree_of content ≡ Some v → faults_of v ≡ []
+      → status ≡ 0 → text ≡ valid_line → Checks name content status text
+
+-- ---- the whole call
+
 -- What a call was given and what it left: its words; what the files hold, where that is told; the reads and
 -- the count of failed reads, before and after; and the handlers, before and after.
 pub record Call : Type 0 where
@@ -85,17 +140,17 @@ pub record Call : Type 0 where
   pub handlers : List Seen
   pub handlers_now : List Seen
 
--- the words name this script, and the one read of the call was of it
-pub record ReadsScript (c : Call) (name : List ℕ) : Type 0 where
-  pub words : IsReplay c.words name
-  pub read : Continues c.reads c.reads_now (script_read name ∷ [])
+-- the words name this task and its file, and the one read of the call was of that
+pub record ReadsFile (c : Call) (task : Task) (name : List ℕ) : Type 0 where
+  pub words : IsCommand c.words task name
+  pub read : Continues c.reads c.reads_now (file_read task name ∷ [])
 
--- this is what the script of this name holds, where that is told
+-- this is what the file of this name holds, where that is told
 abbrev pub Holds : Call → List ℕ → List ℕ → Type 0
 Holds c name content = IfSome c.held (λ files. content_of files name ≡ Some content)
 
 -- the handlers are as they were, and this is the status and the text
-pub record EndsBeforeRun (c : Call) (status status_is : ℕ) (text text_is : List ℕ) : Type 0 where
+pub record EndsEarly (c : Call) (status status_is : ℕ) (text text_is : List ℕ) : Type 0 where
   pub handlers : c.handlers_now ≡ c.handlers
   pub status_same : status ≡ status_is
   pub text_same : text ≡ text_is
@@ -103,30 +158,27 @@ pub record EndsBeforeRun (c : Call) (status status_is : ℕ) (text text_is : Lis
 -- Why a call ended with a status and a text.
 pub data HasCause (c : Call) (status : ℕ) (text : List ℕ) : Type 0 where
   -- the words are no command line, and nothing was read
-  is_no_command : ((name : List ℕ) → ¬ (IsReplay c.words name)) → Continues c.reads c.reads_now []
-      → EndsBeforeRun c status 2 text usage_line → HasCause c status text
-  -- no script of this name stands
-  is_absent : (name : List ℕ) → ReadsScript c name → IfSome c.held (λ files. content_of files name ≡ None)
-      → EndsBeforeRun c status 3 text (file_line name (codes "absent")) → HasCause c status text
+  is_no_command : ((task : Task) (name : List ℕ) → ¬ (IsCommand c.words task name)) → Continues c.reads c.reads_now []
+      → EndsEarly c status 2 text usage_line → HasCause c status text
+  -- no file of this name stands
+  is_absent : (task : Task) (name : List ℕ) → ReadsFile c task name → IfSome c.held (λ files. content_of files name ≡ None)
+      → EndsEarly c status 3 text (file_line name (codes "absent")) → HasCause c status text
   -- reading it failed, as the count tells
-  is_unreadable : (name : List ℕ) → ReadsScript c name → Rose c.faults c.faults_now
-      → EndsBeforeRun c status 3 text (file_line name (codes "failed")) → HasCause c status text
+  is_unreadable : (task : Task) (name : List ℕ) → ReadsFile c task name → Rose c.faults c.faults_now
+      → EndsEarly c status 3 text (file_line name (codes "failed")) → HasCause c status text
   -- it is longer than the limit
-  is_long : (name : List ℕ) → ReadsScript c name
-      → IfSome c.held (λ files. IsSomeAnd (content_of files name) (λ content. script_limit < length content))
-      → EndsBeforeRun c status 4 text (input_line name (codes "long")) → HasCause c status text
-  -- a line of it is outside the grammar, and there are no events whose script it is
-  is_no_script : (name content : List ℕ) (line : ℕ) → ReadsScript c name → Holds c name content
-      → IsFirstBadLine content line → ((events : List EventWithBytes) → ¬ (IsScript content events))
-      → EndsBeforeRun c status 4 text (input_line name (codes "line " ++ decimal line)) → HasCause c status text
-  -- it is the script of these events and no others, and they were run
-  is_run : (name content : List ℕ) (events : List EventWithBytes) → ReadsScript c name → Holds c name content
-      → length content ≤ script_limit → IsScript content events
-      → ((others : List EventWithBytes) → IsScript content others → events ≡ others)
-      → IsReplayed events c.handlers c.handlers_now status text → HasCause c status text
+  is_long : (task : Task) (name : List ℕ) → ReadsFile c task name
+      → IfSome c.held (λ files. IsSomeAnd (content_of files name) (λ content. limit_of task < length content))
+      → EndsEarly c status 4 text (input_line name (codes "long")) → HasCause c status text
+  -- it was replayed
+  is_replay : (name content : List ℕ) → ReadsFile c Replay name → Holds c name content → length content ≤ limit_of Replay
+      → Replays name content c.handlers c.handlers_now status text → HasCause c status text
+  -- it was checked, and no handler was called
+  is_check : (name content : List ℕ) → ReadsFile c Check name → Holds c name content → length content ≤ limit_of Check
+      → c.handlers_now ≡ c.handlers → Checks name content status text → HasCause c status text
   -- there was no memory, which may be at any time after the words are read
-  wants_memory : (name : List ℕ) → IsReplay c.words name
-      → Continues c.reads c.reads_now [] ⊎ Continues c.reads c.reads_now (script_read name ∷ [])
+  wants_memory : (task : Task) (name : List ℕ) → IsCommand c.words task name
+      → Continues c.reads c.reads_now [] ⊎ Continues c.reads c.reads_now (file_read task name ∷ [])
       → status ≡ 9 → text ≡ memory_line → HasCause c status text
 
 -- The text was written and the status is its own; or the output failed, which its count tells, a front of
@@ -144,16 +196,21 @@ pub record Ends (c : Call) (written written_now : Option (List ℕ)) (faults fau
   pub cause : HasCause c status text
   pub report : Reports status text written written_now faults faults_now result
 
--- Nothing is wrong with the words, the file and the script: the words name a script, the files hold it, it
--- is not too long, it is the script of some events, and those and the Stop behind them are within the budget.
+-- nothing is wrong with what the file of a task holds: the script of some events, which with the Stop behind them are
+-- within the budget; a description without a fault
+abbrev pub IsFaultlessFile : Task → List ℕ → Type 0
+IsFaultlessFile Replay content = (events : List EventWithBytes) × IsScript content events × (length (with_stop events) ≤ event_budget)
+IsFaultlessFile Check content = (v : Json) × (tree_of content ≡ Some v) × (faults_of v ≡ [])
+
+-- Nothing is wrong with the words and the file: the words name a task and its file, the files hold that, it is not too
+-- long, and nothing is wrong with what it holds.
 pub record IsFaultless (words : List (List ℕ)) (held : Option (List HeldFile)) : Type 0 where
+  pub task : Task
   pub name : List ℕ
-  pub replay : IsReplay words name
+  pub command : IsCommand words task name
   pub files : List HeldFile
   pub told : held ≡ Some files
   pub content : List ℕ
   pub holds : content_of files name ≡ Some content
-  pub short : length content ≤ script_limit
-  pub events : List EventWithBytes
-  pub script : IsScript content events
-  pub few : length (with_stop events) ≤ event_budget
+  pub short : length content ≤ limit_of task
+  pub faultless : IsFaultlessFile task content

@@ -1,20 +1,61 @@
 //! The command line.
 
 ghost use Rattle.std.specs.Prelude.{◌≡◌, List, ℕ, IsTrue, IfSome, IfNone};
-ghost use Rattle.servient_cli.specs.Command.{IsReplay, may_name_file as may_name};
+ghost use Rattle.servient_cli.specs.Command.{IsCommand, limit_of, may_name_file as may_name, word_of};
 
 use wot_json::Text;
 
-/// The name of the script, where the words are `replay SCRIPT`.
-pub fn script_of(words: &[Text]) -> Option<&str>
-    ensures replay { IfSome result (λ name. IsReplay words.now name.now) }
-    ensures other { IfNone result ((name : List ℕ) → ¬ (IsReplay words.now name)) }
+/// What a command does with its file.
+#[derive(Debug, Clone, Copy, Drop)]
+pub enum Task {
+    /// Runs it as a script on the built-in property.
+    Replay,
+    /// Checks it as a Thing Description.
+    Check,
+}
+
+impl Task {
+    /// The task that a word names.
+    fn named(word: &str) -> Option<Task>
+        ensures named { IfSome result (λ task. word.now ≡ word_of task) }
+        ensures other { IfNone result ((task : Task) → ¬ (word.now ≡ word_of task)) }
+    {
+        match word {
+            "replay" => Some(Task::Replay),
+            "check" => Some(Task::Check),
+            _ => None,
+        }
+    }
+
+    /// How long the file may be, in bytes.
+    pub fn limit(self) -> usize
+        ensures { result ≡ limit_of self }
+    {
+        match self {
+            Task::Replay => 16_777_216,
+            Task::Check => 1_048_576,
+        }
+    }
+}
+
+/// A command: a task and the name of its file.
+#[derive(Debug, Clone, Copy, Drop)]
+pub struct Command<'a> {
+    pub task: Task,
+    pub file: &'a str,
+}
+
+/// The command that the words say.
+pub fn command_of(words: &[Text]) -> Option<Command<'_>>
+    ensures command { IfSome result (λ c. IsCommand words.now c.task c.file.now) }
+    ensures other { IfNone result ((task : Task) → (name : List ℕ) → ¬ (IsCommand words.now task name)) }
 {
     match words {
-        [command, script] => {
-            let script = script.as_str();
-            if command.as_str() == "replay" && may_name_file(script) {
-                Some(script)
+        [word, file] => {
+            let task = Task::named(word.as_str())?;
+            let file = file.as_str();
+            if may_name_file(file) {
+                Some(Command { task, file })
             } else {
                 None
             }

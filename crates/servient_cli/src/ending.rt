@@ -2,7 +2,7 @@
 
 ghost use Rattle.std.specs.Prelude.{◌≡◌, ◌++◌, codes, decimal, IfOk, OnOk};
 ghost use Rattle.wot_json.specs.Json.{json_string};
-ghost use Rattle.servient_cli.specs.Command.{file_line, input_line};
+ghost use Rattle.servient_cli.specs.Command.{file_line, input_line, invalid_line, valid_line};
 
 use crate::print::put_number;
 use std::alloc::Global;
@@ -30,13 +30,46 @@ impl Ending {
         Ok(Ending { status: 3, text })
     }
 
-    /// A file is longer than its limit.
-    pub fn long(alloc: Global, name: &str) -> Result<Ending, NoMemory>
-        ensures { IfOk result (λ e. (e.status ≡ 4) × (e.text ≡ input_line name.now (codes "long"))) }
+    /// The content of a file is refused, as `what` says in a word.
+    pub fn input(alloc: Global, name: &str, what: &str) -> Result<Ending, NoMemory>
+        ensures { IfOk result (λ e. (e.status ≡ 4) × (e.text ≡ input_line name.now what.now)) }
     {
         let mut text = input_text(alloc, name)?;
-        text.extend(b"long\n")?;
+        text.extend(what.as_bytes())?;
+        text.extend(b"\n")?;
         Ok(Ending { status: 4, text })
+    }
+
+    /// A number at this place of a file isn't whole or needs more than 64 bits with sign.
+    pub fn number(alloc: Global, name: &str, place: &str) -> Result<Ending, NoMemory>
+        ensures { IfOk result (λ e.
+            (e.status ≡ 4) × (e.text ≡ input_line name.now (codes "number " ++ json_string place.now))) }
+    {
+        let mut text = input_text(alloc, name)?;
+        text.extend(b"number ")?;
+        text.extend(quoted(alloc, place)?.as_slice())?;
+        text.extend(b"\n")?;
+        Ok(Ending { status: 4, text })
+    }
+
+    /// A description has no fault.
+    pub fn valid(alloc: Global) -> Result<Ending, NoMemory>
+        ensures { IfOk result (λ e. (e.status ≡ 0) × (e.text ≡ valid_line)) }
+    {
+        let text = Bytes::copy_of(alloc, b"valid\n")?;
+        Ok(Ending { status: 0, text })
+    }
+
+    /// A description breaks the condition of this number at this place.
+    pub fn invalid(alloc: Global, number: u8, place: &str) -> Result<Ending, NoMemory>
+        ensures { IfOk result (λ e. (e.status ≡ 5) × (e.text ≡ invalid_line number place.now)) }
+    {
+        let mut text = Bytes::copy_of(alloc, b"servient: refused invalid ")?;
+        put_number(&mut text, number)?;
+        text.extend(b" ")?;
+        text.extend(quoted(alloc, place)?.as_slice())?;
+        text.extend(b"\n")?;
+        Ok(Ending { status: 5, text })
     }
 
     /// A line of a file, counted from 1, is outside the grammar.

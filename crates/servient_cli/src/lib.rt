@@ -4,6 +4,7 @@
 //! exit status why it came and what was written.
 #![tactic(auto)]
 
+mod checking;
 mod command;
 mod ending;
 mod main_call;

@@ -2,20 +2,17 @@
 
 ghost use Rattle.std.specs.Prelude.{◌≡◌, ◌<◌, ◌⊎◌, ℕ, List, length};
 ghost use Rattle.servient_base.specs.Count.{Rose};
-ghost use Rattle.servient_cli.specs.Command.{Ends, IsFaultless, IsReplay, Reports};
+ghost use Rattle.servient_cli.specs.Command.{Ends, IsCommand, IsFaultless, Reports};
 ghost use Rattle.servient_cli.specs.Ending.{EndsWith};
 
-use crate::command::script_of;
+use crate::checking::check_file;
+use crate::command::{Command, Task, command_of};
 use crate::ending::Ending;
-use crate::replay::run_script;
-use crate::script::{Script, ScriptFault};
+use crate::replay::replay;
 use servient_edge::{Files, Got, Net, Out, Put};
 use std::alloc::{AllocError, Global};
 use thing_handler::Handlers;
 use wot_json::{Bytes, NoMemory, Text};
-
-/// The longest script, in bytes.
-const SCRIPT_LIMIT: usize = 16_777_216;
 
 /// The line for words that are no command line.
 const USAGE_LINE: &[u8] = b"usage: servient replay|serve|derive|check|consume|storm ..\n";
@@ -46,31 +43,31 @@ pub fn servient_main<F: Files, N: Net, R: Handlers, O: Out>(
       handlers_now = R.slots rack.new;
     })
         (O.written out.old) (O.written out.new) (O.faults out.old) (O.faults out.new) result }
-    // Where nothing is wrong and nothing failed, the script is replayed to its end, but for want of memory.
+    // Where nothing is wrong and nothing failed, the command does what it is for, but for want of memory.
     ensures complete { IsFaultless words.now (F.held files.old)
         → ¬ (Rose (F.faults files.old) (F.faults files.new)) → ¬ (Rose (O.faults out.old) (O.faults out.new))
         → (result ≡ 0) ⊎ (result ≡ 9) }
     ensures net { net.new ≡ net.old }
 {
     let _ = net;
-    let Some(name) = script_of(words) else {
+    let Some(command) = command_of(words) else {
         return report(out, USAGE_LINE, 2);
     };
-    match replay(alloc, name, files, rack) {
+    match run_command(alloc, command, files, rack) {
         Ok(ending) => report(out, ending.text.as_slice(), ending.status),
         Err(_) => report(out, MEMORY_LINE, 9),
     }
 }
 
-/// Reads the script of this name and runs it.
-fn replay<F: Files, R: Handlers>(
+/// Reads the file of a command and does its task.
+fn run_command<F: Files, R: Handlers>(
     alloc: Global,
-    name: &str,
+    command: Command<'_>,
     files: &mut F,
     rack: &mut R,
 ) -> Result<Ending, NoMemory>
     requires { 0 < length (R.slots rack.old) }
-    ensures { (words : List (List ℕ)) → IsReplay words name.now → EndsWith (record {
+    ensures { (words : List (List ℕ)) → IsCommand words command.entry.task command.entry.file.now → EndsWith (record {
       words = words;
       held = F.held files.old;
       reads = F.reads files.old;
@@ -81,18 +78,18 @@ fn replay<F: Files, R: Handlers>(
       handlers_now = R.slots rack.new;
     }) result }
 {
+    let name = command.file;
     let mut content = Bytes::new(alloc);
-    match files.read(alloc, name, SCRIPT_LIMIT, &mut content) {
+    match files.read(alloc, name, command.task.limit(), &mut content) {
         Got::Whole => {}
         Got::Absent => return Ending::file(alloc, name, "absent"),
         Got::Failed => return Ending::file(alloc, name, "failed"),
-        Got::TooLong => return Ending::long(alloc, name),
+        Got::TooLong => return Ending::input(alloc, name, "long"),
         Got::NoMemory => return Err(AllocError),
     }
-    match Script::read(alloc, content.as_slice()) {
-        Ok(script) => run_script(alloc, script.into_events(), rack),
-        Err(ScriptFault::Line(line)) => Ending::bad_line(alloc, name, line),
-        Err(ScriptFault::NoMemory) => Err(AllocError),
+    match command.task {
+        Task::Replay => replay(alloc, name, content.as_slice(), rack),
+        Task::Check => check_file(alloc, name, content.as_slice()),
     }
 }
 

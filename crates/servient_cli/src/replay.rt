@@ -1,12 +1,13 @@
 //! Running a script, and what the run prints.
 
-ghost use Rattle.std.specs.Prelude.{◌≡◌, ◌<◌, length, IfOk};
+ghost use Rattle.std.specs.Prelude.{◌≡◌, ◌<◌, ◌≤◌, length, IfOk};
 ghost use Rattle.std.specs.List.{AllByRecursion};
 ghost use Rattle.servient_cli.specs.Script.{IsScriptEvent};
-ghost use Rattle.servient_cli.specs.Command.{IsReplayed};
+ghost use Rattle.servient_cli.specs.Command.{IsReplayed, Replays};
 
 use crate::ending::Ending;
 use crate::print::{put_acts, put_turns};
+use crate::script::{Script, ScriptFault};
 use servient_core::{Served, Servient, serve};
 use servient_edge::{Calls, Events, NetMemory};
 use std::alloc::{AllocError, Global};
@@ -22,13 +23,27 @@ const SLOT: usize = 0;
 /// What follows the print where the events were more than the budget.
 const SPENT_LINE: &[u8] = b"servient: spent\n";
 
-/// Runs the events of a script, and then a Stop, on the built-in property, and prints the acts and the
-/// turns.
-pub fn run_script<R: Handlers>(
+/// Reads a script and runs it on the built-in property.
+pub fn replay<R: Handlers>(
     alloc: Global,
-    events: Events,
+    name: &str,
+    content: &[u8],
     rack: &mut R,
 ) -> Result<Ending, NoMemory>
+    requires slot { 0 < length (R.slots rack.old) }
+    requires length { length content.now ≤ 16777216 }
+    ensures { IfOk result (λ e. Replays name.now content.now (R.slots rack.old) (R.slots rack.new) e.status e.text) }
+{
+    match Script::read(alloc, content) {
+        Ok(script) => run_script(alloc, script.into_events(), rack),
+        Err(ScriptFault::Line(line)) => Ending::bad_line(alloc, name, line),
+        Err(ScriptFault::NoMemory) => Err(AllocError),
+    }
+}
+
+/// Runs the events of a script, and then a Stop, on the built-in property, and prints the acts and the
+/// turns.
+fn run_script<R: Handlers>(alloc: Global, events: Events, rack: &mut R) -> Result<Ending, NoMemory>
     requires slot { 0 < length (R.slots rack.old) }
     requires events { AllByRecursion IsScriptEvent events }
     ensures { IfOk result (λ e. IsReplayed events (R.slots rack.old) (R.slots rack.new) e.status e.text) }

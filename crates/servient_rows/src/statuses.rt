@@ -37,8 +37,12 @@ fn ends<R: Abort + AllocGlobal>(
 
 #[test]
 fn words_that_are_no_command_line(rt: HostRuntime) -> Result<(), Fail> {
-    let table: [&[&str]; 9] = [
+    let table: [&[&str]; 13] = [
         &[],
+        &["check"],
+        &["check", "-s.txt"],
+        &["check", "s.txt", "s.txt"],
+        &["checks", "s.txt"],
         &["replay"],
         &["serve", "s.txt"],
         &["Replay", "s.txt"],

@@ -2,7 +2,7 @@
 use Rattle.std.specs.Prelude.{◌≡◌, ◌≤◌, ℕ, List, [], ◌∷◌, ◌++◌, slice_get, slice_set, map, Some, Ok, Err, Result}
 use Rattle.std.specs.declared.alloc.AllocError.{AllocError}
 use Rattle.servient_base.specs.Count.{Rose}
-use Rattle.thing_handler.specs.declared.handler.Kind.{Kind}
+use Rattle.wot_terms.specs.declared.kind.Kind.{Kind}
 use Rattle.thing_handler.specs.declared.handler.CallKind.{CallKind}
 use Rattle.thing_handler.specs.declared.handler.Answer.{Answer}
 use Rattle.thing_handler.specs.declared.handler.Turn.{Turn}

@@ -42,7 +42,7 @@ impl Cell {
 
 impl Handler for Cell {
     ghost use Rattle.std.specs.Prelude.{◌≡◌, IfOk};
-    ghost use Rattle.thing_handler.specs.declared.handler.Kind.TheVariants.{Property};
+    ghost use Rattle.wot_terms.specs.declared.kind.Kind.TheVariants.{Property};
     ghost use Rattle.thing_handler.specs.declared.handler.Answer.TheVariants.{Value};
     ghost use Rattle.thing_handler.specs.Handler.{AnswersCall};
     ghost use Rattle.thing_handler.specs.InMemory.{value_in};

@@ -3,14 +3,7 @@
 use servient_base::NoMemory;
 use std::alloc::Global;
 use wot_json::Tree;
-
-/// What kind of affordance a handler stands behind (TD 1.1, section 5.3.1.2).
-#[derive(Clone, Copy, Debug, PartialEq, Eq)]
-pub enum Kind {
-    Property,
-    Action,
-    Event,
-}
+use wot_terms::Kind;
 
 /// What a handler is asked.
 #[derive(Debug, Drop)]

@@ -14,7 +14,8 @@ mod tests;
 mod turn_log;
 
 pub use cell::Cell;
-pub use handler::{Answer, CallKind, Handler, Kind, Turn};
+pub use handler::{Answer, CallKind, Handler, Turn};
 pub use rack::{Handlers, Rack};
 pub use scripted::Scripted;
 pub use servient_base::NoMemory;
+pub use wot_terms::Kind;

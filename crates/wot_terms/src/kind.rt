@@ -13,7 +13,7 @@ pub enum Kind {
 
 impl Kind {
     /// The member of a Thing that holds the affordances of this kind (section 5.3.1.1).
-    pub(crate) fn holder(self) -> &'static str
+    pub fn holder(self) -> &'static str
         ensures { result.now ≡ holder_of self }
     {
         match self {

@@ -1,0 +1,2 @@
+pub mod NamedOps
+pub mod ListedForms

@@ -1,0 +1,208 @@
+//! The forms of a description.
+
+ghost use Rattle.std.specs.Prelude.{◌≡◌, ◌++◌, IfOk, OnOk, map, option_map, option_and_then, unwrap_or};
+ghost use Rattle.std.specs.List.{flat_map};
+ghost use Rattle.wot_json.specs.Meaning.{json_of, json_items};
+ghost use Rattle.wot_terms.specs.Affordances.{part, is_true};
+ghost use Rattle.wot_terms.specs.Faults.{IsValid, holder as holder_of};
+ghost use Rattle.wot_forms.specs.Forms.{affordance_forms, form_of, all_named, forms_in, forms_under as forms_under_of, ops_named, ops_of, text_of};
+ghost use Rattle.wot_forms.specs.Places.{default_ops_at};
+
+use crate::{Form, Forms, Ops, default_ops};
+use std::alloc::Global;
+use wot_json::{NoMemory, Text, Tree};
+use wot_terms::{Kind, Op};
+
+/// The media type of a form that names none (TD 1.1, section 5.4.1).
+const DEFAULT_CONTENT_TYPE: &str = "application/json";
+
+/// The forms of the affordance of this kind and name in a valid description, where it has that; without a kind those
+/// of the description as a whole, and then the name says nothing. Its time is in proportion to what stands there, but
+/// for the names of members, which are found by halving.
+pub fn forms_of(
+    alloc: Global,
+    tree: &Tree,
+    kind: Option<Kind>,
+    name: &str,
+) -> Result<Option<Forms>, NoMemory>
+    requires { IsValid (json_of tree.now) }
+    ensures { IfOk result (λ forms. forms ≡ forms_in (json_of tree.now) kind name.now) }
+{
+    match kind {
+        None => {
+            let place = Place {
+                kind: None,
+                read_only: false,
+                write_only: false,
+            };
+            Ok(Some(forms_under(alloc, tree, place)?))
+        }
+        Some(kind) => match affordance(tree, kind, name) {
+            None => Ok(None),
+            Some(affordance) => Ok(Some(forms_of_affordance(alloc, affordance, kind)?)),
+        },
+    }
+}
+
+/// What forms leave to defaults where they stand.
+#[derive(Clone, Copy, Debug)]
+struct Place {
+    kind: Option<Kind>,
+    read_only: bool,
+    write_only: bool,
+}
+
+impl Place {
+    /// The operations of a form that names none. Forms of the description as a whole name theirs.
+    fn default_ops(self) -> Ops
+        ensures { result ≡ default_ops_at self }
+    {
+        match self.kind {
+            None => Ops::fixed(&[]),
+            Some(kind) => default_ops(kind, self.read_only, self.write_only),
+        }
+    }
+}
+
+/// The affordance of this kind and name, where the description has it.
+fn affordance<'a>(tree: &'a Tree, kind: Kind, name: &str) -> Option<&'a Tree>
+    ensures { option_map (λ t. json_of t.now) result
+        ≡ option_and_then (part name.now) (part (holder_of kind) (json_of tree.now)) }
+{
+    match member(tree, kind.holder()) {
+        Some(held) => member(held, name),
+        None => None,
+    }
+}
+
+/// The forms of an affordance.
+fn forms_of_affordance(alloc: Global, affordance: &Tree, kind: Kind) -> Result<Forms, NoMemory>
+    ensures { IfOk result (λ forms. forms ≡ affordance_forms kind (json_of affordance.now)) }
+{
+    let place = Place {
+        kind: Some(kind),
+        read_only: flag(member(affordance, "readOnly")),
+        write_only: flag(member(affordance, "writeOnly")),
+    };
+    forms_under(alloc, affordance, place)
+}
+
+/// The forms that stand under `forms`.
+#[tactic(auto, using(crate::proofs::ListedForms::forms_in_list))]
+fn forms_under(alloc: Global, tree: &Tree, place: Place) -> Result<Forms, NoMemory>
+    ensures { IfOk result (λ list. list ≡ forms_under_of (default_ops_at place) (json_of tree.now)) }
+{
+    match member(tree, "forms") {
+        Some(Tree::List(items)) => listed_forms(alloc, items.as_slice(), place),
+        _ => Ok(Forms::new(alloc)),
+    }
+}
+
+/// The forms of a list.
+fn listed_forms(alloc: Global, items: &[Tree], place: Place) -> Result<Forms, NoMemory>
+    ensures { IfOk result (λ list. list ≡ map (form_of (default_ops_at place)) (json_items items.now)) }
+{
+    let mut list = Forms::new(alloc);
+    for item in items {
+        list.push(form(alloc, item, place)?)?;
+    }
+    Ok(list)
+}
+
+/// One form.
+fn form(alloc: Global, tree: &Tree, place: Place) -> Result<Form, NoMemory>
+    ensures { IfOk result (λ form. form ≡ form_of (default_ops_at place) (json_of tree.now)) }
+{
+    Ok(Form {
+        href: text_or(alloc, member(tree, "href"), "")?,
+        ops: operations(alloc, member(tree, "op"), place)?,
+        content_type: text_or(alloc, member(tree, "contentType"), DEFAULT_CONTENT_TYPE)?,
+        subprotocol: text(alloc, member(tree, "subprotocol"))?,
+        method: text(alloc, member(tree, "htv:methodName"))?,
+    })
+}
+
+/// The operations that `op` names, and else the default ones.
+fn operations(alloc: Global, named: Option<&Tree>, place: Place) -> Result<Ops, NoMemory>
+    ensures { IfOk result (λ ops. ops
+        ≡ ops_of (default_ops_at place) (option_map (λ t. json_of t.now) named.entry)) }
+{
+    match named {
+        None => Ok(place.default_ops()),
+        Some(named) => named_operations(alloc, named),
+    }
+}
+
+/// The operations that a text or a list of texts names.
+#[tactic(auto, using(crate::proofs::ListedForms::ops_in_list))]
+fn named_operations(alloc: Global, named: &Tree) -> Result<Ops, NoMemory>
+    ensures { IfOk result (λ ops. ops ≡ all_named (json_of named.now)) }
+{
+    if let Tree::List(items) = named {
+        return listed_operations(alloc, items.as_slice());
+    }
+    let mut ops = Vec::new(alloc);
+    push_named(named, &mut ops)?;
+    Ok(Ops::from_vec(ops))
+}
+
+/// The operations that the texts of a list name.
+fn listed_operations(alloc: Global, names: &[Tree]) -> Result<Ops, NoMemory>
+    ensures { IfOk result (λ ops. ops ≡ flat_map ops_named (json_items names.now)) }
+{
+    let mut ops = Vec::new(alloc);
+    for name in names {
+        push_named(name, &mut ops)?;
+    }
+    Ok(Ops::from_vec(ops))
+}
+
+/// Puts the operation that a text names at the end.
+fn push_named(name: &Tree, ops: &mut Vec<Op>) -> Result<(), NoMemory>
+    ensures { OnOk result (ops.new.items ≡ ops.old.items ++ ops_named (json_of name.now)) }
+{
+    if let Tree::Text(name) = name {
+        if let Some(op) = Op::named(name.as_str()) {
+            ops.push(op)?;
+        }
+    }
+    Ok(())
+}
+
+/// The text of a member, where it is one.
+fn text(alloc: Global, value: Option<&Tree>) -> Result<Option<Text>, NoMemory>
+    ensures { IfOk result (λ text. text ≡ text_of (option_map (λ t. json_of t.now) value.entry)) }
+{
+    match value {
+        Some(Tree::Text(text)) => Ok(Some(Text::copy_of(alloc, text.as_str())?)),
+        _ => Ok(None),
+    }
+}
+
+/// The text of a member, and another where it is none.
+fn text_or(alloc: Global, value: Option<&Tree>, other: &str) -> Result<Text, NoMemory>
+    ensures { IfOk result (λ text. text
+        ≡ unwrap_or (text_of (option_map (λ t. json_of t.now) value.entry)) other.now) }
+{
+    match value {
+        Some(Tree::Text(text)) => Text::copy_of(alloc, text.as_str()),
+        _ => Text::copy_of(alloc, other),
+    }
+}
+
+/// The truth value of a member, which is false where it is absent.
+fn flag(value: Option<&Tree>) -> bool
+    ensures { result ≡ is_true (option_map (λ t. json_of t.now) value.entry) }
+{
+    matches!(value, Some(Tree::Bool(true)))
+}
+
+/// The member of this name, where the value is an object that has it.
+fn member<'a>(tree: &'a Tree, name: &str) -> Option<&'a Tree>
+    ensures { option_map (λ t. json_of t.now) result ≡ part name.now (json_of tree.now) }
+{
+    match tree {
+        Tree::Obj(members) => members.get(name),
+        _ => None,
+    }
+}

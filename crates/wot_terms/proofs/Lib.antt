@@ -1,3 +1,4 @@
 pub mod Reported
 pub mod TableRows
 pub mod Listed
+pub mod ValidParts

@@ -1,5 +1,5 @@
 -- Affordances one behind the other.
-use Rattle.std.proofs.Common.{◌≡◌, ◌<◌, ◌+◌, ◌++◌, ℕ, List, [], ◌∷◌, length, get_or, take, map, refl, sym, ap, subst, ◌∙◌, append_assoc}
+use Rattle.std.proofs.Common.{◌≡◌, ◌<◌, ◌+◌, ◌++◌, ℕ, List, [], ◌∷◌, length, get_or, take, refl, sym, ap, ◌∙◌, append_assoc}
 use Rattle.std.proofs.lemmas.List.{take_more, map-append}
 use Rattle.wot_json.specs.Tree.{Json, members_of}
 use Rattle.wot_json.specs.Meaning.{json_of, json_members}
@@ -20,7 +20,7 @@ named_more k before list after a ts i t within is so one more =
     let front : take (i + 1) ts ≡ take i ts ++ t ∷ [] = take_more ts i t within ∙ ap (λ u. take i ts ++ u ∷ []) (sym is) in
     let listed : List Affordance = named_affordances k (members_of (json_members (take i ts))) in
     let whole : named_affordances k (members_of (json_members (take (i + 1) ts))) ≡ listed ++ affordance_of k t.0 (json_of t.1) ∷ [] =
-        rw (front, map-append) (named_last k (json_members (take i ts)) (t.0, json_of t.1)) in
+    rw (front, map-append) (named_last k (json_members (take i ts)) (t.0, json_of t.1)) in
     more
     ∙ (ap (λ l. l ++ a ∷ []) so
     ∙ (append_assoc before listed (a ∷ [])

@@ -1,5 +1,5 @@
 -- The affordances of a Thing Description (TD 1.1 section 5.3.1).
-use Rattle.std.specs.Prelude.{ℕ, List, [], ◌∷◌, ◌++◌, Bool, true, false, Option, Some, None, codes}
+use Rattle.std.specs.Prelude.{ℕ, List, [], ◌∷◌, ◌++◌, Bool, false, Option, Some, None, codes}
 use Rattle.std.specs.Option.{option_map_or}
 use Rattle.wot_json.specs.Tree.{Json, boolean, object, Members, no_members, member}
 use Rattle.wot_schema.specs.Values.{found}

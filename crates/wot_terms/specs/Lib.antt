@@ -3,3 +3,4 @@ pub mod Faults
 pub mod Rows
 pub mod Affordances
 pub mod AffordanceCodes
+pub mod Schemas

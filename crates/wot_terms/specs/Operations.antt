@@ -1,5 +1,5 @@
 -- The names of operations, and the places whose forms have them (TD 1.1 section 5.3.4.2).
-use Rattle.std.specs.Prelude.{ℕ, List, [], ◌∷◌, Option, Some, None, Bool, codes, map}
+use Rattle.std.specs.Prelude.{ℕ, List, [], ◌∷◌, Option, Some, None, Bool, codes}
 use Rattle.std.specs.List.{list_any}
 use Rattle.std.specs.Str.{bytes_eq}
 use Rattle.wot_terms.specs.declared.kind.Kind.{Kind}

@@ -1,7 +1,6 @@
 -- How the code names what a row asks for, and what it reports.
-use Rattle.std.specs.Prelude.{◌≡◌, ℕ, ◌==◌, List, [], ◌∷◌, Bool, Option, Some, None, Result, Ok, Err, ⊤, slice_get, codes, if◌then◌else◌}
+use Rattle.std.specs.Prelude.{◌≡◌, ℕ, ◌==◌, List, [], ◌∷◌, Option, Some, Result, Ok, Err, ⊤, slice_get, codes, if◌then◌else◌}
 use Rattle.std.specs.Str.{bytes_eq}
-use Rattle.wot_json.specs.Tree.{Json, Members}
 use Rattle.wot_terms.specs.declared.kind.Kind.{Kind}
 use Rattle.wot_terms.specs.declared.fault.RowFault.{RowFault}
 use Rattle.wot_terms.specs.declared.fault.RowFault.TheVariants as row_fault

@@ -66,12 +66,7 @@ fn affordances_in(alloc: Global, value: &Tree, kind: Kind, row: AffordanceRow) -
     }
 }
 
-fn each_named(
-    alloc: Global,
-    affordances: &[(Text, Tree)],
-    kind: Kind,
-    row: AffordanceRow,
-) -> Found
+fn each_named(alloc: Global, affordances: &[(Text, Tree)], kind: Kind, row: AffordanceRow) -> Found
     ensures { Reports (each_member (if_object (affordance_judge row kind)) (members_of (json_members affordances.now))) result }
 {
     for (name, value) in affordances {

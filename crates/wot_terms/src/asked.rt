@@ -31,7 +31,9 @@ impl Asked {
         ensures { Reports (judge_of self (json_of value.now)) result }
     {
         match (self, value) {
-            (Asked::Anything, _) | (Asked::Text, Tree::Text(_)) | (Asked::TruthValue, Tree::Bool(_)) => Ok(()),
+            (Asked::Anything, _)
+            | (Asked::Text, Tree::Text(_))
+            | (Asked::TruthValue, Tree::Bool(_)) => Ok(()),
             (Asked::TextNotEmpty, Tree::Text(text)) if !text.as_str().is_empty() => Ok(()),
             (Asked::NoSecurity, Tree::Text(text)) if text.as_str() == "nosec" => Ok(()),
             (Asked::Schema, _) => schema(alloc, value),

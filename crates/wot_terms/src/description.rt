@@ -1,12 +1,12 @@
 //! The affordances of a valid description.
 
+use crate::member::member;
 use crate::{Affordance, Kind};
 use servient_base::NoMemory;
-use crate::member::member;
 use std::alloc::{AllocError, Global};
 use std::marker::Model;
 use wot_json::{Members, Text, Tree};
-use wot_schema::Schema;
+use wot_schema::{Schema, SchemaFault};
 
 /// The affordances of a description. Contracts see the list of them.
 #[derive(Debug, Drop)]
@@ -26,11 +26,13 @@ impl Model for Description {
     ghost view = { λ d. d.list.items };
 }
 
-ghost use Rattle.std.specs.Prelude.{◌≡◌, ◌++◌, [], ◌∷◌, codes, IfOk, OnOk, option_map};
+ghost use Rattle.std.specs.Prelude.{◌≡◌, ◌++◌, [], ◌∷◌, codes, IfOk, IfSome, OnOk, option_map};
 ghost use Rattle.std.specs.Option.{option_map_or};
 ghost use Rattle.wot_json.specs.Tree.{members_of};
 ghost use Rattle.wot_json.specs.Meaning.{json_of, json_members};
 ghost use Rattle.wot_terms.specs.Faults.{IsValid};
+ghost use Rattle.wot_schema.specs.declared.fault.SchemaFault.{SchemaFault};
+ghost use Rattle.wot_terms.specs.Schemas.{IsSchema, HasSchemas, HaveSchemas, HoldSchemas};
 ghost use Rattle.wot_terms.specs.Affordances.{affordances_of, affordances_in, named_affordances, affordance_of, input_of, output_of, part as part_of, is_true as is_true_value};
 
 impl Description {
@@ -64,6 +66,7 @@ fn push_affordances(
     root: &Members,
     kind: Kind,
 ) -> Result<(), NoMemory>
+    requires { HoldSchemas kind (members_of root.now) }
     ensures { OnOk result (list.new.items ≡ list.old.items ++ affordances_in kind (members_of root.now)) }
 {
     match member(root, kind.holder()) {
@@ -78,6 +81,7 @@ fn push_named(
     affordances: &[(Text, Tree)],
     kind: Kind,
 ) -> Result<(), NoMemory>
+    requires { HaveSchemas kind (members_of (json_members affordances.now)) }
     ensures { OnOk result (list.new.items ≡ list.old.items ++ named_affordances kind (members_of (json_members affordances.now))) }
 {
     for (name, value) in affordances {
@@ -94,12 +98,8 @@ fn push(list: &mut Vec<Affordance>, affordance: Affordance) -> Result<(), NoMemo
     Ok(())
 }
 
-fn described(
-    alloc: Global,
-    kind: Kind,
-    name: &str,
-    value: &Tree,
-) -> Result<Affordance, NoMemory>
+fn described(alloc: Global, kind: Kind, name: &str, value: &Tree) -> Result<Affordance, NoMemory>
+    requires { HasSchemas kind (json_of value.now) }
     ensures { IfOk result (λ a. a ≡ affordance_of kind name.now (json_of value.now)) }
 {
     let name = Text::copy_of(alloc, name)?;
@@ -117,6 +117,7 @@ fn described(
 }
 
 fn input(alloc: Global, kind: Kind, value: &Tree) -> Result<Option<Schema>, NoMemory>
+    requires { IfSome (input_of kind (json_of value.now)) IsSchema }
     ensures { IfOk result (λ o. o ≡ input_of kind (json_of value.now)) }
 {
     match kind {
@@ -127,6 +128,7 @@ fn input(alloc: Global, kind: Kind, value: &Tree) -> Result<Option<Schema>, NoMe
 }
 
 fn output(alloc: Global, kind: Kind, value: &Tree) -> Result<Option<Schema>, NoMemory>
+    requires { IfSome (output_of kind (json_of value.now)) IsSchema }
     ensures { IfOk result (λ o. o ≡ output_of kind (json_of value.now)) }
 {
     match kind {
@@ -136,16 +138,35 @@ fn output(alloc: Global, kind: Kind, value: &Tree) -> Result<Option<Schema>, NoM
     }
 }
 
-/// The schema of a tree that has no fault, where there is one.
+/// The schema of a tree, where there is one.
 fn schema(alloc: Global, tree: Option<&Tree>) -> Result<Option<Schema>, NoMemory>
+    requires { IfSome (option_map (λ t. json_of t.now) tree) IsSchema }
     ensures { IfOk result (λ o. o ≡ option_map (λ t. json_of t.now) tree.entry) }
 {
     match tree {
         None => Ok(None),
-        Some(tree) => match Schema::read(alloc, tree) {
-            Ok(schema) => Ok(Some(schema)),
-            Err(_) => Err(AllocError),
-        },
+        Some(tree) => Ok(Some(faultless_schema(alloc, tree)?)),
+    }
+}
+
+fn faultless_schema(alloc: Global, tree: &Tree) -> Result<Schema, NoMemory>
+    requires { IsSchema (json_of tree.now) }
+    ensures { IfOk result (λ s. s ≡ json_of tree.now) }
+{
+    match Schema::read(alloc, tree) {
+        Ok(schema) => Ok(schema),
+        Err(fault) => Err(no_memory(fault)),
+    }
+}
+
+/// The one fault of reading a schema that has none.
+fn no_memory(fault: SchemaFault) -> NoMemory
+    requires { fault ≡ SchemaFault.NoMemory }
+{
+    match fault {
+        SchemaFault::NoMemory => AllocError,
+        SchemaFault::Unsupported(_place, _word) => unreachable!(),
+        SchemaFault::Malformed(_place) => unreachable!(),
     }
 }
 

@@ -10,8 +10,8 @@ ghost use Rattle.wot_terms.specs.Rows.{Reports, form_judge};
 use crate::Kind;
 use crate::asked::{Asked, optional_each, required};
 use crate::fault::{Found, in_element, in_member, wrong};
-use crate::op::is_operation;
 use crate::member::member;
+use crate::op::is_operation;
 use std::alloc::Global;
 use wot_json::{Members, Tree};
 

@@ -1,6 +1,6 @@
 //! Each row of the table, and the affordances of a description.
 
-use crate::{Affordance, CheckFault, Description, Kind, Op, check};
+use crate::{CheckFault, Description, Kind, Op, check};
 use std::alloc::Global;
 use std::test::Fail;
 use wot_json::read;
@@ -9,7 +9,8 @@ use wot_json::read;
 type Case = (&'static str, u8, &'static str);
 
 /// What a valid description begins with. A later member of the same name counts in place of one of these.
-const START: &str = r#"{"@context":"https://www.w3.org/2022/wot/td/v1.1","security":"n","securityDefinitions":{"n":{"scheme":"nosec"}},"title":"T""#;
+const START: &str =
+    r#"{"@context":"https://www.w3.org/2022/wot/td/v1.1","security":"n","securityDefinitions":{"n":{"scheme":"nosec"}},"title":"T""#;
 
 /// Whole texts, with a number of 0 where they are valid.
 const TEXTS: [Case; 6] = [
@@ -33,29 +34,77 @@ const TEXTS: [Case; 6] = [
     ),
 ];
 
-/// Members that leave the description valid.
-const VALID: [&str; 10] = [
-    r#""@context":["https://other.example",{"a":1},"https://www.w3.org/2022/wot/td/v1.1"]"#,
-    r#""security":["n","n"],"id":"urn:x","base":"","@type":"Lamp""#,
-    r#""@type":["Lamp","saref:LightSwitch"],"forms":[],"links":[]"#,
-    r#""properties":{},"actions":{},"events":{},"version":{"instance":""}"#,
-    r#""forms":[{"href":"","op":["readallproperties","queryallactions"]},{"href":"","op":"subscribeallevents"}]"#,
-    r#""links":[{"href":"x"},{"href":"x","rel":"icon"}]"#,
-    r#""properties":{"s":{"type":"integer","readOnly":true,"forms":[{"href":"x","op":["readproperty","observeproperty"],"contentType":"application/json"}]}}"#,
-    r#""actions":{"s":{"input":{"type":"null"},"safe":false,"forms":[{"href":"x","op":"cancelaction"}]}}"#,
-    r#""events":{"s":{"data":{"type":"null"},"forms":[{"href":"x","op":["unsubscribeevent"]},{"href":"y"}]}}"#,
-    r#""actions":{"s":{"type":3,"forms":[{"href":"x"}]}}"#,
-];
-
-/// Members with which the description has a fault, row by row.
-const ROWS: [Case; 44] = [
-    (r#""@context":"https://www.w3.org/2019/wot/td/v1""#, 2, "/@context"),
+/// Members that leave the description valid, and those with which it has a fault, row by row.
+const ROWS: [Case; 54] = [
+    (
+        r#""@context":["https://other.example",{"a":1},"https://www.w3.org/2022/wot/td/v1.1"]"#,
+        0,
+        "",
+    ),
+    (
+        r#""security":["n","n"],"id":"urn:x","base":"","@type":"Lamp""#,
+        0,
+        "",
+    ),
+    (
+        r#""@type":["Lamp","saref:LightSwitch"],"forms":[],"links":[]"#,
+        0,
+        "",
+    ),
+    (
+        r#""properties":{},"actions":{},"events":{},"version":{"instance":""}"#,
+        0,
+        "",
+    ),
+    (
+        r#""forms":[{"href":"","op":["readallproperties","queryallactions"]},{"href":"","op":"subscribeallevents"}]"#,
+        0,
+        "",
+    ),
+    (r#""links":[{"href":"x"},{"href":"x","rel":"icon"}]"#, 0, ""),
+    (
+        r#""properties":{"s":{"type":"integer","readOnly":true,"forms":[{"href":"x","op":["readproperty","observeproperty"],"contentType":"application/json"}]}}"#,
+        0,
+        "",
+    ),
+    (
+        r#""actions":{"s":{"input":{"type":"null"},"safe":false,"forms":[{"href":"x","op":"cancelaction"}]}}"#,
+        0,
+        "",
+    ),
+    (
+        r#""events":{"s":{"data":{"type":"null"},"forms":[{"href":"x","op":["unsubscribeevent"]},{"href":"y"}]}}"#,
+        0,
+        "",
+    ),
+    (
+        r#""actions":{"s":{"type":3,"forms":[{"href":"x"}]}}"#,
+        0,
+        "",
+    ),
+    (
+        r#""@context":"https://www.w3.org/2019/wot/td/v1""#,
+        2,
+        "/@context",
+    ),
     (r#""@context":[]"#, 2, "/@context"),
     (r#""title":1"#, 3, "/title"),
     (r#""securityDefinitions":{}"#, 4, "/securityDefinitions"),
-    (r#""securityDefinitions":{"a":{"scheme":"nosec"},"n":{"scheme":"basic"}}"#, 4, "/securityDefinitions/n/scheme"),
-    (r#""securityDefinitions":{"m/n":{},"n":3}"#, 4, "/securityDefinitions/m~1n/scheme"),
-    (r#""securityDefinitions":{"n":3}"#, 4, "/securityDefinitions/n"),
+    (
+        r#""securityDefinitions":{"a":{"scheme":"nosec"},"n":{"scheme":"basic"}}"#,
+        4,
+        "/securityDefinitions/n/scheme",
+    ),
+    (
+        r#""securityDefinitions":{"m/n":{},"n":3}"#,
+        4,
+        "/securityDefinitions/m~1n/scheme",
+    ),
+    (
+        r#""securityDefinitions":{"n":3}"#,
+        4,
+        "/securityDefinitions/n",
+    ),
     (r#""security":[]"#, 5, "/security"),
     (r#""security":"m""#, 5, "/security"),
     (r#""security":["n","m","o"]"#, 5, "/security/1"),
@@ -68,24 +117,80 @@ const ROWS: [Case; 44] = [
     (r#""properties":[]"#, 9, "/properties"),
     (r#""properties":{"x":1},"events":{"y":2}"#, 9, "/events/y"),
     (r#""properties":{"x":{}}"#, 10, "/properties/x/forms"),
-    (r#""properties":{"x":{"forms":[]}}"#, 10, "/properties/x/forms"),
+    (
+        r#""properties":{"x":{"forms":[]}}"#,
+        10,
+        "/properties/x/forms",
+    ),
     (r#""actions":{"x":{"forms":[1]}}"#, 10, "/actions/x/forms/0"),
     (r#""forms":{}"#, 11, "/forms"),
     (r#""forms":[{"op":1},2]"#, 11, "/forms/1"),
     (r#""forms":[{}]"#, 11, "/forms/0/op"),
-    (r#""forms":[{"op":"readallproperties"}]"#, 12, "/forms/0/href"),
-    (r#""events":{"e":{"forms":[{"href":"x"},{"href":1}]}}"#, 12, "/events/e/forms/1/href"),
-    (r#""properties":{"s":{"forms":[{"href":"x","op":"invokeaction"}]}}"#, 13, "/properties/s/forms/0/op"),
-    (r#""events":{"s":{"forms":[{"href":"x","op":[]}]}}"#, 13, "/events/s/forms/0/op"),
-    (r#""forms":[{"href":"x","op":["readallproperties","readproperty"]}]"#, 13, "/forms/0/op/1"),
-    (r#""actions":{"s":{"forms":[{"href":"x","contentType":1}]}}"#, 14, "/actions/s/forms/0/contentType"),
-    (r#""actions":{"s":{"forms":[{"href":"x","subprotocol":1,"cov:method":1}]}}"#, 14, "/actions/s/forms/0/cov:method"),
-    (r#""actions":{"s":{"forms":[{"href":"x"}],"safe":1,"idempotent":null}}"#, 15, "/actions/s/idempotent"),
-    (r#""properties":{"s":{"forms":[{"href":"x"}],"readOnly":"true"}}"#, 15, "/properties/s/readOnly"),
-    (r#""properties":{"s":{"forms":[{"href":"x"}],"properties":{"a":{"pattern":"b"}}}}"#, 16, "/properties/s/properties/a/pattern"),
-    (r#""actions":{"s":{"forms":[{"href":"x"}],"output":{"type":"number"},"input":[]}}"#, 16, "/actions/s/input"),
-    (r#""events":{"s":{"forms":[{"href":"x"}],"cancellation":{"minLength":-1}}}"#, 16, "/events/s/cancellation/minLength"),
-    (r#""events":{"s":{"forms":[{"href":"x"}],"subscription":1}}"#, 16, "/events/s/subscription"),
+    (
+        r#""forms":[{"op":"readallproperties"}]"#,
+        12,
+        "/forms/0/href",
+    ),
+    (
+        r#""events":{"e":{"forms":[{"href":"x"},{"href":1}]}}"#,
+        12,
+        "/events/e/forms/1/href",
+    ),
+    (
+        r#""properties":{"s":{"forms":[{"href":"x","op":"invokeaction"}]}}"#,
+        13,
+        "/properties/s/forms/0/op",
+    ),
+    (
+        r#""events":{"s":{"forms":[{"href":"x","op":[]}]}}"#,
+        13,
+        "/events/s/forms/0/op",
+    ),
+    (
+        r#""forms":[{"href":"x","op":["readallproperties","readproperty"]}]"#,
+        13,
+        "/forms/0/op/1",
+    ),
+    (
+        r#""actions":{"s":{"forms":[{"href":"x","contentType":1}]}}"#,
+        14,
+        "/actions/s/forms/0/contentType",
+    ),
+    (
+        r#""actions":{"s":{"forms":[{"href":"x","subprotocol":1,"cov:method":1}]}}"#,
+        14,
+        "/actions/s/forms/0/cov:method",
+    ),
+    (
+        r#""actions":{"s":{"forms":[{"href":"x"}],"safe":1,"idempotent":null}}"#,
+        15,
+        "/actions/s/idempotent",
+    ),
+    (
+        r#""properties":{"s":{"forms":[{"href":"x"}],"readOnly":"true"}}"#,
+        15,
+        "/properties/s/readOnly",
+    ),
+    (
+        r#""properties":{"s":{"forms":[{"href":"x"}],"properties":{"a":{"pattern":"b"}}}}"#,
+        16,
+        "/properties/s/properties/a/pattern",
+    ),
+    (
+        r#""actions":{"s":{"forms":[{"href":"x"}],"output":{"type":"number"},"input":[]}}"#,
+        16,
+        "/actions/s/input",
+    ),
+    (
+        r#""events":{"s":{"forms":[{"href":"x"}],"cancellation":{"minLength":-1}}}"#,
+        16,
+        "/events/s/cancellation/minLength",
+    ),
+    (
+        r#""events":{"s":{"forms":[{"href":"x"}],"subscription":1}}"#,
+        16,
+        "/events/s/subscription",
+    ),
     (r#""links":"x""#, 17, "/links"),
     (r#""links":[{"href":"x"},1]"#, 17, "/links/1"),
     (r#""links":[{"rel":1}]"#, 17, "/links/0/href"),
@@ -95,13 +200,26 @@ const ROWS: [Case; 44] = [
     (r#""version":{}"#, 18, "/version/instance"),
 ];
 
-/// The number and the pointer of the first fault, or 0 and an empty text.
-fn first_fault(alloc: Global, text: &str) -> Result<(u8, String), Fail> {
+/// The first fault of the description is this one, or with a number of 0 there is none.
+fn has_first_fault(alloc: Global, text: &str, number: u8, pointer: &str) -> Result<bool, Fail> {
     match check(alloc, &read(alloc, text.as_bytes())?) {
-        Ok(()) => Ok((0, String::new(alloc))),
-        Err(CheckFault::Td(fault)) => Ok((fault.number, fault.pointer.into_string())),
-        Err(CheckFault::NoMemory) => Ok((255, String::new(alloc))),
+        Ok(()) => Ok(number == 0),
+        Err(CheckFault::Td(fault)) => {
+            Ok(fault.number == number && fault.pointer.as_str() == pointer)
+        }
+        Err(CheckFault::NoMemory) => Ok(false),
     }
+}
+
+/// The same of the description with these further members.
+fn has_first_fault_with(
+    alloc: Global,
+    members: &str,
+    number: u8,
+    pointer: &str,
+) -> Result<bool, Fail> {
+    let text = format!(in alloc; "{START},{members}}}")?;
+    has_first_fault(alloc, text.as_str(), number, pointer)
 }
 
 /// A description of so many affordances of each kind.
@@ -112,7 +230,9 @@ fn large(alloc: Global, count: u32) -> Result<String, Fail> {
         text.push_str(kind)?;
         text.push_str("\":{")?;
         for number in 0..count {
-            let member = format!(in alloc; "\"{kind}{number}\":{{\"type\":\"integer\",\"input\":{{}},\"data\":{{}},\"observable\":true,\"forms\":[{{\"href\":\"x\"}}]}},")?;
+            let member = format!(in alloc;
+                "\"{kind}{number}\":{{\"type\":\"integer\",\"input\":{{}},\"data\":{{}},\"observable\":true,\"forms\":[{{\"href\":\"x\"}}]}},"
+            )?;
             text.push_str(member.as_str())?;
         }
         text.push_str("\"z\":{\"readOnly\":true,\"forms\":[{\"href\":\"x\"}]}}")?;
@@ -128,56 +248,52 @@ fn described(alloc: Global, text: &str) -> Result<Description, Fail> {
     Ok(Description::of(alloc, &tree)?)
 }
 
-/// The kind and the name, and whether there are an input, an output, and the flags.
-fn seen(affordance: &Affordance) -> (Kind, &str, [bool; 5]) {
-    (
-        affordance.kind,
-        affordance.name.as_str(),
-        [
-            affordance.input.is_some(),
-            affordance.output.is_some(),
-            affordance.read_only,
-            affordance.write_only,
-            affordance.observable,
-        ],
-    )
+/// The affordances by name, each with `i` for an input, `o` for an output, `r`, `w` and `n` for the flags.
+fn listing(alloc: Global, description: &Description) -> Result<String, Fail> {
+    let mut text = String::new(alloc);
+    for affordance in description.affordances() {
+        text.push_str(affordance.name.as_str())?;
+        text.push_str(letter(affordance.input.is_some(), " i"))?;
+        text.push_str(letter(affordance.output.is_some(), " o"))?;
+        text.push_str(letter(affordance.read_only, " r"))?;
+        text.push_str(letter(affordance.write_only, " w"))?;
+        text.push_str(letter(affordance.observable, " n"))?;
+        text.push_str(letter(affordance.kind == Kind::Action, " action"))?;
+        text.push_str("\n")?;
+    }
+    Ok(text)
+}
+
+fn letter(holds: bool, letter: &'static str) -> &'static str {
+    if holds { letter } else { "" }
 }
 
 #[test]
-fn descriptions_are_checked_and_listed(rt: HostRuntime) -> Result<(), Fail> {
+fn the_first_fault_is_named(rt: HostRuntime) -> Result<(), Fail> {
     let alloc = rt.alloc();
     for (text, number, pointer) in TEXTS {
-        let fault = first_fault(alloc, text)?;
-        assert_eq!(rt; fault.0, number, "{text}");
-        assert_eq!(rt; fault.1.as_str(), pointer, "{text}");
-    }
-    for members in VALID {
-        let text = format!(in alloc; "{START},{members}}}")?;
-        assert_eq!(rt; first_fault(alloc, text.as_str())?.0, 0, "{members}");
+        assert!(rt; has_first_fault(alloc, text, number, pointer)?, "{text}");
     }
     for (members, number, pointer) in ROWS {
-        let text = format!(in alloc; "{START},{members}}}")?;
-        let fault = first_fault(alloc, text.as_str())?;
-        assert_eq!(rt; fault.0, number, "{members}");
-        assert_eq!(rt; fault.1.as_str(), pointer, "{members}");
+        assert!(rt;
+            has_first_fault_with(alloc, members, number, pointer)?,
+            "{members}"
+        );
     }
+    Ok(())
+}
+
+#[test]
+fn affordances_are_listed(rt: HostRuntime) -> Result<(), Fail> {
+    let alloc = rt.alloc();
     let few = described(alloc, large(alloc, 1)?.as_str())?;
-    let expected = [
-        (Kind::Property, "properties0", [true, true, false, false, true]),
-        (Kind::Property, "z", [true, true, true, false, false]),
-        (Kind::Action, "actions0", [true, false, false, false, true]),
-        (Kind::Action, "z", [false, false, true, false, false]),
-        (Kind::Event, "events0", [false, true, false, false, true]),
-        (Kind::Event, "z", [false, false, true, false, false]),
-    ];
-    assert_eq!(rt; few.affordances().len(), expected.len());
-    for (place, row) in expected.iter().enumerate() {
-        assert!(rt; seen(&few.affordances()[place]) == *row, "{place}");
-    }
+    assert_eq!(rt;
+        listing(alloc, &few)?.as_str(),
+        "properties0 i o n\nz i o r\nactions0 i n action\nz r action\nevents0 o n\nz r\n"
+    );
     let many = described(alloc, large(alloc, 50)?.as_str())?;
     assert_eq!(rt; many.affordances().len(), 153);
     assert!(rt; Op::named("readproperty") == Some(Op::ReadProperty));
-    assert!(rt; Op::named("readProperty").is_none());
     assert_eq!(rt; Op::QueryAllActions.name(), "queryallactions");
     Ok(())
 }

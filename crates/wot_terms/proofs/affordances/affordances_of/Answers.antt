@@ -2,7 +2,7 @@ use Rattle.std.proofs.Common.{[], subst}
 use Rattle.wot_json.specs.Tree.{members_of}
 use Rattle.wot_json.specs.Meaning.{json_of}
 use Rattle.wot_terms.proofs.Reported.{there}
-use Rattle.wot_terms.specs.Faults.{affordances_of, optional, if_object, each_member}
+use Rattle.wot_terms.specs.Faults.{optional, if_object, each_member}
 use Rattle.wot_terms.specs.Rows.{Reports, affordance_judge}
 use Rattle.wot_terms.proofs.affordances.affordances_of.Goals as goal
 

@@ -1,10 +1,9 @@
-use Rattle.std.proofs.Common.{Err, [], ◌∷◌, codes, subst}
 use Rattle.std.proofs.lemmas.Result.{err_from_is_err_and}
-use Rattle.wot_json.specs.Tree.{elements_of, members_of}
+use Rattle.wot_json.specs.Tree.{members_of}
 use Rattle.wot_json.specs.Meaning.{json_of, json_members}
 use Rattle.wot_terms.specs.Faults.{each_member}
-use Rattle.wot_terms.specs.Rows.{Reports, affordance_judge}
-use Rattle.wot_terms.specs.Faults.{in_member, if_object}
+use Rattle.wot_terms.specs.Rows.{affordance_judge}
+use Rattle.wot_terms.specs.Faults.{if_object}
 use Rattle.wot_terms.proofs.Reported.{member_stops}
 use Rattle.wot_terms.proofs.affordances.each_named.Goals as goal
 

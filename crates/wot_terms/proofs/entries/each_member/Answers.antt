@@ -1,10 +1,8 @@
-use Rattle.std.proofs.Common.{Err, [], ◌∷◌, codes, subst}
 use Rattle.std.proofs.lemmas.Result.{err_from_is_err_and}
-use Rattle.wot_json.specs.Tree.{elements_of, members_of}
+use Rattle.wot_json.specs.Tree.{members_of}
 use Rattle.wot_json.specs.Meaning.{json_of, json_members}
 use Rattle.wot_terms.specs.Faults.{each_member}
-use Rattle.wot_terms.specs.Rows.{Reports, entry_judge}
-use Rattle.wot_terms.specs.Faults.{in_member}
+use Rattle.wot_terms.specs.Rows.{entry_judge}
 use Rattle.wot_terms.proofs.Reported.{member_stops}
 use Rattle.wot_terms.proofs.entries.each_member.Goals as goal
 

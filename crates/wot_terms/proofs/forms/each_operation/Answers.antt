@@ -1,6 +1,5 @@
-use Rattle.std.proofs.Common.{Err, [], ◌∷◌, codes, subst}
 use Rattle.std.proofs.lemmas.Result.{err_from_is_err_and}
-use Rattle.wot_json.specs.Tree.{elements_of, members_of}
+use Rattle.wot_json.specs.Tree.{elements_of}
 use Rattle.wot_json.specs.Meaning.{json_of, json_items}
 use Rattle.wot_terms.specs.Faults.{each_element}
 use Rattle.wot_terms.specs.Faults.{is, is_text_with}

@@ -1,5 +1,4 @@
-use Rattle.std.proofs.Common.{[], ◌∷◌, codes, arith}
-use Rattle.wot_json.specs.Tree.{members_of}
+use Rattle.std.proofs.Common.{arith}
 use Rattle.wot_terms.specs.Faults.{is, is_text_with}
 use Rattle.wot_terms.specs.Operations.{is_operation}
 use Rattle.wot_terms.proofs.Reported.{some_list}

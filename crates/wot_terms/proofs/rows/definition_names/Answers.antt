@@ -1,4 +1,4 @@
-use Rattle.std.proofs.Common.{[], ◌∷◌, codes, arith}
+use Rattle.std.proofs.Common.{codes, arith}
 use Rattle.wot_json.specs.Tree.{members_of}
 use Rattle.wot_terms.specs.Faults.{is, is_text_with, has_member}
 use Rattle.wot_schema.specs.Values.{found}

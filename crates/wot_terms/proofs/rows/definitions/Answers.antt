@@ -1,5 +1,4 @@
-use Rattle.std.proofs.Common.{[], ◌∷◌, codes, arith}
-use Rattle.wot_json.specs.Tree.{members_of}
+use Rattle.std.proofs.Common.{arith}
 use Rattle.wot_terms.specs.Rows.{entry_judge}
 use Rattle.wot_terms.specs.declared.entries.Entry.TheVariants as entry
 use Rattle.wot_terms.proofs.Reported.{some_object}

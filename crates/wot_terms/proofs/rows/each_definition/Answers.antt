@@ -1,4 +1,4 @@
-use Rattle.std.proofs.Common.{Err, [], ◌∷◌, codes, subst}
+use Rattle.std.proofs.Common.{codes}
 use Rattle.std.proofs.lemmas.Result.{err_from_is_err_and}
 use Rattle.wot_json.specs.Tree.{elements_of, members_of}
 use Rattle.wot_json.specs.Meaning.{json_of, json_items}

@@ -1,10 +1,9 @@
-use Rattle.std.proofs.Common.{[], ◌∷◌, codes}
+use Rattle.std.proofs.Common.{[], codes}
 use Rattle.wot_json.specs.Tree.{members_of}
 use Rattle.wot_json.specs.Meaning.{json_of}
 use Rattle.wot_terms.proofs.Reported.{there}
 use Rattle.wot_terms.specs.Faults.{list_of}
 use Rattle.wot_terms.specs.Rows.{entry_judge}
-use Rattle.wot_terms.specs.declared.entries.Entry.{Entry}
 use Rattle.wot_terms.specs.declared.entries.Entry.TheVariants as entry
 use Rattle.wot_terms.proofs.rows.links.Goals as goal
 

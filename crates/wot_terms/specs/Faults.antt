@@ -300,8 +300,8 @@ table ms =
 abbrev pub row_faults : ℕ × Places → List (ℕ × List ℕ)
 row_faults row = map (λ p. (row.0, p)) row.1
 
--- All faults of a description, row by row. Row 1 is that it is an object (section 5.3.1.1); where it fails there are
--- no others.
+-- All faults of a description, row by row. The first row is that it is an object (section 5.3.1.1); where it fails there
+-- are no others.
 abbrev pub faults_of : Json → List (ℕ × List ℕ)
 faults_of (object ms) = flat_map row_faults (table ms)
 faults_of v = (1, []) ∷ []

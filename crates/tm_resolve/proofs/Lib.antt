@@ -1,0 +1,4 @@
+pub mod Falls
+pub mod Progress
+pub mod Rules
+pub mod Links

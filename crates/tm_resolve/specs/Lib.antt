@@ -1,0 +1,4 @@
+pub mod Extension
+pub mod Found
+pub mod Chain
+pub mod Value

@@ -1,0 +1,83 @@
+//! Why a model has no value.
+
+ghost use Rattle.std.specs.Prelude.{◌≡◌, ◌⊎◌};
+ghost use Rattle.tm_resolve.specs.Value.{fault_in};
+
+use std::alloc::{AllocError, Global};
+use thiserror::Error;
+use tm_parts::PartFault;
+use wot_json::Text;
+
+/// The kind of a fault in a model.
+#[derive(Debug, Clone, Copy, PartialEq, Eq)]
+pub enum ResolveKind {
+    /// The value of `tm:ref` is no text, or refers to no part of a model.
+    BadRef,
+    /// The `href` of a link is no text, or can't be joined to the URL of the model.
+    BadHref,
+    /// The library hasn't got the model.
+    MissingModel,
+    /// Nothing stands in the model at the pointer of a `tm:ref`.
+    MissingNode,
+    /// What a `tm:ref` refers to is no object.
+    NotObject,
+    /// What is referred to, or extended, is being resolved already.
+    Circular,
+    /// The model extends more than one.
+    TwoExtends,
+    /// A placeholder in a longer text is bound to a value that is no text.
+    NotText,
+    /// The name of a member holds a placeholder.
+    InName,
+}
+
+/// Why a model has no value.
+#[derive(Debug, Drop, Error)]
+pub enum ResolveFault {
+    /// The kind, the text of the URL of the model that has the fault, and the pointer to its place there
+    /// (RFC 6901): that of the object with `tm:ref`, of the link, or of the member. For `NotText` it is the name of
+    /// the placeholder.
+    #[error("a model has no value")]
+    At(ResolveKind, Text, Text),
+    /// There was no memory.
+    #[error("out of memory")]
+    NoMemory,
+}
+
+impl From<AllocError> for ResolveFault {
+    ghost use Rattle.std.specs.Prelude.{◌≡◌};
+    ghost use Rattle.tm_resolve.specs.declared.fault.ResolveFault.TheVariants.{NoMemory};
+
+    ghost from_gives = { λ _ fault. fault ≡ NoMemory };
+
+    fn from(_error: AllocError) -> ResolveFault {
+        ResolveFault::NoMemory
+    }
+}
+
+impl ResolveFault {
+    /// The fault of this kind at a place of a model.
+    pub(crate) fn at(alloc: Global, kind: ResolveKind, url: &str, place: &str) -> ResolveFault
+        ensures { (result ≡ ResolveFault.NoMemory) ⊎ (result ≡ ResolveFault.At kind url.now place.now) }
+    {
+        match (Text::copy_of(alloc, url), Text::copy_of(alloc, place)) {
+            (Ok(url), Ok(place)) => ResolveFault::At(kind, url, place),
+            _ => ResolveFault::NoMemory,
+        }
+    }
+
+    /// The fault of the substitution in a model.
+    pub(crate) fn of_part(alloc: Global, url: &str, fault: PartFault) -> ResolveFault
+        ensures { (result ≡ ResolveFault.NoMemory) ⊎ (result ≡ fault_in url.now fault) }
+    {
+        match fault {
+            PartFault::InName(pointer) => {
+                ResolveFault::at(alloc, ResolveKind::InName, url, pointer.as_str())
+            }
+            PartFault::NotText(name) => {
+                ResolveFault::at(alloc, ResolveKind::NotText, url, name.as_str())
+            }
+            PartFault::NoMemory => ResolveFault::NoMemory,
+        }
+    }
+}

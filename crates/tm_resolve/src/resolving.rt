@@ -1,0 +1,44 @@
+//! The value of a whole Thing Model.
+
+ghost use Rattle.std.specs.Prelude.{◌≡◌, ◌⊎◌, Ok, Err, IfOk, IfErr};
+ghost use Rattle.wot_json.specs.Meaning.{json_of};
+ghost use Rattle.tm_resolve.specs.Value.{Resolves};
+
+use crate::fault::ResolveFault;
+use crate::walk::{Sources, target_value};
+use std::alloc::Global;
+use tm_parts::{Bindings, Library, Reference};
+use wot_json::{Text, Tree};
+
+/// The value of the model under the URL `root`, or the first fault.
+///
+/// Each model has values in the places of its placeholders before anything in it is looked at; a fault of that comes
+/// alone. A model with one link `tm:extends` is a merge patch (RFC 7396) on the model that the link leads to, which
+/// comes with its own extension and without its links. An object with `tm:ref` is one on what stands at the part
+/// that `tm:ref` refers to, with its own references brought in first. What leads back to a part on the way to which
+/// it stands is circular; what is brought in twice side by side is not.
+///
+/// The order of faults is preorder: those of an extension before those of the model, those of a `tm:ref` before
+/// those of the members beside it, and members in the byte order of their names. The result can be far larger than
+/// the models, and the time with it, since what is brought in twice is made twice.
+pub fn resolve(
+    alloc: Global,
+    library: &Library,
+    root: &str,
+    bindings: &Bindings,
+) -> Result<Tree, ResolveFault>
+    ensures value { IfOk result (λ t. Resolves library.now bindings.now root.now (Ok (json_of t))) }
+    ensures fault { IfErr result (λ e. (e ≡ ResolveFault.NoMemory) ⊎ Resolves library.now bindings.now root.now (Err e)) }
+{
+    let sources = Sources {
+        alloc,
+        library,
+        bindings,
+    };
+    let target = Reference {
+        url: Text::copy_of(alloc, root)?,
+        pointer: Text::copy_of(alloc, "")?,
+    };
+    let mut chain = Vec::new(alloc);
+    target_value(&sources, root, "", &target, &mut chain)
+}

@@ -8,11 +8,13 @@
 mod chain;
 mod extension;
 mod fault;
+mod laws;
 mod resolving;
 #[cfg(test)]
 mod tests;
 mod walk;
 
 pub use fault::{ResolveFault, ResolveKind};
+pub use laws::outcome_is_one;
 pub use resolving::resolve;
 pub use servient_base::NoMemory;

@@ -1,8 +1,7 @@
 -- Why a walk through the parts of models ends.
-use Rattle.std.proofs.Common.{◌≡◌, ◌⊎◌, ℕ, zero, suc, ◌+◌, ◌-◌, ◌*◌, ◌^◌, ◌<◌, ◌≤◌, max, List, [], ◌∷◌, ◌++◌, length, Bool, true, false, refl, sym, ap, subst, inl, inr, ◌∙◌, arith, length-append}
+use Rattle.std.proofs.Common.{◌≡◌, ◌⊎◌, ℕ, ◌+◌, ◌-◌, ◌*◌, ◌^◌, ◌<◌, ◌≤◌, max, List, [], ◌∷◌, ◌++◌, length, Bool, true, false, refl, ap, inl, inr, ◌∙◌, arith, length-append}
 use Rattle.std.specs.Prelude.{Option, Some, None, option_and_then, cond}
 use Rattle.std.specs.Str.{bytes_eq}
-use Rattle.std.proofs.lemmas.Bool.{cases_Bool}
 use Rattle.wot_json.specs.Tree.{Json, null, boolean, integer, string, array, object, nesting, elements_nesting, members_nesting, Elements, no_elements, element, Members, no_members, member}
 use Rattle.wot_json.specs.Lookup.{listed, listed_members, member_named}
 use Rattle.wot_json.specs.Places.{index_text}

@@ -1,8 +1,8 @@
 -- Links of models, as the code looks at them.
-use Rattle.std.proofs.Common.{◌≡◌, ◌⊎◌, ℕ, ◌+◌, ◌<◌, List, [], ◌∷◌, length, drop, get_or, Bool, true, false, ◌&&◌, not, refl, sym, ap, subst, ◌∙◌, inl, inr, Bor, cond, add-one, drop-cons}
+use Rattle.std.proofs.Common.{◌≡◌, ◌⊎◌, ℕ, ◌+◌, ◌<◌, List, [], ◌∷◌, length, drop, get_or, Bool, true, ◌&&◌, not, refl, sym, ap, subst, ◌∙◌, inl, inr, Bor, cond, add-one, drop-cons}
 use Rattle.std.specs.Prelude.{Option, Some, None, option_map, is_none, is_some, codes}
-use Rattle.wot_json.specs.Tree.{Json, string, object, members_of}
-use Rattle.wot_json.specs.Lookup.{listed_members, member_named}
+use Rattle.wot_json.specs.Tree.{Json, string}
+use Rattle.wot_json.specs.Lookup.{member_named}
 use Rattle.wot_json.specs.Meaning.{json_of, json_items}
 use Rattle.wot_json.specs.Merge.{members_under}
 use Rattle.wot_json.specs.declared.tree.Tree.{Tree}

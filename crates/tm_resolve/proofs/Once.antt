@@ -1,6 +1,6 @@
 -- A target, a model and a part have one outcome.
-use Rattle.std.proofs.Common.{◌≡◌, ◌≢◌, ℕ, ◌+◌, List, [], ◌∷◌, ◌++◌, length, Bool, true, false, refl, sym, ap, subst, ◌∙◌, inl, inr}
-use Rattle.std.specs.Prelude.{Option, Some, None, Result, Ok, Err, ◌==◌, cond}
+use Rattle.std.proofs.Common.{◌≡◌, ℕ, ◌+◌, List, [], ◌∷◌, ◌++◌, Bool, true, false, refl, sym, ap, subst, ◌∙◌}
+use Rattle.std.specs.Prelude.{Option, Some, None, Ok, Err, ◌==◌, cond}
 use Rattle.std.specs.Str.{bytes_eq}
 use Rattle.std.proofs.lemmas.List.{append-nil}
 use Rattle.std.proofs.lemmas.Bool.{true≢false, ne_eqb}
@@ -15,7 +15,7 @@ use Rattle.wot_json.proofs.EqualTrees.{listed_lem, listed_members_lem}
 use Rattle.wot_json.proofs.PointerTexts.{is_written, tilde, slash, plain}
 use Rattle.tm_parts.specs.Library.{Models}
 use Rattle.tm_parts.specs.Placeholders.{first_of}
-use Rattle.tm_parts.specs.References.{LeadsTo, RefersTo}
+use Rattle.tm_parts.specs.References.{LeadsTo}
 use Rattle.tm_parts.specs.Substitution.{Values, substituted, faults_of, element_step}
 use Rattle.tm_parts.specs.declared.reference.Reference.{Reference}
 use Rattle.tm_parts.specs.declared.substitution.PartFault.{PartFault}

@@ -1,15 +1,13 @@
 -- The rules of the judgements, with what the code knows where it uses them.
 use Rattle.std.proofs.Common.{◌≡◌, ◌≢◌, ◌⊎◌, ℕ, ◌≤◌, List, [], ◌∷◌, ◌++◌, length, refl, sym, ap, subst, inl, inr, ◌∙◌, arith}
-use Rattle.std.specs.Prelude.{Option, Some, None, Result, Ok, Err, IfOk, IfErr, true, false}
-use Rattle.wot_json.specs.Tree.{Json, object, members_of, nesting}
+use Rattle.std.specs.Prelude.{Some, Result, Ok, Err, IfOk, IfErr, true}
+use Rattle.wot_json.specs.Tree.{Json, nesting}
 use Rattle.wot_json.specs.Meaning.{json_of}
-use Rattle.wot_json.specs.Places.{place_text}
-use Rattle.wot_json.specs.Pointer.{value_at}
 use Rattle.wot_json.specs.declared.tree.Tree.{Tree}
 use Rattle.wot_json.specs.declared.tree.Tree.TheVariants as tree
 use Rattle.wot_json.proofs.PointerTexts.{whole_value}
 use Rattle.tm_parts.specs.Library.{Models}
-use Rattle.tm_parts.specs.Substitution.{Values, substituted}
+use Rattle.tm_parts.specs.Substitution.{Values}
 use Rattle.tm_parts.specs.declared.reference.Reference.{Reference}
 use Rattle.tm_resolve.specs.Chain.{Enters, StandsAt}
 use Rattle.tm_resolve.specs.Value.{Outcome, is_plain, TargetGives, ModelGives, PartGives, enters_model, enters_part}

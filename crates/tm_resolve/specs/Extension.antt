@@ -1,9 +1,9 @@
--- The model that a Thing Model extends (Thing Description 1.1, section 10.3.3): a link with the relation `tm:extends`.
-use Rattle.std.specs.Prelude.{◌≡◌, ◌+◌, ◌&&◌, Bool, true, false, ℕ, List, [], ◌∷◌, ◌++◌, codes, Option, Some, None, is_none, Ok, if◌then◌else◌}
+-- The model that a Thing Model extends (Thing Description 1.1, section 10 on Thing Models): a link with the relation `tm:extends`.
+use Rattle.std.specs.Prelude.{◌≡◌, ◌+◌, ◌&&◌, Bool, false, ℕ, List, [], ◌∷◌, ◌++◌, codes, Some, None, is_none, Ok, if◌then◌else◌}
 use Rattle.std.specs.Str.{bytes_eq}
 use Rattle.url.specs.Parts.{Parts, serialize}
 use Rattle.url.specs.Setters.{set_fragment}
-use Rattle.wot_json.specs.Tree.{Json, null, boolean, integer, string, array, object, members_of}
+use Rattle.wot_json.specs.Tree.{Json, string, array, object, members_of}
 use Rattle.wot_json.specs.Lookup.{listed, listed_members, member_named}
 use Rattle.wot_json.specs.Merge.{members_under, without_member}
 use Rattle.wot_json.specs.Places.{index_text}

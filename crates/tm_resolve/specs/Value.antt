@@ -1,10 +1,10 @@
 -- What a part of a Thing Model becomes once the models that it extends and the parts that it refers to are brought in
--- (Thing Description 1.1, sections 10.3.3 and 10.3.4), or the first fault on the way. All parts are of models
+-- (Thing Description 1.1, section 10 on Thing Models), or the first fault on the way. All parts are of models
 -- that have values in place of their placeholders.
-use Rattle.std.specs.Prelude.{◌≡◌, ◌≢◌, ◌+◌, Bool, true, false, ℕ, List, [], ◌∷◌, ◌++◌, codes, Option, Some, None, Result, Ok, Err}
+use Rattle.std.specs.Prelude.{◌≡◌, ◌≢◌, ◌+◌, Bool, true, false, ℕ, List, [], ◌∷◌, ◌++◌, Some, None, Result, Ok, Err}
 use Rattle.std.specs.Str.{bytes_eq}
 use Rattle.wot_json.specs.Tree.{Json, null, boolean, integer, string, array, object, elements_of, members_of}
-use Rattle.wot_json.specs.Lookup.{listed, listed_members, member_named}
+use Rattle.wot_json.specs.Lookup.{member_named}
 use Rattle.wot_json.specs.Merge.{merge}
 use Rattle.wot_json.specs.Places.{step_text}
 use Rattle.tm_parts.specs.Library.{Models}
@@ -16,7 +16,6 @@ use Rattle.tm_parts.specs.declared.substitution.PartFault.{PartFault}
 use Rattle.tm_parts.specs.declared.substitution.PartFault.TheVariants as part
 use Rattle.tm_resolve.specs.Chain.{stands_in, Enters, StandsAt}
 use Rattle.tm_resolve.specs.Extension.{reference_name, extensions, links_place, link_place, LeadsToModel, without_links}
-use Rattle.tm_resolve.specs.declared.fault.ResolveKind.{ResolveKind}
 use Rattle.tm_resolve.specs.declared.fault.ResolveKind.TheVariants.{BadRef, BadHref, MissingModel, MissingNode, NotObject, Circular, TwoExtends, NotText, InName}
 use Rattle.tm_resolve.specs.declared.fault.ResolveFault.{ResolveFault}
 use Rattle.tm_resolve.specs.declared.fault.ResolveFault.TheVariants.{At, NoMemory}

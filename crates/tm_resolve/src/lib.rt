@@ -1,5 +1,5 @@
 //! The values of Thing Models: what a model is once the models that it extends and the parts that it refers to are
-//! brought in (Thing Description 1.1, section 10.3).
+//! brought in (Thing Description 1.1, section 10).
 //!
 //! `resolve` puts bound values in the places of a model's placeholders, brings in what its `tm:extends` link and the
 //! `tm:ref` members of its objects lead to, in models of a library, and says what the result is, or the first fault.

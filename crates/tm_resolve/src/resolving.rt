@@ -19,8 +19,12 @@ use wot_json::{Text, Tree};
 /// it stands is circular; what is brought in twice side by side is not.
 ///
 /// The order of faults is preorder: those of an extension before those of the model, those of a `tm:ref` before
-/// those of the members beside it, and members in the byte order of their names. The result can be far larger than
-/// the models, and the time with it, since what is brought in twice is made twice.
+/// those of the members beside it, and members in the byte order of their names. Of what comes behind the first fault
+/// nothing is looked at.
+///
+/// Each step into a model puts the values into the whole of it anew, and what is brought in twice is made twice. So the
+/// time is in proportion to the number of steps, each with the size of its model and of what it brings in, and both can
+/// grow with the power of the number of models.
 pub fn resolve(
     alloc: Global,
     library: &Library,

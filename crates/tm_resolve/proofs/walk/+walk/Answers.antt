@@ -1,18 +1,12 @@
-use Rattle.std.proofs.Common.{◌≡◌, ◌⊎◌, ℕ, ◌+◌, ◌∙◌, refl, sym, ap, subst, arith, List, [], ◌∷◌, ◌++◌, drop, drop-cons, Bool, true, false, rules}
-use Rattle.std.specs.Prelude.{Option, Some, None, Ok, Err, codes}
+use Rattle.std.proofs.Common.{ℕ, ◌+◌, ◌∙◌, refl, sym, ap, subst, arith, List, ◌++◌, drop}
+use Rattle.std.specs.Prelude.{Ok, Err}
 use Rattle.std.proofs.lemmas.Result.{err_from_is_err_and}
-use Rattle.std.proofs.lemmas.List.{append-nil, drop_all}
-use Rattle.wot_json.specs.Lookup.{member_named}
 use Rattle.wot_json.specs.Meaning.{json_of, json_items, json_members}
 use Rattle.wot_json.specs.Merge.{merge}
-use Rattle.wot_json.specs.Places.{step_text}
-use Rattle.wot_json.specs.Tree.{Json, object, members_of, elements_of, array, nesting, AreOrdered}
+use Rattle.wot_json.specs.Tree.{Json, object, members_of, nesting, AreOrdered}
 use Rattle.wot_json.specs.declared.tree.Tree.{Tree}
 use Rattle.wot_json.proofs.Nesting.{read_element_nests, read_member_nests}
-use Rattle.tm_parts.specs.Substitution.{element_step}
 use Rattle.tm_parts.specs.declared.reference.Reference.{Reference}
-use Rattle.tm_resolve.specs.Chain.{Enters, StandsAt}
-use Rattle.tm_resolve.specs.Extension.{extensions, link_place, LeadsToModel, without_links}
 use Rattle.tm_resolve.specs.Value as spec
 use Rattle.tm_resolve.specs.Value.{Outcome, TargetGives, PartGives, ElementsGive, MembersGive}
 use Rattle.tm_resolve.specs.declared.fault.ResolveFault.{ResolveFault}

@@ -1,5 +1,5 @@
 -- Links of models, as the code looks at them.
-use Rattle.std.proofs.Common.{◌≡◌, ◌⊎◌, ℕ, ◌+◌, ◌<◌, List, [], ◌∷◌, length, drop, get_or, Bool, true, ◌&&◌, not, refl, sym, ap, subst, ◌∙◌, inl, inr, Bor, cond, add-one, drop-cons}
+use Rattle.std.proofs.Common.{◌≡◌, ◌⊎◌, ℕ, ◌+◌, ◌<◌, List, [], ◌∷◌, length, drop, get_or, Bool, true, ◌&&◌, not, refl, sym, ap, subst, ◌∙◌, inl, inr, Bor, cond}
 use Rattle.std.specs.Prelude.{Option, Some, None, option_map, is_none, is_some, codes}
 use Rattle.wot_json.specs.Tree.{Json, string}
 use Rattle.wot_json.specs.Lookup.{member_named}
@@ -14,6 +14,7 @@ use Rattle.tm_parts.specs.declared.reference.RefFault.{RefFault}
 use Rattle.tm_parts.specs.declared.reference.RefFault.TheVariants as refused
 use Rattle.tm_resolve.specs.Extension.{reference_name, has_extends, is_extension, extensions, extensions_from, elements_under, LocatesModel, LeadsToModel}
 use Rattle.tm_resolve.specs.Value.{IsReference}
+use Rattle.tm_resolve.proofs.Progress.{left_at}
 
 -- the members of an object are its members
 pub under_object : (t : Tree) (ms : List (List ℕ × Json)) → t ≡ tree.Obj ms → members_under (json_of t) ≡ ms
@@ -43,7 +44,7 @@ links_listed model t links found is =
 pub next_found : (links : List Tree) (index : ℕ) (link : Tree) → index < length links → link ≡ get_or links index link → is_extension (json_of link) ≡ true
     → extensions_from index (json_items (drop index links)) ≡ (index, json_of link) ∷ extensions_from (index + 1) (json_items (drop (index + 1) links))
 next_found links index link within is extends =
-    let left : drop index links ≡ link ∷ drop (index + 1) links = (rw (add-one, drop-cons links index link)) ∙ ap (λ (y : Tree). y ∷ drop (index + 1) links) (sym is) in
+    let left : drop index links ≡ link ∷ drop (index + 1) links = left_at links index link within is in
     let rest : List (ℕ × Json) = extensions_from (index + 1) (json_items (drop (index + 1) links)) in
     ap (λ (ts : List Tree). extensions_from index (json_items ts)) left
     ∙ ap (λ (b : Bool). cond b ((index, json_of link) ∷ rest) rest) extends

@@ -11,6 +11,7 @@ use Rattle.wot_json.specs.Places.{index_text, token_text, step_text}
 use Rattle.tm_parts.specs.Library.{Models}
 use Rattle.tm_parts.specs.Substitution.{Values, element_step}
 use Rattle.tm_parts.specs.declared.reference.Reference.{Reference}
+use Rattle.tm_parts.proofs.Walks.{ordered_front}
 use Rattle.tm_resolve.specs.Extension.{reference_name}
 use Rattle.tm_resolve.specs.Value.{Outcome, outcome_map, PartGives, ElementsGive, MembersGive, no_elements, element_fails, element, no_members, member_fails, member, left_out}
 use Rattle.tm_resolve.specs.declared.fault.ResolveFault.{ResolveFault}
@@ -94,7 +95,7 @@ pub below_member : (below place written name : List ℕ) → below ≡ place ++ 
 below_member below place written name is named = is ∙ append_assoc place (codes "/") (token_text written) ∙ ap (λ (n : List ℕ). place ++ step_text n) named
 
 -- what is left at a place is what stands there, and what is behind it
-left_at : {X : Type 0} (xs : List X) (i : ℕ) (x : X) → i < length xs → x ≡ get_or xs i x → drop i xs ≡ x ∷ drop (i + 1) xs
+pub left_at : {X : Type 0} (xs : List X) (i : ℕ) (x : X) → i < length xs → x ≡ get_or xs i x → drop i xs ≡ x ∷ drop (i + 1) xs
 left_at {X} xs i x within is = (rw (add-one, drop-cons xs i x)) ∙ ap (λ (y : X). y ∷ drop (i + 1) xs) (sym is)
 
 -- an element with a fault ends the walk
@@ -192,12 +193,7 @@ order_more done list index m copied w within is is_copied ordered =
     subst (λ (n : List ℕ). AreOrdered ((done ++ (n, w) ∷ []) ++ json_members (drop (index + 1) list))) (sym is_copied)
     (ordered_changed done m.0 (json_of m.1) w (json_members (drop (index + 1) list)) (subst (λ (ms : List (List ℕ × Json)). AreOrdered (done ++ ms)) left ordered))
 
--- the front of members in order is in order
-ordered_front : (xs ys : List (List ℕ × Json)) → AreOrdered (xs ++ ys) → AreOrdered xs
-ordered_front [] ys ordered = tt
-ordered_front (x ∷ []) ys ordered = tt
-ordered_front (x ∷ y ∷ xs) ys ordered = (ordered.0, ordered_front (y ∷ xs) ys ordered.1)
-
+-- the members so far are in order with the next
 pub order_next : (done : List (List ℕ × Json)) (list : List (List ℕ × Tree)) (index : ℕ) (m : List ℕ × Tree) (copied : List ℕ) (w : Json)
     → index < length list → m ≡ get_or list index m → copied ≡ m.0 → AreOrdered (done ++ json_members (drop index list)) → AreOrdered (done ++ (copied, w) ∷ [])
 order_next done list index m copied w within is is_copied ordered =

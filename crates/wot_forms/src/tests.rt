@@ -1,9 +1,9 @@
 //! Forms of descriptions and of affordances, default operations, and the URLs of hrefs.
 
-use crate::{Form, HrefFault, default_ops, forms_of, resolve};
+use crate::{Form, Forms, HrefFault, default_ops, forms_of, resolve};
 use std::alloc::Global;
 use std::test::Fail;
-use wot_json::{Tree, read};
+use wot_json::read;
 use wot_terms::{Kind, Op, check};
 
 /// A kind of affordance, its flags `readOnly` and `writeOnly`, and the operations of a form that names none.
@@ -150,13 +150,17 @@ fn is_form(form: &Form, expected: Expected) -> bool {
         && is_text(form.method.as_ref().map(|text| text.as_str()), expected.4)
 }
 
+/// The forms of an affordance, or of the description as a whole.
+fn forms(alloc: Global, kind: Option<Kind>, name: &str) -> Result<Option<Forms>, Fail> {
+    let thing = read(alloc, THING.as_bytes())?;
+    check(alloc, &thing)?;
+    Ok(forms_of(alloc, &thing, kind, name)?)
+}
+
 #[test]
 fn forms_with_what_they_leave_to_defaults(rt: HostRuntime) -> Result<(), Fail> {
-    let alloc = rt.alloc();
-    let thing: Tree = read(alloc, THING.as_bytes())?;
-    check(alloc, &thing)?;
     for (kind, name, expected) in FORMS {
-        match (forms_of(alloc, &thing, kind, name)?, expected) {
+        match (forms(rt.alloc(), kind, name)?, expected) {
             (Some(forms), Some(expected)) => {
                 assert!(rt; forms.as_slice().len() == expected.len());
                 for (form, expected) in forms.as_slice().iter().zip(expected) {

@@ -7,6 +7,7 @@ pub mod Pieces
 pub mod TreeTexts
 pub mod Tokens
 pub mod PointerTexts
+pub mod PointerTokens
 pub mod MergeLaws
 pub mod MergeTwice
 pub mod Converting

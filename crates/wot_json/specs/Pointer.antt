@@ -37,3 +37,34 @@ is_escape (b ∷ bs) = (b == 48) || (b == 49)
 abbrev pub escapes : List ℕ → Bool
 escapes [] = true
 escapes (b ∷ bs) = (if b == 126 then is_escape bs else true) && escapes bs
+
+-- the text is a pointer, as a test: it is empty, or a `/` with escaped tokens behind it (section 3)
+abbrev pub is_pointer : List ℕ → Bool
+is_pointer [] = true
+is_pointer (b ∷ bs) = (b == 47) && escapes bs
+
+-- the bytes of a token behind a `~`, together with that: `~0` is `~`, and `~1` is `/` (section 4)
+abbrev pub unescaped : List ℕ → List ℕ
+unescaped [] = []
+unescaped (b ∷ bs) = (if b == 48 then 126 else 47) ∷ bs
+
+-- a byte before a token and those behind it: `/` ends a token, `~` begins an escape, and all else is itself
+abbrev pub with_byte : ℕ → List ℕ × List (List ℕ) → List ℕ × List (List ℕ)
+with_byte b tokens =
+    if b == 47 then ([], tokens.0 ∷ tokens.1)
+    else if b == 126 then (unescaped tokens.0, tokens.1)
+    else (b ∷ tokens.0, tokens.1)
+
+-- the first token that a text writes, and those behind it
+abbrev pub first_tokens : List ℕ → List ℕ × List (List ℕ)
+first_tokens [] = ([], [])
+first_tokens (b ∷ bs) = with_byte b (first_tokens bs)
+
+-- the tokens that a pointer writes, each behind a `/` (sections 3 and 4)
+abbrev pub tokens_in : List ℕ → List (List ℕ)
+tokens_in [] = []
+tokens_in (b ∷ bs) = (first_tokens bs).0 ∷ (first_tokens bs).1
+
+-- what stands at a pointer in a value, where anything does; at a text that is no pointer nothing does (section 4)
+abbrev pub part_of : List ℕ → Json → Option Json
+part_of at whole = if is_pointer at then value_at (tokens_in at) whole else None

@@ -2,8 +2,9 @@
 //!
 //! A `Tree` is a JSON value (RFC 8259) whose numbers are whole and have 64 bits with sign; the members of an
 //! object have distinct names and stand in their byte order. `read` gives the tree of a JSON text; `write` and
-//! `text_of` give the one text of a tree, `json_text` of `specs/Json.antt`, and `quoted` that of a text. `pointer`
-//! finds what stands at a place (RFC 6901), and `merge_patch` changes one tree by another (RFC 7396).
+//! `text_of` give the one text of a tree, `json_text` of `specs/Json.antt`, `quoted` that of a text, and
+//! `quoted_length` its length. `pointer` finds what stands at a place (RFC 6901), and `merge_patch` changes one
+//! tree by another (RFC 7396).
 #![tactic(auto)]
 
 mod bytes;
@@ -29,4 +30,4 @@ pub use reading::{ReadFault, read};
 pub use servient_base::NoMemory;
 pub use text::Text;
 pub use tree::{Items, Members, Tree, copy};
-pub use writing::{quoted, text_of, write};
+pub use writing::{quoted, quoted_length, text_of, write};

@@ -1,12 +1,12 @@
 //! What stands at a place of a tree: JSON Pointer (RFC 6901).
 
-ghost use Rattle.std.specs.Prelude.{◌≡◌, ◌∷◌, [], ◌++◌, List, ℕ, ◌↔◌, option_map, IsTrue, IfOk, IfErr, IfSome, MatchOption, ◌<◌, length};
+ghost use Rattle.std.specs.Prelude.{◌≡◌, ◌∷◌, [], ◌++◌, List, ℕ, ◌↔◌, option_map, IsTrue, IfOk, IfErr, IfSome, MatchOption, None, ◌<◌, length};
 ghost use Rattle.std.specs.Cmp.Lexicographic.{slice_cmp};
 ghost use Rattle.std.specs.Ordering.{nat_cmp};
 ghost use Rattle.wot_json.specs.Lookup.{member_named};
 ghost use Rattle.wot_json.specs.Meaning.{json_of};
 ghost use Rattle.wot_json.specs.Places.{token_text, place_text};
-ghost use Rattle.wot_json.specs.Pointer.{IsPointer, escapes, element_at, part_at, value_at};
+ghost use Rattle.wot_json.specs.Pointer.{IsPointer, escapes, element_at, part_at, value_at, part_of};
 
 #[cfg(test)]
 mod tests;
@@ -31,7 +31,9 @@ pub fn pointer<'a>(tree: &'a Tree, at: &str) -> Result<Option<&'a Tree>, BadPoin
     ensures ok { IfOk result (λ part. IsPointer at.now) }
     ensures part { IfOk result (λ part. (tokens : List (List ℕ)) → at.now ≡ place_text tokens
         → option_map (λ t. json_of t.now) part ≡ value_at tokens (json_of tree.now)) }
+    ensures found { IfOk result (λ part. option_map (λ t. json_of t.now) part ≡ part_of at.now (json_of tree.now)) }
     ensures bad { IfErr result (λ _. ¬ IsPointer at.now) }
+    ensures none { IfErr result (λ _. part_of at.now (json_of tree.now) ≡ None) }
 {
     if at.is_empty() {
         return Ok(Some(tree));

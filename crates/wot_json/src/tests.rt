@@ -1,6 +1,6 @@
 //! Texts of trees by hand, and each public call once.
 
-use crate::{Bytes, Items, Members, Text, Tree, copy, quoted, text_of, write};
+use crate::{Bytes, Items, Members, Text, Tree, copy, quoted, quoted_length, text_of, write};
 use std::test::Fail;
 
 #[test]
@@ -86,6 +86,16 @@ fn texts_are_quoted(rt: HostRuntime) -> Result<(), Fail> {
             quotation.as_bytes(),
             "{text}"
         );
+    }
+    Ok(())
+}
+
+#[test]
+fn lengths_of_quoted_texts(rt: HostRuntime) -> Result<(), Fail> {
+    let table = [("", 2), ("a", 3), ("\"", 4), ("\u{1}", 8), ("é", 4)];
+    for (text, length) in table {
+        assert_eq!(rt; quoted_length(text, length), Some(length), "{text}");
+        assert_eq!(rt; quoted_length(text, length - 1), None, "{text}");
     }
     Ok(())
 }

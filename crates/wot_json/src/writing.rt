@@ -53,6 +53,38 @@ pub fn quoted(alloc: Global, text: &str) -> Result<Bytes, NoMemory>
     text_of(alloc, &tree)
 }
 
+/// The length of the JSON text of a text (RFC 8259, section 7), where it is at most `most`. It takes no memory,
+/// and stops as soon as `most` is passed.
+pub fn quoted_length(text: &str, most: usize) -> Option<usize>
+    ensures length { IfSome result (λ n. n ≡ length (json_string text.now)) }
+    ensures within { IfSome result (λ n. n ≤ most) }
+    ensures none { IfNone result (most < length (json_string text.now)) }
+{
+    if most < 2 {
+        return None;
+    }
+    let mut left = most - 2;
+    for byte in text.as_bytes() {
+        let length = escaped_length(*byte);
+        if left < length {
+            return None;
+        }
+        left -= length;
+    }
+    Some(most - left)
+}
+
+/// How many bytes are written for one byte of a text.
+fn escaped_length(byte: u8) -> usize
+    ensures { result ≡ length (escaped byte) }
+{
+    match byte {
+        b'"' | b'\\' | 8 | b'\t' | b'\n' | 12 | b'\r' => 2,
+        0..=31 => 6,
+        _ => 1,
+    }
+}
+
 /// Writes bytes at a place where there is room for them, and returns the place behind.
 fn put_piece(out: &mut [u8], at: usize, bytes: &[u8]) -> Option<usize>
     requires { at ≤ length out.old }

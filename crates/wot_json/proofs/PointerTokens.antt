@@ -1,9 +1,8 @@
 -- The test of pointers, and the tokens that a pointer writes.
-use Rattle.std.proofs.Common.{◌≡◌, ◌≢◌, ℕ, List, [], ◌∷◌, ◌++◌, refl, sym, ap, subst, ◌∙◌, inl, inr, arith, append_assoc, cond}
-use Rattle.std.specs.Prelude.{Bool, true, false, ◌&&◌, ◌==◌, Option, Some, None}
-use Rattle.std.proofs.lemmas.Bool.{cases_eq, cases_Bool}
+use Rattle.std.proofs.Common.{◌≡◌, ◌≢◌, ℕ, List, [], ◌∷◌, ◌++◌, refl, sym, ap, ◌∙◌, inl, inr, arith, append_assoc, cond}
+use Rattle.std.specs.Prelude.{Bool, true, false, Option, None}
+use Rattle.std.proofs.lemmas.Bool.{cases_Bool}
 use Rattle.std.proofs.lemmas.Bool.Decides.{nat_tests}
-use mathlib.Core.Bool.{false≢true}
 use Rattle.wot_json.specs.Tree.{Json}
 use Rattle.wot_json.specs.Places.{token_byte, token_text, place_text}
 use Rattle.wot_json.specs.Pointer.{IsPointer, is_pointer, escapes, with_byte, first_tokens, tokens_in, value_at, part_of}

@@ -3,3 +3,5 @@ pub mod Fronts
 pub mod Models
 pub mod Texts
 pub mod Walks
+pub mod KeptSources
+pub mod Written

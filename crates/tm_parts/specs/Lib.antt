@@ -5,3 +5,4 @@ pub mod Holes
 pub mod Kept
 pub mod Library
 pub mod References
+pub mod Sources

@@ -1,12 +1,14 @@
 -- References from one Thing Model to a part of another, the values of `tm:ref` (Thing Description 1.1, section 10):
 -- the location of a model, `#`, and a JSON Pointer (RFC 6901) as the fragment.
-use Rattle.std.specs.Prelude.{◌≡◌, ◌==◌, ◌<◌, ℕ, Bool, List, [], ◌∷◌, length, Some, None, Ok}
+use Rattle.std.specs.Prelude.{◌==◌, ◌&&◌, nat_lt, ℕ, Bool, List, [], ◌∷◌, length, Option, Some, None, option_map, option_and_then, if◌then◌else◌}
 use Rattle.std.specs.List.{position_or_len, before_first, after_first}
-use Rattle.std.specs.Str.{IsUtf8}
+use Rattle.std.specs.Result.{result_ok}
+use Rattle.std.specs.Str.{is_utf8}
 use Rattle.percent_encoding.specs.Percent.{percent_decode}
 use Rattle.url.specs.Parser.{Parsed, parse_url, and_then}
 use Rattle.url.specs.Parts.{Parts, serialize}
-use Rattle.wot_json.specs.Pointer.{IsPointer}
+use Rattle.wot_json.specs.Pointer.{is_pointer}
+use Rattle.tm_parts.specs.declared.reference.Reference.{Reference}
 
 -- `#`, which begins the fragment of a reference (RFC 3986, section 3.5)
 abbrev pub is_mark : ℕ → Bool
@@ -20,24 +22,35 @@ location_of text = before_first is_mark text
 abbrev pub fragment_of : List ℕ → List ℕ
 fragment_of text = after_first is_mark text
 
+-- the part at a pointer of the model of a URL
+abbrev pub reference : List ℕ → List ℕ → Reference
+reference url pointer = record { url = url; pointer = pointer }
+
 -- a location, joined to the URL of the model that refers to it (URL Standard, section 4.4)
 abbrev pub joined_url : List ℕ → List ℕ → Parsed Parts
 joined_url from location = and_then (parse_url None from) (λ base. parse_url (Some base) location)
 
--- The model that a location leads to is named by this text: the empty location by that of the model itself, as
--- it is, and any other by the URL that it gives when it is joined.
-abbrev pub LeadsTo : List ℕ → List ℕ → List ℕ → Type 0
-LeadsTo from [] url = url ≡ from
-LeadsTo from (b ∷ bs) url = (parts : Parts) × (joined_url from (b ∷ bs) ≡ Ok parts) × (url ≡ serialize parts)
+-- The text of the URL of the model that a location leads to, where it leads to one: the empty location to the model
+-- itself, under its own text, and any other to the URL that it gives when it is joined.
+abbrev pub led_to : List ℕ → List ℕ → Option (List ℕ)
+led_to from [] = Some from
+led_to from (b ∷ bs) = option_map serialize (result_ok (joined_url from (b ∷ bs)))
 
--- a fragment that writes a pointer: decoded from its percent-encoding, it is text, and a pointer (RFC 6901, section 6)
-pub record Writes (fragment pointer : List ℕ) : Type 0 where
-  pub decoded : pointer ≡ percent_decode fragment
-  pub is_text : IsUtf8 pointer
-  pub is_pointer : IsPointer pointer
+-- The pointer that a fragment writes, where it writes one: decoded from its percent-encoding it is text, and a pointer
+-- (RFC 6901, section 6).
+abbrev pub pointer_written : List ℕ → Option (List ℕ)
+pointer_written fragment =
+    let decoded = percent_decode fragment in
+    if is_utf8 decoded && is_pointer decoded then Some decoded else None
 
--- from the model of this URL the text refers to the part at the pointer of the model of that URL
-pub record RefersTo (from text url pointer : List ℕ) : Type 0 where
-  pub marked : position_or_len is_mark text < length text
-  pub leads : LeadsTo from (location_of text) url
-  pub writes : Writes (fragment_of text) pointer
+-- the text has a `#`
+abbrev pub is_marked : List ℕ → Bool
+is_marked text = nat_lt (position_or_len is_mark text) (length text)
+
+-- The target that a text refers to from the model of this URL, where it refers to one: the model that its location
+-- leads to, and the pointer that its fragment writes.
+abbrev pub referred : List ℕ → List ℕ → Option Reference
+referred from text =
+    if is_marked text
+    then option_and_then (λ url. option_map (reference url) (pointer_written (fragment_of text))) (led_to from (location_of text))
+    else None

@@ -1,13 +1,17 @@
 //! The library of Thing Models.
 
-ghost use Rattle.std.specs.Prelude.{◌≡◌, ◌⊎◌, ℕ, List, [], if◌then◌else◌, IfErr, OnOk, OnErr, option_map};
+ghost use Rattle.std.specs.Prelude.{◌≡◌, ◌⊎◌, ℕ, List, [], if◌then◌else◌, IfOk, IfErr, OnOk, OnErr, option_map};
 ghost use Rattle.std.specs.List.{list_any};
 ghost use Rattle.std.specs.Str.{bytes_eq};
 ghost use Rattle.wot_json.specs.Meaning.{json_of, json_items};
 ghost use Rattle.wot_json.specs.Lookup.{member_named};
 ghost use Rattle.tm_parts.specs.Library.{with_model, IsModelUrl, HasAddFault, MayAdd};
 ghost use Rattle.tm_parts.specs.Library as spec;
+ghost use Rattle.tm_parts.specs.Sources.{kept_sources, sources_of};
 
+use crate::bindings::Bindings;
+use crate::sources::{Source, source_of};
+use servient_base::NoMemory;
 use std::alloc::{AllocError, Global};
 use std::collections::BTreeMap;
 use std::marker::Model;
@@ -125,6 +129,19 @@ impl Library {
         ensures { option_map (λ t. json_of t.now) result ≡ member_named url.now self.now }
     {
         self.models.get(url)
+    }
+
+    /// All models, in the byte order of the texts of their URLs, with values in place of their placeholders. Its
+    /// time is that of one `substitute` for each.
+    pub fn substituted(&self, bindings: &Bindings) -> Result<Vec<Source>, NoMemory>
+        ensures { IfOk result (λ v. kept_sources v.items ≡ sources_of self.now bindings.now) }
+    {
+        let mut sources = Vec::with_capacity(self.alloc, self.models.len())?;
+        for (url, model) in self.models.iter() {
+            let source = source_of(self.alloc, url.as_str(), model, bindings)?;
+            sources.push(source).map_err(AllocError::from)?;
+        }
+        Ok(sources)
     }
 }
 

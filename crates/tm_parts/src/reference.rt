@@ -1,12 +1,13 @@
 //! References from one Thing Model to a part of another.
 
-ghost use Rattle.std.specs.Prelude.{◌≡◌, ◌⊎◌, ◌↔◌, ℕ, List, Ok, IfOk, IfErr, IsErr};
+ghost use Rattle.std.specs.Prelude.{◌≡◌, ◌⊎◌, Some, None, Ok, IfOk, IfErr, IsErr, MatchOption, MatchResult};
 ghost use Rattle.std.specs.Str.{IsUtf8};
 ghost use Rattle.percent_encoding.specs.Percent as percent;
 ghost use Rattle.url.specs.Parser.{IsOutOfRoom};
-ghost use Rattle.tm_parts.specs.References.{joined_url, LeadsTo, Writes, RefersTo};
+ghost use Rattle.tm_parts.specs.References.{joined_url, led_to, pointer_written, referred};
 
 use percent_encoding::{DecodeError, percent_decode};
+use servient_base::NoMemory;
 use std::alloc::{AllocError, Global};
 use thiserror::Error;
 use url::{ParseError, Url};
@@ -48,8 +49,8 @@ impl From<AllocError> for RefFault {
 /// `from`, and stands as the URL Standard writes it. The fragment is percent-decoded, and is a JSON Pointer
 /// (RFC 6901, section 6).
 pub fn target(alloc: Global, from: &str, text: &str) -> Result<Reference, RefFault>
-    ensures ok { IfOk result (λ r. RefersTo from.now text.now r.url r.pointer) }
-    ensures bad { IfErr result (λ e. (e ≡ RefFault.NoMemory) ⊎ ((url pointer : List ℕ) → RefersTo from.now text.now url pointer → ⊥)) }
+    ensures ok { IfOk result (λ r. referred from.now text.now ≡ Some r) }
+    ensures bad { IfErr result (λ e. (e ≡ RefFault.NoMemory) ⊎ (referred from.now text.now ≡ None)) }
 {
     match text.split_once('#') {
         None => Err(RefFault::BadRef),
@@ -63,8 +64,8 @@ pub fn target(alloc: Global, from: &str, text: &str) -> Result<Reference, RefFau
 
 /// The pointer that a fragment writes.
 fn written_pointer(alloc: Global, fragment: &str) -> Result<Text, RefFault>
-    ensures ok { IfOk result (λ p. Writes fragment.now p) }
-    ensures bad { IfErr result (λ e. (e ≡ RefFault.NoMemory) ⊎ ((pointer : List ℕ) → Writes fragment.now pointer → ⊥)) }
+    ensures ok { IfOk result (λ p. pointer_written fragment.now ≡ Some p) }
+    ensures bad { IfErr result (λ e. (e ≡ RefFault.NoMemory) ⊎ (pointer_written fragment.now ≡ None)) }
 {
     let decoded = decoded_text(alloc, fragment)?;
     // Whether a text is a pointer doesn't depend on the tree.
@@ -89,36 +90,38 @@ fn decoded_text(alloc: Global, fragment: &str) -> Result<Text, RefFault>
 
 /// The text of the URL that a location leads to.
 fn location_url(alloc: Global, from: &str, location: &str) -> Result<Text, RefFault>
-    ensures ok { IfOk result (λ u. LeadsTo from.now location.now u) }
-    ensures bad { IfErr result (λ e. (e ≡ RefFault.NoMemory) ⊎ ((url : List ℕ) → LeadsTo from.now location.now url → ⊥)) }
+    ensures ok { IfOk result (λ u. led_to from.now location.now ≡ Some u) }
+    ensures bad { IfErr result (λ e. (e ≡ RefFault.NoMemory) ⊎ (led_to from.now location.now ≡ None)) }
 {
     if location.is_empty() {
         return Ok(Text::copy_of(alloc, from)?);
     }
-    let url = joined(alloc, from, location)?;
-    Ok(Text::copy_of(alloc, url.as_str())?)
+    match joined(alloc, from, location)? {
+        None => Err(RefFault::BadRef),
+        Some(url) => Ok(Text::copy_of(alloc, url.as_str())?),
+    }
 }
 
-/// A location, joined to a URL.
-fn joined(alloc: Global, from: &str, location: &str) -> Result<Url, RefFault>
-    ensures ok { IfOk result (λ u. joined_url from.now location.now ≡ Ok u) }
-    ensures bad { IfErr result (λ e. (e ≡ RefFault.NoMemory) ⊎ IsErr (joined_url from.now location.now)) }
+/// A location, joined to a URL (URL Standard, section 4.4), where it can be.
+pub fn joined(alloc: Global, from: &str, location: &str) -> Result<Option<Url>, NoMemory>
+    ensures { IfOk result (λ found. MatchOption found (IsErr (joined_url from.now location.now))
+        (λ url. joined_url from.now location.now ≡ Ok url)) }
 {
     match Url::parse(alloc, from) {
-        Err(error) => Err(fault_of(error)),
+        Err(error) => refused(error),
         Ok(base) => match base.join(location) {
-            Err(error) => Err(fault_of(error)),
-            Ok(url) => Ok(url),
+            Err(error) => refused(error),
+            Ok(url) => Ok(Some(url)),
         },
     }
 }
 
-/// What a refusal of the URL parser is here: want of room is want of memory.
-fn fault_of(error: ParseError) -> RefFault
-    ensures { (result ≡ RefFault.NoMemory) ↔ IsOutOfRoom error }
+/// What a refusal of the URL parser is here: want of room is want of memory, and any other says that there is no URL.
+fn refused(error: ParseError) -> Result<Option<Url>, NoMemory>
+    ensures { MatchResult result (λ found. (found ≡ None) × ¬ IsOutOfRoom error) (λ _. IsOutOfRoom error) }
 {
     match error {
-        ParseError::Overflow | ParseError::OutOfMemory => RefFault::NoMemory,
-        _ => RefFault::BadRef,
+        ParseError::Overflow | ParseError::OutOfMemory => Err(AllocError),
+        _ => Ok(None),
     }
 }

@@ -1,6 +1,8 @@
 //! Worked examples: texts with placeholders, faults and their places, the library, references.
 
-use crate::{AddFault, Bindings, Library, PartFault, RefFault, first_hole, substitute, target};
+use crate::{
+    AddFault, Bindings, Library, PartFault, RefFault, first_hole, source_named, substitute, target,
+};
 use std::alloc::{AllocError, Global};
 use std::test::Fail;
 use wot_json::{Bytes, Items, Members, NoMemory, Text, Tree, text_of};
@@ -197,6 +199,51 @@ fn models_of_a_library(rt: HostRuntime) -> Result<(), Fail> {
     ] {
         assert_eq!(rt; library.get(url).is_some(), wanted, "{url}");
     }
+    Ok(())
+}
+
+#[test]
+fn models_with_values(rt: HostRuntime) -> Result<(), Fail> {
+    let alloc = rt.alloc();
+    let mut library = Library::new(alloc);
+    let table = [
+        (
+            "https://m/c",
+            "x",
+            "{\"@type\":\"tm:ThingModel\",\"title\":\"x\"}",
+        ),
+        (
+            "https://m/b",
+            "{{MAX}}",
+            "{\"@type\":\"tm:ThingModel\",\"title\":100}",
+        ),
+        ("https://m/a", "x{{N}}", "N"),
+    ];
+    for (url, title, _wanted) in table {
+        let mut members = Members::new(alloc);
+        members.push(
+            Text::copy_of(alloc, "@type")?,
+            text(alloc, "tm:ThingModel")?,
+        )?;
+        members.push(Text::copy_of(alloc, "title")?, text(alloc, title)?)?;
+        assert!(rt; library.add(url, Tree::Obj(members)).is_ok());
+    }
+    let sources = library.substituted(&bindings(alloc)?)?;
+    assert_eq!(rt; sources.len(), 3);
+    for (url, _title, wanted) in table {
+        match source_named(sources.as_slice(), url) {
+            Some(Ok(model)) => {
+                assert_eq!(rt;
+                    text_of(alloc, model)?.as_slice(),
+                    wanted.as_bytes(),
+                    "{url}"
+                );
+            }
+            Some(Err(PartFault::NotText(name))) => assert_eq!(rt; name.as_str(), wanted, "{url}"),
+            _ => assert!(rt; false, "{url}"),
+        }
+    }
+    assert!(rt; source_named(sources.as_slice(), "https://m/d").is_none());
     Ok(())
 }
 

@@ -1,0 +1,37 @@
+-- A library with values in place of its placeholders.
+use Rattle.std.specs.Prelude.{ℕ, List, [], ◌∷◌, map, Option, Some, None, Result, Ok, Err, if◌then◌else◌}
+use Rattle.std.specs.Str.{bytes_eq}
+use Rattle.wot_json.specs.Tree.{Json}
+use Rattle.wot_json.specs.Meaning.{json_of}
+use Rattle.wot_json.specs.declared.tree.Tree.{Tree}
+use Rattle.tm_parts.specs.Library.{Models}
+use Rattle.tm_parts.specs.Placeholders.{first_of}
+use Rattle.tm_parts.specs.Substitution.{Values, substituted, faults_of}
+use Rattle.tm_parts.specs.declared.sources.Source.{Source}
+use Rattle.tm_parts.specs.declared.substitution.PartFault.{PartFault}
+
+-- what a model is with these values: itself with the values in place of its placeholders, or the first fault of that
+abbrev pub substitution : Json → Values → Result Json PartFault
+substitution model values = elim (first_of (faults_of model values)) as (λ _. Result Json PartFault) [ None ↦ Ok (substituted model values) | Some fault ↦ Err fault ]
+
+-- models with values in place of their placeholders, or their faults, each with the text of its URL
+abbrev pub Sources : Type 0
+Sources = List (List ℕ × Result Json PartFault)
+
+-- the models of a library, each with these values
+abbrev pub sources_of : Models → Values → Sources
+sources_of models values = map (λ m. (m.0, substitution m.1 values)) models
+
+-- what stands under this URL first, where anything does
+abbrev pub source_named : List ℕ → Sources → Option (Result Json PartFault)
+source_named url [] = None
+source_named url (s ∷ ss) = if bytes_eq url s.0 then Some s.1 else source_named url ss
+
+-- what a model of the code or its fault stands for
+abbrev pub kept_model : Result Tree PartFault → Result Json PartFault
+kept_model (Ok model) = Ok (json_of model)
+kept_model (Err fault) = Err fault
+
+-- what a list of the code stands for
+abbrev pub kept_sources : List Source → Sources
+kept_sources = map (λ s. (s.url, kept_model s.model))

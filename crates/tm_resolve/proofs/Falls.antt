@@ -1,30 +1,36 @@
 -- Why a walk through the parts of models ends.
 use Rattle.std.proofs.Common.{◌≡◌, ◌⊎◌, ℕ, ◌+◌, ◌-◌, ◌*◌, ◌^◌, ◌<◌, ◌≤◌, max, List, [], ◌∷◌, ◌++◌, length, Bool, true, false, refl, ap, inl, inr, ◌∙◌, arith, length-append}
-use Rattle.std.specs.Prelude.{Option, Some, None, option_and_then, cond}
+use Rattle.std.specs.Prelude.{Option, Some, None, Result, Ok, Err, option_and_then, cond}
 use Rattle.std.specs.Str.{bytes_eq}
 use Rattle.wot_json.specs.Tree.{Json, null, boolean, integer, string, array, object, nesting, elements_nesting, members_nesting, Elements, no_elements, element, Members, no_members, member}
 use Rattle.wot_json.specs.Lookup.{listed, listed_members, member_named}
 use Rattle.wot_json.specs.Places.{index_text}
-use Rattle.wot_json.specs.Pointer.{element_at, part_at, value_at}
-use Rattle.tm_parts.specs.Library.{Models}
-use Rattle.tm_parts.specs.Substitution.{Values, substituted}
+use Rattle.wot_json.specs.Pointer.{is_pointer, tokens_in, element_at, part_at, value_at, part_of}
+use Rattle.tm_parts.specs.Sources.{Sources, source_named}
 use Rattle.tm_parts.specs.declared.reference.Reference.{Reference}
+use Rattle.tm_parts.specs.declared.substitution.PartFault.{PartFault}
+use Rattle.tm_resolve.specs.Chain.{stands_in}
+use Rattle.tm_resolve.specs.Weight.{faultless, entered}
 
--- how deep the models nest, with values in place of their placeholders
-abbrev pub deepest : Models → Values → ℕ
-deepest [] values = 0
-deepest (m ∷ ms) values = max (nesting (substituted m.1 values)) (deepest ms values)
+-- how deep the models nest that may be entered
+abbrev pub source_nesting : Result Json PartFault → ℕ
+source_nesting (Ok whole) = nesting whole
+source_nesting (Err fault) = 0
+
+abbrev pub deepest : Sources → ℕ
+deepest [] = 0
+deepest (s ∷ ss) = max (source_nesting s.1) (deepest ss)
 
 -- a choice of two that is this one
-chosen : (b : Bool) (v w : Json) (r : Option Json) → cond b (Some v) r ≡ Some w → ((v ≡ w) ⊎ (r ≡ Some w))
-chosen true v w r is = inl cc
-chosen false v w r is = inr is
+chosen : {X : Type 0} (b : Bool) (v w : X) (r : Option X) → cond b (Some v) r ≡ Some w → ((v ≡ w) ⊎ (r ≡ Some w))
+chosen {X} true v w r is = inl cc
+chosen {X} false v w r is = inr is
 
-pub model_nests : (ms : Models) (values : Values) (url : List ℕ) (model : Json) → member_named url ms ≡ Some model → nesting (substituted model values) ≤ deepest ms values
-model_nests [] values url model found = absurd (cc)
-model_nests (m ∷ ms) values url model found = elim (chosen (bytes_eq url m.0) m.1 model (member_named url ms) found) [
-  | inl this ↦ omega (arith, ap (λ (v : Json). nesting (substituted v values)) this)
-  | inr later ↦ omega (arith, model_nests ms values url model later)
+pub source_nests : (ss : Sources) (url : List ℕ) (whole : Json) → source_named url ss ≡ Some (Ok whole) → nesting whole ≤ deepest ss
+source_nests [] url whole found = absurd (cc)
+source_nests (s ∷ ss) url whole found = elim (chosen (bytes_eq url s.0) s.1 (Ok whole) (source_named url ss) found) [
+  | inl this ↦ omega (arith, ap source_nesting this)
+  | inr later ↦ omega (arith, source_nests ss url whole later)
 ]
 
 element_part : (es : Elements) (token : List ℕ) (index : ℕ) (v : Json) → element_at token index (listed es) ≡ Some v → nesting v ≤ elements_nesting es
@@ -55,28 +61,54 @@ stepped None tokens v found = absurd (cc)
 stepped (Some w) tokens v found = (w, refl, found)
 
 -- what stands in a value nests no deeper
-pub part_nests : (tokens : List (List ℕ)) (whole part : Json) → value_at tokens whole ≡ Some part → nesting part ≤ nesting whole
-part_nests [] whole part found =
+tokens_nest : (tokens : List (List ℕ)) (whole part : Json) → value_at tokens whole ≡ Some part → nesting part ≤ nesting whole
+tokens_nest [] whole part found =
     let same : whole ≡ part = cc in
     omega (arith, ap nesting same)
-part_nests (token ∷ tokens) whole part found =
+tokens_nest (token ∷ tokens) whole part found =
     let step = stepped (part_at token whole) tokens part found in
-    omega (arith, one_step whole token step.0 step.1, part_nests tokens step.0 part step.2)
+    omega (arith, one_step whole token step.0 step.1, tokens_nest tokens step.0 part step.2)
+
+-- what is shown on a condition is there
+shown : {X : Type 0} (b : Bool) (r : Option X) (x : X) → cond b r None ≡ Some x → r ≡ Some x
+shown {X} true r x is = is
+shown {X} false r x is = absurd (cc)
+
+pub part_nests : (at : List ℕ) (whole part : Json) → part_of at whole ≡ Some part → nesting part ≤ nesting whole
+part_nests at whole part found =
+    tokens_nest (tokens_in at) whole part (shown (is_pointer at) (value_at (tokens_in at) whole) part found)
+
+-- what a model is without its fault
+without_fault : (r : Option (Result Json PartFault)) (at : List ℕ) (part : Json) → option_and_then (part_of at) (option_and_then faultless r) ≡ Some part → (whole : Json) × (r ≡ Some (Ok whole)) × (part_of at whole ≡ Some part)
+without_fault None at part found = absurd (cc)
+without_fault (Some (Ok whole)) at part found = (whole, refl, found)
+without_fault (Some (Err fault)) at part found = absurd (cc)
+
+-- what is not shown on a condition is there
+hidden : {X : Type 0} (b : Bool) (r : Option X) (x : X) → cond b None r ≡ Some x → r ≡ Some x
+hidden {X} true r x is = absurd (cc)
+hidden {X} false r x is = is
+
+-- a part that is entered nests no deeper than the models
+pub entered_nests : (sources : Sources) (chain : List Reference) (target : Reference) (part : Json) → entered sources chain target ≡ Some part → nesting part ≤ deepest sources
+entered_nests sources chain target part found =
+    let inside = without_fault (source_named target.url sources) target.pointer part (hidden (stands_in target chain) _ part found) in
+    omega (arith, part_nests target.pointer inside.0 part inside.2, source_nests sources target.url inside.0 inside.1)
 
 -- What is left to a walk: for each target that the chain has room for, all parts of a model. A chain is a vector, which
 -- has fewer than 2 ^ 64 entries.
-pub budget : List Reference → Models → Values → ℕ
-budget chain models values = (2 ^ 64 - length chain) * (8 * deepest models values + 16)
+pub budget : List Reference → Sources → ℕ
+budget chain sources = (2 ^ 64 - length chain) * (8 * deepest sources + 16)
 
 one_less : (a b k : ℕ) → a ≡ b + 1 → a * k ≡ b * k + k
 one_less a b k is = ap (λ (n : ℕ). n * k) is ∙ (omega arith)
 
 -- a step into another target leaves room for all parts of its model
-pub budget_falls : (chain : List Reference) (target : Reference) (models : Models) (values : Values) (n : ℕ) → length chain < 2 ^ 64 → n ≤ deepest models values
-    → budget (chain ++ target ∷ []) models values + 8 * n + 16 ≤ budget chain models values
+pub budget_falls : (chain : List Reference) (target : Reference) (sources : Sources) (n : ℕ) → length chain < 2 ^ 64 → n ≤ deepest sources
+    → budget (chain ++ target ∷ []) sources + 8 * n + 16 ≤ budget chain sources
 unfolding budget
-budget_falls chain target models values n room deep =
+budget_falls chain target sources n room deep =
     let longer : length (chain ++ target ∷ []) ≡ length chain + 1 = length-append chain (target ∷ []) in
     let less : 2 ^ 64 - length chain ≡ (2 ^ 64 - length (chain ++ target ∷ [])) + 1 = omega (arith, longer, room) in
-    let split = one_less (2 ^ 64 - length chain) (2 ^ 64 - length (chain ++ target ∷ [])) (8 * deepest models values + 16) less in
+    let split = one_less (2 ^ 64 - length chain) (2 ^ 64 - length (chain ++ target ∷ [])) (8 * deepest sources + 16) less in
     omega (arith, split, deep)

@@ -1,5 +1,7 @@
 pub mod Falls
 pub mod Progress
 pub mod Rules
-pub mod Links
+pub mod ModelLinks
+pub mod Visits
 pub mod Once
+pub mod Whole

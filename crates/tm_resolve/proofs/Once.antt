@@ -1,70 +1,28 @@
 -- A target, a model and a part have one outcome.
-use Rattle.std.proofs.Common.{◌≡◌, ℕ, ◌+◌, List, [], ◌∷◌, ◌++◌, Bool, true, false, refl, sym, ap, subst, ◌∙◌}
-use Rattle.std.specs.Prelude.{Option, Some, None, Ok, Err, ◌==◌, cond}
+use Rattle.std.proofs.Common.{◌≡◌, ℕ, ◌+◌, List, [], ◌∷◌, ◌++◌, Bool, true, false, sym, ap, subst, ◌∙◌, inl, inr}
+use Rattle.std.specs.Prelude.{Option, Some, None, Ok, Err}
 use Rattle.std.specs.Str.{bytes_eq}
-use Rattle.std.proofs.lemmas.List.{append-nil}
-use Rattle.std.proofs.lemmas.Bool.{true≢false, ne_eqb}
-use Rattle.url.specs.Parts.{Parts, serialize}
-use Rattle.url.specs.Setters.{set_fragment}
-use Rattle.wot_json.specs.Tree.{Json, null, boolean, integer, string, array, object, Elements, elements_of, Members, members_of}
+use Rattle.std.proofs.lemmas.Bool.{true≢false}
+use Rattle.wot_json.specs.Tree.{Json, array, object, Elements, elements_of, Members, members_of}
 use Rattle.wot_json.specs.Lookup.{listed, listed_members, member_named}
 use Rattle.wot_json.specs.Merge.{merge}
-use Rattle.wot_json.specs.Places.{token_text, place_text, step_text}
-use Rattle.wot_json.specs.Pointer.{value_at}
+use Rattle.wot_json.specs.Places.{step_text}
+use Rattle.wot_json.specs.Pointer.{part_of}
 use Rattle.wot_json.proofs.EqualTrees.{listed_lem, listed_members_lem}
-use Rattle.wot_json.proofs.PointerTexts.{is_written, tilde, slash, plain}
 use Rattle.tm_parts.specs.Library.{Models}
-use Rattle.tm_parts.specs.Placeholders.{first_of}
-use Rattle.tm_parts.specs.References.{LeadsTo}
-use Rattle.tm_parts.specs.Substitution.{Values, substituted, faults_of, element_step}
+use Rattle.tm_parts.specs.Sources.{Sources, sources_of, source_named}
+use Rattle.tm_parts.specs.Substitution.{Values, element_step}
 use Rattle.tm_parts.specs.declared.reference.Reference.{Reference}
 use Rattle.tm_parts.specs.declared.substitution.PartFault.{PartFault}
-use Rattle.tm_resolve.specs.Chain.{stands_in, Enters, StandsAt}
-use Rattle.tm_resolve.specs.Extension.{reference_name, extensions, link_place, without_links, LocatesModel, LeadsToModel}
-use Rattle.tm_resolve.specs.Value.{Outcome, outcome_map, is_plain, is_object, fault_in, IsReference, TargetGives, ModelGives, PartGives, ElementsGive, MembersGive}
+use Rattle.tm_resolve.specs.Chain.{whole_of, stands_in, Enters}
+use Rattle.tm_resolve.specs.Links.{reference_name, reference_of, extensions, link_place, linked_model, without_links}
+use Rattle.tm_resolve.specs.Value.{Outcome, outcome_map, is_plain, is_object, fault_in, TargetGives, ModelGives, PartGives, ElementsGive, MembersGive, Resolves}
 use Rattle.tm_resolve.specs.Value as rule
+use Rattle.tm_resolve.specs.Weight.{expansion, is_too_large}
 use Rattle.tm_resolve.specs.declared.fault.ResolveFault.{ResolveFault}
 use Rattle.tm_resolve.specs.declared.fault.ResolveFault.TheVariants.{At}
 use Rattle.tm_resolve.specs.declared.fault.ResolveKind.TheVariants.{BadHref}
-
--- ---- a pointer has its tokens once
-
--- the token that a text begins with, and those behind it; after a `~` the next byte is an escape
-abbrev tokens_in : Bool → List ℕ → List ℕ × List (List ℕ)
-tokens_in escaped [] = ([], [])
-tokens_in true (b ∷ bs) = (cond (b == 48) 126 47 ∷ (tokens_in false bs).0, (tokens_in false bs).1)
-tokens_in false (b ∷ bs) =
-    cond (b == 47) ([], (tokens_in false bs).0 ∷ (tokens_in false bs).1)
-    (cond (b == 126) (tokens_in true bs) (b ∷ (tokens_in false bs).0, (tokens_in false bs).1))
-
-behind_token : (token rest : List ℕ) → tokens_in false (token_text token ++ rest) ≡ (token ++ (tokens_in false rest).0, (tokens_in false rest).1)
-behind_token [] rest = refl
-behind_token (b ∷ token) rest = elim (is_written b) [
-  | tilde is text ↦
-      ap (λ (t : List ℕ). tokens_in false ((t ++ token_text token) ++ rest)) text
-      ∙ ap (λ (q : List ℕ × List (List ℕ)). (126 ∷ q.0, q.1)) (behind_token token rest)
-      ∙ ap (λ (c : ℕ). (c ∷ token ++ (tokens_in false rest).0, (tokens_in false rest).1)) (sym is)
-  | slash is text ↦
-      ap (λ (t : List ℕ). tokens_in false ((t ++ token_text token) ++ rest)) text
-      ∙ ap (λ (q : List ℕ × List (List ℕ)). (47 ∷ q.0, q.1)) (behind_token token rest)
-      ∙ ap (λ (c : ℕ). (c ∷ token ++ (tokens_in false rest).0, (tokens_in false rest).1)) (sym is)
-  | plain no_tilde no_slash text ↦
-      ap (λ (t : List ℕ). tokens_in false ((t ++ token_text token) ++ rest)) text
-      ∙ ap (λ (t : Bool). cond t ([], (tokens_in false (token_text token ++ rest)).0 ∷ (tokens_in false (token_text token ++ rest)).1)
-      (cond (b == 126) (tokens_in true (token_text token ++ rest)) (b ∷ (tokens_in false (token_text token ++ rest)).0, (tokens_in false (token_text token ++ rest)).1))) (ne_eqb b 47 no_slash)
-      ∙ ap (λ (t : Bool). cond t (tokens_in true (token_text token ++ rest)) (b ∷ (tokens_in false (token_text token ++ rest)).0, (tokens_in false (token_text token ++ rest)).1)) (ne_eqb b 126 no_tilde)
-      ∙ ap (λ (q : List ℕ × List (List ℕ)). (b ∷ q.0, q.1)) (behind_token token rest)
-]
-
-tokens_back : (tokens : List (List ℕ)) → tokens_in false (place_text tokens) ≡ ([], tokens)
-tokens_back [] = refl
-tokens_back (token ∷ tokens) =
-    ap (λ (q : List ℕ × List (List ℕ)). ([], q.0 ∷ q.1)) (behind_token token (place_text tokens) ∙ ap (λ (q : List ℕ × List (List ℕ)). (token ++ q.0, q.1)) (tokens_back tokens))
-    ∙ ap (λ (t : List ℕ). ([], t ∷ tokens)) (append-nil token)
-
-tokens_same : (s t : List (List ℕ)) → place_text s ≡ place_text t → s ≡ t
-tokens_same s t same =
-    sym (ap (λ (q : List ℕ × List (List ℕ)). q.1) (tokens_back s)) ∙ ap (λ (bs : List ℕ). (tokens_in false bs).1) same ∙ ap (λ (q : List ℕ × List (List ℕ)). q.1) (tokens_back t)
+use Rattle.tm_resolve.proofs.Rules.{whole_there}
 
 -- ---- what the rules ask for is there once
 
@@ -77,54 +35,16 @@ none_some {X} {A} r x a b = let both : None ≡ Some x = sym a ∙ b in absurd (
 false_true : {A : Type 0} (b : Bool) → b ≡ false → b ≡ true → A
 false_true {A} b f t = absurd (true≢false (sym t ∙ f))
 
-stands_same : (pointer : List ℕ) (whole v w : Json) → StandsAt pointer whole v → StandsAt pointer whole w → v ≡ w
-stands_same pointer whole v w s t =
-    some_same (value_at s.tokens whole) v w s.there (ap (λ (ts : List (List ℕ)). value_at ts whole) (tokens_same s.tokens t.tokens (sym s.written ∙ t.written)) ∙ t.there)
-
-whole_stands : (pointer : List ℕ) (whole : Json) → pointer ≡ [] → StandsAt pointer whole whole
-whole_stands pointer whole empty = record { tokens = []; written = empty; there = refl }
-
-enters_same : (models : Models) (values : Values) (chain : List Reference) (target : Reference) (v w : Json) → Enters models values chain target v → Enters models values chain target w → v ≡ w
-enters_same models values chain target v w a b =
-    a.is ∙ ap (λ (m : Json). substituted m values) (some_same (member_named target.url models) a.model b.model a.found b.found) ∙ sym b.is
+enters_same : (sources : Sources) (chain : List Reference) (target : Reference) (v w : Json) → Enters sources chain target v → Enters sources chain target w → v ≡ w
+enters_same sources chain target v w a b =
+    let both : Ok v ≡ Ok w = some_same (source_named target.url sources) _ _ a.found b.found in
+    cc
 
 -- a model with a fault of the substitution isn't entered
-faulty_not : {A : Type 0} (models : Models) (values : Values) (chain : List Reference) (target : Reference) (model whole : Json) (fault : PartFault) → member_named target.url models ≡ Some model → first_of (faults_of model values) ≡ Some fault → Enters models values chain target whole → A
-faulty_not {A} models values chain target model whole fault found first enters =
-    let same : model ≡ enters.model = some_same (member_named target.url models) model enters.model found enters.found in
-    none_some (first_of (faults_of model values)) fault
-    (ap (λ (m : Json). first_of (faults_of m values)) same ∙ ap (λ (fs : List PartFault). first_of fs) enters.faultless) first
-
-located_same : (from text u w : List ℕ) → LocatesModel from text u → LocatesModel from text w → u ≡ w
-located_same from text u w a b =
-    let both : Ok a.parts ≡ Ok b.parts = sym a.joined ∙ b.joined in
-    let parts : a.parts ≡ b.parts = cc in
-    a.cut ∙ ap (λ (p : Parts). serialize (set_fragment p None)) parts ∙ sym b.cut
-
-leads_same : (from : List ℕ) (link : Json) (u w : List ℕ) → LeadsToModel from link u → LeadsToModel from link w → u ≡ w
-leads_same from link u w a b =
-    let both : Some (string a.text) ≡ Some (string b.text) = sym a.is_text ∙ b.is_text in
-    let texts : a.text ≡ b.text = cc in
-    located_same from b.text u w (subst (λ (t : List ℕ). LocatesModel from t u) texts a.locates) b.locates
-
-location_same : (from location u w : List ℕ) → LeadsTo from location u → LeadsTo from location w → u ≡ w
-location_same from [] u w a b = a ∙ sym b
-location_same from (x ∷ xs) u w a b =
-    let both : Ok a.0 ≡ Ok b.0 = sym a.1 ∙ b.1 in
-    let parts : a.0 ≡ b.0 = cc in
-    a.2 ∙ ap (λ (p : Parts). serialize p) parts ∙ sym b.2
-
-target_is : (s t : Reference) → s.url ≡ t.url → s.pointer ≡ t.pointer → s ≡ t
-target_is s t urls pointers = λ k. record { url = urls k; pointer = pointers k }
-
-reference_same : (from : List ℕ) (v : Json) (s t : Reference) → IsReference from v s → IsReference from v t → s ≡ t
-reference_same from null s t a b = absurd a
-reference_same from (boolean x) s t a b = absurd a
-reference_same from (integer z) s t a b = absurd a
-reference_same from (array es) s t a b = absurd a
-reference_same from (object ms) s t a b = absurd a
-reference_same from (string text) s t a b =
-    target_is s t (location_same from _ s.url t.url a.leads b.leads) (a.writes.decoded ∙ sym b.writes.decoded)
+faulty_not : {A : Type 0} (sources : Sources) (chain : List Reference) (target : Reference) (whole : Json) (fault : PartFault) → source_named target.url sources ≡ Some (Err fault) → Enters sources chain target whole → A
+faulty_not {A} sources chain target whole fault found enters =
+    let both : Err fault ≡ Ok whole = some_same (source_named target.url sources) _ _ found enters.found in
+    absurd (cc)
 
 -- ---- shapes
 
@@ -179,267 +99,274 @@ no_reference_here {A} p ms ns r a b none some =
 
 -- two objects with `tm:ref` that are one refer to one target
 targets_same : (url : List ℕ) (p : Json) (ms ns : List (List ℕ × Json)) (r q : Json) (s t : Reference) → p ≡ object (members_of ms) → p ≡ object (members_of ns)
-    → member_named reference_name ms ≡ Some r → member_named reference_name ns ≡ Some q → IsReference url r s → IsReference url q t → t ≡ s
+    → member_named reference_name ms ≡ Some r → member_named reference_name ns ≡ Some q → reference_of url r ≡ Some s → reference_of url q ≡ Some t → t ≡ s
 targets_same url p ms ns r q s t a b some some' refers refers' =
     let same : q ≡ r = some_same (member_named reference_name ms) q r (ap (λ (xs : List (List ℕ × Json)). member_named reference_name xs) (objects_same p ms ns a b) ∙ some') some in
-    reference_same url r t s (subst (λ (v : Json). IsReference url v t) same refers') refers
+    some_same (reference_of url q) t s refers' (ap (λ (v : Json). reference_of url v) same ∙ refers)
 
 refers_not : {A : Type 0} (url : List ℕ) (p : Json) (ms ns : List (List ℕ × Json)) (r q : Json) (t : Reference) → p ≡ object (members_of ms) → p ≡ object (members_of ns)
-    → member_named reference_name ms ≡ Some r → member_named reference_name ns ≡ Some q → ((s : Reference) → IsReference url r s → ⊥) → IsReference url q t → A
+    → member_named reference_name ms ≡ Some r → member_named reference_name ns ≡ Some q → reference_of url r ≡ None → reference_of url q ≡ Some t → A
 refers_not {A} url p ms ns r q t a b some some' none refers' =
     let same : q ≡ r = some_same (member_named reference_name ms) q r (ap (λ (xs : List (List ℕ × Json)). member_named reference_name xs) (objects_same p ms ns a b) ∙ some') some in
-    absurd (none t (subst (λ (v : Json). IsReference url v t) same refers'))
+    none_some (reference_of url q) t (ap (λ (v : Json). reference_of url v) same ∙ none) refers'
 
--- two links that are one lead to one whole model
-bases_same : (url : List ℕ) (xs : List (ℕ × Json)) (i j : ℕ) (l k : Json) (s t : Reference) → xs ≡ (i, l) ∷ [] → xs ≡ (j, k) ∷ [] → LeadsToModel url l s.url → s.pointer ≡ [] → LeadsToModel url k t.url → t.pointer ≡ [] → t ≡ s
-bases_same url xs i j l k s t a b leads empty leads' empty' =
+-- two links that are one lead to one model
+bases_same : (url : List ℕ) (xs : List (ℕ × Json)) (i j : ℕ) (l k : Json) (s t : Reference) → xs ≡ (i, l) ∷ [] → xs ≡ (j, k) ∷ [] → linked_model url l ≡ Some s → linked_model url k ≡ Some t → t ≡ s
+bases_same url xs i j l k s t a b leads leads' =
     let links : k ≡ l = ap (λ (x : ℕ × Json). x.1) (heads xs (j, k) (i, l) [] [] b a) in
-    target_is t s (leads_same url l t.url s.url (subst (λ (v : Json). LeadsToModel url v t.url) links leads') leads) (empty' ∙ sym empty)
+    some_same (linked_model url k) t s leads' (ap (λ (v : Json). linked_model url v) links ∙ leads)
 
 places_same : (xs : List (ℕ × Json)) (i j : ℕ) (l k : Json) → xs ≡ (i, l) ∷ [] → xs ≡ (j, k) ∷ [] → j ≡ i
 places_same xs i j l k a b = ap (λ (x : ℕ × Json). x.0) (heads xs (j, k) (i, l) [] [] b a)
 
-leads_not : {A : Type 0} (url : List ℕ) (xs : List (ℕ × Json)) (i j : ℕ) (l k : Json) (t : Reference) → xs ≡ (i, l) ∷ [] → xs ≡ (j, k) ∷ [] → ((base : List ℕ) → LeadsToModel url l base → ⊥) → LeadsToModel url k t.url → A
+leads_not : {A : Type 0} (url : List ℕ) (xs : List (ℕ × Json)) (i j : ℕ) (l k : Json) (t : Reference) → xs ≡ (i, l) ∷ [] → xs ≡ (j, k) ∷ [] → linked_model url l ≡ None → linked_model url k ≡ Some t → A
 leads_not {A} url xs i j l k t a b none leads' =
     let links : k ≡ l = ap (λ (x : ℕ × Json). x.1) (heads xs (j, k) (i, l) [] [] b a) in
-    absurd (none t.url (subst (λ (v : Json). LeadsToModel url v t.url) links leads'))
+    none_some (linked_model url k) t (ap (λ (v : Json). linked_model url v) links ∙ none) leads'
 
 -- ---- the judgements
 
 mutual
-  pub target_once : (models : Models) (values : Values) (url pointer : List ℕ) (chain : List Reference) (target : Reference) (one other : Outcome Json) → TargetGives models values url pointer chain target one → TargetGives models values url pointer chain target other → one ≡ other
-  target_once models values url pointer chain target one other (rule.no_model _ _ _ _ _ absent is) (rule.no_model _ _ _ _ _ absent' is') = is ∙ sym is'
-  target_once models values url pointer chain target one other (rule.no_model _ _ _ _ _ absent is) (rule.circular _ _ _ _ _ model' found' old' is') = none_some (member_named target.url models) model' absent found'
-  target_once models values url pointer chain target one other (rule.no_model _ _ _ _ _ absent is) (rule.faulty _ _ _ _ _ model' fault' found' new' first' is') = none_some (member_named target.url models) model' absent found'
-  target_once models values url pointer chain target one other (rule.no_model _ _ _ _ _ absent is) (rule.no_part _ _ _ _ _ whole' enters' none' is') = none_some (member_named target.url models) enters'.model absent enters'.found
-  target_once models values url pointer chain target one other (rule.no_model _ _ _ _ _ absent is) (rule.enters_model _ _ _ _ _ whole' enters' empty' inner') = none_some (member_named target.url models) enters'.model absent enters'.found
-  target_once models values url pointer chain target one other (rule.no_model _ _ _ _ _ absent is) (rule.enters_part _ _ _ _ _ whole' part' enters' more' stands' inner') = none_some (member_named target.url models) enters'.model absent enters'.found
-  target_once models values url pointer chain target one other (rule.circular _ _ _ _ _ model found old is) (rule.no_model _ _ _ _ _ absent' is') = none_some (member_named target.url models) model absent' found
-  target_once models values url pointer chain target one other (rule.circular _ _ _ _ _ model found old is) (rule.circular _ _ _ _ _ model' found' old' is') = is ∙ sym is'
-  target_once models values url pointer chain target one other (rule.circular _ _ _ _ _ model found old is) (rule.faulty _ _ _ _ _ model' fault' found' new' first' is') = false_true (stands_in target chain) new' old
-  target_once models values url pointer chain target one other (rule.circular _ _ _ _ _ model found old is) (rule.no_part _ _ _ _ _ whole' enters' none' is') = false_true (stands_in target chain) enters'.new old
-  target_once models values url pointer chain target one other (rule.circular _ _ _ _ _ model found old is) (rule.enters_model _ _ _ _ _ whole' enters' empty' inner') = false_true (stands_in target chain) enters'.new old
-  target_once models values url pointer chain target one other (rule.circular _ _ _ _ _ model found old is) (rule.enters_part _ _ _ _ _ whole' part' enters' more' stands' inner') = false_true (stands_in target chain) enters'.new old
-  target_once models values url pointer chain target one other (rule.faulty _ _ _ _ _ model fault found new first is) (rule.no_model _ _ _ _ _ absent' is') = none_some (member_named target.url models) model absent' found
-  target_once models values url pointer chain target one other (rule.faulty _ _ _ _ _ model fault found new first is) (rule.circular _ _ _ _ _ model' found' old' is') = false_true (stands_in target chain) new old'
-  target_once models values url pointer chain target one other (rule.faulty _ _ _ _ _ model fault found new first is) (rule.faulty _ _ _ _ _ model' fault' found' new' first' is') =
-      let same_model = some_same (member_named target.url models) model' model found' found in
-      let same_fault = some_same (first_of (faults_of model values)) fault fault' first (ap (λ (x : Json). first_of (faults_of x values)) (sym same_model) ∙ first') in
+  pub target_once : (sources : Sources) (url pointer : List ℕ) (chain : List Reference) (target : Reference) (one other : Outcome Json) → TargetGives sources url pointer chain target one → TargetGives sources url pointer chain target other → one ≡ other
+  target_once sources url pointer chain target one other (rule.no_model _ _ _ _ _ absent is) (rule.no_model _ _ _ _ _ absent' is') = is ∙ sym is'
+  target_once sources url pointer chain target one other (rule.no_model _ _ _ _ _ absent is) (rule.circular _ _ _ _ _ model' found' old' is') = none_some (source_named target.url sources) _ absent found'
+  target_once sources url pointer chain target one other (rule.no_model _ _ _ _ _ absent is) (rule.faulty _ _ _ _ _ fault' found' new' is') = none_some (source_named target.url sources) _ absent found'
+  target_once sources url pointer chain target one other (rule.no_model _ _ _ _ _ absent is) (rule.no_part _ _ _ _ _ whole' enters' none' is') = none_some (source_named target.url sources) _ absent enters'.found
+  target_once sources url pointer chain target one other (rule.no_model _ _ _ _ _ absent is) (rule.enters_model _ _ _ _ _ whole' enters' empty' inner') = none_some (source_named target.url sources) _ absent enters'.found
+  target_once sources url pointer chain target one other (rule.no_model _ _ _ _ _ absent is) (rule.enters_part _ _ _ _ _ whole' part' enters' more' stands' inner') = none_some (source_named target.url sources) _ absent enters'.found
+  target_once sources url pointer chain target one other (rule.circular _ _ _ _ _ model found old is) (rule.no_model _ _ _ _ _ absent' is') = none_some (source_named target.url sources) _ absent' found
+  target_once sources url pointer chain target one other (rule.circular _ _ _ _ _ model found old is) (rule.circular _ _ _ _ _ model' found' old' is') = is ∙ sym is'
+  target_once sources url pointer chain target one other (rule.circular _ _ _ _ _ model found old is) (rule.faulty _ _ _ _ _ fault' found' new' is') = false_true (stands_in target chain) new' old
+  target_once sources url pointer chain target one other (rule.circular _ _ _ _ _ model found old is) (rule.no_part _ _ _ _ _ whole' enters' none' is') = false_true (stands_in target chain) enters'.new old
+  target_once sources url pointer chain target one other (rule.circular _ _ _ _ _ model found old is) (rule.enters_model _ _ _ _ _ whole' enters' empty' inner') = false_true (stands_in target chain) enters'.new old
+  target_once sources url pointer chain target one other (rule.circular _ _ _ _ _ model found old is) (rule.enters_part _ _ _ _ _ whole' part' enters' more' stands' inner') = false_true (stands_in target chain) enters'.new old
+  target_once sources url pointer chain target one other (rule.faulty _ _ _ _ _ fault found new is) (rule.no_model _ _ _ _ _ absent' is') = none_some (source_named target.url sources) _ absent' found
+  target_once sources url pointer chain target one other (rule.faulty _ _ _ _ _ fault found new is) (rule.circular _ _ _ _ _ model' found' old' is') = false_true (stands_in target chain) new old'
+  target_once sources url pointer chain target one other (rule.faulty _ _ _ _ _ fault found new is) (rule.faulty _ _ _ _ _ fault' found' new' is') =
+      let both : Err fault ≡ Err fault' = some_same (source_named target.url sources) _ _ found found' in
+      let same_fault : fault ≡ fault' = cc in
       is ∙ ap (λ (f : PartFault). failed (fault_in target.url f)) same_fault ∙ sym is'
-  target_once models values url pointer chain target one other (rule.faulty _ _ _ _ _ model fault found new first is) (rule.no_part _ _ _ _ _ whole' enters' none' is') = faulty_not models values chain target model whole' fault found first enters'
-  target_once models values url pointer chain target one other (rule.faulty _ _ _ _ _ model fault found new first is) (rule.enters_model _ _ _ _ _ whole' enters' empty' inner') = faulty_not models values chain target model whole' fault found first enters'
-  target_once models values url pointer chain target one other (rule.faulty _ _ _ _ _ model fault found new first is) (rule.enters_part _ _ _ _ _ whole' part' enters' more' stands' inner') = faulty_not models values chain target model whole' fault found first enters'
-  target_once models values url pointer chain target one other (rule.no_part _ _ _ _ _ whole enters none is) (rule.no_model _ _ _ _ _ absent' is') = none_some (member_named target.url models) enters.model absent' enters.found
-  target_once models values url pointer chain target one other (rule.no_part _ _ _ _ _ whole enters none is) (rule.circular _ _ _ _ _ model' found' old' is') = false_true (stands_in target chain) enters.new old'
-  target_once models values url pointer chain target one other (rule.no_part _ _ _ _ _ whole enters none is) (rule.faulty _ _ _ _ _ model' fault' found' new' first' is') = faulty_not models values chain target model' whole fault' found' first' enters
-  target_once models values url pointer chain target one other (rule.no_part _ _ _ _ _ whole enters none is) (rule.no_part _ _ _ _ _ whole' enters' none' is') = is ∙ sym is'
-  target_once models values url pointer chain target one other (rule.no_part _ _ _ _ _ whole enters none is) (rule.enters_model _ _ _ _ _ whole' enters' empty' inner') = absurd (none whole (whole_stands target.pointer whole empty'))
-  target_once models values url pointer chain target one other (rule.no_part _ _ _ _ _ whole enters none is) (rule.enters_part _ _ _ _ _ whole' part' enters' more' stands' inner') = absurd (none part' (subst (λ (x : Json). StandsAt target.pointer x part') (enters_same models values chain target whole' whole enters' enters) stands'))
-  target_once models values url pointer chain target one other (rule.enters_model _ _ _ _ _ whole enters empty inner) (rule.no_model _ _ _ _ _ absent' is') = none_some (member_named target.url models) enters.model absent' enters.found
-  target_once models values url pointer chain target one other (rule.enters_model _ _ _ _ _ whole enters empty inner) (rule.circular _ _ _ _ _ model' found' old' is') = false_true (stands_in target chain) enters.new old'
-  target_once models values url pointer chain target one other (rule.enters_model _ _ _ _ _ whole enters empty inner) (rule.faulty _ _ _ _ _ model' fault' found' new' first' is') = faulty_not models values chain target model' whole fault' found' first' enters
-  target_once models values url pointer chain target one other (rule.enters_model _ _ _ _ _ whole enters empty inner) (rule.no_part _ _ _ _ _ whole' enters' none' is') = absurd (none' whole' (whole_stands target.pointer whole' empty))
-  target_once models values url pointer chain target one other (rule.enters_model _ _ _ _ _ whole enters empty inner) (rule.enters_model _ _ _ _ _ whole' enters' empty' inner') =
-      model_once models values target.url (chain ++ target ∷ []) whole one other inner (subst (λ (x : Json). ModelGives models values target.url (chain ++ target ∷ []) x other) (enters_same models values chain target whole' whole enters' enters) inner')
-  target_once models values url pointer chain target one other (rule.enters_model _ _ _ _ _ whole enters empty inner) (rule.enters_part _ _ _ _ _ whole' part' enters' more' stands' inner') = absurd (more' empty)
-  target_once models values url pointer chain target one other (rule.enters_part _ _ _ _ _ whole part enters more stands inner) (rule.no_model _ _ _ _ _ absent' is') = none_some (member_named target.url models) enters.model absent' enters.found
-  target_once models values url pointer chain target one other (rule.enters_part _ _ _ _ _ whole part enters more stands inner) (rule.circular _ _ _ _ _ model' found' old' is') = false_true (stands_in target chain) enters.new old'
-  target_once models values url pointer chain target one other (rule.enters_part _ _ _ _ _ whole part enters more stands inner) (rule.faulty _ _ _ _ _ model' fault' found' new' first' is') = faulty_not models values chain target model' whole fault' found' first' enters
-  target_once models values url pointer chain target one other (rule.enters_part _ _ _ _ _ whole part enters more stands inner) (rule.no_part _ _ _ _ _ whole' enters' none' is') = absurd (none' part (subst (λ (x : Json). StandsAt target.pointer x part) (enters_same models values chain target whole whole' enters enters') stands))
-  target_once models values url pointer chain target one other (rule.enters_part _ _ _ _ _ whole part enters more stands inner) (rule.enters_model _ _ _ _ _ whole' enters' empty' inner') = absurd (more empty')
-  target_once models values url pointer chain target one other (rule.enters_part _ _ _ _ _ whole part enters more stands inner) (rule.enters_part _ _ _ _ _ whole' part' enters' more' stands' inner') =
-      let wholes : whole' ≡ whole = enters_same models values chain target whole' whole enters' enters in
-      let parts : part' ≡ part = stands_same target.pointer whole part' part (subst (λ (x : Json). StandsAt target.pointer x part') wholes stands') stands in
-      part_once models values target.url target.pointer (chain ++ target ∷ []) part one other inner (subst (λ (x : Json). PartGives models values target.url target.pointer (chain ++ target ∷ []) x other) parts inner')
+  target_once sources url pointer chain target one other (rule.faulty _ _ _ _ _ fault found new is) (rule.no_part _ _ _ _ _ whole' enters' none' is') = faulty_not sources chain target whole' fault found enters'
+  target_once sources url pointer chain target one other (rule.faulty _ _ _ _ _ fault found new is) (rule.enters_model _ _ _ _ _ whole' enters' empty' inner') = faulty_not sources chain target whole' fault found enters'
+  target_once sources url pointer chain target one other (rule.faulty _ _ _ _ _ fault found new is) (rule.enters_part _ _ _ _ _ whole' part' enters' more' stands' inner') = faulty_not sources chain target whole' fault found enters'
+  target_once sources url pointer chain target one other (rule.no_part _ _ _ _ _ whole enters none is) (rule.no_model _ _ _ _ _ absent' is') = none_some (source_named target.url sources) _ absent' enters.found
+  target_once sources url pointer chain target one other (rule.no_part _ _ _ _ _ whole enters none is) (rule.circular _ _ _ _ _ model' found' old' is') = false_true (stands_in target chain) enters.new old'
+  target_once sources url pointer chain target one other (rule.no_part _ _ _ _ _ whole enters none is) (rule.faulty _ _ _ _ _ fault' found' new' is') = faulty_not sources chain target whole fault' found' enters
+  target_once sources url pointer chain target one other (rule.no_part _ _ _ _ _ whole enters none is) (rule.no_part _ _ _ _ _ whole' enters' none' is') = is ∙ sym is'
+  target_once sources url pointer chain target one other (rule.no_part _ _ _ _ _ whole enters none is) (rule.enters_model _ _ _ _ _ whole' enters' empty' inner') = none_some (part_of target.pointer whole) whole none (whole_there target.pointer whole empty')
+  target_once sources url pointer chain target one other (rule.no_part _ _ _ _ _ whole enters none is) (rule.enters_part _ _ _ _ _ whole' part' enters' more' stands' inner') = none_some (part_of target.pointer whole) part' none (ap (λ (x : Json). part_of target.pointer x) (enters_same sources chain target whole whole' enters enters') ∙ stands')
+  target_once sources url pointer chain target one other (rule.enters_model _ _ _ _ _ whole enters empty inner) (rule.no_model _ _ _ _ _ absent' is') = none_some (source_named target.url sources) _ absent' enters.found
+  target_once sources url pointer chain target one other (rule.enters_model _ _ _ _ _ whole enters empty inner) (rule.circular _ _ _ _ _ model' found' old' is') = false_true (stands_in target chain) enters.new old'
+  target_once sources url pointer chain target one other (rule.enters_model _ _ _ _ _ whole enters empty inner) (rule.faulty _ _ _ _ _ fault' found' new' is') = faulty_not sources chain target whole fault' found' enters
+  target_once sources url pointer chain target one other (rule.enters_model _ _ _ _ _ whole enters empty inner) (rule.no_part _ _ _ _ _ whole' enters' none' is') = none_some (part_of target.pointer whole') whole' none' (whole_there target.pointer whole' empty)
+  target_once sources url pointer chain target one other (rule.enters_model _ _ _ _ _ whole enters empty inner) (rule.enters_model _ _ _ _ _ whole' enters' empty' inner') =
+      model_once sources target.url (chain ++ target ∷ []) whole one other inner (subst (λ (x : Json). ModelGives sources target.url (chain ++ target ∷ []) x other) (enters_same sources chain target whole' whole enters' enters) inner')
+  target_once sources url pointer chain target one other (rule.enters_model _ _ _ _ _ whole enters empty inner) (rule.enters_part _ _ _ _ _ whole' part' enters' more' stands' inner') = absurd (more' empty)
+  target_once sources url pointer chain target one other (rule.enters_part _ _ _ _ _ whole part enters more stands inner) (rule.no_model _ _ _ _ _ absent' is') = none_some (source_named target.url sources) _ absent' enters.found
+  target_once sources url pointer chain target one other (rule.enters_part _ _ _ _ _ whole part enters more stands inner) (rule.circular _ _ _ _ _ model' found' old' is') = false_true (stands_in target chain) enters.new old'
+  target_once sources url pointer chain target one other (rule.enters_part _ _ _ _ _ whole part enters more stands inner) (rule.faulty _ _ _ _ _ fault' found' new' is') = faulty_not sources chain target whole fault' found' enters
+  target_once sources url pointer chain target one other (rule.enters_part _ _ _ _ _ whole part enters more stands inner) (rule.no_part _ _ _ _ _ whole' enters' none' is') = none_some (part_of target.pointer whole') part none' (ap (λ (x : Json). part_of target.pointer x) (enters_same sources chain target whole' whole enters' enters) ∙ stands)
+  target_once sources url pointer chain target one other (rule.enters_part _ _ _ _ _ whole part enters more stands inner) (rule.enters_model _ _ _ _ _ whole' enters' empty' inner') = absurd (more empty')
+  target_once sources url pointer chain target one other (rule.enters_part _ _ _ _ _ whole part enters more stands inner) (rule.enters_part _ _ _ _ _ whole' part' enters' more' stands' inner') =
+      let wholes : whole ≡ whole' = enters_same sources chain target whole whole' enters enters' in
+      let parts : part' ≡ part = some_same (part_of target.pointer whole) part' part (ap (λ (x : Json). part_of target.pointer x) wholes ∙ stands') stands in
+      part_once sources target.url target.pointer (chain ++ target ∷ []) part one other inner (subst (λ (x : Json). PartGives sources target.url target.pointer (chain ++ target ∷ []) x other) parts inner')
 
-  pub model_once : (models : Models) (values : Values) (url : List ℕ) (chain : List Reference) (whole : Json) (one other : Outcome Json) → ModelGives models values url chain whole one → ModelGives models values url chain whole other → one ≡ other
-  model_once models values url chain whole one other (rule.extends_none _ _ _ _ ext inner) (rule.extends_none _ _ _ _ ext' inner') = part_once models values url [] chain whole one other inner inner'
-  model_once models values url chain whole one other (rule.extends_none _ _ _ _ ext inner) (rule.extends_two _ _ _ _ first' second' more' ext' is') = nil_cons (extensions whole) first' (second' ∷ more') ext ext'
-  model_once models values url chain whole one other (rule.extends_none _ _ _ _ ext inner) (rule.leads_nowhere _ _ _ _ index' link' ext' none' is') = nil_cons (extensions whole) (index', link') [] ext ext'
-  model_once models values url chain whole one other (rule.extends_none _ _ _ _ ext inner) (rule.base_fails _ _ _ _ index' link' base' fault' ext' leads' empty' inner' is') = nil_cons (extensions whole) (index', link') [] ext ext'
-  model_once models values url chain whole one other (rule.extends_none _ _ _ _ ext inner) (rule.extends _ _ _ _ index' link' base' extended' own' ext' leads' empty' inner' further' is') = nil_cons (extensions whole) (index', link') [] ext ext'
-  model_once models values url chain whole one other (rule.extends_two _ _ _ _ first second more ext is) (rule.extends_none _ _ _ _ ext' inner') = nil_cons (extensions whole) first (second ∷ more) ext' ext
-  model_once models values url chain whole one other (rule.extends_two _ _ _ _ first second more ext is) (rule.extends_two _ _ _ _ first' second' more' ext' is') = is ∙ sym is'
-  model_once models values url chain whole one other (rule.extends_two _ _ _ _ first second more ext is) (rule.leads_nowhere _ _ _ _ index' link' ext' none' is') = one_two (extensions whole) (index', link') first second more ext' ext
-  model_once models values url chain whole one other (rule.extends_two _ _ _ _ first second more ext is) (rule.base_fails _ _ _ _ index' link' base' fault' ext' leads' empty' inner' is') = one_two (extensions whole) (index', link') first second more ext' ext
-  model_once models values url chain whole one other (rule.extends_two _ _ _ _ first second more ext is) (rule.extends _ _ _ _ index' link' base' extended' own' ext' leads' empty' inner' further' is') = one_two (extensions whole) (index', link') first second more ext' ext
-  model_once models values url chain whole one other (rule.leads_nowhere _ _ _ _ index link ext none is) (rule.extends_none _ _ _ _ ext' inner') = nil_cons (extensions whole) (index, link) [] ext' ext
-  model_once models values url chain whole one other (rule.leads_nowhere _ _ _ _ index link ext none is) (rule.extends_two _ _ _ _ first' second' more' ext' is') = one_two (extensions whole) (index, link) first' second' more' ext ext'
-  model_once models values url chain whole one other (rule.leads_nowhere _ _ _ _ index link ext none is) (rule.leads_nowhere _ _ _ _ index' link' ext' none' is') = is ∙ ap (λ (x : ℕ). failed (At BadHref url (link_place x))) (sym (places_same (extensions whole) index index' link link' ext ext')) ∙ sym is'
-  model_once models values url chain whole one other (rule.leads_nowhere _ _ _ _ index link ext none is) (rule.base_fails _ _ _ _ index' link' base' fault' ext' leads' empty' inner' is') = leads_not url (extensions whole) index index' link link' base' ext ext' none leads'
-  model_once models values url chain whole one other (rule.leads_nowhere _ _ _ _ index link ext none is) (rule.extends _ _ _ _ index' link' base' extended' own' ext' leads' empty' inner' further' is') = leads_not url (extensions whole) index index' link link' base' ext ext' none leads'
-  model_once models values url chain whole one other (rule.base_fails _ _ _ _ index link base fault ext leads empty inner is) (rule.extends_none _ _ _ _ ext' inner') = nil_cons (extensions whole) (index, link) [] ext' ext
-  model_once models values url chain whole one other (rule.base_fails _ _ _ _ index link base fault ext leads empty inner is) (rule.extends_two _ _ _ _ first' second' more' ext' is') = one_two (extensions whole) (index, link) first' second' more' ext ext'
-  model_once models values url chain whole one other (rule.base_fails _ _ _ _ index link base fault ext leads empty inner is) (rule.leads_nowhere _ _ _ _ index' link' ext' none' is') = leads_not url (extensions whole) index' index link' link base ext' ext none' leads
-  model_once models values url chain whole one other (rule.base_fails _ _ _ _ index link base fault ext leads empty inner is) (rule.base_fails _ _ _ _ index' link' base' fault' ext' leads' empty' inner' is') =
+  pub model_once : (sources : Sources) (url : List ℕ) (chain : List Reference) (whole : Json) (one other : Outcome Json) → ModelGives sources url chain whole one → ModelGives sources url chain whole other → one ≡ other
+  model_once sources url chain whole one other (rule.extends_none _ _ _ _ ext inner) (rule.extends_none _ _ _ _ ext' inner') = part_once sources url [] chain whole one other inner inner'
+  model_once sources url chain whole one other (rule.extends_none _ _ _ _ ext inner) (rule.extends_two _ _ _ _ first' second' more' ext' is') = nil_cons (extensions whole) first' (second' ∷ more') ext ext'
+  model_once sources url chain whole one other (rule.extends_none _ _ _ _ ext inner) (rule.leads_nowhere _ _ _ _ index' link' ext' none' is') = nil_cons (extensions whole) (index', link') [] ext ext'
+  model_once sources url chain whole one other (rule.extends_none _ _ _ _ ext inner) (rule.base_fails _ _ _ _ index' link' base' fault' ext' leads' inner' is') = nil_cons (extensions whole) (index', link') [] ext ext'
+  model_once sources url chain whole one other (rule.extends_none _ _ _ _ ext inner) (rule.extends _ _ _ _ index' link' base' extended' own' ext' leads' inner' further' is') = nil_cons (extensions whole) (index', link') [] ext ext'
+  model_once sources url chain whole one other (rule.extends_two _ _ _ _ first second more ext is) (rule.extends_none _ _ _ _ ext' inner') = nil_cons (extensions whole) first (second ∷ more) ext' ext
+  model_once sources url chain whole one other (rule.extends_two _ _ _ _ first second more ext is) (rule.extends_two _ _ _ _ first' second' more' ext' is') = is ∙ sym is'
+  model_once sources url chain whole one other (rule.extends_two _ _ _ _ first second more ext is) (rule.leads_nowhere _ _ _ _ index' link' ext' none' is') = one_two (extensions whole) (index', link') first second more ext' ext
+  model_once sources url chain whole one other (rule.extends_two _ _ _ _ first second more ext is) (rule.base_fails _ _ _ _ index' link' base' fault' ext' leads' inner' is') = one_two (extensions whole) (index', link') first second more ext' ext
+  model_once sources url chain whole one other (rule.extends_two _ _ _ _ first second more ext is) (rule.extends _ _ _ _ index' link' base' extended' own' ext' leads' inner' further' is') = one_two (extensions whole) (index', link') first second more ext' ext
+  model_once sources url chain whole one other (rule.leads_nowhere _ _ _ _ index link ext none is) (rule.extends_none _ _ _ _ ext' inner') = nil_cons (extensions whole) (index, link) [] ext' ext
+  model_once sources url chain whole one other (rule.leads_nowhere _ _ _ _ index link ext none is) (rule.extends_two _ _ _ _ first' second' more' ext' is') = one_two (extensions whole) (index, link) first' second' more' ext ext'
+  model_once sources url chain whole one other (rule.leads_nowhere _ _ _ _ index link ext none is) (rule.leads_nowhere _ _ _ _ index' link' ext' none' is') = is ∙ ap (λ (x : ℕ). failed (At BadHref url (link_place x))) (sym (places_same (extensions whole) index index' link link' ext ext')) ∙ sym is'
+  model_once sources url chain whole one other (rule.leads_nowhere _ _ _ _ index link ext none is) (rule.base_fails _ _ _ _ index' link' base' fault' ext' leads' inner' is') = leads_not url (extensions whole) index index' link link' base' ext ext' none leads'
+  model_once sources url chain whole one other (rule.leads_nowhere _ _ _ _ index link ext none is) (rule.extends _ _ _ _ index' link' base' extended' own' ext' leads' inner' further' is') = leads_not url (extensions whole) index index' link link' base' ext ext' none leads'
+  model_once sources url chain whole one other (rule.base_fails _ _ _ _ index link base fault ext leads inner is) (rule.extends_none _ _ _ _ ext' inner') = nil_cons (extensions whole) (index, link) [] ext' ext
+  model_once sources url chain whole one other (rule.base_fails _ _ _ _ index link base fault ext leads inner is) (rule.extends_two _ _ _ _ first' second' more' ext' is') = one_two (extensions whole) (index, link) first' second' more' ext ext'
+  model_once sources url chain whole one other (rule.base_fails _ _ _ _ index link base fault ext leads inner is) (rule.leads_nowhere _ _ _ _ index' link' ext' none' is') = leads_not url (extensions whole) index' index link' link base ext' ext none' leads
+  model_once sources url chain whole one other (rule.base_fails _ _ _ _ index link base fault ext leads inner is) (rule.base_fails _ _ _ _ index' link' base' fault' ext' leads' inner' is') =
       let places : index' ≡ index = places_same (extensions whole) index index' link link' ext ext' in
-      let bases : base' ≡ base = bases_same url (extensions whole) index index' link link' base base' ext ext' leads empty leads' empty' in
-      let there : TargetGives models values url (link_place index) chain base (Err fault') = subst (λ (x : Reference). TargetGives models values url (link_place index) chain x (Err fault')) bases (subst (λ (x : ℕ). TargetGives models values url (link_place x) chain base' (Err fault')) places inner') in
-      is ∙ target_once models values url (link_place index) chain base (Err fault) (Err fault') inner there ∙ sym is'
-  model_once models values url chain whole one other (rule.base_fails _ _ _ _ index link base fault ext leads empty inner is) (rule.extends _ _ _ _ index' link' base' extended' own' ext' leads' empty' inner' further' is') =
+      let bases : base' ≡ base = bases_same url (extensions whole) index index' link link' base base' ext ext' leads leads' in
+      let there : TargetGives sources url (link_place index) chain base (Err fault') = subst (λ (x : Reference). TargetGives sources url (link_place index) chain x (Err fault')) bases (subst (λ (x : ℕ). TargetGives sources url (link_place x) chain base' (Err fault')) places inner') in
+      is ∙ target_once sources url (link_place index) chain base (Err fault) (Err fault') inner there ∙ sym is'
+  model_once sources url chain whole one other (rule.base_fails _ _ _ _ index link base fault ext leads inner is) (rule.extends _ _ _ _ index' link' base' extended' own' ext' leads' inner' further' is') =
       let places : index' ≡ index = places_same (extensions whole) index index' link link' ext ext' in
-      let bases : base' ≡ base = bases_same url (extensions whole) index index' link link' base base' ext ext' leads empty leads' empty' in
-      let there : TargetGives models values url (link_place index) chain base (Ok extended') = subst (λ (x : Reference). TargetGives models values url (link_place index) chain x (Ok extended')) bases (subst (λ (x : ℕ). TargetGives models values url (link_place x) chain base' (Ok extended')) places inner') in
-      err_ok fault extended' (target_once models values url (link_place index) chain base (Err fault) (Ok extended') inner there)
-  model_once models values url chain whole one other (rule.extends _ _ _ _ index link base extended own ext leads empty inner further is) (rule.extends_none _ _ _ _ ext' inner') = nil_cons (extensions whole) (index, link) [] ext' ext
-  model_once models values url chain whole one other (rule.extends _ _ _ _ index link base extended own ext leads empty inner further is) (rule.extends_two _ _ _ _ first' second' more' ext' is') = one_two (extensions whole) (index, link) first' second' more' ext ext'
-  model_once models values url chain whole one other (rule.extends _ _ _ _ index link base extended own ext leads empty inner further is) (rule.leads_nowhere _ _ _ _ index' link' ext' none' is') = leads_not url (extensions whole) index' index link' link base ext' ext none' leads
-  model_once models values url chain whole one other (rule.extends _ _ _ _ index link base extended own ext leads empty inner further is) (rule.base_fails _ _ _ _ index' link' base' fault' ext' leads' empty' inner' is') =
+      let bases : base' ≡ base = bases_same url (extensions whole) index index' link link' base base' ext ext' leads leads' in
+      let there : TargetGives sources url (link_place index) chain base (Ok extended') = subst (λ (x : Reference). TargetGives sources url (link_place index) chain x (Ok extended')) bases (subst (λ (x : ℕ). TargetGives sources url (link_place x) chain base' (Ok extended')) places inner') in
+      err_ok fault extended' (target_once sources url (link_place index) chain base (Err fault) (Ok extended') inner there)
+  model_once sources url chain whole one other (rule.extends _ _ _ _ index link base extended own ext leads inner further is) (rule.extends_none _ _ _ _ ext' inner') = nil_cons (extensions whole) (index, link) [] ext' ext
+  model_once sources url chain whole one other (rule.extends _ _ _ _ index link base extended own ext leads inner further is) (rule.extends_two _ _ _ _ first' second' more' ext' is') = one_two (extensions whole) (index, link) first' second' more' ext ext'
+  model_once sources url chain whole one other (rule.extends _ _ _ _ index link base extended own ext leads inner further is) (rule.leads_nowhere _ _ _ _ index' link' ext' none' is') = leads_not url (extensions whole) index' index link' link base ext' ext none' leads
+  model_once sources url chain whole one other (rule.extends _ _ _ _ index link base extended own ext leads inner further is) (rule.base_fails _ _ _ _ index' link' base' fault' ext' leads' inner' is') =
       let places : index' ≡ index = places_same (extensions whole) index index' link link' ext ext' in
-      let bases : base' ≡ base = bases_same url (extensions whole) index index' link link' base base' ext ext' leads empty leads' empty' in
-      let there : TargetGives models values url (link_place index) chain base (Err fault') = subst (λ (x : Reference). TargetGives models values url (link_place index) chain x (Err fault')) bases (subst (λ (x : ℕ). TargetGives models values url (link_place x) chain base' (Err fault')) places inner') in
-      err_ok fault' extended (sym (target_once models values url (link_place index) chain base (Ok extended) (Err fault') inner there))
-  model_once models values url chain whole one other (rule.extends _ _ _ _ index link base extended own ext leads empty inner further is) (rule.extends _ _ _ _ index' link' base' extended' own' ext' leads' empty' inner' further' is') =
+      let bases : base' ≡ base = bases_same url (extensions whole) index index' link link' base base' ext ext' leads leads' in
+      let there : TargetGives sources url (link_place index) chain base (Err fault') = subst (λ (x : Reference). TargetGives sources url (link_place index) chain x (Err fault')) bases (subst (λ (x : ℕ). TargetGives sources url (link_place x) chain base' (Err fault')) places inner') in
+      err_ok fault' extended (sym (target_once sources url (link_place index) chain base (Ok extended) (Err fault') inner there))
+  model_once sources url chain whole one other (rule.extends _ _ _ _ index link base extended own ext leads inner further is) (rule.extends _ _ _ _ index' link' base' extended' own' ext' leads' inner' further' is') =
       let places : index' ≡ index = places_same (extensions whole) index index' link link' ext ext' in
-      let bases : base' ≡ base = bases_same url (extensions whole) index index' link link' base base' ext ext' leads empty leads' empty' in
-      let there : TargetGives models values url (link_place index) chain base (Ok extended') = subst (λ (x : Reference). TargetGives models values url (link_place index) chain x (Ok extended')) bases (subst (λ (x : ℕ). TargetGives models values url (link_place x) chain base' (Ok extended')) places inner') in
-      let bases_are : extended ≡ extended' = ok_same extended extended' (target_once models values url (link_place index) chain base (Ok extended) (Ok extended') inner there) in
-      let owns : own ≡ own' = part_once models values url [] chain whole own own' further further' in
+      let bases : base' ≡ base = bases_same url (extensions whole) index index' link link' base base' ext ext' leads leads' in
+      let there : TargetGives sources url (link_place index) chain base (Ok extended') = subst (λ (x : Reference). TargetGives sources url (link_place index) chain x (Ok extended')) bases (subst (λ (x : ℕ). TargetGives sources url (link_place x) chain base' (Ok extended')) places inner') in
+      let bases_are : extended ≡ extended' = ok_same extended extended' (target_once sources url (link_place index) chain base (Ok extended) (Ok extended') inner there) in
+      let owns : own ≡ own' = part_once sources url [] chain whole own own' further further' in
       is ∙ ap (λ (x : Json). outcome_map (λ changes. merge (without_links x) changes) own) bases_are ∙ ap (λ (r : Outcome Json). outcome_map (λ changes. merge (without_links extended') changes) r) owns ∙ sym is'
 
-  pub part_once : (models : Models) (values : Values) (url pointer : List ℕ) (chain : List Reference) (part : Json) (one other : Outcome Json) → PartGives models values url pointer chain part one → PartGives models values url pointer chain part other → one ≡ other
-  part_once models values url pointer chain part one other (rule.plain _ _ _ _ _ simple is) (rule.plain _ _ _ _ _ simple' is') = is ∙ sym is'
-  part_once models values url pointer chain part one other (rule.plain _ _ _ _ _ simple is) (rule.list _ _ _ _ _ items' each' shape' inner' is') = plain_list part items' simple shape'
-  part_once models values url pointer chain part one other (rule.plain _ _ _ _ _ simple is) (rule.members _ _ _ _ _ members' each' shape' none' inner' is') = plain_object part members' simple shape'
-  part_once models values url pointer chain part one other (rule.plain _ _ _ _ _ simple is) (rule.refers_nowhere _ _ _ _ _ members' reference' shape' some' none' is') = plain_object part members' simple shape'
-  part_once models values url pointer chain part one other (rule.plain _ _ _ _ _ simple is) (rule.target_fails _ _ _ _ _ members' reference' target' fault' shape' some' refers' inner' is') = plain_object part members' simple shape'
-  part_once models values url pointer chain part one other (rule.plain _ _ _ _ _ simple is) (rule.no_object _ _ _ _ _ members' reference' target' imported' shape' some' refers' inner' tested' is') = plain_object part members' simple shape'
-  part_once models values url pointer chain part one other (rule.plain _ _ _ _ _ simple is) (rule.refers _ _ _ _ _ members' reference' target' imported' others' shape' some' refers' inner' tested' further' is') = plain_object part members' simple shape'
-  part_once models values url pointer chain part one other (rule.list _ _ _ _ _ items each shape inner is) (rule.plain _ _ _ _ _ simple' is') = plain_list part items simple' shape
-  part_once models values url pointer chain part one other (rule.list _ _ _ _ _ items each shape inner is) (rule.list _ _ _ _ _ items' each' shape' inner' is') =
+  pub part_once : (sources : Sources) (url pointer : List ℕ) (chain : List Reference) (part : Json) (one other : Outcome Json) → PartGives sources url pointer chain part one → PartGives sources url pointer chain part other → one ≡ other
+  part_once sources url pointer chain part one other (rule.plain _ _ _ _ _ simple is) (rule.plain _ _ _ _ _ simple' is') = is ∙ sym is'
+  part_once sources url pointer chain part one other (rule.plain _ _ _ _ _ simple is) (rule.list _ _ _ _ _ items' each' shape' inner' is') = plain_list part items' simple shape'
+  part_once sources url pointer chain part one other (rule.plain _ _ _ _ _ simple is) (rule.members _ _ _ _ _ members' each' shape' none' inner' is') = plain_object part members' simple shape'
+  part_once sources url pointer chain part one other (rule.plain _ _ _ _ _ simple is) (rule.refers_nowhere _ _ _ _ _ members' reference' shape' some' none' is') = plain_object part members' simple shape'
+  part_once sources url pointer chain part one other (rule.plain _ _ _ _ _ simple is) (rule.target_fails _ _ _ _ _ members' reference' target' fault' shape' some' refers' inner' is') = plain_object part members' simple shape'
+  part_once sources url pointer chain part one other (rule.plain _ _ _ _ _ simple is) (rule.no_object _ _ _ _ _ members' reference' target' imported' shape' some' refers' inner' tested' is') = plain_object part members' simple shape'
+  part_once sources url pointer chain part one other (rule.plain _ _ _ _ _ simple is) (rule.refers _ _ _ _ _ members' reference' target' imported' others' shape' some' refers' inner' tested' further' is') = plain_object part members' simple shape'
+  part_once sources url pointer chain part one other (rule.list _ _ _ _ _ items each shape inner is) (rule.plain _ _ _ _ _ simple' is') = plain_list part items simple' shape
+  part_once sources url pointer chain part one other (rule.list _ _ _ _ _ items each shape inner is) (rule.list _ _ _ _ _ items' each' shape' inner' is') =
       let lists : items' ≡ items = lists_same part items' items shape' shape in
-      let outcomes : each ≡ each' = elements_once models values url pointer chain 0 items each each' inner (subst (λ (xs : List Json). ElementsGive models values url pointer chain 0 xs each') lists inner') in
+      let outcomes : each ≡ each' = elements_once sources url pointer chain 0 items each each' inner (subst (λ (xs : List Json). ElementsGive sources url pointer chain 0 xs each') lists inner') in
       is ∙ ap (λ (r : Outcome (List Json)). outcome_map (λ ws. array (elements_of ws)) r) outcomes ∙ sym is'
-  part_once models values url pointer chain part one other (rule.list _ _ _ _ _ items each shape inner is) (rule.members _ _ _ _ _ members' each' shape' none' inner' is') = list_object part items members' shape shape'
-  part_once models values url pointer chain part one other (rule.list _ _ _ _ _ items each shape inner is) (rule.refers_nowhere _ _ _ _ _ members' reference' shape' some' none' is') = list_object part items members' shape shape'
-  part_once models values url pointer chain part one other (rule.list _ _ _ _ _ items each shape inner is) (rule.target_fails _ _ _ _ _ members' reference' target' fault' shape' some' refers' inner' is') = list_object part items members' shape shape'
-  part_once models values url pointer chain part one other (rule.list _ _ _ _ _ items each shape inner is) (rule.no_object _ _ _ _ _ members' reference' target' imported' shape' some' refers' inner' tested' is') = list_object part items members' shape shape'
-  part_once models values url pointer chain part one other (rule.list _ _ _ _ _ items each shape inner is) (rule.refers _ _ _ _ _ members' reference' target' imported' others' shape' some' refers' inner' tested' further' is') = list_object part items members' shape shape'
-  part_once models values url pointer chain part one other (rule.members _ _ _ _ _ members each shape none inner is) (rule.plain _ _ _ _ _ simple' is') = plain_object part members simple' shape
-  part_once models values url pointer chain part one other (rule.members _ _ _ _ _ members each shape none inner is) (rule.list _ _ _ _ _ items' each' shape' inner' is') = list_object part items' members shape' shape
-  part_once models values url pointer chain part one other (rule.members _ _ _ _ _ members each shape none inner is) (rule.members _ _ _ _ _ members' each' shape' none' inner' is') =
+  part_once sources url pointer chain part one other (rule.list _ _ _ _ _ items each shape inner is) (rule.members _ _ _ _ _ members' each' shape' none' inner' is') = list_object part items members' shape shape'
+  part_once sources url pointer chain part one other (rule.list _ _ _ _ _ items each shape inner is) (rule.refers_nowhere _ _ _ _ _ members' reference' shape' some' none' is') = list_object part items members' shape shape'
+  part_once sources url pointer chain part one other (rule.list _ _ _ _ _ items each shape inner is) (rule.target_fails _ _ _ _ _ members' reference' target' fault' shape' some' refers' inner' is') = list_object part items members' shape shape'
+  part_once sources url pointer chain part one other (rule.list _ _ _ _ _ items each shape inner is) (rule.no_object _ _ _ _ _ members' reference' target' imported' shape' some' refers' inner' tested' is') = list_object part items members' shape shape'
+  part_once sources url pointer chain part one other (rule.list _ _ _ _ _ items each shape inner is) (rule.refers _ _ _ _ _ members' reference' target' imported' others' shape' some' refers' inner' tested' further' is') = list_object part items members' shape shape'
+  part_once sources url pointer chain part one other (rule.members _ _ _ _ _ members each shape none inner is) (rule.plain _ _ _ _ _ simple' is') = plain_object part members simple' shape
+  part_once sources url pointer chain part one other (rule.members _ _ _ _ _ members each shape none inner is) (rule.list _ _ _ _ _ items' each' shape' inner' is') = list_object part items' members shape' shape
+  part_once sources url pointer chain part one other (rule.members _ _ _ _ _ members each shape none inner is) (rule.members _ _ _ _ _ members' each' shape' none' inner' is') =
       let lists : members' ≡ members = objects_same part members' members shape' shape in
-      let outcomes : each ≡ each' = members_once models values url pointer chain members each each' inner (subst (λ (xs : List (List ℕ × Json)). MembersGive models values url pointer chain xs each') lists inner') in
+      let outcomes : each ≡ each' = members_once sources url pointer chain members each each' inner (subst (λ (xs : List (List ℕ × Json)). MembersGive sources url pointer chain xs each') lists inner') in
       is ∙ ap (λ (r : Outcome (List (List ℕ × Json))). outcome_map (λ ws. object (members_of ws)) r) outcomes ∙ sym is'
-  part_once models values url pointer chain part one other (rule.members _ _ _ _ _ members each shape none inner is) (rule.refers_nowhere _ _ _ _ _ members' reference' shape' some' none' is') = no_reference_here part members members' reference' shape shape' none some'
-  part_once models values url pointer chain part one other (rule.members _ _ _ _ _ members each shape none inner is) (rule.target_fails _ _ _ _ _ members' reference' target' fault' shape' some' refers' inner' is') = no_reference_here part members members' reference' shape shape' none some'
-  part_once models values url pointer chain part one other (rule.members _ _ _ _ _ members each shape none inner is) (rule.no_object _ _ _ _ _ members' reference' target' imported' shape' some' refers' inner' tested' is') = no_reference_here part members members' reference' shape shape' none some'
-  part_once models values url pointer chain part one other (rule.members _ _ _ _ _ members each shape none inner is) (rule.refers _ _ _ _ _ members' reference' target' imported' others' shape' some' refers' inner' tested' further' is') = no_reference_here part members members' reference' shape shape' none some'
-  part_once models values url pointer chain part one other (rule.refers_nowhere _ _ _ _ _ members reference shape some none is) (rule.plain _ _ _ _ _ simple' is') = plain_object part members simple' shape
-  part_once models values url pointer chain part one other (rule.refers_nowhere _ _ _ _ _ members reference shape some none is) (rule.list _ _ _ _ _ items' each' shape' inner' is') = list_object part items' members shape' shape
-  part_once models values url pointer chain part one other (rule.refers_nowhere _ _ _ _ _ members reference shape some none is) (rule.members _ _ _ _ _ members' each' shape' none' inner' is') = no_reference_here part members' members reference shape' shape none' some
-  part_once models values url pointer chain part one other (rule.refers_nowhere _ _ _ _ _ members reference shape some none is) (rule.refers_nowhere _ _ _ _ _ members' reference' shape' some' none' is') = is ∙ sym is'
-  part_once models values url pointer chain part one other (rule.refers_nowhere _ _ _ _ _ members reference shape some none is) (rule.target_fails _ _ _ _ _ members' reference' target' fault' shape' some' refers' inner' is') = refers_not url part members members' reference reference' target' shape shape' some some' none refers'
-  part_once models values url pointer chain part one other (rule.refers_nowhere _ _ _ _ _ members reference shape some none is) (rule.no_object _ _ _ _ _ members' reference' target' imported' shape' some' refers' inner' tested' is') = refers_not url part members members' reference reference' target' shape shape' some some' none refers'
-  part_once models values url pointer chain part one other (rule.refers_nowhere _ _ _ _ _ members reference shape some none is) (rule.refers _ _ _ _ _ members' reference' target' imported' others' shape' some' refers' inner' tested' further' is') = refers_not url part members members' reference reference' target' shape shape' some some' none refers'
-  part_once models values url pointer chain part one other (rule.target_fails _ _ _ _ _ members reference target fault shape some refers inner is) (rule.plain _ _ _ _ _ simple' is') = plain_object part members simple' shape
-  part_once models values url pointer chain part one other (rule.target_fails _ _ _ _ _ members reference target fault shape some refers inner is) (rule.list _ _ _ _ _ items' each' shape' inner' is') = list_object part items' members shape' shape
-  part_once models values url pointer chain part one other (rule.target_fails _ _ _ _ _ members reference target fault shape some refers inner is) (rule.members _ _ _ _ _ members' each' shape' none' inner' is') = no_reference_here part members' members reference shape' shape none' some
-  part_once models values url pointer chain part one other (rule.target_fails _ _ _ _ _ members reference target fault shape some refers inner is) (rule.refers_nowhere _ _ _ _ _ members' reference' shape' some' none' is') = refers_not url part members' members reference' reference target shape' shape some' some none' refers
-  part_once models values url pointer chain part one other (rule.target_fails _ _ _ _ _ members reference target fault shape some refers inner is) (rule.target_fails _ _ _ _ _ members' reference' target' fault' shape' some' refers' inner' is') =
+  part_once sources url pointer chain part one other (rule.members _ _ _ _ _ members each shape none inner is) (rule.refers_nowhere _ _ _ _ _ members' reference' shape' some' none' is') = no_reference_here part members members' reference' shape shape' none some'
+  part_once sources url pointer chain part one other (rule.members _ _ _ _ _ members each shape none inner is) (rule.target_fails _ _ _ _ _ members' reference' target' fault' shape' some' refers' inner' is') = no_reference_here part members members' reference' shape shape' none some'
+  part_once sources url pointer chain part one other (rule.members _ _ _ _ _ members each shape none inner is) (rule.no_object _ _ _ _ _ members' reference' target' imported' shape' some' refers' inner' tested' is') = no_reference_here part members members' reference' shape shape' none some'
+  part_once sources url pointer chain part one other (rule.members _ _ _ _ _ members each shape none inner is) (rule.refers _ _ _ _ _ members' reference' target' imported' others' shape' some' refers' inner' tested' further' is') = no_reference_here part members members' reference' shape shape' none some'
+  part_once sources url pointer chain part one other (rule.refers_nowhere _ _ _ _ _ members reference shape some none is) (rule.plain _ _ _ _ _ simple' is') = plain_object part members simple' shape
+  part_once sources url pointer chain part one other (rule.refers_nowhere _ _ _ _ _ members reference shape some none is) (rule.list _ _ _ _ _ items' each' shape' inner' is') = list_object part items' members shape' shape
+  part_once sources url pointer chain part one other (rule.refers_nowhere _ _ _ _ _ members reference shape some none is) (rule.members _ _ _ _ _ members' each' shape' none' inner' is') = no_reference_here part members' members reference shape' shape none' some
+  part_once sources url pointer chain part one other (rule.refers_nowhere _ _ _ _ _ members reference shape some none is) (rule.refers_nowhere _ _ _ _ _ members' reference' shape' some' none' is') = is ∙ sym is'
+  part_once sources url pointer chain part one other (rule.refers_nowhere _ _ _ _ _ members reference shape some none is) (rule.target_fails _ _ _ _ _ members' reference' target' fault' shape' some' refers' inner' is') = refers_not url part members members' reference reference' target' shape shape' some some' none refers'
+  part_once sources url pointer chain part one other (rule.refers_nowhere _ _ _ _ _ members reference shape some none is) (rule.no_object _ _ _ _ _ members' reference' target' imported' shape' some' refers' inner' tested' is') = refers_not url part members members' reference reference' target' shape shape' some some' none refers'
+  part_once sources url pointer chain part one other (rule.refers_nowhere _ _ _ _ _ members reference shape some none is) (rule.refers _ _ _ _ _ members' reference' target' imported' others' shape' some' refers' inner' tested' further' is') = refers_not url part members members' reference reference' target' shape shape' some some' none refers'
+  part_once sources url pointer chain part one other (rule.target_fails _ _ _ _ _ members reference target fault shape some refers inner is) (rule.plain _ _ _ _ _ simple' is') = plain_object part members simple' shape
+  part_once sources url pointer chain part one other (rule.target_fails _ _ _ _ _ members reference target fault shape some refers inner is) (rule.list _ _ _ _ _ items' each' shape' inner' is') = list_object part items' members shape' shape
+  part_once sources url pointer chain part one other (rule.target_fails _ _ _ _ _ members reference target fault shape some refers inner is) (rule.members _ _ _ _ _ members' each' shape' none' inner' is') = no_reference_here part members' members reference shape' shape none' some
+  part_once sources url pointer chain part one other (rule.target_fails _ _ _ _ _ members reference target fault shape some refers inner is) (rule.refers_nowhere _ _ _ _ _ members' reference' shape' some' none' is') = refers_not url part members' members reference' reference target shape' shape some' some none' refers
+  part_once sources url pointer chain part one other (rule.target_fails _ _ _ _ _ members reference target fault shape some refers inner is) (rule.target_fails _ _ _ _ _ members' reference' target' fault' shape' some' refers' inner' is') =
       let targets : target' ≡ target = targets_same url part members members' reference reference' target target' shape shape' some some' refers refers' in
-      let there : TargetGives models values url pointer chain target (Err fault') = subst (λ (x : Reference). TargetGives models values url pointer chain x (Err fault')) targets inner' in
-      is ∙ target_once models values url pointer chain target (Err fault) (Err fault') inner there ∙ sym is'
-  part_once models values url pointer chain part one other (rule.target_fails _ _ _ _ _ members reference target fault shape some refers inner is) (rule.no_object _ _ _ _ _ members' reference' target' imported' shape' some' refers' inner' tested' is') =
+      let there : TargetGives sources url pointer chain target (Err fault') = subst (λ (x : Reference). TargetGives sources url pointer chain x (Err fault')) targets inner' in
+      is ∙ target_once sources url pointer chain target (Err fault) (Err fault') inner there ∙ sym is'
+  part_once sources url pointer chain part one other (rule.target_fails _ _ _ _ _ members reference target fault shape some refers inner is) (rule.no_object _ _ _ _ _ members' reference' target' imported' shape' some' refers' inner' tested' is') =
       let targets : target' ≡ target = targets_same url part members members' reference reference' target target' shape shape' some some' refers refers' in
-      let there : TargetGives models values url pointer chain target (Ok imported') = subst (λ (x : Reference). TargetGives models values url pointer chain x (Ok imported')) targets inner' in
-      err_ok fault imported' (target_once models values url pointer chain target (Err fault) (Ok imported') inner there)
-  part_once models values url pointer chain part one other (rule.target_fails _ _ _ _ _ members reference target fault shape some refers inner is) (rule.refers _ _ _ _ _ members' reference' target' imported' others' shape' some' refers' inner' tested' further' is') =
+      let there : TargetGives sources url pointer chain target (Ok imported') = subst (λ (x : Reference). TargetGives sources url pointer chain x (Ok imported')) targets inner' in
+      err_ok fault imported' (target_once sources url pointer chain target (Err fault) (Ok imported') inner there)
+  part_once sources url pointer chain part one other (rule.target_fails _ _ _ _ _ members reference target fault shape some refers inner is) (rule.refers _ _ _ _ _ members' reference' target' imported' others' shape' some' refers' inner' tested' further' is') =
       let targets : target' ≡ target = targets_same url part members members' reference reference' target target' shape shape' some some' refers refers' in
-      let there : TargetGives models values url pointer chain target (Ok imported') = subst (λ (x : Reference). TargetGives models values url pointer chain x (Ok imported')) targets inner' in
-      err_ok fault imported' (target_once models values url pointer chain target (Err fault) (Ok imported') inner there)
-  part_once models values url pointer chain part one other (rule.no_object _ _ _ _ _ members reference target imported shape some refers inner tested is) (rule.plain _ _ _ _ _ simple' is') = plain_object part members simple' shape
-  part_once models values url pointer chain part one other (rule.no_object _ _ _ _ _ members reference target imported shape some refers inner tested is) (rule.list _ _ _ _ _ items' each' shape' inner' is') = list_object part items' members shape' shape
-  part_once models values url pointer chain part one other (rule.no_object _ _ _ _ _ members reference target imported shape some refers inner tested is) (rule.members _ _ _ _ _ members' each' shape' none' inner' is') = no_reference_here part members' members reference shape' shape none' some
-  part_once models values url pointer chain part one other (rule.no_object _ _ _ _ _ members reference target imported shape some refers inner tested is) (rule.refers_nowhere _ _ _ _ _ members' reference' shape' some' none' is') = refers_not url part members' members reference' reference target shape' shape some' some none' refers
-  part_once models values url pointer chain part one other (rule.no_object _ _ _ _ _ members reference target imported shape some refers inner tested is) (rule.target_fails _ _ _ _ _ members' reference' target' fault' shape' some' refers' inner' is') =
+      let there : TargetGives sources url pointer chain target (Ok imported') = subst (λ (x : Reference). TargetGives sources url pointer chain x (Ok imported')) targets inner' in
+      err_ok fault imported' (target_once sources url pointer chain target (Err fault) (Ok imported') inner there)
+  part_once sources url pointer chain part one other (rule.no_object _ _ _ _ _ members reference target imported shape some refers inner tested is) (rule.plain _ _ _ _ _ simple' is') = plain_object part members simple' shape
+  part_once sources url pointer chain part one other (rule.no_object _ _ _ _ _ members reference target imported shape some refers inner tested is) (rule.list _ _ _ _ _ items' each' shape' inner' is') = list_object part items' members shape' shape
+  part_once sources url pointer chain part one other (rule.no_object _ _ _ _ _ members reference target imported shape some refers inner tested is) (rule.members _ _ _ _ _ members' each' shape' none' inner' is') = no_reference_here part members' members reference shape' shape none' some
+  part_once sources url pointer chain part one other (rule.no_object _ _ _ _ _ members reference target imported shape some refers inner tested is) (rule.refers_nowhere _ _ _ _ _ members' reference' shape' some' none' is') = refers_not url part members' members reference' reference target shape' shape some' some none' refers
+  part_once sources url pointer chain part one other (rule.no_object _ _ _ _ _ members reference target imported shape some refers inner tested is) (rule.target_fails _ _ _ _ _ members' reference' target' fault' shape' some' refers' inner' is') =
       let targets : target' ≡ target = targets_same url part members members' reference reference' target target' shape shape' some some' refers refers' in
-      let there : TargetGives models values url pointer chain target (Err fault') = subst (λ (x : Reference). TargetGives models values url pointer chain x (Err fault')) targets inner' in
-      err_ok fault' imported (sym (target_once models values url pointer chain target (Ok imported) (Err fault') inner there))
-  part_once models values url pointer chain part one other (rule.no_object _ _ _ _ _ members reference target imported shape some refers inner tested is) (rule.no_object _ _ _ _ _ members' reference' target' imported' shape' some' refers' inner' tested' is') = is ∙ sym is'
-  part_once models values url pointer chain part one other (rule.no_object _ _ _ _ _ members reference target imported shape some refers inner tested is) (rule.refers _ _ _ _ _ members' reference' target' imported' others' shape' some' refers' inner' tested' further' is') =
+      let there : TargetGives sources url pointer chain target (Err fault') = subst (λ (x : Reference). TargetGives sources url pointer chain x (Err fault')) targets inner' in
+      err_ok fault' imported (sym (target_once sources url pointer chain target (Ok imported) (Err fault') inner there))
+  part_once sources url pointer chain part one other (rule.no_object _ _ _ _ _ members reference target imported shape some refers inner tested is) (rule.no_object _ _ _ _ _ members' reference' target' imported' shape' some' refers' inner' tested' is') = is ∙ sym is'
+  part_once sources url pointer chain part one other (rule.no_object _ _ _ _ _ members reference target imported shape some refers inner tested is) (rule.refers _ _ _ _ _ members' reference' target' imported' others' shape' some' refers' inner' tested' further' is') =
       let targets : target' ≡ target = targets_same url part members members' reference reference' target target' shape shape' some some' refers refers' in
-      let there : TargetGives models values url pointer chain target (Ok imported') = subst (λ (x : Reference). TargetGives models values url pointer chain x (Ok imported')) targets inner' in
-      let imports : imported ≡ imported' = ok_same imported imported' (target_once models values url pointer chain target (Ok imported) (Ok imported') inner there) in
+      let there : TargetGives sources url pointer chain target (Ok imported') = subst (λ (x : Reference). TargetGives sources url pointer chain x (Ok imported')) targets inner' in
+      let imports : imported ≡ imported' = ok_same imported imported' (target_once sources url pointer chain target (Ok imported) (Ok imported') inner there) in
       false_true (is_object imported) tested (ap is_object imports ∙ tested')
-  part_once models values url pointer chain part one other (rule.refers _ _ _ _ _ members reference target imported others shape some refers inner tested further is) (rule.plain _ _ _ _ _ simple' is') = plain_object part members simple' shape
-  part_once models values url pointer chain part one other (rule.refers _ _ _ _ _ members reference target imported others shape some refers inner tested further is) (rule.list _ _ _ _ _ items' each' shape' inner' is') = list_object part items' members shape' shape
-  part_once models values url pointer chain part one other (rule.refers _ _ _ _ _ members reference target imported others shape some refers inner tested further is) (rule.members _ _ _ _ _ members' each' shape' none' inner' is') = no_reference_here part members' members reference shape' shape none' some
-  part_once models values url pointer chain part one other (rule.refers _ _ _ _ _ members reference target imported others shape some refers inner tested further is) (rule.refers_nowhere _ _ _ _ _ members' reference' shape' some' none' is') = refers_not url part members' members reference' reference target shape' shape some' some none' refers
-  part_once models values url pointer chain part one other (rule.refers _ _ _ _ _ members reference target imported others shape some refers inner tested further is) (rule.target_fails _ _ _ _ _ members' reference' target' fault' shape' some' refers' inner' is') =
+  part_once sources url pointer chain part one other (rule.refers _ _ _ _ _ members reference target imported others shape some refers inner tested further is) (rule.plain _ _ _ _ _ simple' is') = plain_object part members simple' shape
+  part_once sources url pointer chain part one other (rule.refers _ _ _ _ _ members reference target imported others shape some refers inner tested further is) (rule.list _ _ _ _ _ items' each' shape' inner' is') = list_object part items' members shape' shape
+  part_once sources url pointer chain part one other (rule.refers _ _ _ _ _ members reference target imported others shape some refers inner tested further is) (rule.members _ _ _ _ _ members' each' shape' none' inner' is') = no_reference_here part members' members reference shape' shape none' some
+  part_once sources url pointer chain part one other (rule.refers _ _ _ _ _ members reference target imported others shape some refers inner tested further is) (rule.refers_nowhere _ _ _ _ _ members' reference' shape' some' none' is') = refers_not url part members' members reference' reference target shape' shape some' some none' refers
+  part_once sources url pointer chain part one other (rule.refers _ _ _ _ _ members reference target imported others shape some refers inner tested further is) (rule.target_fails _ _ _ _ _ members' reference' target' fault' shape' some' refers' inner' is') =
       let targets : target' ≡ target = targets_same url part members members' reference reference' target target' shape shape' some some' refers refers' in
-      let there : TargetGives models values url pointer chain target (Err fault') = subst (λ (x : Reference). TargetGives models values url pointer chain x (Err fault')) targets inner' in
-      err_ok fault' imported (sym (target_once models values url pointer chain target (Ok imported) (Err fault') inner there))
-  part_once models values url pointer chain part one other (rule.refers _ _ _ _ _ members reference target imported others shape some refers inner tested further is) (rule.no_object _ _ _ _ _ members' reference' target' imported' shape' some' refers' inner' tested' is') =
+      let there : TargetGives sources url pointer chain target (Err fault') = subst (λ (x : Reference). TargetGives sources url pointer chain x (Err fault')) targets inner' in
+      err_ok fault' imported (sym (target_once sources url pointer chain target (Ok imported) (Err fault') inner there))
+  part_once sources url pointer chain part one other (rule.refers _ _ _ _ _ members reference target imported others shape some refers inner tested further is) (rule.no_object _ _ _ _ _ members' reference' target' imported' shape' some' refers' inner' tested' is') =
       let targets : target' ≡ target = targets_same url part members members' reference reference' target target' shape shape' some some' refers refers' in
-      let there : TargetGives models values url pointer chain target (Ok imported') = subst (λ (x : Reference). TargetGives models values url pointer chain x (Ok imported')) targets inner' in
-      let imports : imported ≡ imported' = ok_same imported imported' (target_once models values url pointer chain target (Ok imported) (Ok imported') inner there) in
+      let there : TargetGives sources url pointer chain target (Ok imported') = subst (λ (x : Reference). TargetGives sources url pointer chain x (Ok imported')) targets inner' in
+      let imports : imported ≡ imported' = ok_same imported imported' (target_once sources url pointer chain target (Ok imported) (Ok imported') inner there) in
       false_true (is_object imported') tested' (ap is_object (sym imports) ∙ tested)
-  part_once models values url pointer chain part one other (rule.refers _ _ _ _ _ members reference target imported others shape some refers inner tested further is) (rule.refers _ _ _ _ _ members' reference' target' imported' others' shape' some' refers' inner' tested' further' is') =
+  part_once sources url pointer chain part one other (rule.refers _ _ _ _ _ members reference target imported others shape some refers inner tested further is) (rule.refers _ _ _ _ _ members' reference' target' imported' others' shape' some' refers' inner' tested' further' is') =
       let targets : target' ≡ target = targets_same url part members members' reference reference' target target' shape shape' some some' refers refers' in
-      let there : TargetGives models values url pointer chain target (Ok imported') = subst (λ (x : Reference). TargetGives models values url pointer chain x (Ok imported')) targets inner' in
-      let imports : imported ≡ imported' = ok_same imported imported' (target_once models values url pointer chain target (Ok imported) (Ok imported') inner there) in
+      let there : TargetGives sources url pointer chain target (Ok imported') = subst (λ (x : Reference). TargetGives sources url pointer chain x (Ok imported')) targets inner' in
+      let imports : imported ≡ imported' = ok_same imported imported' (target_once sources url pointer chain target (Ok imported) (Ok imported') inner there) in
       let lists : members' ≡ members = objects_same part members' members shape' shape in
-      let outcomes : others ≡ others' = members_once models values url pointer chain members others others' further (subst (λ (xs : List (List ℕ × Json)). MembersGive models values url pointer chain xs others') lists further') in
+      let outcomes : others ≡ others' = members_once sources url pointer chain members others others' further (subst (λ (xs : List (List ℕ × Json)). MembersGive sources url pointer chain xs others') lists further') in
       is ∙ ap (λ (x : Json). outcome_map (λ ws. merge x (object (members_of ws))) others) imports ∙ ap (λ (r : Outcome (List (List ℕ × Json))). outcome_map (λ ws. merge imported' (object (members_of ws))) r) outcomes ∙ sym is'
 
-  pub elements_once : (models : Models) (values : Values) (url pointer : List ℕ) (chain : List Reference) (index : ℕ) (items : List Json) (one other : Outcome (List Json)) → ElementsGive models values url pointer chain index items one → ElementsGive models values url pointer chain index items other → one ≡ other
-  elements_once models values url pointer chain index items one other (rule.no_elements _ _ _ _ _ _ shape is) (rule.no_elements _ _ _ _ _ _ shape' is') = is ∙ sym is'
-  elements_once models values url pointer chain index items one other (rule.no_elements _ _ _ _ _ _ shape is) (rule.element_fails _ _ _ _ _ _ head' more' fault' shape' inner' is') = nil_cons items head' more' shape shape'
-  elements_once models values url pointer chain index items one other (rule.no_elements _ _ _ _ _ _ shape is) (rule.element _ _ _ _ _ _ head' more' value' others' shape' inner' further' is') = nil_cons items head' more' shape shape'
-  elements_once models values url pointer chain index items one other (rule.element_fails _ _ _ _ _ _ head more fault shape inner is) (rule.no_elements _ _ _ _ _ _ shape' is') = nil_cons items head more shape' shape
-  elements_once models values url pointer chain index items one other (rule.element_fails _ _ _ _ _ _ head more fault shape inner is) (rule.element_fails _ _ _ _ _ _ head' more' fault' shape' inner' is') =
-      let there : PartGives models values url (pointer ++ element_step index) chain head (Err fault') = subst (λ (x : Json). PartGives models values url (pointer ++ element_step index) chain x (Err fault')) (heads items head' head more' more shape' shape) inner' in
-      let same : ◌≡◌ {A = Outcome Json} (Err fault) (Err fault') = part_once models values url (pointer ++ element_step index) chain head (Err fault) (Err fault') inner there in
+  pub elements_once : (sources : Sources) (url pointer : List ℕ) (chain : List Reference) (index : ℕ) (items : List Json) (one other : Outcome (List Json)) → ElementsGive sources url pointer chain index items one → ElementsGive sources url pointer chain index items other → one ≡ other
+  elements_once sources url pointer chain index items one other (rule.no_elements _ _ _ _ _ _ shape is) (rule.no_elements _ _ _ _ _ _ shape' is') = is ∙ sym is'
+  elements_once sources url pointer chain index items one other (rule.no_elements _ _ _ _ _ _ shape is) (rule.element_fails _ _ _ _ _ _ head' more' fault' shape' inner' is') = nil_cons items head' more' shape shape'
+  elements_once sources url pointer chain index items one other (rule.no_elements _ _ _ _ _ _ shape is) (rule.element _ _ _ _ _ _ head' more' value' others' shape' inner' further' is') = nil_cons items head' more' shape shape'
+  elements_once sources url pointer chain index items one other (rule.element_fails _ _ _ _ _ _ head more fault shape inner is) (rule.no_elements _ _ _ _ _ _ shape' is') = nil_cons items head more shape' shape
+  elements_once sources url pointer chain index items one other (rule.element_fails _ _ _ _ _ _ head more fault shape inner is) (rule.element_fails _ _ _ _ _ _ head' more' fault' shape' inner' is') =
+      let there : PartGives sources url (pointer ++ element_step index) chain head (Err fault') = subst (λ (x : Json). PartGives sources url (pointer ++ element_step index) chain x (Err fault')) (heads items head' head more' more shape' shape) inner' in
+      let same : ◌≡◌ {A = Outcome Json} (Err fault) (Err fault') = part_once sources url (pointer ++ element_step index) chain head (Err fault) (Err fault') inner there in
       is ∙ err_same fault fault' same ∙ sym is'
-  elements_once models values url pointer chain index items one other (rule.element_fails _ _ _ _ _ _ head more fault shape inner is) (rule.element _ _ _ _ _ _ head' more' value' others' shape' inner' further' is') =
-      let there : PartGives models values url (pointer ++ element_step index) chain head (Ok value') = subst (λ (x : Json). PartGives models values url (pointer ++ element_step index) chain x (Ok value')) (heads items head' head more' more shape' shape) inner' in
-      let same : ◌≡◌ {A = Outcome Json} (Err fault) (Ok value') = part_once models values url (pointer ++ element_step index) chain head (Err fault) (Ok value') inner there in
+  elements_once sources url pointer chain index items one other (rule.element_fails _ _ _ _ _ _ head more fault shape inner is) (rule.element _ _ _ _ _ _ head' more' value' others' shape' inner' further' is') =
+      let there : PartGives sources url (pointer ++ element_step index) chain head (Ok value') = subst (λ (x : Json). PartGives sources url (pointer ++ element_step index) chain x (Ok value')) (heads items head' head more' more shape' shape) inner' in
+      let same : ◌≡◌ {A = Outcome Json} (Err fault) (Ok value') = part_once sources url (pointer ++ element_step index) chain head (Err fault) (Ok value') inner there in
       err_ok fault value' same
-  elements_once models values url pointer chain index items one other (rule.element _ _ _ _ _ _ head more value others shape inner further is) (rule.no_elements _ _ _ _ _ _ shape' is') = nil_cons items head more shape' shape
-  elements_once models values url pointer chain index items one other (rule.element _ _ _ _ _ _ head more value others shape inner further is) (rule.element_fails _ _ _ _ _ _ head' more' fault' shape' inner' is') =
-      let there : PartGives models values url (pointer ++ element_step index) chain head (Err fault') = subst (λ (x : Json). PartGives models values url (pointer ++ element_step index) chain x (Err fault')) (heads items head' head more' more shape' shape) inner' in
-      let same : ◌≡◌ {A = Outcome Json} (Ok value) (Err fault') = part_once models values url (pointer ++ element_step index) chain head (Ok value) (Err fault') inner there in
+  elements_once sources url pointer chain index items one other (rule.element _ _ _ _ _ _ head more value others shape inner further is) (rule.no_elements _ _ _ _ _ _ shape' is') = nil_cons items head more shape' shape
+  elements_once sources url pointer chain index items one other (rule.element _ _ _ _ _ _ head more value others shape inner further is) (rule.element_fails _ _ _ _ _ _ head' more' fault' shape' inner' is') =
+      let there : PartGives sources url (pointer ++ element_step index) chain head (Err fault') = subst (λ (x : Json). PartGives sources url (pointer ++ element_step index) chain x (Err fault')) (heads items head' head more' more shape' shape) inner' in
+      let same : ◌≡◌ {A = Outcome Json} (Ok value) (Err fault') = part_once sources url (pointer ++ element_step index) chain head (Ok value) (Err fault') inner there in
       err_ok fault' value (sym same)
-  elements_once models values url pointer chain index items one other (rule.element _ _ _ _ _ _ head more value others shape inner further is) (rule.element _ _ _ _ _ _ head' more' value' others' shape' inner' further' is') =
-      let there : PartGives models values url (pointer ++ element_step index) chain head (Ok value') = subst (λ (x : Json). PartGives models values url (pointer ++ element_step index) chain x (Ok value')) (heads items head' head more' more shape' shape) inner' in
-      let same : ◌≡◌ {A = Outcome Json} (Ok value) (Ok value') = part_once models values url (pointer ++ element_step index) chain head (Ok value) (Ok value') inner there in
-      let outcomes : others ≡ others' = elements_once models values url pointer chain (index + 1) more others others' further (subst (λ (xs : List Json). ElementsGive models values url pointer chain (index + 1) xs others') (tails items head' head more' more shape' shape) further') in
+  elements_once sources url pointer chain index items one other (rule.element _ _ _ _ _ _ head more value others shape inner further is) (rule.element _ _ _ _ _ _ head' more' value' others' shape' inner' further' is') =
+      let there : PartGives sources url (pointer ++ element_step index) chain head (Ok value') = subst (λ (x : Json). PartGives sources url (pointer ++ element_step index) chain x (Ok value')) (heads items head' head more' more shape' shape) inner' in
+      let same : ◌≡◌ {A = Outcome Json} (Ok value) (Ok value') = part_once sources url (pointer ++ element_step index) chain head (Ok value) (Ok value') inner there in
+      let outcomes : others ≡ others' = elements_once sources url pointer chain (index + 1) more others others' further (subst (λ (xs : List Json). ElementsGive sources url pointer chain (index + 1) xs others') (tails items head' head more' more shape' shape) further') in
       is ∙ ap (λ (x : Json). outcome_map (λ ws. x ∷ ws) others) (ok_same value value' same) ∙ ap (λ (r : Outcome (List Json)). outcome_map (λ ws. value' ∷ ws) r) outcomes ∙ sym is'
 
-  pub members_once : (models : Models) (values : Values) (url pointer : List ℕ) (chain : List Reference) (members : List (List ℕ × Json)) (one other : Outcome (List (List ℕ × Json))) → MembersGive models values url pointer chain members one → MembersGive models values url pointer chain members other → one ≡ other
-  members_once models values url pointer chain members one other (rule.no_members _ _ _ _ _ shape is) (rule.no_members _ _ _ _ _ shape' is') = is ∙ sym is'
-  members_once models values url pointer chain members one other (rule.no_members _ _ _ _ _ shape is) (rule.left_out _ _ _ _ _ head' more' shape' named' further') = nil_cons members head' more' shape shape'
-  members_once models values url pointer chain members one other (rule.no_members _ _ _ _ _ shape is) (rule.member_fails _ _ _ _ _ head' more' fault' shape' named' inner' is') = nil_cons members head' more' shape shape'
-  members_once models values url pointer chain members one other (rule.no_members _ _ _ _ _ shape is) (rule.member _ _ _ _ _ head' more' value' others' shape' named' inner' further' is') = nil_cons members head' more' shape shape'
-  members_once models values url pointer chain members one other (rule.left_out _ _ _ _ _ head more shape named further) (rule.no_members _ _ _ _ _ shape' is') = nil_cons members head more shape' shape
-  members_once models values url pointer chain members one other (rule.left_out _ _ _ _ _ head more shape named further) (rule.left_out _ _ _ _ _ head' more' shape' named' further') =
-      members_once models values url pointer chain more one other further (subst (λ (xs : List (List ℕ × Json)). MembersGive models values url pointer chain xs other) (tails members head' head more' more shape' shape) further')
-  members_once models values url pointer chain members one other (rule.left_out _ _ _ _ _ head more shape named further) (rule.member_fails _ _ _ _ _ head' more' fault' shape' named' inner' is') = false_true (bytes_eq head'.0 reference_name) named' (ap (λ (x : List ℕ × Json). bytes_eq x.0 reference_name) (heads members head' head more' more shape' shape) ∙ named)
-  members_once models values url pointer chain members one other (rule.left_out _ _ _ _ _ head more shape named further) (rule.member _ _ _ _ _ head' more' value' others' shape' named' inner' further' is') = false_true (bytes_eq head'.0 reference_name) named' (ap (λ (x : List ℕ × Json). bytes_eq x.0 reference_name) (heads members head' head more' more shape' shape) ∙ named)
-  members_once models values url pointer chain members one other (rule.member_fails _ _ _ _ _ head more fault shape named inner is) (rule.no_members _ _ _ _ _ shape' is') = nil_cons members head more shape' shape
-  members_once models values url pointer chain members one other (rule.member_fails _ _ _ _ _ head more fault shape named inner is) (rule.left_out _ _ _ _ _ head' more' shape' named' further') = false_true (bytes_eq head.0 reference_name) named (ap (λ (x : List ℕ × Json). bytes_eq x.0 reference_name) (heads members head head' more more' shape shape') ∙ named')
-  members_once models values url pointer chain members one other (rule.member_fails _ _ _ _ _ head more fault shape named inner is) (rule.member_fails _ _ _ _ _ head' more' fault' shape' named' inner' is') =
+  pub members_once : (sources : Sources) (url pointer : List ℕ) (chain : List Reference) (members : List (List ℕ × Json)) (one other : Outcome (List (List ℕ × Json))) → MembersGive sources url pointer chain members one → MembersGive sources url pointer chain members other → one ≡ other
+  members_once sources url pointer chain members one other (rule.no_members _ _ _ _ _ shape is) (rule.no_members _ _ _ _ _ shape' is') = is ∙ sym is'
+  members_once sources url pointer chain members one other (rule.no_members _ _ _ _ _ shape is) (rule.left_out _ _ _ _ _ head' more' shape' named' further') = nil_cons members head' more' shape shape'
+  members_once sources url pointer chain members one other (rule.no_members _ _ _ _ _ shape is) (rule.member_fails _ _ _ _ _ head' more' fault' shape' named' inner' is') = nil_cons members head' more' shape shape'
+  members_once sources url pointer chain members one other (rule.no_members _ _ _ _ _ shape is) (rule.member _ _ _ _ _ head' more' value' others' shape' named' inner' further' is') = nil_cons members head' more' shape shape'
+  members_once sources url pointer chain members one other (rule.left_out _ _ _ _ _ head more shape named further) (rule.no_members _ _ _ _ _ shape' is') = nil_cons members head more shape' shape
+  members_once sources url pointer chain members one other (rule.left_out _ _ _ _ _ head more shape named further) (rule.left_out _ _ _ _ _ head' more' shape' named' further') =
+      members_once sources url pointer chain more one other further (subst (λ (xs : List (List ℕ × Json)). MembersGive sources url pointer chain xs other) (tails members head' head more' more shape' shape) further')
+  members_once sources url pointer chain members one other (rule.left_out _ _ _ _ _ head more shape named further) (rule.member_fails _ _ _ _ _ head' more' fault' shape' named' inner' is') = false_true (bytes_eq head'.0 reference_name) named' (ap (λ (x : List ℕ × Json). bytes_eq x.0 reference_name) (heads members head' head more' more shape' shape) ∙ named)
+  members_once sources url pointer chain members one other (rule.left_out _ _ _ _ _ head more shape named further) (rule.member _ _ _ _ _ head' more' value' others' shape' named' inner' further' is') = false_true (bytes_eq head'.0 reference_name) named' (ap (λ (x : List ℕ × Json). bytes_eq x.0 reference_name) (heads members head' head more' more shape' shape) ∙ named)
+  members_once sources url pointer chain members one other (rule.member_fails _ _ _ _ _ head more fault shape named inner is) (rule.no_members _ _ _ _ _ shape' is') = nil_cons members head more shape' shape
+  members_once sources url pointer chain members one other (rule.member_fails _ _ _ _ _ head more fault shape named inner is) (rule.left_out _ _ _ _ _ head' more' shape' named' further') = false_true (bytes_eq head.0 reference_name) named (ap (λ (x : List ℕ × Json). bytes_eq x.0 reference_name) (heads members head head' more more' shape shape') ∙ named')
+  members_once sources url pointer chain members one other (rule.member_fails _ _ _ _ _ head more fault shape named inner is) (rule.member_fails _ _ _ _ _ head' more' fault' shape' named' inner' is') =
       let first : head' ≡ head = heads members head' head more' more shape' shape in
-      let there : PartGives models values url (pointer ++ step_text head.0) chain head.1 (Err fault') = subst (λ (x : List ℕ × Json). PartGives models values url (pointer ++ step_text x.0) chain x.1 (Err fault')) first inner' in
-      let same : ◌≡◌ {A = Outcome Json} (Err fault) (Err fault') = part_once models values url (pointer ++ step_text head.0) chain head.1 (Err fault) (Err fault') inner there in
+      let there : PartGives sources url (pointer ++ step_text head.0) chain head.1 (Err fault') = subst (λ (x : List ℕ × Json). PartGives sources url (pointer ++ step_text x.0) chain x.1 (Err fault')) first inner' in
+      let same : ◌≡◌ {A = Outcome Json} (Err fault) (Err fault') = part_once sources url (pointer ++ step_text head.0) chain head.1 (Err fault) (Err fault') inner there in
       is ∙ err_same fault fault' same ∙ sym is'
-  members_once models values url pointer chain members one other (rule.member_fails _ _ _ _ _ head more fault shape named inner is) (rule.member _ _ _ _ _ head' more' value' others' shape' named' inner' further' is') =
+  members_once sources url pointer chain members one other (rule.member_fails _ _ _ _ _ head more fault shape named inner is) (rule.member _ _ _ _ _ head' more' value' others' shape' named' inner' further' is') =
       let first : head' ≡ head = heads members head' head more' more shape' shape in
-      let there : PartGives models values url (pointer ++ step_text head.0) chain head.1 (Ok value') = subst (λ (x : List ℕ × Json). PartGives models values url (pointer ++ step_text x.0) chain x.1 (Ok value')) first inner' in
-      let same : ◌≡◌ {A = Outcome Json} (Err fault) (Ok value') = part_once models values url (pointer ++ step_text head.0) chain head.1 (Err fault) (Ok value') inner there in
+      let there : PartGives sources url (pointer ++ step_text head.0) chain head.1 (Ok value') = subst (λ (x : List ℕ × Json). PartGives sources url (pointer ++ step_text x.0) chain x.1 (Ok value')) first inner' in
+      let same : ◌≡◌ {A = Outcome Json} (Err fault) (Ok value') = part_once sources url (pointer ++ step_text head.0) chain head.1 (Err fault) (Ok value') inner there in
       err_ok fault value' same
-  members_once models values url pointer chain members one other (rule.member _ _ _ _ _ head more value others shape named inner further is) (rule.no_members _ _ _ _ _ shape' is') = nil_cons members head more shape' shape
-  members_once models values url pointer chain members one other (rule.member _ _ _ _ _ head more value others shape named inner further is) (rule.left_out _ _ _ _ _ head' more' shape' named' further') = false_true (bytes_eq head.0 reference_name) named (ap (λ (x : List ℕ × Json). bytes_eq x.0 reference_name) (heads members head head' more more' shape shape') ∙ named')
-  members_once models values url pointer chain members one other (rule.member _ _ _ _ _ head more value others shape named inner further is) (rule.member_fails _ _ _ _ _ head' more' fault' shape' named' inner' is') =
+  members_once sources url pointer chain members one other (rule.member _ _ _ _ _ head more value others shape named inner further is) (rule.no_members _ _ _ _ _ shape' is') = nil_cons members head more shape' shape
+  members_once sources url pointer chain members one other (rule.member _ _ _ _ _ head more value others shape named inner further is) (rule.left_out _ _ _ _ _ head' more' shape' named' further') = false_true (bytes_eq head.0 reference_name) named (ap (λ (x : List ℕ × Json). bytes_eq x.0 reference_name) (heads members head head' more more' shape shape') ∙ named')
+  members_once sources url pointer chain members one other (rule.member _ _ _ _ _ head more value others shape named inner further is) (rule.member_fails _ _ _ _ _ head' more' fault' shape' named' inner' is') =
       let first : head' ≡ head = heads members head' head more' more shape' shape in
-      let there : PartGives models values url (pointer ++ step_text head.0) chain head.1 (Err fault') = subst (λ (x : List ℕ × Json). PartGives models values url (pointer ++ step_text x.0) chain x.1 (Err fault')) first inner' in
-      let same : ◌≡◌ {A = Outcome Json} (Ok value) (Err fault') = part_once models values url (pointer ++ step_text head.0) chain head.1 (Ok value) (Err fault') inner there in
+      let there : PartGives sources url (pointer ++ step_text head.0) chain head.1 (Err fault') = subst (λ (x : List ℕ × Json). PartGives sources url (pointer ++ step_text x.0) chain x.1 (Err fault')) first inner' in
+      let same : ◌≡◌ {A = Outcome Json} (Ok value) (Err fault') = part_once sources url (pointer ++ step_text head.0) chain head.1 (Ok value) (Err fault') inner there in
       err_ok fault' value (sym same)
-  members_once models values url pointer chain members one other (rule.member _ _ _ _ _ head more value others shape named inner further is) (rule.member _ _ _ _ _ head' more' value' others' shape' named' inner' further' is') =
+  members_once sources url pointer chain members one other (rule.member _ _ _ _ _ head more value others shape named inner further is) (rule.member _ _ _ _ _ head' more' value' others' shape' named' inner' further' is') =
       let first : head' ≡ head = heads members head' head more' more shape' shape in
-      let there : PartGives models values url (pointer ++ step_text head.0) chain head.1 (Ok value') = subst (λ (x : List ℕ × Json). PartGives models values url (pointer ++ step_text x.0) chain x.1 (Ok value')) first inner' in
-      let same : ◌≡◌ {A = Outcome Json} (Ok value) (Ok value') = part_once models values url (pointer ++ step_text head.0) chain head.1 (Ok value) (Ok value') inner there in
-      let outcomes : others ≡ others' = members_once models values url pointer chain more others others' further (subst (λ (xs : List (List ℕ × Json)). MembersGive models values url pointer chain xs others') (tails members head' head more' more shape' shape) further') in
+      let there : PartGives sources url (pointer ++ step_text head.0) chain head.1 (Ok value') = subst (λ (x : List ℕ × Json). PartGives sources url (pointer ++ step_text x.0) chain x.1 (Ok value')) first inner' in
+      let same : ◌≡◌ {A = Outcome Json} (Ok value) (Ok value') = part_once sources url (pointer ++ step_text head.0) chain head.1 (Ok value) (Ok value') inner there in
+      let outcomes : others ≡ others' = members_once sources url pointer chain more others others' further (subst (λ (xs : List (List ℕ × Json)). MembersGive sources url pointer chain xs others') (tails members head' head more' more shape' shape) further') in
       is ∙ ap (λ (x : Json). outcome_map (λ ws. (head.0, x) ∷ ws) others) (ok_same value value' same) ∙ ap (λ (r : Outcome (List (List ℕ × Json))). outcome_map (λ ws. (head.0, value') ∷ ws) r) outcomes
       ∙ ap (λ (x : List ℕ × Json). outcome_map (λ ws. (x.0, value') ∷ ws) others') (sym first) ∙ sym is'
+
+-- a model has one outcome, too large or not
+pub resolves_once : (models : Models) (values : Values) (root : List ℕ) (one other : Outcome Json) → Resolves models values root one → Resolves models values root other → one ≡ other
+resolves_once models values root one other (inl large) (inl large') = large.1 ∙ sym large'.1
+resolves_once models values root one other (inl large) (inr within') = false_true (is_too_large (expansion (sources_of models values) root)) within'.0 large.0
+resolves_once models values root one other (inr within) (inl large') = false_true (is_too_large (expansion (sources_of models values) root)) within.0 large'.0
+resolves_once models values root one other (inr within) (inr within') = target_once (sources_of models values) root [] [] (whole_of root) one other within.1 within'.1

@@ -8,23 +8,23 @@ use Rattle.wot_json.specs.Tree.{Json, AreOrdered}
 use Rattle.wot_json.specs.Meaning.{json_of, json_items, json_member, json_members}
 use Rattle.wot_json.specs.declared.tree.Tree.{Tree}
 use Rattle.wot_json.specs.Places.{index_text, token_text, step_text}
-use Rattle.tm_parts.specs.Library.{Models}
-use Rattle.tm_parts.specs.Substitution.{Values, element_step}
+use Rattle.tm_parts.specs.Sources.{Sources}
+use Rattle.tm_parts.specs.Substitution.{element_step}
 use Rattle.tm_parts.specs.declared.reference.Reference.{Reference}
 use Rattle.tm_parts.proofs.Walks.{ordered_front}
-use Rattle.tm_resolve.specs.Extension.{reference_name}
+use Rattle.tm_resolve.specs.Links.{reference_name}
 use Rattle.tm_resolve.specs.Value.{Outcome, outcome_map, PartGives, ElementsGive, MembersGive, no_elements, element_fails, element, no_members, member_fails, member, left_out}
 use Rattle.tm_resolve.specs.declared.fault.ResolveFault.{ResolveFault}
 
 -- What became of the elements before an index stands in front of what becomes of those from it on.
-abbrev pub ElementsGoOn : Models → Values → List ℕ → List ℕ → List Reference → List Json → List Json → ℕ → List Json → Type 0
-ElementsGoOn models values url pointer chain all done index left =
-    (r : Outcome (List Json)) → ElementsGive models values url pointer chain index left r → ElementsGive models values url pointer chain 0 all (outcome_map (λ vs. done ++ vs) r)
+abbrev pub ElementsGoOn : Sources → List ℕ → List ℕ → List Reference → List Json → List Json → ℕ → List Json → Type 0
+ElementsGoOn sources url pointer chain all done index left =
+    (r : Outcome (List Json)) → ElementsGive sources url pointer chain index left r → ElementsGive sources url pointer chain 0 all (outcome_map (λ vs. done ++ vs) r)
 
 -- what became of the members so far stands in front of what becomes of those that are left
-abbrev pub MembersGoOn : Models → Values → List ℕ → List ℕ → List Reference → List (List ℕ × Json) → List (List ℕ × Json) → List (List ℕ × Json) → Type 0
-MembersGoOn models values url pointer chain all done left =
-    (r : Outcome (List (List ℕ × Json))) → MembersGive models values url pointer chain left r → MembersGive models values url pointer chain all (outcome_map (λ ms. done ++ ms) r)
+abbrev pub MembersGoOn : Sources → List ℕ → List ℕ → List Reference → List (List ℕ × Json) → List (List ℕ × Json) → List (List ℕ × Json) → Type 0
+MembersGoOn sources url pointer chain all done left =
+    (r : Outcome (List (List ℕ × Json))) → MembersGive sources url pointer chain left r → MembersGive sources url pointer chain all (outcome_map (λ ms. done ++ ms) r)
 
 -- outcomes
 abbrev pub gives : {X : Type 0} → X → Outcome X
@@ -43,29 +43,29 @@ pub one_before : {X : Type 0} (done : List X) (x : X) (r : Outcome (List X)) →
 one_before {X} done x (Ok xs) = ap gives (sym (append_assoc done (x ∷ []) xs))
 one_before {X} done x (Err fault) = refl
 
-pub elements_begin : (models : Models) (values : Values) (url pointer : List ℕ) (chain : List Reference) (all : List Json) → ElementsGoOn models values url pointer chain all [] 0 all
-elements_begin models values url pointer chain all r result = subst (λ (o : Outcome (List Json)). ElementsGive models values url pointer chain 0 all o) (nothing_before r) result
+pub elements_begin : (sources : Sources) (url pointer : List ℕ) (chain : List Reference) (all : List Json) → ElementsGoOn sources url pointer chain all [] 0 all
+elements_begin sources url pointer chain all r result = subst (λ (o : Outcome (List Json)). ElementsGive sources url pointer chain 0 all o) (nothing_before r) result
 
-pub elements_step : (models : Models) (values : Values) (url pointer : List ℕ) (chain : List Reference) (all done : List Json) (index : ℕ) (left : List Json) (v : Json) (more : List Json) (w : Json)
-    → left ≡ v ∷ more → PartGives models values url (pointer ++ element_step index) chain v (Ok w)
-    → ElementsGoOn models values url pointer chain all done index left → ElementsGoOn models values url pointer chain all (done ++ w ∷ []) (index + 1) more
-elements_step models values url pointer chain all done index left v more w is part before r result =
-    subst (λ (o : Outcome (List Json)). ElementsGive models values url pointer chain 0 all o) (one_before done w r)
+pub elements_step : (sources : Sources) (url pointer : List ℕ) (chain : List Reference) (all done : List Json) (index : ℕ) (left : List Json) (v : Json) (more : List Json) (w : Json)
+    → left ≡ v ∷ more → PartGives sources url (pointer ++ element_step index) chain v (Ok w)
+    → ElementsGoOn sources url pointer chain all done index left → ElementsGoOn sources url pointer chain all (done ++ w ∷ []) (index + 1) more
+elements_step sources url pointer chain all done index left v more w is part before r result =
+    subst (λ (o : Outcome (List Json)). ElementsGive sources url pointer chain 0 all o) (one_before done w r)
     (before (outcome_map (λ ws. w ∷ ws) r) (element url pointer chain index left (outcome_map (λ ws. w ∷ ws) r) v more w r is part result refl))
 
-pub members_begin : (models : Models) (values : Values) (url pointer : List ℕ) (chain : List Reference) (all : List (List ℕ × Json)) → MembersGoOn models values url pointer chain all [] all
-members_begin models values url pointer chain all r result = subst (λ (o : Outcome (List (List ℕ × Json))). MembersGive models values url pointer chain all o) (nothing_before r) result
+pub members_begin : (sources : Sources) (url pointer : List ℕ) (chain : List Reference) (all : List (List ℕ × Json)) → MembersGoOn sources url pointer chain all [] all
+members_begin sources url pointer chain all r result = subst (λ (o : Outcome (List (List ℕ × Json))). MembersGive sources url pointer chain all o) (nothing_before r) result
 
-pub members_step : (models : Models) (values : Values) (url pointer : List ℕ) (chain : List Reference) (all done left : List (List ℕ × Json)) (m : List ℕ × Json) (more : List (List ℕ × Json)) (w : Json)
-    → left ≡ m ∷ more → bytes_eq m.0 reference_name ≡ false → PartGives models values url (pointer ++ step_text m.0) chain m.1 (Ok w)
-    → MembersGoOn models values url pointer chain all done left → MembersGoOn models values url pointer chain all (done ++ (m.0, w) ∷ []) more
-members_step models values url pointer chain all done left m more w is other part before r result =
-    subst (λ (o : Outcome (List (List ℕ × Json))). MembersGive models values url pointer chain all o) (one_before done (m.0, w) r)
+pub members_step : (sources : Sources) (url pointer : List ℕ) (chain : List Reference) (all done left : List (List ℕ × Json)) (m : List ℕ × Json) (more : List (List ℕ × Json)) (w : Json)
+    → left ≡ m ∷ more → bytes_eq m.0 reference_name ≡ false → PartGives sources url (pointer ++ step_text m.0) chain m.1 (Ok w)
+    → MembersGoOn sources url pointer chain all done left → MembersGoOn sources url pointer chain all (done ++ (m.0, w) ∷ []) more
+members_step sources url pointer chain all done left m more w is other part before r result =
+    subst (λ (o : Outcome (List (List ℕ × Json))). MembersGive sources url pointer chain all o) (one_before done (m.0, w) r)
     (before (outcome_map (λ ws. (m.0, w) ∷ ws) r) (member url pointer chain left (outcome_map (λ ws. (m.0, w) ∷ ws) r) m more w r is other part result refl))
 
-pub members_skip : (models : Models) (values : Values) (url pointer : List ℕ) (chain : List Reference) (all done left : List (List ℕ × Json)) (m : List ℕ × Json) (more : List (List ℕ × Json))
-    → left ≡ m ∷ more → bytes_eq m.0 reference_name ≡ true → MembersGoOn models values url pointer chain all done left → MembersGoOn models values url pointer chain all done more
-members_skip models values url pointer chain all done left m more is reference before r result =
+pub members_skip : (sources : Sources) (url pointer : List ℕ) (chain : List Reference) (all done left : List (List ℕ × Json)) (m : List ℕ × Json) (more : List (List ℕ × Json))
+    → left ≡ m ∷ more → bytes_eq m.0 reference_name ≡ true → MembersGoOn sources url pointer chain all done left → MembersGoOn sources url pointer chain all done more
+members_skip sources url pointer chain all done left m more is reference before r result =
     before r (left_out url pointer chain left r m more is reference result)
 
 -- ---- order
@@ -99,90 +99,90 @@ pub left_at : {X : Type 0} (xs : List X) (i : ℕ) (x : X) → i < length xs →
 left_at {X} xs i x within is = (rw (add-one, drop-cons xs i x)) ∙ ap (λ (y : X). y ∷ drop (i + 1) xs) (sym is)
 
 -- an element with a fault ends the walk
-pub elements_stop : (models : Models) (values : Values) (url place : List ℕ) (chain : List Reference) (list : List Tree) (items done : List Json) (index : ℕ) (item : Tree) (below : List ℕ) (es : List Reference) (fault : ResolveFault)
+pub elements_stop : (sources : Sources) (url place : List ℕ) (chain : List Reference) (list : List Tree) (items done : List Json) (index : ℕ) (item : Tree) (below : List ℕ) (es : List Reference) (fault : ResolveFault)
     → json_items list ≡ items → index < length list → item ≡ get_or list index item → below ≡ place ++ element_step index → es ≡ chain
-    → ElementsGoOn models values url place chain (json_items list) done index (json_items (drop index list))
-    → PartGives models values url below es (json_of item) (Err fault) → ElementsGive models values url place chain 0 items (Err fault)
-elements_stop models values url place chain list items done index item below es fault same within is at_step at_chain before part =
+    → ElementsGoOn sources url place chain (json_items list) done index (json_items (drop index list))
+    → PartGives sources url below es (json_of item) (Err fault) → ElementsGive sources url place chain 0 items (Err fault)
+elements_stop sources url place chain list items done index item below es fault same within is at_step at_chain before part =
     let left : json_items (drop index list) ≡ json_of item ∷ json_items (drop (index + 1) list) = ap json_items (left_at list index item within is) in
-    let there : PartGives models values url (place ++ element_step index) chain (json_of item) (Err fault) =
-    subst (λ (p : List ℕ). PartGives models values url p chain (json_of item) (Err fault)) at_step
-    (subst (λ (c : List Reference). PartGives models values url below c (json_of item) (Err fault)) at_chain part) in
-    subst (λ (vs : List Json). ElementsGive models values url place chain 0 vs (Err fault)) same
+    let there : PartGives sources url (place ++ element_step index) chain (json_of item) (Err fault) =
+    subst (λ (p : List ℕ). PartGives sources url p chain (json_of item) (Err fault)) at_step
+    (subst (λ (c : List Reference). PartGives sources url below c (json_of item) (Err fault)) at_chain part) in
+    subst (λ (vs : List Json). ElementsGive sources url place chain 0 vs (Err fault)) same
     (before (Err fault) (element_fails url place chain index (json_items (drop index list)) (Err fault) (json_of item) (json_items (drop (index + 1) list)) fault left there refl))
 
 -- one with a value goes on
-pub elements_more : (models : Models) (values : Values) (url place : List ℕ) (chain : List Reference) (list : List Tree) (done : List Json) (index : ℕ) (item : Tree) (below : List ℕ) (es : List Reference) (w : Json)
+pub elements_more : (sources : Sources) (url place : List ℕ) (chain : List Reference) (list : List Tree) (done : List Json) (index : ℕ) (item : Tree) (below : List ℕ) (es : List Reference) (w : Json)
     → index < length list → item ≡ get_or list index item → below ≡ place ++ element_step index → es ≡ chain
-    → ElementsGoOn models values url place chain (json_items list) done index (json_items (drop index list))
-    → PartGives models values url below es (json_of item) (Ok w)
-    → ElementsGoOn models values url place chain (json_items list) (done ++ w ∷ []) (index + 1) (json_items (drop (index + 1) list))
-elements_more models values url place chain list done index item below es w within is at_step at_chain before part =
+    → ElementsGoOn sources url place chain (json_items list) done index (json_items (drop index list))
+    → PartGives sources url below es (json_of item) (Ok w)
+    → ElementsGoOn sources url place chain (json_items list) (done ++ w ∷ []) (index + 1) (json_items (drop (index + 1) list))
+elements_more sources url place chain list done index item below es w within is at_step at_chain before part =
     let left : json_items (drop index list) ≡ json_of item ∷ json_items (drop (index + 1) list) = ap json_items (left_at list index item within is) in
-    let there : PartGives models values url (place ++ element_step index) chain (json_of item) (Ok w) =
-    subst (λ (p : List ℕ). PartGives models values url p chain (json_of item) (Ok w)) at_step
-    (subst (λ (c : List Reference). PartGives models values url below c (json_of item) (Ok w)) at_chain part) in
-    elements_step models values url place chain (json_items list) done index (json_items (drop index list)) (json_of item) (json_items (drop (index + 1) list)) w left there before
+    let there : PartGives sources url (place ++ element_step index) chain (json_of item) (Ok w) =
+    subst (λ (p : List ℕ). PartGives sources url p chain (json_of item) (Ok w)) at_step
+    (subst (λ (c : List Reference). PartGives sources url below c (json_of item) (Ok w)) at_chain part) in
+    elements_step sources url place chain (json_items list) done index (json_items (drop index list)) (json_of item) (json_items (drop (index + 1) list)) w left there before
 
 -- the end of the list ends the walk
-pub elements_end : (models : Models) (values : Values) (url place : List ℕ) (chain : List Reference) (list : List Tree) (items done : List Json) (index : ℕ)
+pub elements_end : (sources : Sources) (url place : List ℕ) (chain : List Reference) (list : List Tree) (items done : List Json) (index : ℕ)
     → json_items list ≡ items → length list ≤ index
-    → ElementsGoOn models values url place chain (json_items list) done index (json_items (drop index list))
-    → ElementsGive models values url place chain 0 items (Ok done)
-elements_end models values url place chain list items done index same past before =
+    → ElementsGoOn sources url place chain (json_items list) done index (json_items (drop index list))
+    → ElementsGive sources url place chain 0 items (Ok done)
+elements_end sources url place chain list items done index same past before =
     let none : json_items (drop index list) ≡ [] = ap json_items (drop_all index list past) in
-    subst (λ (vs : List Json). ElementsGive models values url place chain 0 vs (Ok done)) same
-    (subst (λ (ws : List Json). ElementsGive models values url place chain 0 (json_items list) (Ok ws)) (append-nil done)
+    subst (λ (vs : List Json). ElementsGive sources url place chain 0 vs (Ok done)) same
+    (subst (λ (ws : List Json). ElementsGive sources url place chain 0 (json_items list) (Ok ws)) (append-nil done)
     (before (Ok []) (no_elements url place chain index (json_items (drop index list)) (Ok []) none refl)))
 
 -- a member with a fault ends the walk
-pub members_stop : (models : Models) (values : Values) (url place : List ℕ) (chain : List Reference) (list : List (List ℕ × Tree)) (members done : List (List ℕ × Json)) (index : ℕ) (m : List ℕ × Tree) (name below : List ℕ) (es : List Reference) (fault : ResolveFault)
+pub members_stop : (sources : Sources) (url place : List ℕ) (chain : List Reference) (list : List (List ℕ × Tree)) (members done : List (List ℕ × Json)) (index : ℕ) (m : List ℕ × Tree) (name below : List ℕ) (es : List Reference) (fault : ResolveFault)
     → json_members list ≡ members → index < length list → m ≡ get_or list index m → name ≡ m.0 → bytes_eq name reference_name ≡ false → below ≡ place ++ step_text name → es ≡ chain
-    → MembersGoOn models values url place chain (json_members list) done (json_members (drop index list))
-    → PartGives models values url below es (json_of m.1) (Err fault) → MembersGive models values url place chain members (Err fault)
-members_stop models values url place chain list members done index m name below es fault same within is named other at_step at_chain before part =
+    → MembersGoOn sources url place chain (json_members list) done (json_members (drop index list))
+    → PartGives sources url below es (json_of m.1) (Err fault) → MembersGive sources url place chain members (Err fault)
+members_stop sources url place chain list members done index m name below es fault same within is named other at_step at_chain before part =
     let left : json_members (drop index list) ≡ json_member m ∷ json_members (drop (index + 1) list) = ap json_members (left_at list index m within is) in
-    let there : PartGives models values url (place ++ step_text m.0) chain (json_of m.1) (Err fault) =
-    subst (λ (p : List ℕ). PartGives models values url p chain (json_of m.1) (Err fault)) (at_step ∙ ap (λ (n : List ℕ). place ++ step_text n) named)
-    (subst (λ (c : List Reference). PartGives models values url below c (json_of m.1) (Err fault)) at_chain part) in
-    subst (λ (ms : List (List ℕ × Json)). MembersGive models values url place chain ms (Err fault)) same
+    let there : PartGives sources url (place ++ step_text m.0) chain (json_of m.1) (Err fault) =
+    subst (λ (p : List ℕ). PartGives sources url p chain (json_of m.1) (Err fault)) (at_step ∙ ap (λ (n : List ℕ). place ++ step_text n) named)
+    (subst (λ (c : List Reference). PartGives sources url below c (json_of m.1) (Err fault)) at_chain part) in
+    subst (λ (ms : List (List ℕ × Json)). MembersGive sources url place chain ms (Err fault)) same
     (before (Err fault) (member_fails url place chain (json_members (drop index list)) (Err fault) (json_member m) (json_members (drop (index + 1) list)) fault left
     (sym (ap (λ (n : List ℕ). bytes_eq n reference_name) named) ∙ other) there refl))
 
 -- one with a value goes on
-pub members_more : (models : Models) (values : Values) (url place : List ℕ) (chain : List Reference) (list : List (List ℕ × Tree)) (done : List (List ℕ × Json)) (index : ℕ) (m : List ℕ × Tree) (name below copied : List ℕ) (es : List Reference) (w : Json)
+pub members_more : (sources : Sources) (url place : List ℕ) (chain : List Reference) (list : List (List ℕ × Tree)) (done : List (List ℕ × Json)) (index : ℕ) (m : List ℕ × Tree) (name below copied : List ℕ) (es : List Reference) (w : Json)
     → index < length list → m ≡ get_or list index m → name ≡ m.0 → bytes_eq name reference_name ≡ false → below ≡ place ++ step_text name → copied ≡ m.0 → es ≡ chain
-    → MembersGoOn models values url place chain (json_members list) done (json_members (drop index list))
-    → PartGives models values url below es (json_of m.1) (Ok w)
-    → MembersGoOn models values url place chain (json_members list) (done ++ (copied, w) ∷ []) (json_members (drop (index + 1) list))
-members_more models values url place chain list done index m name below copied es w within is named other at_step is_copied at_chain before part =
+    → MembersGoOn sources url place chain (json_members list) done (json_members (drop index list))
+    → PartGives sources url below es (json_of m.1) (Ok w)
+    → MembersGoOn sources url place chain (json_members list) (done ++ (copied, w) ∷ []) (json_members (drop (index + 1) list))
+members_more sources url place chain list done index m name below copied es w within is named other at_step is_copied at_chain before part =
     let left : json_members (drop index list) ≡ json_member m ∷ json_members (drop (index + 1) list) = ap json_members (left_at list index m within is) in
-    let there : PartGives models values url (place ++ step_text m.0) chain (json_of m.1) (Ok w) =
-    subst (λ (p : List ℕ). PartGives models values url p chain (json_of m.1) (Ok w)) (at_step ∙ ap (λ (n : List ℕ). place ++ step_text n) named)
-    (subst (λ (c : List Reference). PartGives models values url below c (json_of m.1) (Ok w)) at_chain part) in
-    subst (λ (n : List ℕ). MembersGoOn models values url place chain (json_members list) (done ++ (n, w) ∷ []) (json_members (drop (index + 1) list))) (sym is_copied)
-    (members_step models values url place chain (json_members list) done (json_members (drop index list)) (json_member m) (json_members (drop (index + 1) list)) w left
+    let there : PartGives sources url (place ++ step_text m.0) chain (json_of m.1) (Ok w) =
+    subst (λ (p : List ℕ). PartGives sources url p chain (json_of m.1) (Ok w)) (at_step ∙ ap (λ (n : List ℕ). place ++ step_text n) named)
+    (subst (λ (c : List Reference). PartGives sources url below c (json_of m.1) (Ok w)) at_chain part) in
+    subst (λ (n : List ℕ). MembersGoOn sources url place chain (json_members list) (done ++ (n, w) ∷ []) (json_members (drop (index + 1) list))) (sym is_copied)
+    (members_step sources url place chain (json_members list) done (json_members (drop index list)) (json_member m) (json_members (drop (index + 1) list)) w left
     (sym (ap (λ (n : List ℕ). bytes_eq n reference_name) named) ∙ other) there before)
 
 -- `tm:ref` is left out
-pub members_without : (models : Models) (values : Values) (url place : List ℕ) (chain : List Reference) (list : List (List ℕ × Tree)) (done : List (List ℕ × Json)) (index : ℕ) (m : List ℕ × Tree) (name : List ℕ)
+pub members_without : (sources : Sources) (url place : List ℕ) (chain : List Reference) (list : List (List ℕ × Tree)) (done : List (List ℕ × Json)) (index : ℕ) (m : List ℕ × Tree) (name : List ℕ)
     → index < length list → m ≡ get_or list index m → name ≡ m.0 → bytes_eq name reference_name ≡ true
-    → MembersGoOn models values url place chain (json_members list) done (json_members (drop index list))
-    → MembersGoOn models values url place chain (json_members list) done (json_members (drop (index + 1) list))
-members_without models values url place chain list done index m name within is named reference before =
+    → MembersGoOn sources url place chain (json_members list) done (json_members (drop index list))
+    → MembersGoOn sources url place chain (json_members list) done (json_members (drop (index + 1) list))
+members_without sources url place chain list done index m name within is named reference before =
     let left : json_members (drop index list) ≡ json_member m ∷ json_members (drop (index + 1) list) = ap json_members (left_at list index m within is) in
-    members_skip models values url place chain (json_members list) done (json_members (drop index list)) (json_member m) (json_members (drop (index + 1) list)) left
+    members_skip sources url place chain (json_members list) done (json_members (drop index list)) (json_member m) (json_members (drop (index + 1) list)) left
     (sym (ap (λ (n : List ℕ). bytes_eq n reference_name) named) ∙ reference) before
 
 -- the end of the members ends the walk
-pub members_end : (models : Models) (values : Values) (url place : List ℕ) (chain : List Reference) (list : List (List ℕ × Tree)) (members done : List (List ℕ × Json)) (index : ℕ)
+pub members_end : (sources : Sources) (url place : List ℕ) (chain : List Reference) (list : List (List ℕ × Tree)) (members done : List (List ℕ × Json)) (index : ℕ)
     → json_members list ≡ members → length list ≤ index
-    → MembersGoOn models values url place chain (json_members list) done (json_members (drop index list))
-    → MembersGive models values url place chain members (Ok done)
-members_end models values url place chain list members done index same past before =
+    → MembersGoOn sources url place chain (json_members list) done (json_members (drop index list))
+    → MembersGive sources url place chain members (Ok done)
+members_end sources url place chain list members done index same past before =
     let none : json_members (drop index list) ≡ [] = ap json_members (drop_all index list past) in
-    subst (λ (ms : List (List ℕ × Json)). MembersGive models values url place chain ms (Ok done)) same
-    (subst (λ (ws : List (List ℕ × Json)). MembersGive models values url place chain (json_members list) (Ok ws)) (append-nil done)
+    subst (λ (ms : List (List ℕ × Json)). MembersGive sources url place chain ms (Ok done)) same
+    (subst (λ (ws : List (List ℕ × Json)). MembersGive sources url place chain (json_members list) (Ok ws)) (append-nil done)
     (before (Ok []) (no_members url place chain (json_members (drop index list)) (Ok []) none refl)))
 
 -- the members so far and those that are left stay in order, with a value in place of a member

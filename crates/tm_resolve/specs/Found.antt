@@ -2,8 +2,8 @@
 use Rattle.std.specs.Prelude.{◌≡◌, ℕ, List, [], ◌∷◌}
 use Rattle.wot_json.specs.Tree.{Json}
 use Rattle.wot_json.specs.Meaning.{json_of}
-use Rattle.tm_resolve.specs.declared.extension.Extensions.{Extensions}
-use Rattle.tm_resolve.specs.declared.extension.Extensions.TheVariants as found
+use Rattle.tm_resolve.specs.declared.links.Extensions.{Extensions}
+use Rattle.tm_resolve.specs.declared.links.Extensions.TheVariants as found
 
 -- this was found of these links
 abbrev pub ShowsExtensions : Extensions → List (ℕ × Json) → Type 0

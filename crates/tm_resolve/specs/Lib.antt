@@ -1,4 +1,6 @@
-pub mod Extension
-pub mod Found
 pub mod Chain
+pub mod Links
+pub mod Found
+pub mod Weight
+pub mod Counting
 pub mod Value

@@ -11,6 +11,8 @@ use wot_json::Text;
 /// The kind of a fault in a model.
 #[derive(Debug, Clone, Copy, PartialEq, Eq)]
 pub enum ResolveKind {
+    /// What the model brings in is too much, too deep, or behind too long a chain of models and parts.
+    TooLarge,
     /// The value of `tm:ref` is no text, or refers to no part of a model.
     BadRef,
     /// The `href` of a link is no text, or can't be joined to the URL of the model.
@@ -67,8 +69,8 @@ impl ResolveFault {
     }
 
     /// The fault of the substitution in a model.
-    pub(crate) fn of_part(alloc: Global, url: &str, fault: PartFault) -> ResolveFault
-        ensures { (result ≡ ResolveFault.NoMemory) ⊎ (result ≡ fault_in url.now fault) }
+    pub(crate) fn of_part(alloc: Global, url: &str, fault: &PartFault) -> ResolveFault
+        ensures { (result ≡ ResolveFault.NoMemory) ⊎ (result ≡ fault_in url.now fault.now) }
     {
         match fault {
             PartFault::InName(pointer) => {

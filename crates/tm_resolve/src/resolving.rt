@@ -4,8 +4,10 @@ ghost use Rattle.std.specs.Prelude.{◌≡◌, ◌⊎◌, Ok, Err, IfOk, IfErr};
 ghost use Rattle.wot_json.specs.Meaning.{json_of};
 ghost use Rattle.tm_resolve.specs.Value.{Resolves};
 
-use crate::fault::ResolveFault;
-use crate::walk::{Sources, target_value};
+use crate::fault::{ResolveFault, ResolveKind};
+use crate::sources::Sources;
+use crate::walk::target_value;
+use crate::weight::is_too_large;
 use std::alloc::Global;
 use tm_parts::{Bindings, Library, Reference};
 use wot_json::{Text, Tree};
@@ -18,13 +20,15 @@ use wot_json::{Text, Tree};
 /// that `tm:ref` refers to, with its own references brought in first. What leads back to a part on the way to which
 /// it stands is circular; what is brought in twice side by side is not.
 ///
-/// The order of faults is preorder: those of an extension before those of the model, those of a `tm:ref` before
+/// `TooLarge` stands before all other faults, at the root and with the empty pointer: what the model brings in, with its
+/// submodels, weighs more than 262,144, is deeper than 64, or lies behind a chain of more than 16 models and parts.
+/// The order of the others is preorder: those of an extension before those of the model, those of a `tm:ref` before
 /// those of the members beside it, and members in the byte order of their names. Of what comes behind the first fault
 /// nothing is looked at.
 ///
-/// Each step into a model puts the values into the whole of it anew, and what is brought in twice is made twice. So the
-/// time is in proportion to the number of steps, each with the size of its model and of what it brings in, and both can
-/// grow with the power of the number of models.
+/// The values are put into each model of the library once. Then counting takes a time in proportion to the weight, and
+/// at most to the limit, however large the expansion is; for each step it goes through the list of the models' URLs.
+/// What is brought in twice is made twice, so the rest is in proportion to the weight too, times the length of chains.
 pub fn resolve(
     alloc: Global,
     library: &Library,
@@ -36,13 +40,15 @@ pub fn resolve(
 {
     let sources = Sources {
         alloc,
-        library,
-        bindings,
+        models: library.substituted(bindings)?,
     };
     let target = Reference {
         url: Text::copy_of(alloc, root)?,
         pointer: Text::copy_of(alloc, "")?,
     };
+    if is_too_large(&sources, &target)? {
+        return Err(ResolveFault::at(alloc, ResolveKind::TooLarge, root, ""));
+    }
     let mut chain = Vec::new(alloc);
     target_value(&sources, root, "", &target, &mut chain)
 }

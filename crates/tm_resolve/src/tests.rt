@@ -91,7 +91,13 @@ fn library(alloc: Global) -> Result<Library, Fail> {
     Ok(library)
 }
 
-fn add(alloc: Global, library: &mut Library, name: &str, members: &str) -> Result<(), Fail> {
+/// Puts the model under a URL that ends in its name.
+pub(crate) fn add(
+    alloc: Global,
+    library: &mut Library,
+    name: &str,
+    members: &str,
+) -> Result<(), Fail> {
     let url = format!(in alloc; "https://m.example/{name}")?;
     let text = format!(in alloc; "{{\"@type\":\"tm:ThingModel\",{members}}}")?;
     let model = read(alloc, text.as_bytes())?;
@@ -100,7 +106,7 @@ fn add(alloc: Global, library: &mut Library, name: &str, members: &str) -> Resul
 }
 
 /// The text of the value, or the kind of the fault, its model and its place.
-fn outcome(alloc: Global, library: &Library, name: &str) -> Result<String, Fail> {
+pub(crate) fn outcome(alloc: Global, library: &Library, name: &str) -> Result<String, Fail> {
     let mut bindings = Bindings::new(alloc);
     bindings.push(Text::copy_of(alloc, "A")?, Tree::Int(5))?;
     let root = format!(in alloc; "https://m.example/{name}")?;

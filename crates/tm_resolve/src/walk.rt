@@ -7,90 +7,64 @@ ghost use Rattle.std.specs.Prelude.{◌≡◌, ◌≢◌, ◌⊎◌, [], ◌∷�
 ghost use Rattle.wot_json.specs.Meaning.{json_of};
 ghost use Rattle.wot_json.specs.Lookup.{member_named};
 ghost use Rattle.wot_json.specs.Tree.{Json, object, members_of};
-ghost use Rattle.tm_parts.specs.Placeholders.{first_of};
-ghost use Rattle.tm_parts.specs.Substitution.{faults_of};
-ghost use Rattle.tm_parts.specs.Substitution as part;
-ghost use Rattle.tm_parts.specs.declared.substitution.PartFault.{PartFault};
-ghost use Rattle.tm_resolve.specs.Chain.{Enters, StandsAt};
-ghost use Rattle.tm_resolve.specs.Extension.{reference_name, extensions};
-ghost use Rattle.tm_resolve.specs.Value.{fault_in, IsReference, TargetGives, ModelGives, PartGives, ElementsGive, MembersGive};
+ghost use Rattle.wot_json.specs.Pointer.{part_of};
+ghost use Rattle.tm_parts.specs.Sources.{kept_sources};
+ghost use Rattle.tm_resolve.specs.Chain.{Enters};
+ghost use Rattle.tm_resolve.specs.Links.{reference_name, reference_of, extensions};
+ghost use Rattle.tm_resolve.specs.Value.{TargetGives, ModelGives, PartGives, ElementsGive, MembersGive};
 ghost use Rattle.tm_resolve.specs.Value as spec;
 
 use crate::chain::{push_target, stands_in};
-use crate::extension::{Extensions, REFERENCE, base_of, extensions_of, without_links};
 use crate::fault::{ResolveFault, ResolveKind};
-use std::alloc::Global;
-use tm_parts::{Bindings, Library, RefFault, Reference, substitute, target};
-use wot_json::{Items, Members, Text, Tree, below, below_index, copy, merge_patch, pointer};
-
-/// What all steps of a walk read.
-#[derive(Drop)]
-pub(crate) struct Sources<'a> {
-    pub(crate) alloc: Global,
-    pub(crate) library: &'a Library,
-    pub(crate) bindings: &'a Bindings,
-}
+use crate::links::{
+    Extensions, REFERENCE, extensions_of, link_target, reference_target, without_links,
+};
+use crate::sources::{Sources, part_at};
+use tm_parts::{Reference, source_named};
+use wot_json::{Items, Members, Text, Tree, below, below_index, copy, merge_patch};
 
 /// What the target is worth to the part of a model that leads to it.
 #[cycle(walk)]
 pub(crate) fn target_value(
-    sources: &Sources<'_>,
+    sources: &Sources,
     url: &str,
     place: &str,
     target: &Reference,
     chain: &mut Vec<Reference>,
 ) -> Result<Tree, ResolveFault>
-    ensures value { IfOk result (λ t. TargetGives sources.now.library.now sources.now.bindings.now url.now place.now
+    ensures value { IfOk result (λ t. TargetGives (kept_sources sources.now.models.items) url.now place.now
         chain.old.items target.now (Ok (json_of t))) }
-    ensures fault { IfErr result (λ e. (e ≡ ResolveFault.NoMemory) ⊎ TargetGives sources.now.library.now
-        sources.now.bindings.now url.now place.now chain.old.items target.now (Err e)) }
+    ensures fault { IfErr result (λ e. (e ≡ ResolveFault.NoMemory) ⊎ TargetGives (kept_sources sources.now.models.items) url.now place.now chain.old.items target.now (Err e)) }
     ensures chain { OnOk result (chain.new.items ≡ chain.old.items) }
 {
     let alloc = sources.alloc;
-    let model = match sources.library.get(target.url.as_str()) {
+    let model = match source_named(sources.models.as_slice(), target.url.as_str()) {
         Some(model) => model,
         None => return Err(ResolveFault::at(alloc, ResolveKind::MissingModel, url, place)),
     };
     if stands_in(target, chain) {
         return Err(ResolveFault::at(alloc, ResolveKind::Circular, url, place));
     }
-    let whole = substituted(alloc, target.url.as_str(), model, sources.bindings)?;
-    entered_value(sources, url, place, target, &whole, chain)
-}
-
-/// The model with values in place of its placeholders, or the first fault of that, in the model at this URL.
-fn substituted(
-    alloc: Global,
-    url: &str,
-    model: &Tree,
-    bindings: &Bindings,
-) -> Result<Tree, ResolveFault>
-    ensures value { IfOk result (λ t. json_of t ≡ part.substituted (json_of model.now) bindings.now) }
-    ensures faultless { OnOk result (faults_of (json_of model.now) bindings.now ≡ []) }
-    ensures fault { IfErr result (λ e. (e ≡ ResolveFault.NoMemory)
-        ⊎ ((fault : PartFault) × (first_of (faults_of (json_of model.now) bindings.now) ≡ Some fault) × (e ≡ fault_in url.now fault))) }
-{
-    match substitute(alloc, model, bindings) {
-        Ok(whole) => Ok(whole),
-        Err(fault) => Err(ResolveFault::of_part(alloc, url, fault)),
+    match model {
+        Ok(whole) => entered_value(sources, url, place, target, whole, chain),
+        Err(fault) => Err(ResolveFault::of_part(alloc, target.url.as_str(), fault)),
     }
 }
 
 /// What a target is worth whose model may be entered.
 #[cycle(walk)]
 fn entered_value(
-    sources: &Sources<'_>,
+    sources: &Sources,
     url: &str,
     place: &str,
     target: &Reference,
     whole: &Tree,
     chain: &mut Vec<Reference>,
 ) -> Result<Tree, ResolveFault>
-    requires { Enters sources.now.library.now sources.now.bindings.now chain.old.items target.now (json_of whole.now) }
-    ensures value { IfOk result (λ t. TargetGives sources.now.library.now sources.now.bindings.now url.now place.now
+    requires { Enters (kept_sources sources.now.models.items) chain.old.items target.now (json_of whole.now) }
+    ensures value { IfOk result (λ t. TargetGives (kept_sources sources.now.models.items) url.now place.now
         chain.old.items target.now (Ok (json_of t))) }
-    ensures fault { IfErr result (λ e. (e ≡ ResolveFault.NoMemory) ⊎ TargetGives sources.now.library.now
-        sources.now.bindings.now url.now place.now chain.old.items target.now (Err e)) }
+    ensures fault { IfErr result (λ e. (e ≡ ResolveFault.NoMemory) ⊎ TargetGives (kept_sources sources.now.models.items) url.now place.now chain.old.items target.now (Err e)) }
     ensures chain { OnOk result (chain.new.items ≡ chain.old.items) }
 {
     let part = match part_at(whole, target.pointer.as_str()) {
@@ -103,33 +77,20 @@ fn entered_value(
     Ok(value)
 }
 
-/// What stands at a pointer, where anything does.
-fn part_at<'a>(whole: &'a Tree, place: &str) -> Option<&'a Tree>
-    ensures { MatchOption result ((part : Json) → StandsAt place.now (json_of whole.now) part → ⊥)
-        (λ part. StandsAt place.now (json_of whole.now) (json_of part.now)) }
-{
-    match pointer(whole, place) {
-        Ok(part) => part,
-        Err(_) => None,
-    }
-}
-
 /// What the part of the last target of the chain becomes, which is a whole model or a part of one.
 #[cycle(walk)]
 fn stepped_value(
-    sources: &Sources<'_>,
+    sources: &Sources,
     target: &Reference,
     part: &Tree,
     chain: &mut Vec<Reference>,
 ) -> Result<Tree, ResolveFault>
-    ensures whole { IfOk result (λ t. target.now.pointer ≡ [] → ModelGives sources.now.library.now
-        sources.now.bindings.now target.now.url chain.old.items (json_of part.now) (Ok (json_of t))) }
-    ensures part { IfOk result (λ t. target.now.pointer ≢ [] → PartGives sources.now.library.now
-        sources.now.bindings.now target.now.url target.now.pointer chain.old.items (json_of part.now) (Ok (json_of t))) }
+    ensures whole { IfOk result (λ t. target.now.pointer ≡ [] → ModelGives (kept_sources sources.now.models.items) target.now.url chain.old.items (json_of part.now) (Ok (json_of t))) }
+    ensures part { IfOk result (λ t. target.now.pointer ≢ [] → PartGives (kept_sources sources.now.models.items) target.now.url target.now.pointer chain.old.items (json_of part.now) (Ok (json_of t))) }
     ensures whole_fault { IfErr result (λ e. target.now.pointer ≡ [] → (e ≡ ResolveFault.NoMemory) ⊎ ModelGives
-        sources.now.library.now sources.now.bindings.now target.now.url chain.old.items (json_of part.now) (Err e)) }
+        (kept_sources sources.now.models.items) target.now.url chain.old.items (json_of part.now) (Err e)) }
     ensures part_fault { IfErr result (λ e. target.now.pointer ≢ [] → (e ≡ ResolveFault.NoMemory) ⊎ PartGives
-        sources.now.library.now sources.now.bindings.now target.now.url target.now.pointer chain.old.items
+        (kept_sources sources.now.models.items) target.now.url target.now.pointer chain.old.items
         (json_of part.now) (Err e)) }
     ensures chain { OnOk result (chain.new.items ≡ chain.old.items) }
 {
@@ -148,15 +109,14 @@ fn stepped_value(
 /// What a whole model becomes.
 #[cycle(walk)]
 fn model_value(
-    sources: &Sources<'_>,
+    sources: &Sources,
     url: &str,
     whole: &Tree,
     chain: &mut Vec<Reference>,
 ) -> Result<Tree, ResolveFault>
-    ensures value { IfOk result (λ t. ModelGives sources.now.library.now sources.now.bindings.now url.now
+    ensures value { IfOk result (λ t. ModelGives (kept_sources sources.now.models.items) url.now
         chain.old.items (json_of whole.now) (Ok (json_of t))) }
-    ensures fault { IfErr result (λ e. (e ≡ ResolveFault.NoMemory) ⊎ ModelGives sources.now.library.now
-        sources.now.bindings.now url.now chain.old.items (json_of whole.now) (Err e)) }
+    ensures fault { IfErr result (λ e. (e ≡ ResolveFault.NoMemory) ⊎ ModelGives (kept_sources sources.now.models.items) url.now chain.old.items (json_of whole.now) (Err e)) }
     ensures chain { OnOk result (chain.new.items ≡ chain.old.items) }
 {
     match extensions_of(whole) {
@@ -174,7 +134,7 @@ fn model_value(
 /// What a model becomes that extends one.
 #[cycle(walk)]
 fn extended_value(
-    sources: &Sources<'_>,
+    sources: &Sources,
     url: &str,
     whole: &Tree,
     index: usize,
@@ -182,15 +142,14 @@ fn extended_value(
     chain: &mut Vec<Reference>,
 ) -> Result<Tree, ResolveFault>
     requires { extensions (json_of whole.now) ≡ (index, json_of link.now) ∷ [] }
-    ensures value { IfOk result (λ t. ModelGives sources.now.library.now sources.now.bindings.now url.now
+    ensures value { IfOk result (λ t. ModelGives (kept_sources sources.now.models.items) url.now
         chain.old.items (json_of whole.now) (Ok (json_of t))) }
-    ensures fault { IfErr result (λ e. (e ≡ ResolveFault.NoMemory) ⊎ ModelGives sources.now.library.now
-        sources.now.bindings.now url.now chain.old.items (json_of whole.now) (Err e)) }
+    ensures fault { IfErr result (λ e. (e ≡ ResolveFault.NoMemory) ⊎ ModelGives (kept_sources sources.now.models.items) url.now chain.old.items (json_of whole.now) (Err e)) }
     ensures chain { OnOk result (chain.new.items ≡ chain.old.items) }
 {
     let alloc = sources.alloc;
     let place = below_index(alloc, "/links", index)?;
-    let base = match base_of(alloc, url, link)? {
+    let base = match link_target(alloc, url, link)? {
         Some(base) => base,
         None => return Err(ResolveFault::at(alloc, ResolveKind::BadHref, url, place.as_str())),
     };
@@ -203,16 +162,15 @@ fn extended_value(
 /// What a part becomes.
 #[cycle(walk)]
 fn part_value(
-    sources: &Sources<'_>,
+    sources: &Sources,
     url: &str,
     place: &str,
     part: &Tree,
     chain: &mut Vec<Reference>,
 ) -> Result<Tree, ResolveFault>
-    ensures value { IfOk result (λ t. PartGives sources.now.library.now sources.now.bindings.now url.now place.now
+    ensures value { IfOk result (λ t. PartGives (kept_sources sources.now.models.items) url.now place.now
         chain.old.items (json_of part.now) (Ok (json_of t))) }
-    ensures fault { IfErr result (λ e. (e ≡ ResolveFault.NoMemory) ⊎ PartGives sources.now.library.now
-        sources.now.bindings.now url.now place.now chain.old.items (json_of part.now) (Err e)) }
+    ensures fault { IfErr result (λ e. (e ≡ ResolveFault.NoMemory) ⊎ PartGives (kept_sources sources.now.models.items) url.now place.now chain.old.items (json_of part.now) (Err e)) }
     ensures chain { OnOk result (chain.new.items ≡ chain.old.items) }
 {
     match part {
@@ -225,16 +183,15 @@ fn part_value(
 /// What the elements of a list become.
 #[cycle(walk)]
 fn items_value(
-    sources: &Sources<'_>,
+    sources: &Sources,
     url: &str,
     place: &str,
     items: &Items,
     chain: &mut Vec<Reference>,
 ) -> Result<Items, ResolveFault>
-    ensures value { IfOk result (λ i. ElementsGive sources.now.library.now sources.now.bindings.now url.now place.now
+    ensures value { IfOk result (λ i. ElementsGive (kept_sources sources.now.models.items) url.now place.now
         chain.old.items 0 items.now (Ok i)) }
-    ensures fault { IfErr result (λ e. (e ≡ ResolveFault.NoMemory) ⊎ ElementsGive sources.now.library.now
-        sources.now.bindings.now url.now place.now chain.old.items 0 items.now (Err e)) }
+    ensures fault { IfErr result (λ e. (e ≡ ResolveFault.NoMemory) ⊎ ElementsGive (kept_sources sources.now.models.items) url.now place.now chain.old.items 0 items.now (Err e)) }
     ensures chain { OnOk result (chain.new.items ≡ chain.old.items) }
 {
     let list = items.as_slice();
@@ -250,16 +207,15 @@ fn items_value(
 /// What an object becomes.
 #[cycle(walk)]
 fn object_value(
-    sources: &Sources<'_>,
+    sources: &Sources,
     url: &str,
     place: &str,
     members: &Members,
     chain: &mut Vec<Reference>,
 ) -> Result<Tree, ResolveFault>
-    ensures value { IfOk result (λ t. PartGives sources.now.library.now sources.now.bindings.now url.now place.now
+    ensures value { IfOk result (λ t. PartGives (kept_sources sources.now.models.items) url.now place.now
         chain.old.items (object (members_of members.now)) (Ok (json_of t))) }
-    ensures fault { IfErr result (λ e. (e ≡ ResolveFault.NoMemory) ⊎ PartGives sources.now.library.now
-        sources.now.bindings.now url.now place.now chain.old.items (object (members_of members.now)) (Err e)) }
+    ensures fault { IfErr result (λ e. (e ≡ ResolveFault.NoMemory) ⊎ PartGives (kept_sources sources.now.models.items) url.now place.now chain.old.items (object (members_of members.now)) (Err e)) }
     ensures chain { OnOk result (chain.new.items ≡ chain.old.items) }
 {
     match members.get(REFERENCE) {
@@ -271,7 +227,7 @@ fn object_value(
 /// What an object with `tm:ref` becomes.
 #[cycle(walk)]
 fn imported_value(
-    sources: &Sources<'_>,
+    sources: &Sources,
     url: &str,
     place: &str,
     members: &Members,
@@ -279,14 +235,16 @@ fn imported_value(
     chain: &mut Vec<Reference>,
 ) -> Result<Tree, ResolveFault>
     requires { member_named reference_name members.now ≡ Some (json_of reference.now) }
-    ensures value { IfOk result (λ t. PartGives sources.now.library.now sources.now.bindings.now url.now place.now
+    ensures value { IfOk result (λ t. PartGives (kept_sources sources.now.models.items) url.now place.now
         chain.old.items (object (members_of members.now)) (Ok (json_of t))) }
-    ensures fault { IfErr result (λ e. (e ≡ ResolveFault.NoMemory) ⊎ PartGives sources.now.library.now
-        sources.now.bindings.now url.now place.now chain.old.items (object (members_of members.now)) (Err e)) }
+    ensures fault { IfErr result (λ e. (e ≡ ResolveFault.NoMemory) ⊎ PartGives (kept_sources sources.now.models.items) url.now place.now chain.old.items (object (members_of members.now)) (Err e)) }
     ensures chain { OnOk result (chain.new.items ≡ chain.old.items) }
 {
     let alloc = sources.alloc;
-    let target = target_of(alloc, url, place, reference)?;
+    let target = match reference_target(alloc, url, reference)? {
+        Some(target) => target,
+        None => return Err(ResolveFault::at(alloc, ResolveKind::BadRef, url, place)),
+    };
     let imported = target_value(sources, url, place, &target, chain)?;
     if !is_object(&imported) {
         return Err(ResolveFault::at(alloc, ResolveKind::NotObject, url, place));
@@ -302,40 +260,18 @@ fn is_object(tree: &Tree) -> bool
     matches!(tree, Tree::Obj(_))
 }
 
-/// Where a `tm:ref` leads that stands in an object at this place of a model.
-fn target_of(
-    alloc: Global,
-    url: &str,
-    place: &str,
-    reference: &Tree,
-) -> Result<Reference, ResolveFault>
-    ensures ok { IfOk result (λ target. IsReference url.now (json_of reference.now) target) }
-    ensures bad { IfErr result (λ e. (e ≡ ResolveFault.NoMemory) ⊎ ((e ≡ ResolveFault.At ResolveKind.BadRef url.now place.now)
-        × ((target : Reference) → IsReference url.now (json_of reference.now) target → ⊥))) }
-{
-    match reference {
-        Tree::Text(text) => match target(alloc, url, text.as_str()) {
-            Ok(target) => Ok(target),
-            Err(RefFault::NoMemory) => Err(ResolveFault::NoMemory),
-            Err(RefFault::BadRef) => Err(ResolveFault::at(alloc, ResolveKind::BadRef, url, place)),
-        },
-        _ => Err(ResolveFault::at(alloc, ResolveKind::BadRef, url, place)),
-    }
-}
-
 /// What the members of an object become, but for `tm:ref`.
 #[cycle(walk)]
 fn members_value(
-    sources: &Sources<'_>,
+    sources: &Sources,
     url: &str,
     place: &str,
     members: &Members,
     chain: &mut Vec<Reference>,
 ) -> Result<Members, ResolveFault>
-    ensures value { IfOk result (λ m. MembersGive sources.now.library.now sources.now.bindings.now url.now place.now
+    ensures value { IfOk result (λ m. MembersGive (kept_sources sources.now.models.items) url.now place.now
         chain.old.items members.now (Ok m)) }
-    ensures fault { IfErr result (λ e. (e ≡ ResolveFault.NoMemory) ⊎ MembersGive sources.now.library.now
-        sources.now.bindings.now url.now place.now chain.old.items members.now (Err e)) }
+    ensures fault { IfErr result (λ e. (e ≡ ResolveFault.NoMemory) ⊎ MembersGive (kept_sources sources.now.models.items) url.now place.now chain.old.items members.now (Err e)) }
     ensures chain { OnOk result (chain.new.items ≡ chain.old.items) }
 {
     let list = members.as_slice();

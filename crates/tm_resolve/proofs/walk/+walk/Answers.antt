@@ -1,6 +1,6 @@
 use Rattle.std.proofs.Common.{ℕ, ◌+◌, ◌∙◌, refl, sym, ap, subst, arith, List, ◌++◌, drop}
 use Rattle.std.specs.Prelude.{Ok, Err}
-use Rattle.std.proofs.lemmas.Result.{err_from_is_err_and}
+use Rattle.std.proofs.lemmas.Result.{err_from_is_err_and, IfOk-weaker, IfErr-weaker}
 use Rattle.wot_json.specs.Meaning.{json_of, json_items, json_members}
 use Rattle.wot_json.specs.Merge.{merge}
 use Rattle.wot_json.specs.Tree.{Json, object, members_of, nesting, AreOrdered}
@@ -10,140 +10,138 @@ use Rattle.tm_parts.specs.declared.reference.Reference.{Reference}
 use Rattle.tm_resolve.specs.Value as spec
 use Rattle.tm_resolve.specs.Value.{Outcome, TargetGives, PartGives, ElementsGive, MembersGive}
 use Rattle.tm_resolve.specs.declared.fault.ResolveFault.{ResolveFault}
+use Rattle.tm_parts.specs.Sources.{kept_sources}
 use Rattle.tm_resolve.proofs.Falls.{budget, budget_falls}
 use Rattle.tm_resolve.proofs.Progress.{gives, fails, below_element, below_member, ElementsGoOn, MembersGoOn, elements_stop, elements_more, elements_end, members_stop, members_more, members_without, members_end, order_more, order_next, order_without}
-use Rattle.tm_resolve.proofs.Rules.{or_else, if_ok, if_err, part_deep, step_gives, step_fails, plain_tree}
+use Rattle.tm_resolve.proofs.Rules.{or_else, part_deep, step_gives, step_fails, plain_tree}
 use Rattle.tm_resolve.proofs.walk.+walk.Goals as goal
 
 pub entered_value-returns-in-None-clause-fault : goal.entered_value-returns-in-None-clause-fault
 entered_value-returns-in-None-clause-fault t c =
     or_else c.at.ensures (λ is.
     spec.no_part c.args.url.now c.args.place.now c.args.chain.now.items c.args.target.now (Err c.at.result) (json_of c.args.whole.now)
-    c.requires.1.1 (rw c.as_str.ensures at c.in-None.ensures) (ap fails is))
+    c.requires.1.1 (rw c.as_str.ensures at (sym c.in-None.ensures)) (ap fails is))
 
 pub entered_value-stepped_value-requires : goal.entered_value-stepped_value-requires
 entered_value-stepped_value-requires t c =
-    let m = c.args.sources.now.library.now in
-    let v = c.args.sources.now.bindings.now in
-    let deep = part_deep m v c.args.chain.now.items c.args.target.now c.as_str.result.now (json_of c.args.whole.now) (json_of c.in-Some.part.now) c.requires.1.1 c.in-Some.ensures in
-    let falls = budget_falls c.args.chain.now.items c.args.target.now m v (nesting (json_of c.in-Some.part.now)) c.in_ok-push_target.ensures.room deep in
-    (omega (arith, falls, ap (λ (es : List Reference). budget es m v) c.in_ok-push_target.ensures.pushed), tt)
+    let s = kept_sources c.args.sources.now.models.items in
+    let deep = part_deep s c.args.chain.now.items c.args.target.now c.as_str.result.now (json_of c.args.whole.now) (json_of c.in-Some.part.now) c.requires.1.1 (sym c.in-Some.ensures) in
+    let falls = budget_falls c.args.chain.now.items c.args.target.now s (nesting (json_of c.in-Some.part.now)) c.in_ok-push_target.ensures.room deep in
+    (omega (arith, falls, ap (λ (es : List Reference). budget es s) c.in_ok-push_target.ensures.pushed), tt)
 
 pub entered_value-returns-in_err-value-clause-fault : goal.entered_value-returns-in_err-value-clause-fault
 entered_value-returns-in_err-value-clause-fault t c =
     let p = err_from_is_err_and c.from_residual-in_err-value.result c.from_residual-in_err-value.ensures.1 in
     rw (p.1, p.2)
-    (step_fails c.args.sources.now.library.now c.args.sources.now.bindings.now c.args.url.now c.args.place.now c.args.chain.now.items c.push_target.new.chain.items c.args.target.now (json_of c.args.whole.now) (json_of c.in-Some.part.now) _
-    c.requires.1.1 (rw c.as_str.ensures at c.in-Some.ensures) c.in_ok-push_target.ensures.pushed c.in_err-value.ensures.whole_fault c.in_err-value.ensures.part_fault)
+    (step_fails (kept_sources c.args.sources.now.models.items) c.args.url.now c.args.place.now c.args.chain.now.items c.push_target.new.chain.items c.args.target.now (json_of c.args.whole.now) (json_of c.in-Some.part.now) _
+    c.requires.1.1 (rw c.as_str.ensures at (sym c.in-Some.ensures)) c.in_ok-push_target.ensures.pushed c.in_err-value.ensures.whole_fault c.in_err-value.ensures.part_fault)
 
 pub entered_value-returns-clause-value : goal.entered_value-returns-clause-value
 entered_value-returns-clause-value t c =
-    step_gives c.args.sources.now.library.now c.args.sources.now.bindings.now c.args.url.now c.args.place.now c.args.chain.now.items c.push_target.new.chain.items c.args.target.now (json_of c.args.whole.now) (json_of c.in-Some.part.now) (Ok (json_of c.in_ok-value.value))
-    c.requires.1.1 (rw c.as_str.ensures at c.in-Some.ensures) c.in_ok-push_target.ensures.pushed c.in_ok-value.ensures.whole c.in_ok-value.ensures.part
+    step_gives (kept_sources c.args.sources.now.models.items) c.args.url.now c.args.place.now c.args.chain.now.items c.push_target.new.chain.items c.args.target.now (json_of c.args.whole.now) (json_of c.in-Some.part.now) (Ok (json_of c.in_ok-value.value))
+    c.requires.1.1 (rw c.as_str.ensures at (sym c.in-Some.ensures)) c.in_ok-push_target.ensures.pushed c.in_ok-value.ensures.whole c.in_ok-value.ensures.part
 
 pub extended_value-returns-in-None-clause-fault : goal.extended_value-returns-in-None-clause-fault
 extended_value-returns-in-None-clause-fault t c =
     or_else c.at.ensures (λ is.
     spec.leads_nowhere c.args.url.now c.args.chain.now.items (json_of c.args.whole.now) (Err c.at.result) c.args.index (json_of c.args.link.now)
-    c.requires.1.1 (rw c.in-None.is at c.in_ok-base.ensures) (rw (c.as_str.ensures, c.in_ok-place.ensures) at (ap (λ (e : ResolveFault). fails {X = Json} e) is)))
+    c.requires.1.1 (sym c.in_ok-base.ensures ∙ c.in-None.is) (rw (c.as_str.ensures, c.in_ok-place.ensures) at (ap (λ (e : ResolveFault). fails {X = Json} e) is)))
 
 pub extended_value-returns-in_err-extended-clause-fault : goal.extended_value-returns-in_err-extended-clause-fault
 extended_value-returns-in_err-extended-clause-fault t c =
     let p = err_from_is_err_and c.from_residual-in_err-extended.result c.from_residual-in_err-extended.ensures.1 in
-    let leads = rw c.in-Some.is at c.in_ok-base.ensures in
+    let leads = sym c.in_ok-base.ensures ∙ c.in-Some.is in
     rw (p.1, p.2)
     (or_else c.in_err-extended.ensures.fault (λ result.
     spec.base_fails c.args.url.now c.args.chain.now.items (json_of c.args.whole.now) _ c.args.index (json_of c.args.link.now) c.in-Some.base _
-    c.requires.1.1 leads.0 leads.1 (rw (c.as_str-2.ensures, c.in_ok-place.ensures) at result) refl))
+    c.requires.1.1 leads (rw (c.as_str-2.ensures, c.in_ok-place.ensures) at result) refl))
 
 pub extended_value-returns-in_err-changes-clause-fault : goal.extended_value-returns-in_err-changes-clause-fault
 extended_value-returns-in_err-changes-clause-fault t c =
     let p = err_from_is_err_and c.from_residual-in_err-changes.result c.from_residual-in_err-changes.ensures.1 in
-    let leads = rw c.in-Some.is at c.in_ok-base.ensures in
+    let leads = sym c.in_ok-base.ensures ∙ c.in-Some.is in
     rw (p.1, p.2)
     (or_else c.in_err-changes.ensures.fault (λ result.
     spec.extends c.args.url.now c.args.chain.now.items (json_of c.args.whole.now) _ c.args.index (json_of c.args.link.now) c.in-Some.base (json_of c.in_ok-extended.extended) _
-    c.requires.1.1 leads.0 leads.1 (rw (c.as_str-2.ensures, c.in_ok-place.ensures) at c.in_ok-extended.ensures.value) (rw c.in_ok-extended.ensures.chain at result) refl))
+    c.requires.1.1 leads (rw (c.as_str-2.ensures, c.in_ok-place.ensures) at c.in_ok-extended.ensures.value) (rw c.in_ok-extended.ensures.chain at result) refl))
 
 pub extended_value-returns-clause-value : goal.extended_value-returns-clause-value
 extended_value-returns-clause-value t c =
-    let leads = rw c.in-Some.is at c.in_ok-base.ensures in
+    let leads = sym c.in_ok-base.ensures ∙ c.in-Some.is in
     spec.extends c.args.url.now c.args.chain.now.items (json_of c.args.whole.now) _ c.args.index (json_of c.args.link.now) c.in-Some.base (json_of c.in_ok-extended.extended) (Ok (json_of c.in_ok-changes.changes))
-    c.requires.1.1 leads.0 leads.1 (rw (c.as_str-2.ensures, c.in_ok-place.ensures) at c.in_ok-extended.ensures.value) (rw c.in_ok-extended.ensures.chain at c.in_ok-changes.ensures.value)
+    c.requires.1.1 leads (rw (c.as_str-2.ensures, c.in_ok-place.ensures) at c.in_ok-extended.ensures.value) (rw c.in_ok-extended.ensures.chain at c.in_ok-changes.ensures.value)
     (ap gives (c.in_ok-merge_patch.ensures ∙ ap (λ (v : Json). merge v (json_of c.in_ok-changes.changes)) c.in_ok-extended-2.ensures))
 
-pub imported_value-returns-in_err-target-clause-fault : goal.imported_value-returns-in_err-target-clause-fault
-imported_value-returns-in_err-target-clause-fault t c =
-    let p = err_from_is_err_and c.from_residual.result c.from_residual.ensures.1 in
-    rw (p.1, p.2)
-    (or_else c.in_err-target.ensures.bad (λ bad.
-    spec.refers_nowhere c.args.url.now c.args.place.now c.args.chain.now.items (object (members_of c.args.members.now)) _ c.args.members.now (json_of c.args.reference.now)
-    refl c.requires.1.1 bad.1 (ap fails bad.0)))
+pub imported_value-returns-in-None-clause-fault : goal.imported_value-returns-in-None-clause-fault
+imported_value-returns-in-None-clause-fault t c =
+    or_else c.at.ensures (λ is.
+    spec.refers_nowhere c.args.url.now c.args.place.now c.args.chain.now.items (object (members_of c.args.members.now)) (Err c.at.result) c.args.members.now (json_of c.args.reference.now)
+    refl c.requires.1.1 (sym c.in_ok-target.ensures ∙ c.in-None.is) (ap fails is))
 
 pub imported_value-returns-in_err-imported-clause-fault : goal.imported_value-returns-in_err-imported-clause-fault
 imported_value-returns-in_err-imported-clause-fault t c =
     let p = err_from_is_err_and c.from_residual-in_err-imported.result c.from_residual-in_err-imported.ensures.1 in
     rw (p.1, p.2)
     (or_else c.in_err-imported.ensures.fault (λ result.
-    spec.target_fails c.args.url.now c.args.place.now c.args.chain.now.items (object (members_of c.args.members.now)) _ c.args.members.now (json_of c.args.reference.now) c.in_ok-target.target _
-    refl c.requires.1.1 c.in_ok-target.ensures.ok result refl))
+    spec.target_fails c.args.url.now c.args.place.now c.args.chain.now.items (object (members_of c.args.members.now)) _ c.args.members.now (json_of c.args.reference.now) c.in-Some.target _
+    refl c.requires.1.1 (sym c.in_ok-target.ensures ∙ c.in-Some.is) result refl))
 
 pub imported_value-returns-then-not-is_object-clause-fault : goal.imported_value-returns-then-not-is_object-clause-fault
 imported_value-returns-then-not-is_object-clause-fault t c =
-    or_else c.at.ensures (λ is.
-    spec.no_object c.args.url.now c.args.place.now c.args.chain.now.items (object (members_of c.args.members.now)) _ c.args.members.now (json_of c.args.reference.now) c.in_ok-target.target (json_of c.in_ok-imported.imported)
-    refl c.requires.1.1 c.in_ok-target.ensures.ok c.in_ok-imported.ensures.value (sym c.if-not-is_object.ensures) (ap fails is))
+    or_else c.at-then-not-is_object.ensures (λ is.
+    spec.no_object c.args.url.now c.args.place.now c.args.chain.now.items (object (members_of c.args.members.now)) _ c.args.members.now (json_of c.args.reference.now) c.in-Some.target (json_of c.in_ok-imported.imported)
+    refl c.requires.1.1 (sym c.in_ok-target.ensures ∙ c.in-Some.is) c.in_ok-imported.ensures.value (sym c.if-not-is_object.ensures) (ap fails is))
 
 pub imported_value-returns-in_err-members_value-clause-fault : goal.imported_value-returns-in_err-members_value-clause-fault
 imported_value-returns-in_err-members_value-clause-fault t c =
     let p = err_from_is_err_and c.from_residual-in_err-members_value.result c.from_residual-in_err-members_value.ensures.1 in
     rw (p.1, p.2)
     (or_else c.in_err-members_value.ensures.fault (λ result.
-    spec.refers c.args.url.now c.args.place.now c.args.chain.now.items (object (members_of c.args.members.now)) _ c.args.members.now (json_of c.args.reference.now) c.in_ok-target.target (json_of c.in_ok-imported.imported) _
-    refl c.requires.1.1 c.in_ok-target.ensures.ok c.in_ok-imported.ensures.value (sym c.if-not-is_object.ensures) (rw c.in_ok-imported.ensures.chain at result) refl))
+    spec.refers c.args.url.now c.args.place.now c.args.chain.now.items (object (members_of c.args.members.now)) _ c.args.members.now (json_of c.args.reference.now) c.in-Some.target (json_of c.in_ok-imported.imported) _
+    refl c.requires.1.1 (sym c.in_ok-target.ensures ∙ c.in-Some.is) c.in_ok-imported.ensures.value (sym c.if-not-is_object.ensures) (rw c.in_ok-imported.ensures.chain at result) refl))
 
 pub imported_value-returns-clause-value : goal.imported_value-returns-clause-value
 imported_value-returns-clause-value t c =
-    spec.refers c.args.url.now c.args.place.now c.args.chain.now.items (object (members_of c.args.members.now)) _ c.args.members.now (json_of c.args.reference.now) c.in_ok-target.target (json_of c.in_ok-imported.imported) (Ok c.in_ok-members_value.field-0)
-    refl c.requires.1.1 c.in_ok-target.ensures.ok c.in_ok-imported.ensures.value (sym c.if-not-is_object.ensures) (rw c.in_ok-imported.ensures.chain at c.in_ok-members_value.ensures.value) (ap gives c.in_ok-merge_patch.ensures)
+    spec.refers c.args.url.now c.args.place.now c.args.chain.now.items (object (members_of c.args.members.now)) _ c.args.members.now (json_of c.args.reference.now) c.in-Some.target (json_of c.in_ok-imported.imported) (Ok c.in_ok-members_value.field-0)
+    refl c.requires.1.1 (sym c.in_ok-target.ensures ∙ c.in-Some.is) c.in_ok-imported.ensures.value (sym c.if-not-is_object.ensures) (rw c.in_ok-imported.ensures.chain at c.in_ok-members_value.ensures.value) (ap gives c.in_ok-merge_patch.ensures)
 
 pub items_value-part_value-requires : goal.items_value-part_value-requires
 items_value-part_value-requires t c =
     let nests = read_element_nests c.as_slice-list.result.now c.args.items.now c.loop-index.index c.index-list-index.result c.as_slice-list.ensures c.loop-index-test.true c.index-list-index.is in
-    (omega (arith, nests, ap (λ (es : List Reference). budget es c.args.sources.now.library.now c.args.sources.now.bindings.now) c.loop-index.invariant.chain), tt)
+    (omega (arith, nests, ap (λ (es : List Reference). budget es (kept_sources c.args.sources.now.models.items)) c.loop-index.invariant.chain), tt)
 
 pub items_value-returns-in_err-value-clause-fault : goal.items_value-returns-in_err-value-clause-fault
 items_value-returns-in_err-value-clause-fault t c =
     let p = err_from_is_err_and c.from_residual-in_err-value.result c.from_residual-in_err-value.ensures.1 in
     rw (p.1, p.2)
     (or_else c.in_err-value.ensures.fault (λ result.
-    elements_stop c.args.sources.now.library.now c.args.sources.now.bindings.now c.args.url.now c.args.place.now c.args.chain.now.items c.as_slice-list.result.now c.args.items.now c.loop-index.values c.loop-index.index c.index-list-index.result c.as_str.result.now c.loop-index.chain.items _
+    elements_stop (kept_sources c.args.sources.now.models.items) c.args.url.now c.args.place.now c.args.chain.now.items c.as_slice-list.result.now c.args.items.now c.loop-index.values c.loop-index.index c.index-list-index.result c.as_str.result.now c.loop-index.chain.items _
     c.as_slice-list.ensures c.loop-index-test.true c.index-list-index.is (below_element c.as_str.result.now c.args.place.now c.loop-index.index (c.as_str.ensures ∙ c.in_ok-below.ensures)) c.loop-index.invariant.chain c.loop-index.invariant.done result))
 
 pub items_value-loop-index-preserved : goal.items_value-loop-index-preserved
 items_value-loop-index-preserved t c = record {
   chain = c.in_ok-value.ensures.chain ∙ c.loop-index.invariant.chain;
-  done = subst (λ (vs : List Json). ElementsGoOn c.args.sources.now.library.now c.args.sources.now.bindings.now c.args.url.now c.args.place.now c.args.chain.now.items (json_items c.as_slice-list.result.now) vs (c.loop-index.index + 1) (json_items (drop (c.loop-index.index + 1) c.as_slice-list.result.now)))
+  done = subst (λ (vs : List Json). ElementsGoOn (kept_sources c.args.sources.now.models.items) c.args.url.now c.args.place.now c.args.chain.now.items (json_items c.as_slice-list.result.now) vs (c.loop-index.index + 1) (json_items (drop (c.loop-index.index + 1) c.as_slice-list.result.now)))
       (sym c.in_ok-push.ensures.ok)
-      (elements_more c.args.sources.now.library.now c.args.sources.now.bindings.now c.args.url.now c.args.place.now c.args.chain.now.items c.as_slice-list.result.now c.loop-index.values c.loop-index.index c.index-list-index.result c.as_str.result.now c.loop-index.chain.items (json_of c.in_ok-value.value)
+      (elements_more (kept_sources c.args.sources.now.models.items) c.args.url.now c.args.place.now c.args.chain.now.items c.as_slice-list.result.now c.loop-index.values c.loop-index.index c.index-list-index.result c.as_str.result.now c.loop-index.chain.items (json_of c.in_ok-value.value)
       c.loop-index-test.true c.index-list-index.is (below_element c.as_str.result.now c.args.place.now c.loop-index.index (c.as_str.ensures ∙ c.in_ok-below.ensures)) c.loop-index.invariant.chain c.loop-index.invariant.done c.in_ok-value.ensures.value);
 }
 
 pub items_value-returns-clause-value : goal.items_value-returns-clause-value
 items_value-returns-clause-value t c =
-    elements_end c.args.sources.now.library.now c.args.sources.now.bindings.now c.args.url.now c.args.place.now c.args.chain.now.items c.as_slice-list.result.now c.args.items.now c.loop-index.values c.loop-index.index c.as_slice-list.ensures c.loop-index-test.false c.loop-index.invariant.done
+    elements_end (kept_sources c.args.sources.now.models.items) c.args.url.now c.args.place.now c.args.chain.now.items c.as_slice-list.result.now c.args.items.now c.loop-index.values c.loop-index.index c.as_slice-list.ensures c.loop-index-test.false c.loop-index.invariant.done
 
 pub members_value-part_value-requires : goal.members_value-part_value-requires
 members_value-part_value-requires t c =
     let nests = read_member_nests c.as_slice-list.result.now c.args.members.now c.loop-name.name-index c.loop-name-item.result c.as_slice-list.ensures.members c.loop-name-test.true c.loop-name-item.is in
-    (omega (arith, nests, ap (λ (es : List Reference). budget es c.args.sources.now.library.now c.args.sources.now.bindings.now) c.loop-name.invariant.chain), tt)
+    (omega (arith, nests, ap (λ (es : List Reference). budget es (kept_sources c.args.sources.now.models.items)) c.loop-name.invariant.chain), tt)
 
 pub members_value-returns-in_err-value-clause-fault : goal.members_value-returns-in_err-value-clause-fault
 members_value-returns-in_err-value-clause-fault t c =
     let p = err_from_is_err_and c.from_residual-in_err-value.result c.from_residual-in_err-value.ensures.1 in
     rw (p.1, p.2)
     (or_else c.in_err-value.ensures.fault (λ result.
-    members_stop c.args.sources.now.library.now c.args.sources.now.bindings.now c.args.url.now c.args.place.now c.args.chain.now.items c.as_slice-list.result.now c.args.members.now c.loop-name.values c.loop-name.name-index c.loop-name-item.result c.as_str.result.now c.as_str-in-loop-name-2.result.now c.loop-name.chain.items _
+    members_stop (kept_sources c.args.sources.now.models.items) c.args.url.now c.args.place.now c.args.chain.now.items c.as_slice-list.result.now c.args.members.now c.loop-name.values c.loop-name.name-index c.loop-name-item.result c.as_str.result.now c.as_str-in-loop-name-2.result.now c.loop-name.chain.items _
     c.as_slice-list.ensures.members c.loop-name-test.true c.loop-name-item.is c.as_str.ensures (sym c.eq.ensures ∙ c.if-eq.false)
     (below_member c.as_str-in-loop-name-2.result.now c.args.place.now c.as_str-in-loop-name.result.now c.as_str.result.now (c.as_str-in-loop-name-2.ensures ∙ c.in_ok-below.ensures) (c.as_str-in-loop-name.ensures ∙ sym c.as_str.ensures))
     c.loop-name.invariant.chain c.loop-name.invariant.done result))
@@ -155,12 +153,12 @@ members_value-push-requires t c =
 
 pub members_value-returns-clause-value : goal.members_value-returns-clause-value
 members_value-returns-clause-value t c =
-    members_end c.args.sources.now.library.now c.args.sources.now.bindings.now c.args.url.now c.args.place.now c.args.chain.now.items c.as_slice-list.result.now c.args.members.now c.loop-name.values c.loop-name.name-index c.as_slice-list.ensures.members c.loop-name-test.false c.loop-name.invariant.done
+    members_end (kept_sources c.args.sources.now.models.items) c.args.url.now c.args.place.now c.args.chain.now.items c.as_slice-list.result.now c.args.members.now c.loop-name.values c.loop-name.name-index c.as_slice-list.ensures.members c.loop-name-test.false c.loop-name.invariant.done
 
 pub members_value-loop-name-preserved-then-eq : goal.members_value-loop-name-preserved-then-eq
 members_value-loop-name-preserved-then-eq t c = record {
   chain = c.loop-name.invariant.chain;
-  done = members_without c.args.sources.now.library.now c.args.sources.now.bindings.now c.args.url.now c.args.place.now c.args.chain.now.items c.as_slice-list.result.now c.loop-name.values c.loop-name.name-index c.loop-name-item.result c.as_str.result.now
+  done = members_without (kept_sources c.args.sources.now.models.items) c.args.url.now c.args.place.now c.args.chain.now.items c.as_slice-list.result.now c.loop-name.values c.loop-name.name-index c.loop-name-item.result c.as_str.result.now
       c.loop-name-test.true c.loop-name-item.is c.as_str.ensures (sym c.eq.ensures ∙ c.if-eq.true) c.loop-name.invariant.done;
   order = order_without c.loop-name.values c.as_slice-list.result.now c.loop-name.name-index c.loop-name-item.result c.loop-name-test.true c.loop-name-item.is c.loop-name.invariant.order;
 }
@@ -170,9 +168,9 @@ members_value-loop-name-preserved t c =
     let copied = c.in_ok-copy_of.ensures ∙ c.as_str-in-loop-name-3.ensures in
     record {
       chain = c.in_ok-value.ensures.chain ∙ c.loop-name.invariant.chain;
-      done = subst (λ (ms : List (List ℕ × Json)). MembersGoOn c.args.sources.now.library.now c.args.sources.now.bindings.now c.args.url.now c.args.place.now c.args.chain.now.items (json_members c.as_slice-list.result.now) ms (json_members (drop (c.loop-name.name-index + 1) c.as_slice-list.result.now)))
+      done = subst (λ (ms : List (List ℕ × Json)). MembersGoOn (kept_sources c.args.sources.now.models.items) c.args.url.now c.args.place.now c.args.chain.now.items (json_members c.as_slice-list.result.now) ms (json_members (drop (c.loop-name.name-index + 1) c.as_slice-list.result.now)))
           (sym c.in_ok-push.ensures.ok)
-          (members_more c.args.sources.now.library.now c.args.sources.now.bindings.now c.args.url.now c.args.place.now c.args.chain.now.items c.as_slice-list.result.now c.loop-name.values c.loop-name.name-index c.loop-name-item.result c.as_str.result.now c.as_str-in-loop-name-2.result.now c.in_ok-copy_of.field-0 c.loop-name.chain.items (json_of c.in_ok-value.value)
+          (members_more (kept_sources c.args.sources.now.models.items) c.args.url.now c.args.place.now c.args.chain.now.items c.as_slice-list.result.now c.loop-name.values c.loop-name.name-index c.loop-name-item.result c.as_str.result.now c.as_str-in-loop-name-2.result.now c.in_ok-copy_of.field-0 c.loop-name.chain.items (json_of c.in_ok-value.value)
           c.loop-name-test.true c.loop-name-item.is c.as_str.ensures (sym c.eq.ensures ∙ c.if-eq.false)
           (below_member c.as_str-in-loop-name-2.result.now c.args.place.now c.as_str-in-loop-name.result.now c.as_str.result.now (c.as_str-in-loop-name-2.ensures ∙ c.in_ok-below.ensures) (c.as_str-in-loop-name.ensures ∙ sym c.as_str.ensures))
           copied c.loop-name.invariant.chain c.loop-name.invariant.done c.in_ok-value.ensures.value);
@@ -184,13 +182,13 @@ members_value-loop-name-preserved t c =
 
 pub model_value-returns-in-None-clause-value : goal.model_value-returns-in-None-clause-value
 model_value-returns-in-None-clause-value t c =
-    if_ok c.part_value.result c.part_value.ensures.value (λ value result.
-    spec.extends_none c.args.url.now c.args.chain.now.items (json_of c.args.whole.now) _ (c.in-None.ensures) result)
+    IfOk-weaker c.part_value.result _ _ (λ value result.
+    spec.extends_none c.args.url.now c.args.chain.now.items (json_of c.args.whole.now) _ (c.in-None.ensures) result) c.part_value.ensures.value
 
 pub model_value-returns-in-None-clause-fault : goal.model_value-returns-in-None-clause-fault
 model_value-returns-in-None-clause-fault t c =
-    if_err c.part_value.result c.part_value.ensures.fault (λ fault either. or_else either (λ result.
-    spec.extends_none c.args.url.now c.args.chain.now.items (json_of c.args.whole.now) _ (c.in-None.ensures) result))
+    IfErr-weaker c.part_value.result _ _ (λ fault either. or_else either (λ result.
+    spec.extends_none c.args.url.now c.args.chain.now.items (json_of c.args.whole.now) _ (c.in-None.ensures) result)) c.part_value.ensures.fault
 
 pub model_value-returns-in-Several-clause-fault : goal.model_value-returns-in-Several-clause-fault
 model_value-returns-in-Several-clause-fault t c =
@@ -229,18 +227,16 @@ pub target_value-returns-in-None-clause-fault : goal.target_value-returns-in-Non
 target_value-returns-in-None-clause-fault t c =
     or_else c.at.ensures (λ is.
     spec.no_model c.args.url.now c.args.place.now c.args.chain.now.items c.args.target.now (Err c.at.result)
-    (rw c.as_str.ensures at (sym (c.in-None.ensures))) (ap fails is))
+    (rw (c.as_slice.ensures.value, c.as_str.ensures) at (sym (c.in-None.ensures))) (ap fails is))
 
 pub target_value-returns-then-stands_in-clause-fault : goal.target_value-returns-then-stands_in-clause-fault
 target_value-returns-then-stands_in-clause-fault t c =
     or_else c.at-then-stands_in.ensures (λ is.
-    spec.circular c.args.url.now c.args.place.now c.args.chain.now.items c.args.target.now (Err c.at-then-stands_in.result) (json_of c.in-Some.model.now)
-    (rw c.as_str.ensures at (sym (c.in-Some.ensures))) (rw c.deref.ensures.value at (sym c.if-stands_in.ensures)) (ap fails is))
+    spec.circular c.args.url.now c.args.place.now c.args.chain.now.items c.args.target.now (Err c.at-then-stands_in.result) _
+    (rw (c.as_slice.ensures.value, c.as_str.ensures) at (sym (c.in-Some.ensures))) (rw c.deref.ensures.value at (sym c.if-stands_in.ensures)) (ap fails is))
 
-pub target_value-returns-in_err-whole-clause-fault : goal.target_value-returns-in_err-whole-clause-fault
-target_value-returns-in_err-whole-clause-fault t c =
-    let p = err_from_is_err_and c.from_residual.result c.from_residual.ensures.1 in
-    rw (p.1, p.2)
-    (or_else c.in_err-whole.ensures.fault (λ bad.
-    spec.faulty c.args.url.now c.args.place.now c.args.chain.now.items c.args.target.now _ (json_of c.in-Some.model.now) bad.0
-    (rw c.as_str.ensures at (sym (c.in-Some.ensures))) (rw c.deref.ensures.value at (sym c.if-stands_in.ensures)) bad.1 (ap fails (rw c.as_str-2.ensures at bad.2))))
+pub target_value-returns-in-Err-clause-fault : goal.target_value-returns-in-Err-clause-fault
+target_value-returns-in-Err-clause-fault t c =
+    or_else c.of_part.ensures (λ is.
+    spec.faulty c.args.url.now c.args.place.now c.args.chain.now.items c.args.target.now (Err c.of_part.result) c.in-Err.fault
+    (rw (c.as_slice.ensures.value, c.as_str.ensures, c.in-Err.is) at (sym (c.in-Some.ensures))) (rw c.deref.ensures.value at (sym c.if-stands_in.ensures)) (ap fails (rw c.as_str-in-Err.ensures at is)))

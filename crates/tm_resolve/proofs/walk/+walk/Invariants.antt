@@ -1,49 +1,50 @@
 use Rattle.std.proofs.Common.{◌≡◌, ◌++◌, ◌+◌, ◌*◌, drop}
 use Rattle.wot_json.specs.Tree.{nesting, most_nesting, most_member_nesting, AreOrdered}
 use Rattle.wot_json.specs.Meaning.{json_of, json_items, json_members}
+use Rattle.tm_parts.specs.Sources.{kept_sources}
 use Rattle.tm_resolve.proofs.Falls.{budget}
 use Rattle.tm_resolve.proofs.Progress.{ElementsGoOn, MembersGoOn}
 use Rattle.tm_resolve.proofs.walk.+walk.Given as goal
 
 abbrev pub decreases-target_value : goal.decreases-target_value
-decreases-target_value l = budget l.chain.now.items l.sources.now.library.now l.sources.now.bindings.now + 2
+decreases-target_value l = budget l.chain.now.items (kept_sources l.sources.now.models.items) + 2
 
 abbrev pub decreases-entered_value : goal.decreases-entered_value
-decreases-entered_value l = budget l.chain.now.items l.sources.now.library.now l.sources.now.bindings.now + 1
+decreases-entered_value l = budget l.chain.now.items (kept_sources l.sources.now.models.items) + 1
 
 abbrev pub decreases-stepped_value : goal.decreases-stepped_value
-decreases-stepped_value l = budget l.chain.now.items l.sources.now.library.now l.sources.now.bindings.now + (8 * nesting (json_of l.part.now) + 8)
+decreases-stepped_value l = budget l.chain.now.items (kept_sources l.sources.now.models.items) + (8 * nesting (json_of l.part.now) + 8)
 
 abbrev pub decreases-model_value : goal.decreases-model_value
-decreases-model_value l = budget l.chain.now.items l.sources.now.library.now l.sources.now.bindings.now + (8 * nesting (json_of l.whole.now) + 7)
+decreases-model_value l = budget l.chain.now.items (kept_sources l.sources.now.models.items) + (8 * nesting (json_of l.whole.now) + 7)
 
 abbrev pub decreases-extended_value : goal.decreases-extended_value
-decreases-extended_value l = budget l.chain.now.items l.sources.now.library.now l.sources.now.bindings.now + (8 * nesting (json_of l.whole.now) + 6)
+decreases-extended_value l = budget l.chain.now.items (kept_sources l.sources.now.models.items) + (8 * nesting (json_of l.whole.now) + 6)
 
 abbrev pub decreases-part_value : goal.decreases-part_value
-decreases-part_value l = budget l.chain.now.items l.sources.now.library.now l.sources.now.bindings.now + (8 * nesting (json_of l.part.now) + 4)
+decreases-part_value l = budget l.chain.now.items (kept_sources l.sources.now.models.items) + (8 * nesting (json_of l.part.now) + 4)
 
 abbrev pub decreases-items_value : goal.decreases-items_value
-decreases-items_value l = budget l.chain.now.items l.sources.now.library.now l.sources.now.bindings.now + (8 * most_nesting l.items.now + 5)
+decreases-items_value l = budget l.chain.now.items (kept_sources l.sources.now.models.items) + (8 * most_nesting l.items.now + 5)
 
 abbrev pub decreases-object_value : goal.decreases-object_value
-decreases-object_value l = budget l.chain.now.items l.sources.now.library.now l.sources.now.bindings.now + (8 * most_member_nesting l.members.now + 7)
+decreases-object_value l = budget l.chain.now.items (kept_sources l.sources.now.models.items) + (8 * most_member_nesting l.members.now + 7)
 
 abbrev pub decreases-imported_value : goal.decreases-imported_value
-decreases-imported_value l = budget l.chain.now.items l.sources.now.library.now l.sources.now.bindings.now + (8 * most_member_nesting l.members.now + 6)
+decreases-imported_value l = budget l.chain.now.items (kept_sources l.sources.now.models.items) + (8 * most_member_nesting l.members.now + 6)
 
 abbrev pub decreases-members_value : goal.decreases-members_value
-decreases-members_value l = budget l.chain.now.items l.sources.now.library.now l.sources.now.bindings.now + (8 * most_member_nesting l.members.now + 5)
+decreases-members_value l = budget l.chain.now.items (kept_sources l.sources.now.models.items) + (8 * most_member_nesting l.members.now + 5)
 
 abbrev pub invariant-items_value-loop-index : goal.invariant-items_value-loop-index
 invariant-items_value-loop-index l = record {
   chain : l.chain.items ≡ l.initial.chain.items;
-  done : ElementsGoOn l.sources.library.now l.sources.bindings.now l.url l.place l.initial.chain.items (json_items l.list) l.values l.index (json_items (drop l.index l.list));
+  done : ElementsGoOn (kept_sources l.sources.models.items) l.url l.place l.initial.chain.items (json_items l.list) l.values l.index (json_items (drop l.index l.list));
 }
 
 abbrev pub invariant-members_value-loop-name : goal.invariant-members_value-loop-name
 invariant-members_value-loop-name l = record {
   chain : l.chain.items ≡ l.initial.chain.items;
-  done : MembersGoOn l.sources.library.now l.sources.bindings.now l.url l.place l.initial.chain.items (json_members l.list) l.values (json_members (drop l.name-index l.list));
+  done : MembersGoOn (kept_sources l.sources.models.items) l.url l.place l.initial.chain.items (json_members l.list) l.values (json_members (drop l.name-index l.list));
   order : AreOrdered (l.values ++ json_members (drop l.name-index l.list));
 }

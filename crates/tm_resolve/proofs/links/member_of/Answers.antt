@@ -1,8 +1,8 @@
 use Rattle.std.proofs.Common.{ℕ, List, sym, ap, ◌∙◌}
 use Rattle.wot_json.specs.Tree.{Json}
 use Rattle.wot_json.specs.Lookup.{member_named}
-use Rattle.tm_resolve.proofs.Links.{under_object}
-use Rattle.tm_resolve.proofs.extension.member_of.Goals as goal
+use Rattle.tm_resolve.proofs.ModelLinks.{under_object}
+use Rattle.tm_resolve.proofs.links.member_of.Goals as goal
 
 pub returns-in-Obj : goal.returns-in-Obj
 returns-in-Obj c =

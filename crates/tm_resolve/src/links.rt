@@ -1,26 +1,29 @@
-//! The link to the model that a Thing Model extends.
+//! The links from one Thing Model to another: to the model that it extends, and to its submodels.
 
-ghost use Rattle.std.specs.Prelude.{◌≡◌, ◌+◌, ◌<◌, [], ◌∷◌, ℕ, List, length, drop, codes, option_map, Some, None, Ok, IfOk, IsErr, IfSome, MatchOption, MatchResult};
-ghost use Rattle.url.specs.Parser.{IsOutOfRoom};
+ghost use Rattle.std.specs.Prelude.{◌≡◌, ◌+◌, ◌<◌, [], ◌∷◌, length, drop, codes, option_map, option_and_then, Some, None, IfOk, IfSome, MatchOption};
 ghost use Rattle.url.specs.Parts.{serialize};
 ghost use Rattle.url.specs.Setters.{set_fragment};
-ghost use Rattle.tm_parts.specs.References.{joined_url};
 ghost use Rattle.wot_json.specs.Meaning.{json_of, json_items};
-ghost use Rattle.wot_json.specs.Merge.{members_under};
 ghost use Rattle.wot_json.specs.Lookup.{member_named};
-ghost use Rattle.wot_json.specs.Tree.{string};
-ghost use Rattle.tm_resolve.specs.Extension.{extensions, extensions_from, LocatesModel, LeadsToModel};
-ghost use Rattle.tm_resolve.specs.Extension as spec;
+ghost use Rattle.wot_json.specs.Merge.{members_under};
+ghost use Rattle.tm_resolve.specs.Links.{extensions_from, extensions, located as located_url, linked_model, text_under, reference_of};
+ghost use Rattle.tm_resolve.specs.Links as spec;
 ghost use Rattle.tm_resolve.specs.Found.{ShowsExtensions};
 
 use servient_base::NoMemory;
 use std::alloc::{AllocError, Global};
-use tm_parts::Reference;
-use url::{ParseError, Url};
+use tm_parts::{RefFault, Reference, joined, target};
+use url::Url;
 use wot_json::{Members, Text, Tree, merge_patch};
 
 /// The name of the member that refers to a part of a model.
 pub(crate) const REFERENCE: &str = "tm:ref";
+
+/// The relation of a link to a model that is extended.
+const EXTENDS: &str = "tm:extends";
+
+/// The relation of a link to a submodel.
+pub(crate) const SUBMODEL: &str = "tm:submodel";
 
 /// The links of a model that lead to models which it extends, as far as they count.
 #[derive(Drop)]
@@ -35,9 +38,23 @@ pub(crate) enum Extensions<'a> {
 pub(crate) fn extensions_of(model: &Tree) -> Extensions<'_>
     ensures { ShowsExtensions result (extensions (json_of model.now)) }
 {
+    let links = links_under(model);
+    match next_extension(links, 0) {
+        None => Extensions::None,
+        Some((index, link)) => match next_extension(links, index + 1) {
+            None => Extensions::One(index, link),
+            Some(_) => Extensions::Several,
+        },
+    }
+}
+
+/// All links of a model, whatever their relation.
+pub(crate) fn links_under(model: &Tree) -> &[Tree]
+    ensures { json_items result.now ≡ spec.links_under (json_of model.now) }
+{
     match member_of(model, "links") {
-        Some(Tree::List(links)) => extensions_among(links.as_slice()),
-        _ => Extensions::None,
+        Some(Tree::List(links)) => links.as_slice(),
+        _ => &[],
     }
 }
 
@@ -51,20 +68,7 @@ fn member_of<'a>(value: &'a Tree, name: &str) -> Option<&'a Tree>
     }
 }
 
-/// Finds such links among all links.
-fn extensions_among(links: &[Tree]) -> Extensions<'_>
-    ensures { ShowsExtensions result (extensions_from 0 (json_items links.now)) }
-{
-    match next_extension(links, 0) {
-        None => Extensions::None,
-        Some((index, link)) => match next_extension(links, index + 1) {
-            None => Extensions::One(index, link),
-            Some(_) => Extensions::Several,
-        },
-    }
-}
-
-/// The first such link at this place or behind it, and its place.
+/// The first link to a model that is extended at this place or behind it, and its place.
 fn next_extension(links: &[Tree], from: usize) -> Option<(usize, &Tree)>
     ensures next { MatchOption result (extensions_from from (json_items (drop from links.now)) ≡ [])
         (λ x. extensions_from from (json_items (drop from links.now))
@@ -73,38 +77,58 @@ fn next_extension(links: &[Tree], from: usize) -> Option<(usize, &Tree)>
 {
     for index in from..links.len() {
         let link = &links[index];
-        if is_extension(link) {
+        if is_link(link, EXTENDS) {
             return Some((index, link));
         }
     }
     None
 }
 
-/// The link leads to a model that is extended.
-fn is_extension(link: &Tree) -> bool
-    ensures { result ≡ spec.is_extension (json_of link.now) }
+/// The link has this relation, and doesn't itself come from elsewhere.
+pub(crate) fn is_link(link: &Tree, relation: &str) -> bool
+    ensures { result ≡ spec.is_link relation.now (json_of link.now) }
 {
     match link {
-        Tree::Obj(members) => members.get(REFERENCE).is_none() && has_extends(members),
+        Tree::Obj(members) => members.get(REFERENCE).is_none() && has_relation(members, relation),
         _ => false,
     }
 }
 
-/// The members say that they are a link to a model that is extended.
-fn has_extends(members: &Members) -> bool
-    ensures { result ≡ spec.has_extends members.now }
+/// The members say that they are a link with this relation.
+fn has_relation(members: &Members, relation: &str) -> bool
+    ensures { result ≡ spec.has_relation relation.now members.now }
 {
     match members.get("rel") {
-        Some(Tree::Text(relation)) => relation.as_str() == "tm:extends",
+        Some(Tree::Text(text)) => text.as_str() == relation,
         _ => false,
+    }
+}
+
+/// The target that the value of a `tm:ref` in the model `from` refers to, where it refers to one.
+pub(crate) fn reference_target(
+    alloc: Global,
+    from: &str,
+    reference: &Tree,
+) -> Result<Option<Reference>, NoMemory>
+    ensures { IfOk result (λ found. found ≡ reference_of from.now (json_of reference.now)) }
+{
+    match reference {
+        Tree::Text(text) => match target(alloc, from, text.as_str()) {
+            Ok(target) => Ok(Some(target)),
+            Err(RefFault::NoMemory) => Err(AllocError),
+            Err(RefFault::BadRef) => Ok(None),
+        },
+        _ => Ok(None),
     }
 }
 
 /// The whole model that a link of the model `from` leads to, where it leads to one.
-pub(crate) fn base_of(alloc: Global, from: &str, link: &Tree) -> Result<Option<Reference>, NoMemory>
-    ensures { IfOk result (λ base. MatchOption base
-        ((url : List ℕ) → LeadsToModel from.now (json_of link.now) url → ⊥)
-        (λ r. LeadsToModel from.now (json_of link.now) r.url × (r.pointer ≡ []))) }
+pub(crate) fn link_target(
+    alloc: Global,
+    from: &str,
+    link: &Tree,
+) -> Result<Option<Reference>, NoMemory>
+    ensures { IfOk result (λ found. found ≡ linked_model from.now (json_of link.now)) }
 {
     let Some(href) = href_of(link) else {
         return Ok(None);
@@ -120,9 +144,8 @@ pub(crate) fn base_of(alloc: Global, from: &str, link: &Tree) -> Result<Option<R
 
 /// The `href` of a link, where it is a text.
 fn href_of(link: &Tree) -> Option<&str>
-    ensures { MatchOption result
-        ((text : List ℕ) → member_named (codes "href") (members_under (json_of link.now)) ≡ Some (string text) → ⊥)
-        (λ text. member_named (codes "href") (members_under (json_of link.now)) ≡ Some (string text.now)) }
+    ensures { option_map (λ text. text.now) result
+        ≡ option_and_then text_under (member_named (codes "href") (members_under (json_of link.now))) }
 {
     match member_of(link, "href") {
         Some(href) => text_of(href),
@@ -132,7 +155,7 @@ fn href_of(link: &Tree) -> Option<&str>
 
 /// The value, where it is a text.
 fn text_of(value: &Tree) -> Option<&str>
-    ensures { MatchOption result ((text : List ℕ) → json_of value.now ≡ string text → ⊥) (λ text. json_of value.now ≡ string text.now) }
+    ensures { option_map (λ text. text.now) result ≡ text_under (json_of value.now) }
 {
     match value {
         Tree::Text(text) => Some(text.as_str()),
@@ -142,36 +165,11 @@ fn text_of(value: &Tree) -> Option<&str>
 
 /// The URL of the model that a text locates from the model `from`, where it can be joined.
 fn located(alloc: Global, from: &str, text: &str) -> Result<Option<Text>, NoMemory>
-    ensures { IfOk result (λ found. MatchOption found
-        ((url : List ℕ) → LocatesModel from.now text.now url → ⊥)
-        (λ url. LocatesModel from.now text.now url)) }
+    ensures { IfOk result (λ found. found ≡ located_url from.now text.now) }
 {
     match joined(alloc, from, text)? {
         None => Ok(None),
         Some(url) => Ok(Some(without_fragment(alloc, url)?)),
-    }
-}
-
-/// A text, joined to a URL, where it can be.
-fn joined(alloc: Global, from: &str, text: &str) -> Result<Option<Url>, NoMemory>
-    ensures { IfOk result (λ found. MatchOption found (IsErr (joined_url from.now text.now)) (λ url. joined_url from.now text.now ≡ Ok url)) }
-{
-    match Url::parse(alloc, from) {
-        Err(error) => refused(error),
-        Ok(base) => match base.join(text) {
-            Err(error) => refused(error),
-            Ok(url) => Ok(Some(url)),
-        },
-    }
-}
-
-/// What a refusal of the URL parser is here: want of room is want of memory, and any other says that there is no URL.
-fn refused(error: ParseError) -> Result<Option<Url>, NoMemory>
-    ensures { MatchResult result (λ found. (found ≡ None) × ¬ IsOutOfRoom error) (λ _. IsOutOfRoom error) }
-{
-    match error {
-        ParseError::Overflow | ParseError::OutOfMemory => Err(AllocError),
-        _ => Ok(None),
     }
 }
 

@@ -1,0 +1,220 @@
+-- Counting visits, one list of them behind another.
+use Rattle.std.proofs.Common.{◌≡◌, ℕ, zero, suc, ◌+◌, ◌-◌, ◌<◌, ◌≤◌, List, [], ◌∷◌, ◌++◌, length, drop, get_or, Bool, true, false, refl, sym, ap, subst, inl, inr, ◌∙◌, arith, length-append}
+use Rattle.std.proofs.lemmas.Bool.Decides.{nat_tests}
+use Rattle.std.proofs.lemmas.List.{drop_all}
+use Rattle.std.specs.Prelude.{◌||◌, Option, Some, None, Result, Ok, Err, nat_lt}
+use Rattle.std.proofs.lemmas.List.Sums.{sum_by-cons}
+use Rattle.std.specs.List.{list_any, flat_map, sum_by}
+use Rattle.wot_json.specs.Tree.{Json, elements_of, members_of}
+use Rattle.wot_json.specs.Lookup.{listed_members, member_named}
+use Rattle.wot_json.specs.Meaning.{json_of, json_items, json_member, json_members}
+use Rattle.wot_json.specs.declared.tree.Tree.{Tree}
+use Rattle.wot_json.specs.declared.tree.Tree.TheVariants as tree
+use Rattle.wot_json.proofs.EqualTrees.{listed_lem, listed_members_lem}
+use Rattle.tm_parts.specs.Sources.{Sources}
+use Rattle.tm_parts.specs.declared.reference.Reference.{Reference}
+use Rattle.tm_resolve.specs.Links.{reference_name, links_under, extensions}
+use Rattle.tm_resolve.specs.Weight.{Visit, Step, name_weight, own_weight, most_weight, most_entries, own_visit, reference_visits, part_visits, element_visits, member_visits, extension_visits, submodel_visits, links_visits, is_too_far, weight_of, is_too_large, entered, target_visits, visits_within}
+use Rattle.tm_resolve.specs.Counting.{next_step, Spends, Weighs}
+use Rattle.tm_resolve.specs.declared.weight.Stop.{Stop}
+use Rattle.tm_resolve.specs.declared.weight.Stop.TheVariants.{TooLarge, NoMemory}
+use Rattle.tm_resolve.proofs.Progress.{left_at}
+
+weight_both : (vs ws : List Visit) → weight_of (vs ++ ws) ≡ weight_of vs + weight_of ws
+weight_both [] ws = omega arith
+weight_both (v ∷ vs) ws = omega (arith, weight_both vs ws, sum_by-cons (λ (u : Visit). u.weight) v (vs ++ ws), sum_by-cons (λ (u : Visit). u.weight) v vs)
+
+either_far : (b : Bool) (c d : Bool) → (b || (c || d)) ≡ ((b || c) || d)
+either_far true c d = refl
+either_far false c d = refl
+
+far_both : (vs ws : List Visit) → list_any is_too_far (vs ++ ws) ≡ (list_any is_too_far vs || list_any is_too_far ws)
+far_both [] ws = refl
+far_both (v ∷ vs) ws = ap (λ (c : Bool). is_too_far v || c) (far_both vs ws) ∙ either_far (is_too_far v) (list_any is_too_far vs) (list_any is_too_far ws)
+
+neither : (b c : Bool) → b ≡ false → c ≡ false → (b || c) ≡ false
+neither b c not_one not_other = ap (λ (d : Bool). d || c) not_one ∙ not_other
+
+one : (b c : Bool) → b ≡ true → (b || c) ≡ true
+one true c is = refl
+one false c is = absurd (cc)
+
+other : (b c : Bool) → c ≡ true → (b || c) ≡ true
+other true c is = refl
+other false c is = is
+
+-- no visits take nothing
+pub weighs_none : (left : ℕ) → Weighs [] left (Ok left)
+weighs_none left = (omega arith, refl)
+
+-- visits behind visits that were counted
+pub weighs_then : (vs ws : List Visit) (left mid : ℕ) (r : Result ℕ Stop) → Weighs vs left (Ok mid) → Weighs ws mid r → Weighs (vs ++ ws) left r
+weighs_then vs ws left mid (Ok rest) first second =
+    (omega (arith, weight_both vs ws, first.0, second.0), far_both vs ws ∙ neither (list_any is_too_far vs) (list_any is_too_far ws) first.1 second.1)
+weighs_then vs ws left mid (Err TooLarge) first (inl more) = inl (omega (arith, weight_both vs ws, first.0, more))
+weighs_then vs ws left mid (Err TooLarge) first (inr far) = inr (far_both vs ws ∙ other (list_any is_too_far vs) (list_any is_too_far ws) far)
+weighs_then vs ws left mid (Err NoMemory) first second = tt
+
+-- where counting stops it stops for what comes behind too
+pub weighs_stop : (vs ws : List Visit) (left : ℕ) (stop : Stop) → Weighs vs left (Err stop) → Weighs (vs ++ ws) left (Err stop)
+weighs_stop vs ws left TooLarge (inl more) = inl (omega (arith, weight_both vs ws, more))
+weighs_stop vs ws left TooLarge (inr far) = inr (far_both vs ws ∙ one (list_any is_too_far vs) (list_any is_too_far ws) far)
+weighs_stop vs ws left NoMemory stops = tt
+
+-- ---- loops
+
+-- whatever counting says of the visits that are left, it says of all
+abbrev pub CountsOn : List Visit → ℕ → List Visit → ℕ → Type 0
+CountsOn all before rest left = (r : Result ℕ Stop) → Weighs rest left r → Weighs all before r
+
+pub counts_more : (all : List Visit) (before : ℕ) (rest vs more : List Visit) (left mid : ℕ) → rest ≡ vs ++ more → CountsOn all before rest left → Weighs vs left (Ok mid) → CountsOn all before more mid
+counts_more all before rest vs more left mid is so_far counted r weighs =
+    so_far r (subst (λ (us : List Visit). Weighs us left r) (sym is) (weighs_then vs more left mid r counted weighs))
+
+pub counts_stop : (all : List Visit) (before : ℕ) (rest vs more : List Visit) (left : ℕ) (stop : Stop) → rest ≡ vs ++ more → CountsOn all before rest left → Weighs vs left (Err stop) → Weighs all before (Err stop)
+counts_stop all before rest vs more left stop is so_far stops =
+    so_far (Err stop) (subst (λ (us : List Visit). Weighs us left (Err stop)) (sym is) (weighs_stop vs more left stop stops))
+
+pub counts_end : (all : List Visit) (before : ℕ) (rest : List Visit) (left : ℕ) → rest ≡ [] → CountsOn all before rest left → Weighs all before (Ok left)
+counts_end all before rest left is so_far = so_far (Ok left) (subst (λ (us : List Visit). Weighs us left (Ok left)) (sym is) (weighs_none left))
+
+-- A loop that counts the visits of one thing after another, each by a chain that is left as it was: of the list, a part
+-- of it was counted, and of the thing at the place now the visits are the first of what is left.
+pub loop_more : {X : Type 0} (visits : List X → List Visit) (part : List Reference → X → List Visit) (chain es : List Reference) → ((x : X) (xs : List X) → visits (x ∷ xs) ≡ part chain x ++ visits xs)
+    → (list : List X) (index : ℕ) (x : X) (before left mid : ℕ) → index < length list → x ≡ get_or list index x → es ≡ chain
+    → CountsOn (visits list) before (visits (drop index list)) left → Weighs (part es x) left (Ok mid) → CountsOn (visits list) before (visits (drop (index + 1) list)) mid
+loop_more {X} visits part chain es splits list index x before left mid within is at_chain so_far counted =
+    counts_more (visits list) before (visits (drop index list)) (part chain x) (visits (drop (index + 1) list)) left mid
+    (ap visits (left_at list index x within is) ∙ splits x (drop (index + 1) list)) so_far
+    (subst (λ (c : List Reference). Weighs (part c x) left (Ok mid)) at_chain counted)
+
+pub loop_stop : {X : Type 0} (visits : List X → List Visit) (part : List Reference → X → List Visit) (chain es : List Reference) → ((x : X) (xs : List X) → visits (x ∷ xs) ≡ part chain x ++ visits xs)
+    → (list : List X) (index : ℕ) (x : X) (before left : ℕ) (stop : Stop) → index < length list → x ≡ get_or list index x → es ≡ chain
+    → CountsOn (visits list) before (visits (drop index list)) left → Weighs (part es x) left (Err stop) → Weighs (visits list) before (Err stop)
+loop_stop {X} visits part chain es splits list index x before left stop within is at_chain so_far stops =
+    counts_stop (visits list) before (visits (drop index list)) (part chain x) (visits (drop (index + 1) list)) left stop
+    (ap visits (left_at list index x within is) ∙ splits x (drop (index + 1) list)) so_far
+    (subst (λ (c : List Reference). Weighs (part c x) left (Err stop)) at_chain stops)
+
+pub loop_end : {X : Type 0} (visits : List X → List Visit) (list : List X) (index before left : ℕ) → visits [] ≡ [] → length list ≤ index
+    → CountsOn (visits list) before (visits (drop index list)) left → Weighs (visits list) before (Ok left)
+loop_end {X} visits list index before left none past so_far =
+    counts_end (visits list) before (visits (drop index list)) left (ap visits (drop_all index list past) ∙ none) so_far
+
+-- the visits of links, of the elements of a list and of the members of an object, by the code's values
+abbrev pub submodels_list : Sources → List ℕ → List Reference → List Tree → List Visit
+submodels_list sources url chain links = flat_map (submodel_visits (next_step sources chain) url chain) (json_items links)
+
+abbrev pub elements_list : Sources → List ℕ → ℕ → List Reference → List Tree → List Visit
+elements_list sources url depth chain items = element_visits (next_step sources chain) url chain depth (elements_of (json_items items))
+
+abbrev pub members_list : Sources → List ℕ → ℕ → List Reference → List (List ℕ × Tree) → List Visit
+members_list sources url depth chain members = member_visits (next_step sources chain) url chain depth (members_of (json_members members))
+
+-- the names of members from a place on
+pub names_left : (ms : List (List ℕ × Tree)) (index : ℕ) (m : List ℕ × Tree) → index < length ms → m ≡ get_or ms index m
+    → sum_by name_weight (json_members (drop index ms)) ≡ name_weight (json_member m) + sum_by name_weight (json_members (drop (index + 1) ms))
+names_left ms index m within is =
+    ap (λ (ns : List (List ℕ × Tree)). sum_by name_weight (json_members ns)) (left_at ms index m within is)
+    ∙ sum_by-cons name_weight (json_member m) (json_members (drop (index + 1) ms))
+
+-- what is left behind two amounts
+spends_both : (first second left mid : ℕ) (rest : Option ℕ) → mid + first ≡ left → Spends second mid rest → Spends (first + second) left rest
+spends_both first second left mid None is less = omega (arith, is, less)
+spends_both first second left mid (Some n) is less = omega (arith, is, less)
+
+-- what is left behind a list, and behind an object
+pub spends_list : (t : Tree) (vs : List Json) (left mid : ℕ) (rest : Option ℕ) → t ≡ tree.List vs → mid + 2 ≡ left → Spends (length vs) mid rest → Spends (own_weight (json_of t)) left rest
+spends_list t vs left mid rest is begins spends =
+    subst (λ (u : Tree). Spends (own_weight (json_of u)) left rest) (sym is)
+    (subst (λ (ws : List Json). Spends (2 + length ws) left rest) (sym (listed_lem vs)) (spends_both 2 (length vs) left mid rest begins spends))
+
+pub spends_object : (t : Tree) (ms ns : List (List ℕ × Json)) (left mid : ℕ) (rest : Option ℕ) → t ≡ tree.Obj ms → ns ≡ ms → mid + 2 ≡ left → Spends (sum_by name_weight ns) mid rest → Spends (own_weight (json_of t)) left rest
+spends_object t ms ns left mid rest is same begins spends =
+    subst (λ (u : Tree). Spends (own_weight (json_of u)) left rest) (sym is)
+    (subst (λ (os : List (List ℕ × Json)). Spends (2 + sum_by name_weight os) left rest) (same ∙ sym (listed_members_lem ms)) (spends_both 2 (sum_by name_weight ns) left mid rest begins spends))
+
+-- ---- parts
+
+-- an object: itself, and what it refers to and has in it
+pub object_part : (step : Step) (url : List ℕ) (chain : List Reference) (depth : ℕ) (t : Tree) (ms : List (List ℕ × Json)) (left mid : ℕ) (r : Result ℕ Stop) → t ≡ tree.Obj ms → Weighs (own_visit chain depth (json_of t) ∷ []) left (Ok mid)
+    → Weighs (reference_visits step url chain depth (member_named reference_name ms) ++ member_visits step url chain (depth + 1) (members_of ms)) mid r → Weighs (part_visits step url chain depth (json_of t)) left r
+object_part step url chain depth t ms left mid r is own inside =
+    let listed : Weighs (reference_visits step url chain depth (member_named reference_name (listed_members (members_of ms))) ++ member_visits step url chain (depth + 1) (members_of ms)) mid r =
+    subst (λ (ns : List (List ℕ × Json)). Weighs (reference_visits step url chain depth (member_named reference_name ns) ++ member_visits step url chain (depth + 1) (members_of ms)) mid r) (sym (listed_members_lem ms)) inside in
+    let first : Weighs (own_visit chain depth (json_of (tree.Obj ms)) ∷ []) left (Ok mid) = subst (λ (u : Tree). Weighs (own_visit chain depth (json_of u) ∷ []) left (Ok mid)) is own in
+    subst (λ (u : Tree). Weighs (part_visits step url chain depth (json_of u)) left r) (sym is)
+    (weighs_then (own_visit chain depth (json_of (tree.Obj ms)) ∷ []) (reference_visits step url chain depth (member_named reference_name (listed_members (members_of ms))) ++ member_visits step url chain (depth + 1) (members_of ms)) left mid r first listed)
+
+-- the links of the model of a Thing: the model that it extends, and its submodels
+pub links_of_thing : (sources : Sources) (is_thing : Bool) (url : List ℕ) (chain es : List Reference) (whole : Json) (links : List Json) (left mid : ℕ) (r : Result ℕ Stop) → is_thing ≡ true → links ≡ links_under whole → es ≡ chain
+    → Weighs (extension_visits (next_step sources chain) url chain (extensions whole)) left (Ok mid) → Weighs (flat_map (submodel_visits (next_step sources es) url es) links) mid r
+    → Weighs (links_visits (next_step sources chain) is_thing url chain whole) left r
+links_of_thing sources is_thing url chain es whole links left mid r thing same at_chain first further =
+    let here : Weighs (flat_map (submodel_visits (next_step sources chain) url chain) links) mid r = subst (λ (cs : List Reference). Weighs (flat_map (submodel_visits (next_step sources cs) url cs) links) mid r) at_chain further in
+    let all : Weighs (flat_map (submodel_visits (next_step sources chain) url chain) (links_under whole)) mid r = subst (λ (vs : List Json). Weighs (flat_map (submodel_visits (next_step sources chain) url chain) vs) mid r) same here in
+    subst (λ (b : Bool). Weighs (links_visits (next_step sources chain) b url chain whole) left r) (sym thing)
+    (weighs_then (extension_visits (next_step sources chain) url chain (extensions whole)) (flat_map (submodel_visits (next_step sources chain) url chain) (links_under whole)) left mid r first all)
+
+-- ---- the limits
+
+-- visits that leave something of the limit aren't too large, and others are
+within_limits : (visits : List Visit) (rest : ℕ) → Weighs visits most_weight (Ok rest) → is_too_large visits ≡ false
+within_limits visits rest weighs =
+    let light : nat_lt most_weight (weight_of visits) ≡ false = grind (arith, nat_tests, weighs.0) in
+    neither (nat_lt most_weight (weight_of visits)) (list_any is_too_far visits) light weighs.1
+
+beyond_limits : (visits : List Visit) → Weighs visits most_weight (Err TooLarge) → is_too_large visits ≡ true
+beyond_limits visits (inl more) =
+    let heavy : nat_lt most_weight (weight_of visits) ≡ true = grind (arith, nat_tests, more) in
+    one (nat_lt most_weight (weight_of visits)) (list_any is_too_far visits) heavy
+beyond_limits visits (inr far) = other (nat_lt most_weight (weight_of visits)) (list_any is_too_far visits) far
+
+-- ---- a step
+
+-- what is seen of an option that is there, or isn't
+seen_none : (room : ℕ) (sources : Sources) (is_thing : Bool) (depth : ℕ) (chain : List Reference) (target : Reference) → entered sources chain target ≡ None → visits_within room sources is_thing depth chain target ≡ []
+seen_none zero sources is_thing depth chain target none = ap (λ (o : Option Json). elim o as (λ _. List Visit) [ None ↦ [] | Some part ↦ own_visit (chain ++ target ∷ []) depth part ∷ [] ]) none
+seen_none (suc room) sources is_thing depth chain target none = ap (λ (o : Option Json). elim o as (λ _. List Visit) [ None ↦ [] | Some part ↦ target_visits (visits_within room sources) is_thing depth (chain ++ target ∷ []) target part ]) none
+
+pub step_nowhere : (sources : Sources) (is_thing : Bool) (depth : ℕ) (chain : List Reference) (target : Reference) (left : ℕ) → entered sources chain target ≡ None → Weighs (next_step sources chain is_thing depth chain target) left (Ok left)
+step_nowhere sources is_thing depth chain target left none =
+    subst (λ (us : List Visit). Weighs us left (Ok left)) (sym (seen_none (most_entries - length chain) sources is_thing depth chain target none)) (weighs_none left)
+
+room_is : (room : ℕ) (n : ℕ) (sources : Sources) (is_thing : Bool) (depth : ℕ) (chain : List Reference) (target : Reference) → room ≡ n → visits_within room sources is_thing depth chain target ≡ visits_within n sources is_thing depth chain target
+room_is room n sources is_thing depth chain target is = ap (λ (k : ℕ). visits_within k sources is_thing depth chain target) is
+
+-- a step beyond the room of a chain
+pub step_past : (sources : Sources) (is_thing : Bool) (depth : ℕ) (chain : List Reference) (target : Reference) (part : Json) (left : ℕ) → entered sources chain target ≡ Some part → most_entries ≤ length chain
+    → Weighs (next_step sources chain is_thing depth chain target) left (Err TooLarge)
+step_past sources is_thing depth chain target part left found past =
+    let none_left : most_entries - length chain ≡ 0 = omega (arith, past) in
+    let longer : length (chain ++ target ∷ []) ≡ length chain + 1 = length-append chain (target ∷ []) in
+    let visits = room_is (most_entries - length chain) 0 sources is_thing depth chain target none_left
+    ∙ ap (λ (o : Option Json). elim o as (λ _. List Visit) [ None ↦ [] | Some v ↦ own_visit (chain ++ target ∷ []) depth v ∷ [] ]) found in
+    let more : most_entries < length (chain ++ target ∷ []) = omega (arith, longer, past) in
+    let far : nat_lt most_entries (length (chain ++ target ∷ [])) ≡ true = grind (arith, nat_tests, more) in
+    inr (ap (λ (us : List Visit). list_any is_too_far us) visits ∙ one (is_too_far (own_visit (chain ++ target ∷ []) depth part)) false (other _ _ far))
+
+-- a step within it
+pub step_into : (sources : Sources) (is_thing : Bool) (depth : ℕ) (chain longer : List Reference) (target : Reference) (part : Json) (left : ℕ) (r : Result ℕ Stop) → entered sources chain target ≡ Some part → length chain < most_entries
+    → longer ≡ chain ++ target ∷ [] → Weighs (target_visits (next_step sources longer) is_thing depth longer target part) left r → Weighs (next_step sources chain is_thing depth chain target) left r
+step_into sources is_thing depth chain longer target part left r found within is weighs =
+    let one_more : length (chain ++ target ∷ []) ≡ length chain + 1 = length-append chain (target ∷ []) in
+    let room : most_entries - length chain ≡ suc (most_entries - length (chain ++ target ∷ [])) = omega (arith, one_more, within) in
+    let visits = room_is (most_entries - length chain) (suc (most_entries - length (chain ++ target ∷ []))) sources is_thing depth chain target room
+    ∙ ap (λ (o : Option Json). elim o as (λ _. List Visit) [ None ↦ [] | Some v ↦ target_visits (next_step sources (chain ++ target ∷ [])) is_thing depth (chain ++ target ∷ []) target v ]) found in
+    subst (λ (us : List Visit). Weighs us left r) (sym visits)
+    (subst (λ (es : List Reference). Weighs (target_visits (next_step sources es) is_thing depth es target part) left r) is weighs)
+
+-- ---- the first step
+
+pub first_within : (sources : Sources) (chain : List Reference) (target : Reference) (rest : ℕ) → chain ≡ [] → Weighs (next_step sources chain true 0 chain target) most_weight (Ok rest) → false ≡ is_too_large (visits_within most_entries sources true 0 [] target)
+first_within sources chain target rest empty weighs =
+    sym (within_limits (visits_within most_entries sources true 0 [] target) rest
+    (subst (λ (es : List Reference). Weighs (next_step sources es true 0 es target) most_weight (Ok rest)) empty weighs))
+
+pub first_beyond : (sources : Sources) (chain : List Reference) (target : Reference) → chain ≡ [] → Weighs (next_step sources chain true 0 chain target) most_weight (Err TooLarge) → true ≡ is_too_large (visits_within most_entries sources true 0 [] target)
+first_beyond sources chain target empty weighs =
+    sym (beyond_limits (visits_within most_entries sources true 0 [] target)
+    (subst (λ (es : List Reference). Weighs (next_step sources es true 0 es target) most_weight (Err TooLarge)) empty weighs))

@@ -1,0 +1,23 @@
+-- What the code says that counts visits, of which it keeps what is left of the limit on the weight.
+use Rattle.std.specs.Prelude.{◌≡◌, ◌⊎◌, ◌+◌, ◌-◌, ◌<◌, ℕ, true, false, List, length, Option, Result, Ok, Err, MatchOption}
+use Rattle.std.specs.List.{list_any}
+use Rattle.tm_parts.specs.Sources.{Sources}
+use Rattle.tm_parts.specs.declared.reference.Reference.{Reference}
+use Rattle.tm_resolve.specs.Weight.{Visit, Step, most_entries, visits_within, is_too_far, weight_of}
+use Rattle.tm_resolve.specs.declared.weight.Stop.{Stop}
+use Rattle.tm_resolve.specs.declared.weight.Stop.TheVariants.{TooLarge, NoMemory}
+
+-- what a step visits from this chain on
+abbrev pub next_step : Sources → List Reference → Step
+next_step sources chain = visits_within (most_entries - length chain) sources
+
+-- what is left once this much was taken, where there was so much
+abbrev pub Spends : ℕ → ℕ → Option ℕ → Type 0
+Spends amount left rest = MatchOption rest (left < amount) (λ n. n + amount ≡ left)
+
+-- What counting these visits says, where so much was left before: what is left behind them, none of which went too far;
+-- or that they weigh more, or that one of them goes too far.
+abbrev pub Weighs : List Visit → ℕ → Result ℕ Stop → Type 0
+Weighs visits left (Ok rest) = (rest + weight_of visits ≡ left) × (list_any is_too_far visits ≡ false)
+Weighs visits left (Err TooLarge) = (left < weight_of visits) ⊎ (list_any is_too_far visits ≡ true)
+Weighs visits left (Err NoMemory) = Unit {0}

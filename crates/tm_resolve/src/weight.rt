@@ -1,0 +1,398 @@
+//! How large a model grows, counted without building anything.
+//!
+//! The nodes of the expansion are visited one by one, and what each weighs is taken from what is left of the limit.
+//! Counting stops at the first visit that passes a limit. A node weighs at least 2, so there are never more than half
+//! as many visits as the limit on the weight, whatever the size of the expansion.
+
+ghost use Rattle.std.specs.Prelude.{◌≡◌, ◌+◌, ◌≤◌, List, [], ◌∷◌, ◌++◌, length, true, Some, IfOk, OnOk};
+ghost use Rattle.std.specs.List.{flat_map, sum_by};
+ghost use Rattle.wot_json.specs.Json.{json_string};
+ghost use Rattle.wot_json.specs.Lookup.{member_named};
+ghost use Rattle.wot_json.specs.Meaning.{json_of, json_items, json_members};
+ghost use Rattle.wot_json.specs.Tree.{elements_of, members_of};
+ghost use Rattle.tm_parts.specs.Sources.{kept_sources};
+ghost use Rattle.tm_parts.specs.declared.reference.Reference.{Reference as TargetValue};
+ghost use Rattle.tm_resolve.specs.Links.{reference_name, extensions};
+ghost use Rattle.tm_resolve.specs.Weight.{most_depth, most_entries, name_weight, own_weight, own_visit, reference_visits, part_visits, element_visits, member_visits, link_visits, extension_visits, submodel_visits, links_visits, target_visits, visits_within};
+ghost use Rattle.tm_resolve.specs.Weight as spec;
+ghost use Rattle.tm_resolve.specs.Counting.{next_step, Spends, Weighs};
+
+#[cfg(test)]
+mod tests;
+
+use crate::chain::push_target;
+use crate::links::{
+    Extensions, REFERENCE, SUBMODEL, extensions_of, is_link, link_target, links_under,
+    reference_target,
+};
+use crate::sources::{Sources, entered};
+use servient_base::NoMemory;
+use std::alloc::{AllocError, Global};
+use tm_parts::Reference;
+use wot_json::{Items, Members, Text, Tree, quoted_length};
+
+/// The most that an expansion may weigh.
+const MOST_WEIGHT: usize = 262_144;
+
+/// The greatest depth of a node.
+const MOST_DEPTH: usize = 64;
+
+/// The most targets of a chain.
+const MOST_ENTRIES: usize = 16;
+
+/// Why counting stopped.
+#[derive(Debug, Drop)]
+pub(crate) enum Stop {
+    /// The weight, a depth or a chain passed its limit.
+    TooLarge,
+    /// There was no memory.
+    NoMemory,
+}
+
+impl From<AllocError> for Stop {
+    ghost use Rattle.std.specs.Prelude.{◌≡◌};
+    ghost use Rattle.tm_resolve.specs.declared.weight.Stop.TheVariants.{NoMemory};
+
+    ghost from_gives = { λ _ stop. stop ≡ NoMemory };
+
+    fn from(_error: AllocError) -> Stop {
+        Stop::NoMemory
+    }
+}
+
+/// What a step to the model of a Thing leads to passes a limit, as the first step.
+pub(crate) fn is_too_large(sources: &Sources, root: &Reference) -> Result<bool, NoMemory>
+    ensures { IfOk result (λ large. large ≡ spec.is_too_large (visits_within most_entries (kept_sources sources.now.models.items) true 0 [] root.now)) }
+{
+    let mut chain = Vec::new(sources.alloc);
+    match step_weighs(sources, true, 0, root, &mut chain, MOST_WEIGHT) {
+        Ok(_) => Ok(false),
+        Err(Stop::TooLarge) => Ok(true),
+        Err(Stop::NoMemory) => Err(AllocError),
+    }
+}
+
+/// Visits what a step to a target leads to, at this depth.
+#[cycle(weigh)]
+fn step_weighs(
+    sources: &Sources,
+    is_thing: bool,
+    depth: usize,
+    target: &Reference,
+    chain: &mut Vec<Reference>,
+    left: usize,
+) -> Result<usize, Stop>
+    ensures weight { Weighs (next_step (kept_sources sources.now.models.items) chain.old.items is_thing depth chain.old.items target.now) left result }
+    ensures chain { OnOk result (chain.new.items ≡ chain.old.items) }
+{
+    let Some(part) = entered(sources, target, chain) else {
+        return Ok(left);
+    };
+    if chain.len() >= MOST_ENTRIES {
+        return Err(Stop::TooLarge);
+    }
+    push_target(sources.alloc, chain, target)?;
+    let left = target_weighs(sources, is_thing, depth, target, part, chain, left)?;
+    let _target = chain.pop();
+    Ok(left)
+}
+
+/// Visits the part of the last target of the chain, and where it is a whole model what its links lead to.
+#[cycle(weigh)]
+fn target_weighs(
+    sources: &Sources,
+    is_thing: bool,
+    depth: usize,
+    target: &Reference,
+    part: &Tree,
+    chain: &mut Vec<Reference>,
+    left: usize,
+) -> Result<usize, Stop>
+    requires { length chain.old.items ≤ most_entries }
+    ensures weight { Weighs (target_visits (next_step (kept_sources sources.now.models.items) chain.old.items) is_thing depth chain.old.items target.now (json_of part.now)) left result }
+    ensures chain { OnOk result (chain.new.items ≡ chain.old.items) }
+{
+    let url = target.url.as_str();
+    if !target.pointer.as_str().is_empty() {
+        return part_weighs(sources, url, depth, part, chain, left);
+    }
+    let left = links_weigh(sources, is_thing, url, part, chain, left)?;
+    part_weighs(sources, url, depth, part, chain, left)
+}
+
+/// Visits what the links of a whole model lead to: the model that it extends, and where it is that of a Thing its
+/// submodels.
+#[cycle(weigh)]
+fn links_weigh(
+    sources: &Sources,
+    is_thing: bool,
+    url: &str,
+    whole: &Tree,
+    chain: &mut Vec<Reference>,
+    left: usize,
+) -> Result<usize, Stop>
+    requires { length chain.old.items ≤ most_entries }
+    ensures weight { Weighs (links_visits (next_step (kept_sources sources.now.models.items) chain.old.items) is_thing url.now chain.old.items (json_of whole.now)) left result }
+    ensures chain { OnOk result (chain.new.items ≡ chain.old.items) }
+{
+    let left = extension_weighs(sources, url, whole, chain, left)?;
+    if is_thing {
+        submodels_weigh(sources, url, links_under(whole), chain, left)
+    } else {
+        Ok(left)
+    }
+}
+
+/// Visits the model that a model extends, where it extends one.
+#[cycle(weigh)]
+fn extension_weighs(
+    sources: &Sources,
+    url: &str,
+    whole: &Tree,
+    chain: &mut Vec<Reference>,
+    left: usize,
+) -> Result<usize, Stop>
+    requires { length chain.old.items ≤ most_entries }
+    ensures weight { Weighs (extension_visits (next_step (kept_sources sources.now.models.items) chain.old.items) url.now chain.old.items (extensions (json_of whole.now))) left result }
+    ensures chain { OnOk result (chain.new.items ≡ chain.old.items) }
+{
+    match extensions_of(whole) {
+        Extensions::One(_, link) => link_weighs(sources, false, url, link, chain, left),
+        Extensions::None | Extensions::Several => Ok(left),
+    }
+}
+
+/// Visits the submodels among links.
+#[cycle(weigh)]
+fn submodels_weigh(
+    sources: &Sources,
+    url: &str,
+    links: &[Tree],
+    chain: &mut Vec<Reference>,
+    left: usize,
+) -> Result<usize, Stop>
+    requires { length chain.old.items ≤ most_entries }
+    ensures weight { Weighs (flat_map (submodel_visits (next_step (kept_sources sources.now.models.items) chain.old.items) url.now chain.old.items) (json_items links.now)) left result }
+    ensures chain { OnOk result (chain.new.items ≡ chain.old.items) }
+{
+    let mut left = left;
+    for link in links {
+        left = submodel_weighs(sources, url, link, chain, left)?;
+    }
+    Ok(left)
+}
+
+/// Visits the submodel that a link leads to, where it is such a link.
+#[cycle(weigh)]
+fn submodel_weighs(
+    sources: &Sources,
+    url: &str,
+    link: &Tree,
+    chain: &mut Vec<Reference>,
+    left: usize,
+) -> Result<usize, Stop>
+    requires { length chain.old.items ≤ most_entries }
+    ensures weight { Weighs (submodel_visits (next_step (kept_sources sources.now.models.items) chain.old.items) url.now chain.old.items (json_of link.now)) left result }
+    ensures chain { OnOk result (chain.new.items ≡ chain.old.items) }
+{
+    if is_link(link, SUBMODEL) {
+        link_weighs(sources, true, url, link, chain, left)
+    } else {
+        Ok(left)
+    }
+}
+
+/// Visits the model that a link leads to, where it leads to one.
+#[cycle(weigh)]
+fn link_weighs(
+    sources: &Sources,
+    is_thing: bool,
+    url: &str,
+    link: &Tree,
+    chain: &mut Vec<Reference>,
+    left: usize,
+) -> Result<usize, Stop>
+    requires { length chain.old.items ≤ most_entries }
+    ensures weight { Weighs (link_visits (next_step (kept_sources sources.now.models.items) chain.old.items) is_thing url.now chain.old.items (json_of link.now)) left result }
+    ensures chain { OnOk result (chain.new.items ≡ chain.old.items) }
+{
+    match link_target(sources.alloc, url, link)? {
+        Some(model) => step_weighs(sources, is_thing, 0, &model, chain, left),
+        None => Ok(left),
+    }
+}
+
+/// Visits a part at this depth, what it refers to, and what stands in it.
+#[cycle(weigh)]
+fn part_weighs(
+    sources: &Sources,
+    url: &str,
+    depth: usize,
+    part: &Tree,
+    chain: &mut Vec<Reference>,
+    left: usize,
+) -> Result<usize, Stop>
+    requires { length chain.old.items ≤ most_entries }
+    ensures weight { Weighs (part_visits (next_step (kept_sources sources.now.models.items) chain.old.items) url.now chain.old.items depth (json_of part.now)) left result }
+    ensures chain { OnOk result (chain.new.items ≡ chain.old.items) }
+{
+    let left = node_weighs(part, depth, left)?;
+    match part {
+        Tree::List(items) => elements_weigh(sources, url, depth + 1, items, chain, left),
+        Tree::Obj(members) => object_weighs(sources, url, depth, members, chain, left),
+        _ => Ok(left),
+    }
+}
+
+/// Visits what an object refers to, and its members.
+#[cycle(weigh)]
+fn object_weighs(
+    sources: &Sources,
+    url: &str,
+    depth: usize,
+    members: &Members,
+    chain: &mut Vec<Reference>,
+    left: usize,
+) -> Result<usize, Stop>
+    requires depth { depth ≤ most_depth }
+    requires chain { length chain.old.items ≤ most_entries }
+    ensures weight { Weighs (reference_visits (next_step (kept_sources sources.now.models.items) chain.old.items) url.now chain.old.items depth (member_named reference_name members.now)
+        ++ member_visits (next_step (kept_sources sources.now.models.items) chain.old.items) url.now chain.old.items (depth + 1) (members_of members.now)) left result }
+    ensures chain { OnOk result (chain.new.items ≡ chain.old.items) }
+{
+    let left = match members.get(REFERENCE) {
+        Some(reference) => reference_weighs(sources, url, depth, reference, chain, left)?,
+        None => left,
+    };
+    members_weigh(sources, url, depth + 1, members, chain, left)
+}
+
+/// Visits what the value of a `tm:ref` refers to, which stands at the depth of the object that has it.
+#[cycle(weigh)]
+fn reference_weighs(
+    sources: &Sources,
+    url: &str,
+    depth: usize,
+    reference: &Tree,
+    chain: &mut Vec<Reference>,
+    left: usize,
+) -> Result<usize, Stop>
+    requires { length chain.old.items ≤ most_entries }
+    ensures weight { Weighs (reference_visits (next_step (kept_sources sources.now.models.items) chain.old.items) url.now chain.old.items depth (Some (json_of reference.now))) left result }
+    ensures chain { OnOk result (chain.new.items ≡ chain.old.items) }
+{
+    match reference_target(sources.alloc, url, reference)? {
+        Some(target) => step_weighs(sources, false, depth, &target, chain, left),
+        None => Ok(left),
+    }
+}
+
+/// Visits the elements of a list.
+#[cycle(weigh)]
+fn elements_weigh(
+    sources: &Sources,
+    url: &str,
+    depth: usize,
+    items: &Items,
+    chain: &mut Vec<Reference>,
+    left: usize,
+) -> Result<usize, Stop>
+    requires { length chain.old.items ≤ most_entries }
+    ensures weight { Weighs (element_visits (next_step (kept_sources sources.now.models.items) chain.old.items) url.now chain.old.items depth (elements_of items.now)) left result }
+    ensures chain { OnOk result (chain.new.items ≡ chain.old.items) }
+{
+    let list = items.as_slice();
+    let mut left = left;
+    for item in list {
+        left = part_weighs(sources, url, depth, item, chain, left)?;
+    }
+    Ok(left)
+}
+
+/// Visits the members of an object.
+#[cycle(weigh)]
+fn members_weigh(
+    sources: &Sources,
+    url: &str,
+    depth: usize,
+    members: &Members,
+    chain: &mut Vec<Reference>,
+    left: usize,
+) -> Result<usize, Stop>
+    requires { length chain.old.items ≤ most_entries }
+    ensures weight { Weighs (member_visits (next_step (kept_sources sources.now.models.items) chain.old.items) url.now chain.old.items depth (members_of members.now)) left result }
+    ensures chain { OnOk result (chain.new.items ≡ chain.old.items) }
+{
+    let list = members.as_slice();
+    let mut left = left;
+    for (_, member) in list {
+        left = part_weighs(sources, url, depth, member, chain, left)?;
+    }
+    Ok(left)
+}
+
+/// Visits a node at this depth, by a chain within its limit.
+fn node_weighs(node: &Tree, depth: usize, left: usize) -> Result<usize, Stop>
+    ensures weight { (chain : List TargetValue) → length chain ≤ most_entries → Weighs (own_visit chain depth (json_of node.now) ∷ []) left result }
+    ensures depth { OnOk result (depth ≤ most_depth) }
+{
+    if depth > MOST_DEPTH {
+        return Err(Stop::TooLarge);
+    }
+    match without_node(node, left) {
+        Some(left) => Ok(left),
+        None => Err(Stop::TooLarge),
+    }
+}
+
+/// What is left behind a node, without the nodes in it.
+fn without_node(node: &Tree, left: usize) -> Option<usize>
+    ensures { Spends (own_weight (json_of node.now)) left result }
+{
+    match node {
+        Tree::Null => without(4, left),
+        Tree::Bool(_) => without(5, left),
+        Tree::Int(_) => without(20, left),
+        Tree::Text(text) => without_text(text.as_str(), left),
+        Tree::List(items) => without(items.len(), without(2, left)?),
+        Tree::Obj(members) => without_names(members.as_slice(), without(2, left)?),
+    }
+}
+
+/// What is left behind the names of members, and 2 for each.
+fn without_names(members: &[(Text, Tree)], left: usize) -> Option<usize>
+    ensures { Spends (sum_by name_weight (json_members members.now)) left result }
+{
+    let mut left = left;
+    for (name, _) in members {
+        match without_name(name.as_str(), left) {
+            Some(rest) => left = rest,
+            None => return None,
+        }
+    }
+    Some(left)
+}
+
+/// What is left behind a name of a member, and 2.
+fn without_name(name: &str, left: usize) -> Option<usize>
+    ensures { Spends (length (json_string name.now) + 2) left result }
+{
+    without(2, without_text(name, left)?)
+}
+
+/// What is left behind this much.
+fn without(amount: usize, left: usize) -> Option<usize>
+    ensures { Spends amount left result }
+{
+    left.checked_sub(amount)
+}
+
+/// What is left behind a text as it is written.
+fn without_text(text: &str, left: usize) -> Option<usize>
+    ensures { Spends (length (json_string text.now)) left result }
+{
+    match quoted_length(text, left) {
+        Some(length) => Some(left - length),
+        None => None,
+    }
+}

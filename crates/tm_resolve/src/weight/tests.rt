@@ -1,0 +1,183 @@
+//! Models at the limits and beyond them: whether they have a value.
+
+use crate::tests::{add, outcome};
+use std::alloc::Global;
+use std::test::Fail;
+use tm_parts::Library;
+
+/// A text of this many letters.
+fn letters(alloc: Global, count: usize) -> Result<String, Fail> {
+    let mut text = String::new(alloc);
+    for _ in 0..count {
+        text.push_str("a")?;
+    }
+    Ok(text)
+}
+
+/// A number in this many lists.
+fn lists(alloc: Global, count: usize) -> Result<String, Fail> {
+    let mut text = String::new(alloc);
+    for _ in 0..count {
+        text.push_str("[")?;
+    }
+    text.push_str("0")?;
+    for _ in 0..count {
+        text.push_str("]")?;
+    }
+    Ok(text)
+}
+
+/// The models `m0` to `m` and a number, each with a link of this relation to the next.
+fn linked(alloc: Global, last: usize, relation: &str) -> Result<Library, Fail> {
+    let mut library = Library::new(alloc);
+    for number in 0..last {
+        let name = format!(in alloc; "m{number}")?;
+        let next = number + 1;
+        let members = format!(in alloc;
+            "\"links\":[{{\"href\":\"m{next}\",\"rel\":\"{relation}\"}}]"
+        )?;
+        add(alloc, &mut library, name.as_str(), members.as_str())?;
+    }
+    let name = format!(in alloc; "m{last}")?;
+    add(alloc, &mut library, name.as_str(), "\"p\":0")?;
+    Ok(library)
+}
+
+/// The models `b0` to `b` and a number. The `x` of each refers so often to that of the next, the last `x` has a number
+/// alone, and a property of `b0` refers to its own `x`.
+fn multiplied(alloc: Global, last: usize, references: usize) -> Result<Library, Fail> {
+    let mut library = Library::new(alloc);
+    for number in 0..last {
+        let name = format!(in alloc; "b{number}")?;
+        let next = number + 1;
+        let mut members = format!(in alloc;
+            "\"properties\":{{\"p\":{{\"tm:ref\":\"#/x\"}}}},\"x\":{{"
+        )?;
+        for reference in 0..references {
+            let comma = if reference == 0 { "" } else { "," };
+            let member = format!(in alloc;
+                "{comma}\"r{reference}\":{{\"tm:ref\":\"b{next}#/x\"}}"
+            )?;
+            members.push_str(member.as_str())?;
+        }
+        members.push_str("}")?;
+        add(alloc, &mut library, name.as_str(), members.as_str())?;
+    }
+    let name = format!(in alloc; "b{last}")?;
+    add(alloc, &mut library, name.as_str(), "\"x\":{\"a\":0}")?;
+    Ok(library)
+}
+
+/// That the model has a value, or its fault.
+fn judged(alloc: Global, library: &Library, name: &str) -> Result<String, Fail> {
+    let found = outcome(alloc, library, name)?;
+    if found.as_str().starts_with('{') {
+        return Ok(String::from_str(alloc, "value")?);
+    }
+    Ok(found)
+}
+
+#[test]
+fn a_chain_has_at_most_16_models(rt: HostRuntime) -> Result<(), Fail> {
+    let alloc = rt.alloc();
+    let table = [
+        (15, "tm:extends", "value"),
+        (16, "tm:extends", "TooLarge https://m.example/m0 "),
+        (15, "tm:submodel", "value"),
+        (16, "tm:submodel", "TooLarge https://m.example/m0 "),
+        (16, "item", "value"),
+    ];
+    for (last, relation, wanted) in table {
+        let library = linked(alloc, last, relation)?;
+        let found = judged(alloc, &library, "m0")?;
+        assert_eq!(rt; found.as_str(), wanted, "{last} {relation}");
+    }
+    Ok(())
+}
+
+#[test]
+fn references_that_multiply_are_too_large(rt: HostRuntime) -> Result<(), Fail> {
+    let alloc = rt.alloc();
+    let table = [
+        (4, 2, "value"),
+        (14, 2, "TooLarge https://m.example/b0 "),
+        (14, 20, "TooLarge https://m.example/b0 "),
+    ];
+    for (last, references, wanted) in table {
+        let library = multiplied(alloc, last, references)?;
+        let found = judged(alloc, &library, "b0")?;
+        assert_eq!(rt; found.as_str(), wanted, "{last} {references}");
+    }
+    Ok(())
+}
+
+/// Models whose weight and depth are at the limits. `exact` weighs 2 for the object, 9, 5 and 5 for its names, 15 for its
+/// type, 6 for the list, 4, 5, 20 and 5 for what stands in that, and 2 for the quotation marks of the text: 78 and its
+/// letters.
+fn at_the_limits(alloc: Global) -> Result<Library, Fail> {
+    let mut library = Library::new(alloc);
+    let text = letters(alloc, 262_066)?;
+    let members = format!(in alloc; "\"l\":[null,true,0,\"x\\n\"],\"t\":\"{text}\"")?;
+    add(alloc, &mut library, "exact", members.as_str())?;
+    let members = format!(in alloc; "\"l\":[null,true,0,\"x\\n\"],\"t\":\"{text}a\"")?;
+    add(alloc, &mut library, "more", members.as_str())?;
+    let members = format!(in alloc; "\"{{{{A}}}}\":0,\"t\":\"{text}\"")?;
+    add(alloc, &mut library, "name", members.as_str())?;
+    let members = format!(in alloc;
+        "\"links\":[{{\"href\":\"name\",\"rel\":\"tm:extends\"}}],\"p\":{{\"tm:ref\":7}},\"t\":\"{text}\""
+    )?;
+    add(alloc, &mut library, "fault", members.as_str())?;
+    let text = letters(alloc, 140_000)?;
+    let members = format!(in alloc; "\"t\":\"{text}\"")?;
+    add(alloc, &mut library, "half", members.as_str())?;
+    let nested = lists(alloc, 62)?;
+    let members = format!(in alloc; "\"x\":{{\"a\":{nested}}}")?;
+    add(alloc, &mut library, "deep", members.as_str())?;
+    for (name, members) in [
+        (
+            "twice",
+            "\"links\":[{\"href\":\"half\",\"rel\":\"tm:submodel\"},{\"href\":\"half\",\"rel\":\"tm:submodel\"}]",
+        ),
+        (
+            "extends_twice",
+            "\"links\":[{\"href\":\"twice\",\"rel\":\"tm:extends\"}]",
+        ),
+        (
+            "extends_deep",
+            "\"links\":[{\"href\":\"deep\",\"rel\":\"tm:extends\"}]",
+        ),
+        ("refers", "\"p\":{\"tm:ref\":\"deep#/x\"}"),
+        ("refers_deeper", "\"p\":{\"q\":{\"tm:ref\":\"deep#/x\"}}"),
+        ("refers_in_list", "\"p\":[{\"tm:ref\":\"deep#/x\"}]"),
+    ] {
+        add(alloc, &mut library, name, members)?;
+    }
+    Ok(library)
+}
+
+#[test]
+fn weight_and_depth_have_limits(rt: HostRuntime) -> Result<(), Fail> {
+    let alloc = rt.alloc();
+    let library = at_the_limits(alloc)?;
+    let table = [
+        ("exact", "value"),
+        ("more", "TooLarge https://m.example/more "),
+        ("name", "InName https://m.example/name /{{A}}"),
+        ("fault", "TooLarge https://m.example/fault "),
+        ("twice", "TooLarge https://m.example/twice "),
+        ("extends_twice", "value"),
+        ("deep", "value"),
+        ("extends_deep", "value"),
+        ("refers", "value"),
+        ("refers_deeper", "TooLarge https://m.example/refers_deeper "),
+        (
+            "refers_in_list",
+            "TooLarge https://m.example/refers_in_list ",
+        ),
+    ];
+    for (name, wanted) in table {
+        let found = judged(alloc, &library, name)?;
+        assert_eq!(rt; found.as_str(), wanted, "{name}");
+    }
+    Ok(())
+}

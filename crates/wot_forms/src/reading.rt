@@ -13,7 +13,7 @@ use std::alloc::Global;
 use wot_json::{NoMemory, Text, Tree};
 use wot_terms::{Kind, Op};
 
-/// The media type of a form that names none (TD 1.1, section 5.4.1).
+/// The media type of a form that names none (TD 1.1, section 5.4).
 const DEFAULT_CONTENT_TYPE: &str = "application/json";
 
 /// The forms of the affordance of this kind and name in a valid description, where it has that; without a kind those

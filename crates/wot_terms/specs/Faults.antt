@@ -192,7 +192,7 @@ id ms = optional (codes "id") (is is_text_not_empty) ms
 abbrev pub base : MembersJudge
 base ms = optional (codes "base") text ms
 
--- 8: `@type` (section 5.3.1.1): a description is no Thing Model (section 9)
+-- 8: `@type` (section 5.3.1.1): a description is no Thing Model (section "Thing Model")
 abbrev pub thing_model : List ℕ
 thing_model = codes "tm:ThingModel"
 

@@ -21,7 +21,7 @@ use wot_json::{Members, Tree};
 /// The context of a description (TD 1.1, section 5.3.1.1).
 const TD_CONTEXT: &str = "https://www.w3.org/2022/wot/td/v1.1";
 
-/// The type of a Thing Model (section 9).
+/// The type of a Thing Model (section "Thing Model").
 const THING_MODEL: &str = "tm:ThingModel";
 
 /// `@context` is that of TD 1.1, or a list that has it.

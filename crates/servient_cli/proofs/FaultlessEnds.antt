@@ -99,7 +99,7 @@ faultless_ends c status text (is_check name content reads holds short handlers c
     let held : content_of fine.files name ≡ Some content = told c.held fine.files (λ files. content_of files name ≡ Some content) fine.told holds in
     let same : fine.content ≡ content = sym (same_content fine.files name fine.name content fine.content (name_is reads.words fine.command) held fine.holds) in
     check_fine content name status text (faultless_file fine.task Check fine.content content (sym (task_is reads.words fine.command)) same fine.faultless) checks
-faultless_ends c status text (wants_memory task name words reads nine line_text) fine kept = inr nine
+faultless_ends c status text (wants_memory task name words reads handlers nine line_text) fine kept = inr nine
 
 -- the same of what was reported of it, where the output didn't fail
 pub faultless_reported : (c : Call) (status result : ℕ) (text : List ℕ) (faults faults_now : ℕ) → HasCause c status text → IsFaultless c.words c.held → ¬ (Rose c.faults c.faults_now) → ¬ (Rose faults faults_now) →

@@ -1,4 +1,3 @@
-pub mod Endings
 pub mod HexTexts
 pub mod FieldTexts
 pub mod LineTexts

@@ -176,9 +176,10 @@ pub data HasCause (c : Call) (status : ℕ) (text : List ℕ) : Type 0 where
   -- it was checked, and no handler was called
   is_check : (name content : List ℕ) → ReadsFile c Check name → Holds c name content → length content ≤ limit_of Check
       → c.handlers_now ≡ c.handlers → Checks name content status text → HasCause c status text
-  -- there was no memory, which may be at any time after the words are read
+  -- there was no memory, which may be at any time after the words are read; a check called no handler here either
   wants_memory : (task : Task) (name : List ℕ) → IsCommand c.words task name
       → Continues c.reads c.reads_now [] ⊎ Continues c.reads c.reads_now (file_read task name ∷ [])
+      → (task ≡ Check → c.handlers_now ≡ c.handlers)
       → status ≡ 9 → text ≡ memory_line → HasCause c status text
 
 -- The text was written and the status is its own; or the output failed, which its count tells, a front of

@@ -23,7 +23,7 @@ with_model url model (m ∷ ms) = match_ordering (slice_cmp nat_cmp url m.0) ((u
 abbrev pub IsModelUrl : List ℕ → Type 0
 IsModelUrl url = MatchResult (parse_url None url) (λ parts. parts.fragment ≡ None) (λ fault. ⊥)
 
--- the type that says that an object is a Thing Model (Thing Description 1.1, section 10)
+-- the type that says that an object is a Thing Model (Thing Description 1.1, section "Thing Model")
 abbrev pub thing_model : List ℕ
 thing_model = codes "tm:ThingModel"
 

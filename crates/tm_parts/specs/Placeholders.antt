@@ -1,4 +1,4 @@
--- Placeholders in a text (Thing Description 1.1, section 10 on Thing Models), and how a text is cut into pieces.
+-- Placeholders in a text (Thing Description 1.1, section "Thing Model"), and how a text is cut into pieces.
 use Rattle.std.specs.Prelude.{ℕ, zero, suc, ◌+◌, ◌==◌, ◌&&◌, not, nat_lt, nat_le, Bool, List, [], ◌∷◌, ◌++◌, length, take, drop, codes, Option, Some, None, if◌then◌else◌}
 use Rattle.std.specs.List.{flat_map, list_all, take_while}
 use Rattle.std.specs.Str.{bytes_eq}

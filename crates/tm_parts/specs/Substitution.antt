@@ -1,5 +1,5 @@
 -- A model with values in place of its placeholders, and the faults that it may have instead
--- (Thing Description 1.1, section 10 on Thing Models).
+-- (Thing Description 1.1, section "Thing Model").
 use Rattle.std.specs.Prelude.{◌≡◌, ◌⊎◌, ℕ, ◌+◌, List, [], ◌∷◌, ◌++◌, map, codes, Option, Some, None, unwrap_or}
 use Rattle.std.specs.List.{flat_map}
 use Rattle.wot_json.specs.Tree.{Json, null, boolean, integer, string, array, object, Elements, no_elements, element, Members, no_members, member}

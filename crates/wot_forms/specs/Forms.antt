@@ -14,7 +14,7 @@ use Rattle.wot_terms.specs.Faults.{holder}
 use Rattle.wot_terms.specs.Affordances.{part, is_true}
 use Rattle.wot_forms.specs.declared.form.Form.{Form}
 
--- The operations of a form that names none (section 5.4.1): reading unless the property is write-only, writing unless
+-- The operations of a form that names none (section 5.4): reading unless the property is write-only, writing unless
 -- it is read-only; invoking; subscribing and unsubscribing.
 abbrev pub default_ops : Kind → Bool → Bool → List Op
 default_ops kind.Property read_only write_only =
@@ -61,7 +61,7 @@ text_of (Some (array es)) = None
 text_of (Some (object ms)) = None
 
 -- A form: its `href`, its operations, its `contentType`, which is `application/json` where none stands (section
--- 5.4.1), its `subprotocol` and the HTTP method that it names.
+-- 5.4), its `subprotocol` and the HTTP method that it names.
 abbrev pub form_of : List Op → Json → Form
 form_of defaults v = record {
   href = unwrap_or (text_of (part (codes "href") v)) [];

@@ -62,7 +62,7 @@ impl Ops {
     }
 }
 
-/// The operations of a form that names none, in an affordance of this kind with these flags (TD 1.1, section 5.4.1). It
+/// The operations of a form that names none, in an affordance of this kind with these flags (TD 1.1, section 5.4). It
 /// takes no memory. The flags say something of properties alone.
 pub fn default_ops(kind: Kind, read_only: bool, write_only: bool) -> Ops
     ensures { result ≡ defaults_of kind read_only write_only }

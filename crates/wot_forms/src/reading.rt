@@ -13,7 +13,7 @@ use std::alloc::Global;
 use wot_json::{NoMemory, Text, Tree};
 use wot_terms::{Kind, Op};
 
-/// The media type of a form that names none (TD 1.1, section 5.4.1).
+/// The media type of a form that names none (TD 1.1, section 5.4).
 const DEFAULT_CONTENT_TYPE: &str = "application/json";
 
 /// The forms of the affordance of this kind and name in a valid description, where it has that; without a kind those
@@ -69,8 +69,8 @@ fn affordance<'a>(tree: &'a Tree, kind: Kind, name: &str) -> Option<&'a Tree>
     ensures { option_map (λ t. json_of t.now) result
         ≡ option_and_then (part name.now) (part (holder_of kind) (json_of tree.now)) }
 {
-    match member(tree, kind.holder()) {
-        Some(held) => member(held, name),
+    match tree.member(kind.holder()) {
+        Some(held) => held.member(name),
         None => None,
     }
 }
@@ -81,8 +81,8 @@ fn forms_of_affordance(alloc: Global, affordance: &Tree, kind: Kind) -> Result<F
 {
     let place = Place {
         kind: Some(kind),
-        read_only: flag(member(affordance, "readOnly")),
-        write_only: flag(member(affordance, "writeOnly")),
+        read_only: flag(affordance.member("readOnly")),
+        write_only: flag(affordance.member("writeOnly")),
     };
     forms_under(alloc, affordance, place)
 }
@@ -92,7 +92,7 @@ fn forms_of_affordance(alloc: Global, affordance: &Tree, kind: Kind) -> Result<F
 fn forms_under(alloc: Global, tree: &Tree, place: Place) -> Result<Forms, NoMemory>
     ensures { IfOk result (λ list. list ≡ forms_under_of (default_ops_at place) (json_of tree.now)) }
 {
-    match member(tree, "forms") {
+    match tree.member("forms") {
         Some(Tree::List(items)) => listed_forms(alloc, items.as_slice(), place),
         _ => Ok(Forms::new(alloc)),
     }
@@ -114,11 +114,11 @@ fn form(alloc: Global, tree: &Tree, place: Place) -> Result<Form, NoMemory>
     ensures { IfOk result (λ form. form ≡ form_of (default_ops_at place) (json_of tree.now)) }
 {
     Ok(Form {
-        href: text_or(alloc, member(tree, "href"), "")?,
-        ops: operations(alloc, member(tree, "op"), place)?,
-        content_type: text_or(alloc, member(tree, "contentType"), DEFAULT_CONTENT_TYPE)?,
-        subprotocol: text(alloc, member(tree, "subprotocol"))?,
-        method: text(alloc, member(tree, "htv:methodName"))?,
+        href: text_or(alloc, tree.member("href"), "")?,
+        ops: operations(alloc, tree.member("op"), place)?,
+        content_type: text_or(alloc, tree.member("contentType"), DEFAULT_CONTENT_TYPE)?,
+        subprotocol: text(alloc, tree.member("subprotocol"))?,
+        method: text(alloc, tree.member("htv:methodName"))?,
     })
 }
 
@@ -195,14 +195,4 @@ fn flag(value: Option<&Tree>) -> bool
     ensures { result ≡ is_true (option_map (λ t. json_of t.now) value.entry) }
 {
     matches!(value, Some(Tree::Bool(true)))
-}
-
-/// The member of this name, where the value is an object that has it.
-fn member<'a>(tree: &'a Tree, name: &str) -> Option<&'a Tree>
-    ensures { option_map (λ t. json_of t.now) result ≡ part name.now (json_of tree.now) }
-{
-    match tree {
-        Tree::Obj(members) => members.get(name),
-        _ => None,
-    }
 }

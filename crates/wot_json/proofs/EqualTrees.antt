@@ -3,7 +3,7 @@ use Rattle.std.proofs.Common.{◌≡◌, ℕ, ◌+◌, ◌<◌, List, [], ◌∷
 use mathlib.Core.Bool.{false≢true}
 use Rattle.std.proofs.lemmas.List.{map_more, get_or-map}
 use Rattle.wot_json.specs.Tree.{Json, array, object, elements_of, members_of}
-use Rattle.wot_json.specs.Lookup.{listed, listed_members}
+use Rattle.wot_json.specs.Lookup.{listed, listed_members, member_named, found}
 
 -- the elements of an array are its elements
 pub listed_lem : (vs : List Json) → listed (elements_of vs) ≡ vs
@@ -14,6 +14,10 @@ listed_lem (v ∷ vs) = ap (λ (ws : List Json). v ∷ ws) (listed_lem vs)
 pub listed_members_lem : (ms : List (List ℕ × Json)) → listed_members (members_of ms) ≡ ms
 listed_members_lem [] = refl
 listed_members_lem (m ∷ ms) = ap (λ (ns : List (List ℕ × Json)). m ∷ ns) (listed_members_lem ms)
+
+-- what stands under a name in a list of members, the object of them has there
+pub found-members_of : (name : List ℕ) (ms : List (List ℕ × Json)) → found name (members_of ms) ≡ member_named name ms
+found-members_of name ms = ap (member_named name) (listed_members_lem ms)
 
 -- arrays are the same where their elements are
 pub arrays_equal : (xs ys : List Json) (r : Bool) → (IsTrue r ↔ (xs ≡ ys)) → IsTrue r ↔ (array (elements_of xs) ≡ array (elements_of ys))

@@ -17,3 +17,7 @@ listed_members (member n v ms) = (n, v) ∷ listed_members ms
 abbrev pub member_named : List ℕ → List (List ℕ × Json) → Option Json
 member_named name [] = None
 member_named name (m ∷ ms) = if bytes_eq name m.0 then Some m.1 else member_named name ms
+
+-- the value of the member of this name among the members of an object, where it has one
+abbrev pub found : List ℕ → Members → Option Json
+found name ms = member_named name (listed_members ms)

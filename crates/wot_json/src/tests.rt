@@ -1,6 +1,6 @@
 //! Texts of trees by hand, and each public call once.
 
-use crate::{Bytes, Items, Members, Text, Tree, copy, quoted, quoted_length, text_of, write};
+use crate::{Bytes, Items, Members, Text, Tree, copy, quoted, quoted_length, read, text_of, write};
 use std::test::Fail;
 
 #[test]
@@ -54,6 +54,16 @@ fn texts_of_lists_and_objects(rt: HostRuntime) -> Result<(), Fail> {
     assert_eq!(rt; room.as_slice(), text.as_slice());
     let mut short = [0u8; 43];
     assert_eq!(rt; write(&tree, &mut short), None);
+    Ok(())
+}
+
+#[test]
+fn members_are_found_by_their_names(rt: HostRuntime) -> Result<(), Fail> {
+    let alloc = rt.alloc();
+    let tree = read(alloc, b"{\"a\":{\"b\":1},\"b\":2}")?;
+    assert!(rt; matches!(tree.member("b"), Some(Tree::Int(2))));
+    assert!(rt; tree.member("c").is_none());
+    assert!(rt; Tree::List(Items::new(alloc)).member("b").is_none());
     Ok(())
 }
 

@@ -82,6 +82,19 @@ ghost use Rattle.std.specs.Ordering.{nat_cmp};
 ghost use Rattle.wot_json.specs.Tree.{AreOrdered};
 ghost use Rattle.wot_json.specs.Meaning.{json_of, json_items, json_members};
 ghost use Rattle.wot_json.specs.Lookup.{member_named};
+ghost use Rattle.wot_json.specs.Merge.{members_under};
+
+impl Tree {
+    /// The value of the member of this name, where the value is an object that has it.
+    pub fn member(&self, name: &str) -> Option<&Tree>
+        ensures { option_map (λ t. json_of t.now) result ≡ member_named name.now (members_under (json_of self.now)) }
+    {
+        match self {
+            Tree::Obj(members) => members.get(name),
+            _ => None,
+        }
+    }
+}
 
 impl Items {
     /// No elements.

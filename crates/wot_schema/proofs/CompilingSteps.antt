@@ -8,8 +8,9 @@ use Rattle.std.proofs.lemmas.List.{take_more, map-append}
 use Rattle.wot_json.specs.Tree.{Json, null, boolean, integer, string, array, object, Elements, no_elements, element, Members, no_members, member, elements_of, members_of, nesting, members_nesting}
 use Rattle.wot_json.specs.Meaning.{json_of, json_items, json_members}
 use Rattle.wot_json.specs.declared.tree.Tree.{Tree}
+use Rattle.wot_json.specs.Lookup.{found}
 use Rattle.wot_schema.specs.declared.fault.SchemaFault.{SchemaFault}
-use Rattle.wot_schema.specs.Values.{found, EachElement, IfArray, IfObject}
+use Rattle.wot_schema.specs.Values.{EachElement, IfArray, IfObject}
 use Rattle.wot_schema.specs.Acceptance.{Accepts, Holder, one_of, items, properties, name_of, Within, Asks, ExactlyOne, AcceptNone, InOrder, AcceptMembers}
 use Rattle.wot_schema.specs.Faults.{faults_at, faults_within, faults_below, faults_of_list, faults_of_members, place_of_member, place_of_element, IsFirstFault}
 use Rattle.wot_schema.specs.Alike.{AcceptAlike, AllAlike, NamedAlike}

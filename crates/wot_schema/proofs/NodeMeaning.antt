@@ -6,7 +6,7 @@ use Rattle.std.specs.declared.alloc.Global.{Global}
 use Rattle.std.specs.Str.{bytes_eq}
 use Rattle.std.specs.Cmp.Lexicographic.{same_text}
 use Rattle.wot_json.specs.Tree.{Json, Members, no_members, member, members_of}
-use Rattle.wot_schema.specs.Values.{found}
+use Rattle.wot_json.specs.Lookup.{found}
 use Rattle.wot_schema.specs.Acceptance.{Accepts, Holder, one_of, items, properties, name_of, Within, Asks}
 use Rattle.wot_schema.specs.Rules.{IsAllowed, AreRulesOf}
 use Rattle.wot_schema.specs.Nodes.{present, node_rows, node_members, schema_of, list_of, items_of, properties_of}

@@ -7,7 +7,8 @@ use Rattle.std.specs.Option.{option_map}
 use Rattle.wot_json.specs.Tree.{Json, null, boolean, integer, string, array, object, Elements, Members, elements_of}
 use Rattle.wot_json.specs.Meaning.{json_of, json_items}
 use Rattle.wot_json.specs.declared.tree.Tree.{Tree}
-use Rattle.wot_schema.specs.Values.{found, IfInteger, IfString, IfArray, IfObject, SomeElement, element_count, code_points}
+use Rattle.wot_json.specs.Lookup.{found}
+use Rattle.wot_schema.specs.Values.{IfInteger, IfString, IfArray, IfObject, SomeElement, element_count, code_points}
 use Rattle.wot_schema.specs.Acceptance.{type_of, AreNamesIn, Rows}
 use Rattle.wot_schema.specs.Kinds.{kind_name}
 use Rattle.wot_schema.specs.declared.kind.Kind.{Kind}

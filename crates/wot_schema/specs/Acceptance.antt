@@ -2,7 +2,8 @@
 use Rattle.std.specs.Prelude.{◌≡◌, ℕ, ℤ, pos, ◌≤ℤ◌, ◌<ℤ◌, ◌*ℤ◌, ◌⊎◌, List, IfSome, IsSome, MatchBool, ⊤, codes}
 use Rattle.std.specs.Str.{bytes_eq}
 use Rattle.wot_json.specs.Tree.{Json, null, boolean, integer, string, array, object, Elements, no_elements, element, Members, no_members, member}
-use Rattle.wot_schema.specs.Values.{found, IfInteger, IfString, IfArray, IfObject, EachElement, SomeElement, element_count, code_points}
+use Rattle.wot_json.specs.Lookup.{found}
+use Rattle.wot_schema.specs.Values.{IfInteger, IfString, IfArray, IfObject, EachElement, SomeElement, element_count, code_points}
 
 -- the type of a value, as `type` names it
 abbrev pub type_of : Json → List ℕ

@@ -5,9 +5,9 @@ use Rattle.std.specs.Option.{option_map_or}
 use Rattle.std.specs.Str.{bytes_eq}
 use Rattle.wot_json.specs.Tree.{Json, integer, string, array, object, Elements, no_elements, element, Members, no_members, member}
 use Rattle.wot_json.specs.Places.{token_text, index_text}
+use Rattle.wot_json.specs.Lookup.{found}
 use Rattle.wot_schema.specs.declared.fault.SchemaFault.{SchemaFault}
 use Rattle.wot_schema.specs.declared.fault.SchemaFault.TheVariants.{Unsupported, Malformed, NoMemory}
-use Rattle.wot_schema.specs.Values.{found}
 use Rattle.wot_schema.specs.Acceptance.{Holder, one_of, items, properties, name_of}
 
 -- the faults of a value, which stands at a place

@@ -2,7 +2,7 @@
 use Rattle.std.specs.Prelude.{◌≡◌, ℤ, pos, ◌≤ℤ◌, ◌<ℤ◌, ◌*ℤ◌, IfSome, codes}
 use Rattle.std.specs.Option.{option_map}
 use Rattle.wot_json.specs.Tree.{integer, Members}
-use Rattle.wot_schema.specs.Values.{found}
+use Rattle.wot_json.specs.Lookup.{found}
 use Rattle.wot_schema.specs.declared.numbers.NumberRules.{NumberRules}
 
 -- the number meets the rules

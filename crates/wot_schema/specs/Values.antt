@@ -1,12 +1,7 @@
 -- Words on JSON values that data schemas use.
-use Rattle.std.specs.Prelude.{ℕ, ◌+◌, ◌⊎◌, ℤ, List, length, Option, Some, None, ⊤, if◌then◌else◌}
-use Rattle.std.specs.Str.{bytes_eq, chars}
-use Rattle.wot_json.specs.Tree.{Json, integer, string, array, object, Elements, no_elements, element, Members, no_members, member}
-
--- the value of the member of this name, where there is one
-abbrev pub found : List ℕ → Members → Option Json
-found name no_members = None
-found name (member n v ms) = if bytes_eq name n then Some v else found name ms
+use Rattle.std.specs.Prelude.{ℕ, ◌+◌, ◌⊎◌, ℤ, List, length, ⊤}
+use Rattle.std.specs.Str.{chars}
+use Rattle.wot_json.specs.Tree.{Json, integer, string, array, object, Elements, no_elements, element, Members}
 
 -- this of the number, where the value is an integer
 abbrev pub IfInteger : Json → (ℤ → Type 0) → Type 0

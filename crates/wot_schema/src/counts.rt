@@ -3,7 +3,7 @@
 ghost use Rattle.std.specs.Prelude.{◌≡◌, ◌≤◌, pos, [], ◌∷◌, ◌++◌, ◌↔◌, IsTrue, IfSome, IfOk, OnOk, IfErr};
 ghost use Rattle.std.specs.Option.{option_map};
 ghost use Rattle.wot_json.specs.Tree.{integer, members_of};
-ghost use Rattle.wot_schema.specs.Values.{found};
+ghost use Rattle.wot_json.specs.Lookup.{found};
 ghost use Rattle.wot_schema.specs.Faults.{row_faults, count as count_judge, IsFirstFault};
 ghost use Rattle.wot_schema.specs.Counts.{IsCountWithin};
 

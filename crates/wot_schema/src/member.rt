@@ -4,7 +4,7 @@ ghost use Rattle.std.specs.Prelude.{◌≡◌, ◌⊎◌, IfOk};
 ghost use Rattle.std.specs.Option.{option_map};
 ghost use Rattle.wot_json.specs.Tree.{members_of};
 ghost use Rattle.wot_json.specs.Meaning.{json_of};
-ghost use Rattle.wot_schema.specs.Values.{found};
+ghost use Rattle.wot_json.specs.Lookup.{found};
 ghost use Rattle.wot_schema.specs.Faults.{place_of_member};
 ghost use Rattle.wot_schema.specs.declared.fault.SchemaFault.{SchemaFault};
 

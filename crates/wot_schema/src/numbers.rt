@@ -4,7 +4,7 @@ ghost use Rattle.std.specs.Prelude.{◌≡◌, ◌↔◌, ◌<◌, ◌≤ℤ◌,
 ghost use Rattle.std.specs.Option.{ForSome, option_map};
 ghost use Rattle.std.specs.List.{flat_map};
 ghost use Rattle.wot_json.specs.Tree.{integer, members_of};
-ghost use Rattle.wot_schema.specs.Values.{found};
+ghost use Rattle.wot_json.specs.Lookup.{found};
 ghost use Rattle.wot_schema.specs.Faults.{row_faults, whole_number, number_above_zero, number_rows, IsFirstFault};
 
 use crate::SchemaFault;

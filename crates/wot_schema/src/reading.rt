@@ -5,7 +5,7 @@ ghost use Rattle.std.specs.Option.{option_map};
 ghost use Rattle.std.specs.List.{flat_map};
 ghost use Rattle.wot_json.specs.Tree.{members_of, elements_of, array, string};
 ghost use Rattle.wot_json.specs.Meaning.{json_of, json_items};
-ghost use Rattle.wot_schema.specs.Values.{found};
+ghost use Rattle.wot_json.specs.Lookup.{found};
 ghost use Rattle.wot_schema.specs.Kinds.{kind_name};
 ghost use Rattle.wot_schema.specs.Faults.{row_faults, unsupported_rows, absent, are_texts, type_name, list_with_element, object_or_list, any_object, list_of_texts, IsFirstFault};
 

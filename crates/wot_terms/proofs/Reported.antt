@@ -4,8 +4,8 @@ use Rattle.std.specs.Option.{option_map_or}
 use Rattle.wot_json.specs.Tree.{Json, array, object, Members, elements_of, members_of}
 use Rattle.wot_json.specs.Meaning.{json_of, json_items, json_members}
 use Rattle.wot_json.specs.declared.tree.Tree.{Tree}
+use Rattle.wot_json.specs.Lookup.{found}
 use Rattle.std.proofs.lemmas.List.{drop_more}
-use Rattle.wot_schema.specs.Values.{found}
 use Rattle.wot_schema.proofs.Steps.{rest_at}
 use Rattle.wot_terms.specs.declared.fault.RowFault.{RowFault}
 use Rattle.wot_terms.specs.declared.fault.RowFault.TheVariants as row_fault

@@ -6,7 +6,7 @@ use Rattle.std.specs.Option.{option_map_or}
 use Rattle.wot_json.specs.Tree.{Json, null, boolean, integer, string, array, object, Members, no_members, member, members_of}
 use Rattle.wot_json.specs.Meaning.{json_of, json_members}
 use Rattle.wot_json.specs.declared.tree.Tree.{Tree}
-use Rattle.wot_schema.specs.Values.{found}
+use Rattle.wot_json.specs.Lookup.{found}
 use Rattle.wot_schema.specs.Faults.{schema_faults}
 use Rattle.wot_schema.proofs.Steps.{rest_at}
 use Rattle.wot_terms.specs.declared.kind.Kind.{Kind}

@@ -2,7 +2,8 @@
 use Rattle.std.specs.Prelude.{ℕ, List, [], ◌∷◌, ◌++◌, Bool, false, Option, Some, None, codes}
 use Rattle.std.specs.Option.{option_map_or}
 use Rattle.wot_json.specs.Tree.{Json, boolean, object, Members, no_members, member}
-use Rattle.wot_schema.specs.Values.{found}
+use Rattle.wot_json.specs.Lookup.{member_named, found}
+use Rattle.wot_json.specs.Merge.{members_under}
 use Rattle.wot_terms.specs.declared.kind.Kind.{Kind}
 use Rattle.wot_terms.specs.declared.kind.Kind.TheVariants as kind
 use Rattle.wot_terms.specs.declared.affordance.Affordance.{Affordance}
@@ -10,8 +11,7 @@ use Rattle.wot_terms.specs.Faults.{holder}
 
 -- the member of this name, where the value is an object that has it
 abbrev pub part : List ℕ → Json → Option Json
-part name (object ms) = found name ms
-part name v = None
+part name v = member_named name (members_under v)
 
 -- a truth value of an affordance, which is false where it is absent
 abbrev pub is_true : Option Json → Bool

@@ -5,9 +5,9 @@ use Rattle.std.specs.Option.{option_map_or}
 use Rattle.std.specs.Str.{bytes_eq}
 use Rattle.wot_json.specs.Tree.{Json, boolean, string, array, object, Elements, no_elements, element, Members, no_members, member}
 use Rattle.wot_json.specs.Places.{step_text, index_text}
+use Rattle.wot_json.specs.Lookup.{found}
 use Rattle.wot_schema.specs.declared.fault.SchemaFault.{SchemaFault}
 use Rattle.wot_schema.specs.declared.fault.SchemaFault.TheVariants as schema_fault
-use Rattle.wot_schema.specs.Values.{found}
 use Rattle.wot_schema.specs.Faults.{schema_faults}
 use Rattle.wot_terms.specs.declared.kind.Kind.{Kind}
 use Rattle.wot_terms.specs.declared.kind.Kind.TheVariants as kind
@@ -192,7 +192,7 @@ id ms = optional (codes "id") (is is_text_not_empty) ms
 abbrev pub base : MembersJudge
 base ms = optional (codes "base") text ms
 
--- 8: `@type` (section 5.3.1.1): a description is no Thing Model (section 9)
+-- 8: `@type` (section 5.3.1.1): a description is no Thing Model (section "Thing Model")
 abbrev pub thing_model : List ℕ
 thing_model = codes "tm:ThingModel"
 

@@ -1,8 +1,8 @@
 -- The schemas of the affordances of a valid description.
 use Rattle.std.specs.Prelude.{◌≡◌, [], IfSome, ⊤}
 use Rattle.wot_json.specs.Tree.{Json, object, Members, no_members, member}
+use Rattle.wot_json.specs.Lookup.{found}
 use Rattle.wot_schema.specs.Faults.{schema_faults}
-use Rattle.wot_schema.specs.Values.{found}
 use Rattle.wot_terms.specs.declared.kind.Kind.{Kind}
 use Rattle.wot_terms.specs.Faults.{holder}
 use Rattle.wot_terms.specs.Affordances.{input_of, output_of}

@@ -56,28 +56,28 @@ fn in_row(number: u8, fault: RowFault) -> CheckFault
     }
 }
 
-/// What the row of this number finds.
+/// What the row of this number finds. Beside each stand the sections of TD 1.1 that it is from.
 fn row(alloc: Global, number: u8, root: &Members) -> Found
     ensures { Reports (row_places number (members_of root.now)) result }
 {
     match number {
-        2 => context(alloc, root),
-        3 => required(alloc, root, "title", Asked::Text),
-        4 => security_definitions(alloc, root),
-        5 => security(alloc, root),
-        6 => optional(alloc, root, "id", Asked::TextNotEmpty),
-        7 => optional(alloc, root, "base", Asked::Text),
-        8 => types(alloc, root),
-        9 => affordance_maps(alloc, root),
-        10 => each_affordance(alloc, root, AffordanceRow::Forms),
-        11 => root_forms(alloc, root),
-        12 => each_form(alloc, root, FormRow::Href),
-        13 => each_form(alloc, root, FormRow::Operations),
-        14 => each_form(alloc, root, FormRow::Texts),
-        15 => each_affordance(alloc, root, AffordanceRow::Flags),
-        16 => each_affordance(alloc, root, AffordanceRow::Schemas),
-        17 => links(alloc, root),
-        18 => version(alloc, root),
+        2 => context(alloc, root), // section 5.3.1.1
+        3 => required(alloc, root, "title", Asked::Text), // section 5.3.1.1
+        4 => security_definitions(alloc, root), // sections 5.3.1.1 and 5.3.3.1
+        5 => security(alloc, root), // section 5.3.1.1
+        6 => optional(alloc, root, "id", Asked::TextNotEmpty), // section 5.3.1.1
+        7 => optional(alloc, root, "base", Asked::Text), // section 5.3.1.1
+        8 => types(alloc, root), // section 5.3.1.1
+        9 => affordance_maps(alloc, root), // section 5.3.1.1
+        10 => each_affordance(alloc, root, AffordanceRow::Forms), // section 5.3.1.2
+        11 => root_forms(alloc, root), // section 5.3.1.1
+        12 => each_form(alloc, root, FormRow::Href), // section 5.3.4.2
+        13 => each_form(alloc, root, FormRow::Operations), // section 5.3.4.2
+        14 => each_form(alloc, root, FormRow::Texts), // section 5.3.4.2
+        15 => each_affordance(alloc, root, AffordanceRow::Flags), // sections 5.3.1.3, 5.3.1.4 and 5.3.2.1
+        16 => each_affordance(alloc, root, AffordanceRow::Schemas), // section 5.3.2
+        17 => links(alloc, root), // sections 5.3.1.1 and 5.3.4.1
+        18 => version(alloc, root), // sections 5.3.1.1 and 5.3.1.6
         _ => Ok(()),
     }
 }

@@ -33,7 +33,7 @@ ghost use Rattle.wot_json.specs.Meaning.{json_of, json_members};
 ghost use Rattle.wot_terms.specs.Faults.{IsValid};
 ghost use Rattle.wot_schema.specs.declared.fault.SchemaFault.{SchemaFault};
 ghost use Rattle.wot_terms.specs.Schemas.{IsSchema, HasSchemas, HaveSchemas, HoldSchemas};
-ghost use Rattle.wot_terms.specs.Affordances.{affordances_of, affordances_in, named_affordances, affordance_of, input_of, output_of, part as part_of, is_true as is_true_value};
+ghost use Rattle.wot_terms.specs.Affordances.{affordances_of, affordances_in, named_affordances, affordance_of, input_of, output_of, is_true as is_true_value};
 
 impl Description {
     /// The affordances of a description that `check` takes: properties, actions and events, each in the byte order of
@@ -110,9 +110,9 @@ fn described(alloc: Global, kind: Kind, name: &str, value: &Tree) -> Result<Affo
         name,
         input,
         output,
-        read_only: is_true(part(value, "readOnly")),
-        write_only: is_true(part(value, "writeOnly")),
-        observable: is_true(part(value, "observable")),
+        read_only: is_true(value.member("readOnly")),
+        write_only: is_true(value.member("writeOnly")),
+        observable: is_true(value.member("observable")),
     })
 }
 
@@ -122,7 +122,7 @@ fn input(alloc: Global, kind: Kind, value: &Tree) -> Result<Option<Schema>, NoMe
 {
     match kind {
         Kind::Property => schema(alloc, Some(value)),
-        Kind::Action => schema(alloc, part(value, "input")),
+        Kind::Action => schema(alloc, value.member("input")),
         Kind::Event => Ok(None),
     }
 }
@@ -133,8 +133,8 @@ fn output(alloc: Global, kind: Kind, value: &Tree) -> Result<Option<Schema>, NoM
 {
     match kind {
         Kind::Property => schema(alloc, Some(value)),
-        Kind::Action => schema(alloc, part(value, "output")),
-        Kind::Event => schema(alloc, part(value, "data")),
+        Kind::Action => schema(alloc, value.member("output")),
+        Kind::Event => schema(alloc, value.member("data")),
     }
 }
 
@@ -167,16 +167,6 @@ fn no_memory(fault: SchemaFault) -> NoMemory
         SchemaFault::NoMemory => AllocError,
         SchemaFault::Unsupported(_place, _word) => unreachable!(),
         SchemaFault::Malformed(_place) => unreachable!(),
-    }
-}
-
-/// The member of this name, where the value is an object that has it.
-fn part<'a>(value: &'a Tree, name: &str) -> Option<&'a Tree>
-    ensures { option_map (λ t. json_of t.now) result ≡ part_of name.now (json_of value.now) }
-{
-    match value {
-        Tree::Obj(members) => member(members, name),
-        _ => None,
     }
 }
 

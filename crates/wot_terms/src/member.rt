@@ -3,7 +3,7 @@
 ghost use Rattle.std.specs.Prelude.{◌≡◌, option_map};
 ghost use Rattle.wot_json.specs.Tree.{members_of};
 ghost use Rattle.wot_json.specs.Meaning.{json_of};
-ghost use Rattle.wot_schema.specs.Values.{found};
+ghost use Rattle.wot_json.specs.Lookup.{found};
 
 use wot_json::{Members, Tree};
 

@@ -25,14 +25,14 @@ returns-in-Absent g c = λ words asked.
     let read = read_is _ _ c.args.command.task c.args.command.file.now c.limit.result c.limit.ensures c.in-Absent.ensures.reads in
     ends_with _ c.file.result _ c.file.ensures
     (λ e made. is_absent c.args.command.task c.args.command.file.now (record { words = asked; read = read }) c.in-Absent.ensures.file (record { handlers = refl; status_same = made.0; text_same = made.1 }))
-    (wants_memory c.args.command.task c.args.command.file.now asked (inr read) refl refl)
+    (wants_memory c.args.command.task c.args.command.file.now asked (inr read) (λ is. refl) refl refl)
 
 pub returns-in-Failed : goal.returns-in-Failed
 returns-in-Failed g c = λ words asked.
     let read = read_is _ _ c.args.command.task c.args.command.file.now c.limit.result c.limit.ensures c.in-Failed.ensures.reads in
     ends_with _ c.file-in-Failed.result _ c.file-in-Failed.ensures
     (λ e made. is_unreadable c.args.command.task c.args.command.file.now (record { words = asked; read = read }) (c.in-Failed.ensures.failed refl) (record { handlers = refl; status_same = made.0; text_same = made.1 }))
-    (wants_memory c.args.command.task c.args.command.file.now asked (inr read) refl refl)
+    (wants_memory c.args.command.task c.args.command.file.now asked (inr read) (λ is. refl) refl refl)
 
 pub returns-in-TooLong : goal.returns-in-TooLong
 returns-in-TooLong g c = λ words asked.
@@ -40,10 +40,10 @@ returns-in-TooLong g c = λ words asked.
     let long = subst (λ (n : ℕ). IfSome (g.F.Files.held c.args.files.now) (λ files. IsSomeAnd (content_of files c.args.command.file.now) (λ content. n < length content))) c.limit.ensures c.in-TooLong.ensures.file in
     ends_with _ c.input.result _ c.input.ensures
     (λ e made. is_long c.args.command.task c.args.command.file.now (record { words = asked; read = read }) long (record { handlers = refl; status_same = made.0; text_same = made.1 }))
-    (wants_memory c.args.command.task c.args.command.file.now asked (inr read) refl refl)
+    (wants_memory c.args.command.task c.args.command.file.now asked (inr read) (λ is. refl) refl refl)
 
 pub returns-in-NoMemory : goal.returns-in-NoMemory
-returns-in-NoMemory g c = λ words asked. wants_memory c.args.command.task c.args.command.file.now asked (inl c.in-NoMemory.ensures.reads) refl refl
+returns-in-NoMemory g c = λ words asked. wants_memory c.args.command.task c.args.command.file.now asked (inl c.in-NoMemory.ensures.reads) (λ is. refl) refl refl
 
 pub returns-in-Replay : goal.returns-in-Replay
 returns-in-Replay g c = λ words asked.
@@ -55,7 +55,7 @@ returns-in-Replay g c = λ words asked.
     ends_with _ c.replay.result _ c.replay.ensures
     (λ e made. is_replay name c.read.new.into (record { words = asked_so; read = read }) file.1 short
     (subst (λ (content : List ℕ). Replays name content (g.R.Handlers.slots c.args.rack.now) (g.R.Handlers.slots c.replay.new.rack) e.status e.text) c.as_slice.ensures made))
-    (wants_memory Replay name asked_so (inr read) refl refl)
+    (wants_memory Replay name asked_so (inr read) (λ is. absurd cc) refl refl)
 
 pub returns : goal.returns
 returns g c = λ words asked.
@@ -67,4 +67,4 @@ returns g c = λ words asked.
     ends_with _ c.check_file.result _ c.check_file.ensures
     (λ e made. is_check name c.read.new.into (record { words = asked_so; read = read }) file.1 short refl
     (subst (λ (content : List ℕ). Checks name content e.status e.text) c.as_slice-in-Check.ensures made))
-    (wants_memory Check name asked_so (inr read) refl refl)
+    (wants_memory Check name asked_so (inr read) (λ is. refl) refl refl)

@@ -1,5 +1,5 @@
 use Rattle.std.proofs.Common.{sym, ◌∙◌}
-use Rattle.wot_schema.proofs.Found.{found-members_of}
+use Rattle.wot_json.proofs.EqualTrees.{found-members_of}
 use Rattle.wot_terms.proofs.member.member.Goals as goal
 
 pub returns : goal.returns

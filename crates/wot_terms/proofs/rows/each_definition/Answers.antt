@@ -2,9 +2,9 @@ use Rattle.std.proofs.Common.{codes}
 use Rattle.std.proofs.lemmas.Result.{err_from_is_err_and}
 use Rattle.wot_json.specs.Tree.{elements_of, members_of}
 use Rattle.wot_json.specs.Meaning.{json_of, json_items}
+use Rattle.wot_json.specs.Lookup.{found}
 use Rattle.wot_terms.specs.Faults.{each_element}
 use Rattle.wot_terms.specs.Faults.{is, is_text_with, has_member}
-use Rattle.wot_schema.specs.Values.{found}
 use Rattle.wot_terms.proofs.Reported.{element_stops}
 use Rattle.wot_terms.proofs.rows.each_definition.Goals as goal
 

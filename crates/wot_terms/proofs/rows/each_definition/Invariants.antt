@@ -1,7 +1,7 @@
 use Rattle.std.proofs.Common.{◌≡◌, drop, codes}
 use Rattle.wot_json.specs.Tree.{elements_of, members_of}
 use Rattle.wot_json.specs.Meaning.{json_items}
-use Rattle.wot_schema.specs.Values.{found}
+use Rattle.wot_json.specs.Lookup.{found}
 use Rattle.wot_terms.specs.Faults.{each_element, is, is_text_with, has_member}
 use Rattle.wot_terms.proofs.rows.each_definition.Given as goal
 

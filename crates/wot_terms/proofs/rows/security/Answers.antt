@@ -1,9 +1,9 @@
 use Rattle.std.proofs.Common.{codes}
 use Rattle.wot_json.specs.Tree.{members_of}
 use Rattle.wot_json.specs.Meaning.{json_of}
+use Rattle.wot_json.specs.Lookup.{found}
 use Rattle.wot_terms.proofs.Reported.{there}
 use Rattle.wot_terms.specs.Faults.{here, texts, has_member}
-use Rattle.wot_schema.specs.Values.{found}
 use Rattle.wot_terms.proofs.rows.security.Goals as goal
 
 pub returns-in-Some : goal.returns-in-Some

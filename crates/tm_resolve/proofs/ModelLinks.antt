@@ -11,10 +11,6 @@ use Rattle.wot_json.proofs.EqualTrees.{listed_lem, listed_members_lem}
 use Rattle.tm_resolve.specs.Links.{reference_name, has_relation, is_link, elements_under, links_under, extensions_from}
 use Rattle.tm_resolve.proofs.Progress.{left_at}
 
--- the members of an object are its members
-pub under_object : (t : Tree) (ms : List (List ℕ × Json)) → t ≡ tree.Obj ms → members_under (json_of t) ≡ ms
-under_object t ms is = ap (λ (u : Tree). members_under (json_of u)) is ∙ listed_members_lem ms
-
 -- something is lent where something is there
 none_alike : (r : Option (Bor Tree)) → is_none (option_map (λ t. json_of t.now) r) ≡ not (is_some r)
 none_alike None = refl

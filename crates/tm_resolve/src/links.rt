@@ -52,19 +52,9 @@ pub(crate) fn extensions_of(model: &Tree) -> Extensions<'_>
 pub(crate) fn links_under(model: &Tree) -> &[Tree]
     ensures { json_items result.now ≡ spec.links_under (json_of model.now) }
 {
-    match member_of(model, "links") {
+    match model.member("links") {
         Some(Tree::List(links)) => links.as_slice(),
         _ => &[],
-    }
-}
-
-/// The value of the member of this name, where a value has one.
-fn member_of<'a>(value: &'a Tree, name: &str) -> Option<&'a Tree>
-    ensures { option_map (λ t. json_of t.now) result ≡ member_named name.now (members_under (json_of value.now)) }
-{
-    match value {
-        Tree::Obj(members) => members.get(name),
-        _ => None,
     }
 }
 
@@ -147,7 +137,7 @@ fn href_of(link: &Tree) -> Option<&str>
     ensures { option_map (λ text. text.now) result
         ≡ option_and_then text_under (member_named (codes "href") (members_under (json_of link.now))) }
 {
-    match member_of(link, "href") {
+    match link.member("href") {
         Some(href) => text_of(href),
         None => None,
     }

@@ -5,3 +5,4 @@ pub mod ModelLinks
 pub mod Visits
 pub mod Once
 pub mod Whole
+pub mod NeverLarge

@@ -15,7 +15,7 @@ use Rattle.tm_parts.specs.Sources.{Sources}
 use Rattle.tm_parts.specs.declared.reference.Reference.{Reference}
 use Rattle.tm_resolve.specs.Links.{reference_name, links_under, extensions}
 use Rattle.tm_resolve.specs.Weight.{Visit, Step, name_weight, own_weight, most_weight, most_entries, own_visit, reference_visits, part_visits, element_visits, member_visits, extension_visits, submodel_visits, links_visits, is_too_far, weight_of, is_too_large, entered, target_visits, visits_within}
-use Rattle.tm_resolve.specs.Counting.{next_step, Spends, Weighs}
+use Rattle.tm_resolve.specs.Counting.{step_from, Spends, Weighs}
 use Rattle.tm_resolve.specs.declared.weight.Stop.{Stop}
 use Rattle.tm_resolve.specs.declared.weight.Stop.TheVariants.{TooLarge, NoMemory}
 use Rattle.tm_resolve.proofs.Progress.{left_at}
@@ -103,13 +103,13 @@ loop_end {X} visits list index before left none past so_far =
 
 -- the visits of links, of the elements of a list and of the members of an object, by the code's values
 abbrev pub submodels_list : Sources → List ℕ → List Reference → List Tree → List Visit
-submodels_list sources url chain links = flat_map (submodel_visits (next_step sources chain) url chain) (json_items links)
+submodels_list sources url chain links = flat_map (submodel_visits (step_from sources chain) url chain) (json_items links)
 
 abbrev pub elements_list : Sources → List ℕ → ℕ → List Reference → List Tree → List Visit
-elements_list sources url depth chain items = element_visits (next_step sources chain) url chain depth (elements_of (json_items items))
+elements_list sources url depth chain items = element_visits (step_from sources chain) url chain depth (elements_of (json_items items))
 
 abbrev pub members_list : Sources → List ℕ → ℕ → List Reference → List (List ℕ × Tree) → List Visit
-members_list sources url depth chain members = member_visits (next_step sources chain) url chain depth (members_of (json_members members))
+members_list sources url depth chain members = member_visits (step_from sources chain) url chain depth (members_of (json_members members))
 
 -- the names of members from a place on
 pub names_left : (ms : List (List ℕ × Tree)) (index : ℕ) (m : List ℕ × Tree) → index < length ms → m ≡ get_or ms index m
@@ -148,13 +148,13 @@ object_part step url chain depth t ms left mid r is own inside =
 
 -- the links of the model of a Thing: the model that it extends, and its submodels
 pub links_of_thing : (sources : Sources) (is_thing : Bool) (url : List ℕ) (chain es : List Reference) (whole : Json) (links : List Json) (left mid : ℕ) (r : Result ℕ Stop) → is_thing ≡ true → links ≡ links_under whole → es ≡ chain
-    → Weighs (extension_visits (next_step sources chain) url chain (extensions whole)) left (Ok mid) → Weighs (flat_map (submodel_visits (next_step sources es) url es) links) mid r
-    → Weighs (links_visits (next_step sources chain) is_thing url chain whole) left r
+    → Weighs (extension_visits (step_from sources chain) url chain (extensions whole)) left (Ok mid) → Weighs (flat_map (submodel_visits (step_from sources es) url es) links) mid r
+    → Weighs (links_visits (step_from sources chain) is_thing url chain whole) left r
 links_of_thing sources is_thing url chain es whole links left mid r thing same at_chain first further =
-    let here : Weighs (flat_map (submodel_visits (next_step sources chain) url chain) links) mid r = subst (λ (cs : List Reference). Weighs (flat_map (submodel_visits (next_step sources cs) url cs) links) mid r) at_chain further in
-    let all : Weighs (flat_map (submodel_visits (next_step sources chain) url chain) (links_under whole)) mid r = subst (λ (vs : List Json). Weighs (flat_map (submodel_visits (next_step sources chain) url chain) vs) mid r) same here in
-    subst (λ (b : Bool). Weighs (links_visits (next_step sources chain) b url chain whole) left r) (sym thing)
-    (weighs_then (extension_visits (next_step sources chain) url chain (extensions whole)) (flat_map (submodel_visits (next_step sources chain) url chain) (links_under whole)) left mid r first all)
+    let here : Weighs (flat_map (submodel_visits (step_from sources chain) url chain) links) mid r = subst (λ (cs : List Reference). Weighs (flat_map (submodel_visits (step_from sources cs) url cs) links) mid r) at_chain further in
+    let all : Weighs (flat_map (submodel_visits (step_from sources chain) url chain) (links_under whole)) mid r = subst (λ (vs : List Json). Weighs (flat_map (submodel_visits (step_from sources chain) url chain) vs) mid r) same here in
+    subst (λ (b : Bool). Weighs (links_visits (step_from sources chain) b url chain whole) left r) (sym thing)
+    (weighs_then (extension_visits (step_from sources chain) url chain (extensions whole)) (flat_map (submodel_visits (step_from sources chain) url chain) (links_under whole)) left mid r first all)
 
 -- ---- the limits
 
@@ -177,7 +177,7 @@ seen_none : (room : ℕ) (sources : Sources) (is_thing : Bool) (depth : ℕ) (ch
 seen_none zero sources is_thing depth chain target none = ap (λ (o : Option Json). elim o as (λ _. List Visit) [ None ↦ [] | Some part ↦ own_visit (chain ++ target ∷ []) depth part ∷ [] ]) none
 seen_none (suc room) sources is_thing depth chain target none = ap (λ (o : Option Json). elim o as (λ _. List Visit) [ None ↦ [] | Some part ↦ target_visits (visits_within room sources) is_thing depth (chain ++ target ∷ []) target part ]) none
 
-pub step_nowhere : (sources : Sources) (is_thing : Bool) (depth : ℕ) (chain : List Reference) (target : Reference) (left : ℕ) → entered sources chain target ≡ None → Weighs (next_step sources chain is_thing depth chain target) left (Ok left)
+pub step_nowhere : (sources : Sources) (is_thing : Bool) (depth : ℕ) (chain : List Reference) (target : Reference) (left : ℕ) → entered sources chain target ≡ None → Weighs (step_from sources chain is_thing depth chain target) left (Ok left)
 step_nowhere sources is_thing depth chain target left none =
     subst (λ (us : List Visit). Weighs us left (Ok left)) (sym (seen_none (most_entries - length chain) sources is_thing depth chain target none)) (weighs_none left)
 
@@ -186,7 +186,7 @@ room_is room n sources is_thing depth chain target is = ap (λ (k : ℕ). visits
 
 -- a step beyond the room of a chain
 pub step_past : (sources : Sources) (is_thing : Bool) (depth : ℕ) (chain : List Reference) (target : Reference) (part : Json) (left : ℕ) → entered sources chain target ≡ Some part → most_entries ≤ length chain
-    → Weighs (next_step sources chain is_thing depth chain target) left (Err TooLarge)
+    → Weighs (step_from sources chain is_thing depth chain target) left (Err TooLarge)
 step_past sources is_thing depth chain target part left found past =
     let none_left : most_entries - length chain ≡ 0 = omega (arith, past) in
     let longer : length (chain ++ target ∷ []) ≡ length chain + 1 = length-append chain (target ∷ []) in
@@ -198,23 +198,23 @@ step_past sources is_thing depth chain target part left found past =
 
 -- a step within it
 pub step_into : (sources : Sources) (is_thing : Bool) (depth : ℕ) (chain longer : List Reference) (target : Reference) (part : Json) (left : ℕ) (r : Result ℕ Stop) → entered sources chain target ≡ Some part → length chain < most_entries
-    → longer ≡ chain ++ target ∷ [] → Weighs (target_visits (next_step sources longer) is_thing depth longer target part) left r → Weighs (next_step sources chain is_thing depth chain target) left r
+    → longer ≡ chain ++ target ∷ [] → Weighs (target_visits (step_from sources longer) is_thing depth longer target part) left r → Weighs (step_from sources chain is_thing depth chain target) left r
 step_into sources is_thing depth chain longer target part left r found within is weighs =
     let one_more : length (chain ++ target ∷ []) ≡ length chain + 1 = length-append chain (target ∷ []) in
     let room : most_entries - length chain ≡ suc (most_entries - length (chain ++ target ∷ [])) = omega (arith, one_more, within) in
     let visits = room_is (most_entries - length chain) (suc (most_entries - length (chain ++ target ∷ []))) sources is_thing depth chain target room
-    ∙ ap (λ (o : Option Json). elim o as (λ _. List Visit) [ None ↦ [] | Some v ↦ target_visits (next_step sources (chain ++ target ∷ [])) is_thing depth (chain ++ target ∷ []) target v ]) found in
+    ∙ ap (λ (o : Option Json). elim o as (λ _. List Visit) [ None ↦ [] | Some v ↦ target_visits (step_from sources (chain ++ target ∷ [])) is_thing depth (chain ++ target ∷ []) target v ]) found in
     subst (λ (us : List Visit). Weighs us left r) (sym visits)
-    (subst (λ (es : List Reference). Weighs (target_visits (next_step sources es) is_thing depth es target part) left r) is weighs)
+    (subst (λ (es : List Reference). Weighs (target_visits (step_from sources es) is_thing depth es target part) left r) is weighs)
 
 -- ---- the first step
 
-pub first_within : (sources : Sources) (chain : List Reference) (target : Reference) (rest : ℕ) → chain ≡ [] → Weighs (next_step sources chain true 0 chain target) most_weight (Ok rest) → false ≡ is_too_large (visits_within most_entries sources true 0 [] target)
+pub first_within : (sources : Sources) (chain : List Reference) (target : Reference) (rest : ℕ) → chain ≡ [] → Weighs (step_from sources chain true 0 chain target) most_weight (Ok rest) → false ≡ is_too_large (visits_within most_entries sources true 0 [] target)
 first_within sources chain target rest empty weighs =
     sym (within_limits (visits_within most_entries sources true 0 [] target) rest
-    (subst (λ (es : List Reference). Weighs (next_step sources es true 0 es target) most_weight (Ok rest)) empty weighs))
+    (subst (λ (es : List Reference). Weighs (step_from sources es true 0 es target) most_weight (Ok rest)) empty weighs))
 
-pub first_beyond : (sources : Sources) (chain : List Reference) (target : Reference) → chain ≡ [] → Weighs (next_step sources chain true 0 chain target) most_weight (Err TooLarge) → true ≡ is_too_large (visits_within most_entries sources true 0 [] target)
+pub first_beyond : (sources : Sources) (chain : List Reference) (target : Reference) → chain ≡ [] → Weighs (step_from sources chain true 0 chain target) most_weight (Err TooLarge) → true ≡ is_too_large (visits_within most_entries sources true 0 [] target)
 first_beyond sources chain target empty weighs =
     sym (beyond_limits (visits_within most_entries sources true 0 [] target)
-    (subst (λ (es : List Reference). Weighs (next_step sources es true 0 es target) most_weight (Err TooLarge)) empty weighs))
+    (subst (λ (es : List Reference). Weighs (step_from sources es true 0 es target) most_weight (Err TooLarge)) empty weighs))

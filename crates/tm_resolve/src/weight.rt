@@ -62,7 +62,8 @@ impl From<AllocError> for Stop {
 
 /// What a step to the model of a Thing leads to passes a limit, as the first step.
 pub(crate) fn is_too_large(sources: &Sources, root: &Reference) -> Result<bool, NoMemory>
-    ensures { IfOk result (λ large. large ≡ spec.is_too_large (visits_within most_entries (kept_sources sources.now.models.items) true 0 [] root.now)) }
+    ensures { IfOk result (λ large. large ≡ spec.is_too_large (visits_within most_entries (kept_sources
+        sources.now.models.items) true 0 [] root.now)) }
 {
     let mut chain = Vec::new(sources.alloc);
     match step_weighs(sources, true, 0, root, &mut chain, MOST_WEIGHT) {
@@ -82,7 +83,8 @@ fn step_weighs(
     chain: &mut Vec<Reference>,
     left: usize,
 ) -> Result<usize, Stop>
-    ensures weight { Weighs (next_step (kept_sources sources.now.models.items) chain.old.items is_thing depth chain.old.items target.now) left result }
+    ensures weight { Weighs (next_step sources.now chain.old.items is_thing depth chain.old.items target.now)
+        left result }
     ensures chain { OnOk result (chain.new.items ≡ chain.old.items) }
 {
     let Some(part) = entered(sources, target, chain) else {
@@ -109,7 +111,8 @@ fn target_weighs(
     left: usize,
 ) -> Result<usize, Stop>
     requires { length chain.old.items ≤ most_entries }
-    ensures weight { Weighs (target_visits (next_step (kept_sources sources.now.models.items) chain.old.items) is_thing depth chain.old.items target.now (json_of part.now)) left result }
+    ensures weight { Weighs (target_visits (next_step sources.now chain.old.items) is_thing depth
+        chain.old.items target.now (json_of part.now)) left result }
     ensures chain { OnOk result (chain.new.items ≡ chain.old.items) }
 {
     let url = target.url.as_str();
@@ -132,7 +135,8 @@ fn links_weigh(
     left: usize,
 ) -> Result<usize, Stop>
     requires { length chain.old.items ≤ most_entries }
-    ensures weight { Weighs (links_visits (next_step (kept_sources sources.now.models.items) chain.old.items) is_thing url.now chain.old.items (json_of whole.now)) left result }
+    ensures weight { Weighs (links_visits (next_step sources.now chain.old.items) is_thing url.now
+        chain.old.items (json_of whole.now)) left result }
     ensures chain { OnOk result (chain.new.items ≡ chain.old.items) }
 {
     let left = extension_weighs(sources, url, whole, chain, left)?;
@@ -153,7 +157,8 @@ fn extension_weighs(
     left: usize,
 ) -> Result<usize, Stop>
     requires { length chain.old.items ≤ most_entries }
-    ensures weight { Weighs (extension_visits (next_step (kept_sources sources.now.models.items) chain.old.items) url.now chain.old.items (extensions (json_of whole.now))) left result }
+    ensures weight { Weighs (extension_visits (next_step sources.now chain.old.items) url.now chain.old.items
+        (extensions (json_of whole.now))) left result }
     ensures chain { OnOk result (chain.new.items ≡ chain.old.items) }
 {
     match extensions_of(whole) {
@@ -172,7 +177,8 @@ fn submodels_weigh(
     left: usize,
 ) -> Result<usize, Stop>
     requires { length chain.old.items ≤ most_entries }
-    ensures weight { Weighs (flat_map (submodel_visits (next_step (kept_sources sources.now.models.items) chain.old.items) url.now chain.old.items) (json_items links.now)) left result }
+    ensures weight { Weighs (flat_map (submodel_visits (next_step sources.now chain.old.items) url.now
+        chain.old.items) (json_items links.now)) left result }
     ensures chain { OnOk result (chain.new.items ≡ chain.old.items) }
 {
     let mut left = left;
@@ -192,7 +198,8 @@ fn submodel_weighs(
     left: usize,
 ) -> Result<usize, Stop>
     requires { length chain.old.items ≤ most_entries }
-    ensures weight { Weighs (submodel_visits (next_step (kept_sources sources.now.models.items) chain.old.items) url.now chain.old.items (json_of link.now)) left result }
+    ensures weight { Weighs (submodel_visits (next_step sources.now chain.old.items) url.now chain.old.items
+        (json_of link.now)) left result }
     ensures chain { OnOk result (chain.new.items ≡ chain.old.items) }
 {
     if is_link(link, SUBMODEL) {
@@ -213,7 +220,8 @@ fn link_weighs(
     left: usize,
 ) -> Result<usize, Stop>
     requires { length chain.old.items ≤ most_entries }
-    ensures weight { Weighs (link_visits (next_step (kept_sources sources.now.models.items) chain.old.items) is_thing url.now chain.old.items (json_of link.now)) left result }
+    ensures weight { Weighs (link_visits (next_step sources.now chain.old.items) is_thing url.now
+        chain.old.items (json_of link.now)) left result }
     ensures chain { OnOk result (chain.new.items ≡ chain.old.items) }
 {
     match link_target(sources.alloc, url, link)? {
@@ -233,7 +241,8 @@ fn part_weighs(
     left: usize,
 ) -> Result<usize, Stop>
     requires { length chain.old.items ≤ most_entries }
-    ensures weight { Weighs (part_visits (next_step (kept_sources sources.now.models.items) chain.old.items) url.now chain.old.items depth (json_of part.now)) left result }
+    ensures weight { Weighs (part_visits (next_step sources.now chain.old.items) url.now chain.old.items depth
+        (json_of part.now)) left result }
     ensures chain { OnOk result (chain.new.items ≡ chain.old.items) }
 {
     let left = node_weighs(part, depth, left)?;
@@ -256,8 +265,9 @@ fn object_weighs(
 ) -> Result<usize, Stop>
     requires depth { depth ≤ most_depth }
     requires chain { length chain.old.items ≤ most_entries }
-    ensures weight { Weighs (reference_visits (next_step (kept_sources sources.now.models.items) chain.old.items) url.now chain.old.items depth (member_named reference_name members.now)
-        ++ member_visits (next_step (kept_sources sources.now.models.items) chain.old.items) url.now chain.old.items (depth + 1) (members_of members.now)) left result }
+    ensures weight { Weighs (reference_visits (next_step sources.now chain.old.items) url.now chain.old.items
+        depth (member_named reference_name members.now) ++ member_visits (next_step sources.now chain.old.items)
+        url.now chain.old.items (depth + 1) (members_of members.now)) left result }
     ensures chain { OnOk result (chain.new.items ≡ chain.old.items) }
 {
     let left = match members.get(REFERENCE) {
@@ -278,7 +288,8 @@ fn reference_weighs(
     left: usize,
 ) -> Result<usize, Stop>
     requires { length chain.old.items ≤ most_entries }
-    ensures weight { Weighs (reference_visits (next_step (kept_sources sources.now.models.items) chain.old.items) url.now chain.old.items depth (Some (json_of reference.now))) left result }
+    ensures weight { Weighs (reference_visits (next_step sources.now chain.old.items) url.now chain.old.items
+        depth (Some (json_of reference.now))) left result }
     ensures chain { OnOk result (chain.new.items ≡ chain.old.items) }
 {
     match reference_target(sources.alloc, url, reference)? {
@@ -298,7 +309,8 @@ fn elements_weigh(
     left: usize,
 ) -> Result<usize, Stop>
     requires { length chain.old.items ≤ most_entries }
-    ensures weight { Weighs (element_visits (next_step (kept_sources sources.now.models.items) chain.old.items) url.now chain.old.items depth (elements_of items.now)) left result }
+    ensures weight { Weighs (element_visits (next_step sources.now chain.old.items) url.now chain.old.items
+        depth (elements_of items.now)) left result }
     ensures chain { OnOk result (chain.new.items ≡ chain.old.items) }
 {
     let list = items.as_slice();
@@ -320,7 +332,8 @@ fn members_weigh(
     left: usize,
 ) -> Result<usize, Stop>
     requires { length chain.old.items ≤ most_entries }
-    ensures weight { Weighs (member_visits (next_step (kept_sources sources.now.models.items) chain.old.items) url.now chain.old.items depth (members_of members.now)) left result }
+    ensures weight { Weighs (member_visits (next_step sources.now chain.old.items) url.now chain.old.items
+        depth (members_of members.now)) left result }
     ensures chain { OnOk result (chain.new.items ≡ chain.old.items) }
 {
     let list = members.as_slice();
@@ -333,7 +346,8 @@ fn members_weigh(
 
 /// Visits a node at this depth, by a chain within its limit.
 fn node_weighs(node: &Tree, depth: usize, left: usize) -> Result<usize, Stop>
-    ensures weight { (chain : List TargetValue) → length chain ≤ most_entries → Weighs (own_visit chain depth (json_of node.now) ∷ []) left result }
+    ensures weight { (chain : List TargetValue) → length chain ≤ most_entries → Weighs (own_visit chain depth
+        (json_of node.now) ∷ []) left result }
     ensures depth { OnOk result (depth ≤ most_depth) }
 {
     if depth > MOST_DEPTH {

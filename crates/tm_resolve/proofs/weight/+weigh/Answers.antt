@@ -7,7 +7,7 @@ use Rattle.wot_json.proofs.Nesting.{read_element_nests, read_member_nests}
 use Rattle.tm_parts.specs.Sources.{kept_sources}
 use Rattle.tm_parts.specs.declared.reference.Reference.{Reference}
 use Rattle.tm_resolve.specs.Weight.{most_entries, submodel_visits, element_visits, member_visits}
-use Rattle.tm_resolve.specs.Counting.{next_step, Weighs}
+use Rattle.tm_resolve.specs.Counting.{step_from, Weighs}
 use Rattle.tm_resolve.proofs.Falls.{budget, budget_falls, entered_nests}
 use Rattle.tm_resolve.proofs.Visits.{loop_more, loop_stop, loop_end, object_part, links_of_thing, step_into, elements_list, members_list, submodels_list}
 use Rattle.tm_resolve.proofs.weight.+weigh.Goals as goal
@@ -21,7 +21,7 @@ elements_weigh-part_weighs-requires t c =
 
 pub elements_weigh-returns-clause-weight : goal.elements_weigh-returns-clause-weight
 elements_weigh-returns-clause-weight t c =
-    subst (λ (vs : List Json). Weighs (element_visits (next_step (kept_sources c.args.sources.now.models.items) c.args.chain.now.items) c.args.url.now c.args.chain.now.items c.args.depth (elements_of vs)) c.args.left (Ok c.loop-item.left)) c.as_slice-list.ensures
+    subst (λ (vs : List Json). Weighs (element_visits (step_from (kept_sources c.args.sources.now.models.items) c.args.chain.now.items) c.args.url.now c.args.chain.now.items c.args.depth (elements_of vs)) c.args.left (Ok c.loop-item.left)) c.as_slice-list.ensures
     (loop_end (elements_list (kept_sources c.args.sources.now.models.items) c.args.url.now c.args.depth c.args.chain.now.items) c.as_slice-list.result.now c.loop-item.item-index c.args.left c.loop-item.left refl c.loop-item-test.false c.loop-item.invariant.counts)
 
 pub members_weigh-part_weighs-requires : goal.members_weigh-part_weighs-requires
@@ -33,7 +33,7 @@ members_weigh-part_weighs-requires t c =
 
 pub members_weigh-returns-clause-weight : goal.members_weigh-returns-clause-weight
 members_weigh-returns-clause-weight t c =
-    subst (λ (ms : List (List ℕ × Json)). Weighs (member_visits (next_step (kept_sources c.args.sources.now.models.items) c.args.chain.now.items) c.args.url.now c.args.chain.now.items c.args.depth (members_of ms)) c.args.left (Ok c.loop-member.left)) c.as_slice-list.ensures.members
+    subst (λ (ms : List (List ℕ × Json)). Weighs (member_visits (step_from (kept_sources c.args.sources.now.models.items) c.args.chain.now.items) c.args.url.now c.args.chain.now.items c.args.depth (members_of ms)) c.args.left (Ok c.loop-member.left)) c.as_slice-list.ensures.members
     (loop_end (members_list (kept_sources c.args.sources.now.models.items) c.args.url.now c.args.depth c.args.chain.now.items) c.as_slice-list.result.now c.loop-member.member-index c.args.left c.loop-member.left refl c.loop-member-test.false c.loop-member.invariant.counts)
 
 pub submodels_weigh-returns-clause-weight : goal.submodels_weigh-returns-clause-weight
@@ -47,7 +47,7 @@ links_weigh-returns-then-is_thing-clause-weight t c =
 
 pub part_weighs-returns-in-Obj-clause-weight : goal.part_weighs-returns-in-Obj-clause-weight
 part_weighs-returns-in-Obj-clause-weight t c =
-    object_part (next_step (kept_sources c.args.sources.now.models.items) c.args.chain.now.items) c.args.url.now c.args.chain.now.items c.args.depth c.args.part.now c.in-Obj.members c.args.left c.in_ok-left.left c.object_weighs.result
+    object_part (step_from (kept_sources c.args.sources.now.models.items) c.args.chain.now.items) c.args.url.now c.args.chain.now.items c.args.depth c.args.part.now c.in-Obj.members c.args.left c.in_ok-left.left c.object_weighs.result
     c.in-Obj.is (c.in_ok-left.ensures.weight c.args.chain.now.items c.requires.1.1) c.object_weighs.ensures.weight
 
 pub step_weighs-target_weighs-requires : goal.step_weighs-target_weighs-requires
@@ -75,7 +75,7 @@ submodels_weigh-returns-in_err-left-clause-weight t c =
     let s = kept_sources c.args.sources.now.models.items in
     let p = err_from_is_err_and c.from_residual.result c.from_residual.ensures.1 in
     rw (p.1, p.2)
-    (loop_stop (submodels_list s c.args.url.now c.args.chain.now.items) (λ es link. submodel_visits (next_step s es) c.args.url.now es (json_of link)) c.args.chain.now.items c.loop-link.chain.items (λ link links. refl)
+    (loop_stop (submodels_list s c.args.url.now c.args.chain.now.items) (λ es link. submodel_visits (step_from s es) c.args.url.now es (json_of link)) c.args.chain.now.items c.loop-link.chain.items (λ link links. refl)
     c.args.links.now c.loop-link.link-index c.link-item.result c.args.left c.loop-link.left c.in_err-left.field-0.0 c.loop-link-test.true c.link-item.is c.loop-link.invariant.chain c.loop-link.invariant.counts c.in_err-left.ensures.weight)
 
 pub submodels_weigh-loop-link-preserved : goal.submodels_weigh-loop-link-preserved
@@ -83,6 +83,6 @@ submodels_weigh-loop-link-preserved t c =
     let s = kept_sources c.args.sources.now.models.items in
     record {
       chain = c.in_ok-left.ensures.chain ∙ c.loop-link.invariant.chain;
-      counts = loop_more (submodels_list s c.args.url.now c.args.chain.now.items) (λ es link. submodel_visits (next_step s es) c.args.url.now es (json_of link)) c.args.chain.now.items c.loop-link.chain.items (λ link links. refl)
+      counts = loop_more (submodels_list s c.args.url.now c.args.chain.now.items) (λ es link. submodel_visits (step_from s es) c.args.url.now es (json_of link)) c.args.chain.now.items c.loop-link.chain.items (λ link links. refl)
           c.args.links.now c.loop-link.link-index c.link-item.result c.args.left c.loop-link.left c.in_ok-left.left c.loop-link-test.true c.link-item.is c.loop-link.invariant.chain c.loop-link.invariant.counts c.in_ok-left.ensures.weight;
     }

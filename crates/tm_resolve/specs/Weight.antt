@@ -95,11 +95,11 @@ links_visits step is_thing url chain whole =
 abbrev pub is_whole : Reference → Bool
 is_whole target = length target.pointer == 0
 
--- the visits of a target whose part this is, with it in the chain; a whole model's are also those of its links
+-- the visits of a target whose part this is, with it in the chain: those of the part, and for a whole model of its links
 abbrev pub target_visits : Step → Bool → ℕ → List Reference → Reference → Json → List Visit
 target_visits step is_thing depth chain target part =
-    (if is_whole target then links_visits step is_thing target.url chain part else [])
-    ++ part_visits step target.url chain depth part
+    part_visits step target.url chain depth part
+    ++ (if is_whole target then links_visits step is_thing target.url chain part else [])
 
 -- a model without a fault
 abbrev pub faultless : Result Json PartFault → Option Json

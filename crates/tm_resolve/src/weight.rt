@@ -116,11 +116,12 @@ fn target_weighs(
     ensures chain { OnOk result (chain.new.items ≡ chain.old.items) }
 {
     let url = target.url.as_str();
-    if !target.pointer.as_str().is_empty() {
-        return part_weighs(sources, url, depth, part, chain, left);
+    let left = part_weighs(sources, url, depth, part, chain, left)?;
+    if target.pointer.as_str().is_empty() {
+        links_weigh(sources, is_thing, url, part, chain, left)
+    } else {
+        Ok(left)
     }
-    let left = links_weigh(sources, is_thing, url, part, chain, left)?;
-    part_weighs(sources, url, depth, part, chain, left)
 }
 
 /// Visits what the links of a whole model lead to: the model that it extends, and where it is that of a Thing its

@@ -34,7 +34,8 @@ pub(crate) fn target_value(
 ) -> Result<Tree, ResolveFault>
     ensures value { IfOk result (λ t. TargetGives (kept_sources sources.now.models.items) url.now place.now
         chain.old.items target.now (Ok (json_of t))) }
-    ensures fault { IfErr result (λ e. (e ≡ ResolveFault.NoMemory) ⊎ TargetGives (kept_sources sources.now.models.items) url.now place.now chain.old.items target.now (Err e)) }
+    ensures fault { IfErr result (λ e. (e ≡ ResolveFault.NoMemory) ⊎ TargetGives (kept_sources
+        sources.now.models.items) url.now place.now chain.old.items target.now (Err e)) }
     ensures chain { OnOk result (chain.new.items ≡ chain.old.items) }
 {
     let alloc = sources.alloc;
@@ -64,7 +65,8 @@ fn entered_value(
     requires { Enters (kept_sources sources.now.models.items) chain.old.items target.now (json_of whole.now) }
     ensures value { IfOk result (λ t. TargetGives (kept_sources sources.now.models.items) url.now place.now
         chain.old.items target.now (Ok (json_of t))) }
-    ensures fault { IfErr result (λ e. (e ≡ ResolveFault.NoMemory) ⊎ TargetGives (kept_sources sources.now.models.items) url.now place.now chain.old.items target.now (Err e)) }
+    ensures fault { IfErr result (λ e. (e ≡ ResolveFault.NoMemory) ⊎ TargetGives (kept_sources
+        sources.now.models.items) url.now place.now chain.old.items target.now (Err e)) }
     ensures chain { OnOk result (chain.new.items ≡ chain.old.items) }
 {
     let part = match part_at(whole, target.pointer.as_str()) {
@@ -85,13 +87,16 @@ fn stepped_value(
     part: &Tree,
     chain: &mut Vec<Reference>,
 ) -> Result<Tree, ResolveFault>
-    ensures whole { IfOk result (λ t. target.now.pointer ≡ [] → ModelGives (kept_sources sources.now.models.items) target.now.url chain.old.items (json_of part.now) (Ok (json_of t))) }
-    ensures part { IfOk result (λ t. target.now.pointer ≢ [] → PartGives (kept_sources sources.now.models.items) target.now.url target.now.pointer chain.old.items (json_of part.now) (Ok (json_of t))) }
+    ensures whole { IfOk result (λ t. target.now.pointer ≡ [] → ModelGives (kept_sources
+        sources.now.models.items) target.now.url chain.old.items (json_of part.now) (Ok (json_of t))) }
+    ensures part { IfOk result (λ t. target.now.pointer ≢ [] → PartGives (kept_sources
+        sources.now.models.items) target.now.url target.now.pointer chain.old.items (json_of part.now) (Ok
+        (json_of t))) }
     ensures whole_fault { IfErr result (λ e. target.now.pointer ≡ [] → (e ≡ ResolveFault.NoMemory) ⊎ ModelGives
         (kept_sources sources.now.models.items) target.now.url chain.old.items (json_of part.now) (Err e)) }
     ensures part_fault { IfErr result (λ e. target.now.pointer ≢ [] → (e ≡ ResolveFault.NoMemory) ⊎ PartGives
-        (kept_sources sources.now.models.items) target.now.url target.now.pointer chain.old.items
-        (json_of part.now) (Err e)) }
+        (kept_sources sources.now.models.items) target.now.url target.now.pointer chain.old.items (json_of
+        part.now) (Err e)) }
     ensures chain { OnOk result (chain.new.items ≡ chain.old.items) }
 {
     if target.pointer.as_str().is_empty() {
@@ -116,7 +121,8 @@ fn model_value(
 ) -> Result<Tree, ResolveFault>
     ensures value { IfOk result (λ t. ModelGives (kept_sources sources.now.models.items) url.now
         chain.old.items (json_of whole.now) (Ok (json_of t))) }
-    ensures fault { IfErr result (λ e. (e ≡ ResolveFault.NoMemory) ⊎ ModelGives (kept_sources sources.now.models.items) url.now chain.old.items (json_of whole.now) (Err e)) }
+    ensures fault { IfErr result (λ e. (e ≡ ResolveFault.NoMemory) ⊎ ModelGives (kept_sources
+        sources.now.models.items) url.now chain.old.items (json_of whole.now) (Err e)) }
     ensures chain { OnOk result (chain.new.items ≡ chain.old.items) }
 {
     match extensions_of(whole) {
@@ -144,7 +150,8 @@ fn extended_value(
     requires { extensions (json_of whole.now) ≡ (index, json_of link.now) ∷ [] }
     ensures value { IfOk result (λ t. ModelGives (kept_sources sources.now.models.items) url.now
         chain.old.items (json_of whole.now) (Ok (json_of t))) }
-    ensures fault { IfErr result (λ e. (e ≡ ResolveFault.NoMemory) ⊎ ModelGives (kept_sources sources.now.models.items) url.now chain.old.items (json_of whole.now) (Err e)) }
+    ensures fault { IfErr result (λ e. (e ≡ ResolveFault.NoMemory) ⊎ ModelGives (kept_sources
+        sources.now.models.items) url.now chain.old.items (json_of whole.now) (Err e)) }
     ensures chain { OnOk result (chain.new.items ≡ chain.old.items) }
 {
     let alloc = sources.alloc;
@@ -170,7 +177,8 @@ fn part_value(
 ) -> Result<Tree, ResolveFault>
     ensures value { IfOk result (λ t. PartGives (kept_sources sources.now.models.items) url.now place.now
         chain.old.items (json_of part.now) (Ok (json_of t))) }
-    ensures fault { IfErr result (λ e. (e ≡ ResolveFault.NoMemory) ⊎ PartGives (kept_sources sources.now.models.items) url.now place.now chain.old.items (json_of part.now) (Err e)) }
+    ensures fault { IfErr result (λ e. (e ≡ ResolveFault.NoMemory) ⊎ PartGives (kept_sources
+        sources.now.models.items) url.now place.now chain.old.items (json_of part.now) (Err e)) }
     ensures chain { OnOk result (chain.new.items ≡ chain.old.items) }
 {
     match part {
@@ -191,7 +199,8 @@ fn items_value(
 ) -> Result<Items, ResolveFault>
     ensures value { IfOk result (λ i. ElementsGive (kept_sources sources.now.models.items) url.now place.now
         chain.old.items 0 items.now (Ok i)) }
-    ensures fault { IfErr result (λ e. (e ≡ ResolveFault.NoMemory) ⊎ ElementsGive (kept_sources sources.now.models.items) url.now place.now chain.old.items 0 items.now (Err e)) }
+    ensures fault { IfErr result (λ e. (e ≡ ResolveFault.NoMemory) ⊎ ElementsGive (kept_sources
+        sources.now.models.items) url.now place.now chain.old.items 0 items.now (Err e)) }
     ensures chain { OnOk result (chain.new.items ≡ chain.old.items) }
 {
     let list = items.as_slice();
@@ -215,7 +224,8 @@ fn object_value(
 ) -> Result<Tree, ResolveFault>
     ensures value { IfOk result (λ t. PartGives (kept_sources sources.now.models.items) url.now place.now
         chain.old.items (object (members_of members.now)) (Ok (json_of t))) }
-    ensures fault { IfErr result (λ e. (e ≡ ResolveFault.NoMemory) ⊎ PartGives (kept_sources sources.now.models.items) url.now place.now chain.old.items (object (members_of members.now)) (Err e)) }
+    ensures fault { IfErr result (λ e. (e ≡ ResolveFault.NoMemory) ⊎ PartGives (kept_sources
+        sources.now.models.items) url.now place.now chain.old.items (object (members_of members.now)) (Err e)) }
     ensures chain { OnOk result (chain.new.items ≡ chain.old.items) }
 {
     match members.get(REFERENCE) {
@@ -237,7 +247,8 @@ fn imported_value(
     requires { member_named reference_name members.now ≡ Some (json_of reference.now) }
     ensures value { IfOk result (λ t. PartGives (kept_sources sources.now.models.items) url.now place.now
         chain.old.items (object (members_of members.now)) (Ok (json_of t))) }
-    ensures fault { IfErr result (λ e. (e ≡ ResolveFault.NoMemory) ⊎ PartGives (kept_sources sources.now.models.items) url.now place.now chain.old.items (object (members_of members.now)) (Err e)) }
+    ensures fault { IfErr result (λ e. (e ≡ ResolveFault.NoMemory) ⊎ PartGives (kept_sources
+        sources.now.models.items) url.now place.now chain.old.items (object (members_of members.now)) (Err e)) }
     ensures chain { OnOk result (chain.new.items ≡ chain.old.items) }
 {
     let alloc = sources.alloc;
@@ -271,7 +282,8 @@ fn members_value(
 ) -> Result<Members, ResolveFault>
     ensures value { IfOk result (λ m. MembersGive (kept_sources sources.now.models.items) url.now place.now
         chain.old.items members.now (Ok m)) }
-    ensures fault { IfErr result (λ e. (e ≡ ResolveFault.NoMemory) ⊎ MembersGive (kept_sources sources.now.models.items) url.now place.now chain.old.items members.now (Err e)) }
+    ensures fault { IfErr result (λ e. (e ≡ ResolveFault.NoMemory) ⊎ MembersGive (kept_sources
+        sources.now.models.items) url.now place.now chain.old.items members.now (Err e)) }
     ensures chain { OnOk result (chain.new.items ≡ chain.old.items) }
 {
     let list = members.as_slice();

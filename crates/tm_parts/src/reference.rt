@@ -1,10 +1,10 @@
 //! References from one Thing Model to a part of another.
 
-ghost use Rattle.std.specs.Prelude.{◌≡◌, ◌⊎◌, Some, None, Ok, IfOk, IfErr, IsErr, MatchOption, MatchResult};
+ghost use Rattle.std.specs.Prelude.{◌≡◌, ◌⊎◌, Some, None, Ok, IfOk, IfErr, MatchOption, MatchResult};
 ghost use Rattle.std.specs.Str.{IsUtf8};
 ghost use Rattle.percent_encoding.specs.Percent as percent;
 ghost use Rattle.url.specs.Parser.{IsOutOfRoom};
-ghost use Rattle.tm_parts.specs.References.{joined_url, led_to, pointer_written, referred};
+ghost use Rattle.tm_parts.specs.References.{joined_url, IsRefused, led_to, pointer_written, referred};
 
 use percent_encoding::{DecodeError, percent_decode};
 use servient_base::NoMemory;
@@ -104,7 +104,7 @@ fn location_url(alloc: Global, from: &str, location: &str) -> Result<Text, RefFa
 
 /// A location, joined to a URL (URL Standard, section 4.4), where it can be.
 pub fn joined(alloc: Global, from: &str, location: &str) -> Result<Option<Url>, NoMemory>
-    ensures { IfOk result (λ found. MatchOption found (IsErr (joined_url from.now location.now))
+    ensures { IfOk result (λ found. MatchOption found (IsRefused from.now location.now)
         (λ url. joined_url from.now location.now ≡ Ok url)) }
 {
     match Url::parse(alloc, from) {

@@ -1,6 +1,7 @@
 -- Why a walk through the parts of models ends.
 use Rattle.std.proofs.Common.{◌≡◌, ◌⊎◌, ℕ, ◌+◌, ◌-◌, ◌*◌, ◌^◌, ◌<◌, ◌≤◌, max, List, [], ◌∷◌, ◌++◌, length, Bool, true, false, refl, ap, inl, inr, ◌∙◌, arith, length-append}
 use Rattle.std.specs.Prelude.{Option, Some, None, Result, Ok, Err, option_and_then, cond}
+use Rattle.std.specs.Result.{result_ok}
 use Rattle.std.specs.Str.{bytes_eq}
 use Rattle.wot_json.specs.Tree.{Json, null, boolean, integer, string, array, object, nesting, elements_nesting, members_nesting, Elements, no_elements, element, Members, no_members, member}
 use Rattle.wot_json.specs.Lookup.{listed, listed_members, member_named}
@@ -10,7 +11,7 @@ use Rattle.tm_parts.specs.Sources.{Sources, source_named}
 use Rattle.tm_parts.specs.declared.reference.Reference.{Reference}
 use Rattle.tm_parts.specs.declared.substitution.PartFault.{PartFault}
 use Rattle.tm_resolve.specs.Chain.{stands_in}
-use Rattle.tm_resolve.specs.Weight.{faultless, entered}
+use Rattle.tm_resolve.specs.Weight.{entered}
 
 -- how deep the models nest that may be entered
 abbrev pub source_nesting : Result Json PartFault → ℕ
@@ -79,7 +80,7 @@ part_nests at whole part found =
     tokens_nest (tokens_in at) whole part (shown (is_pointer at) (value_at (tokens_in at) whole) part found)
 
 -- what a model is without its fault
-without_fault : (r : Option (Result Json PartFault)) (at : List ℕ) (part : Json) → option_and_then (part_of at) (option_and_then faultless r) ≡ Some part → (whole : Json) × (r ≡ Some (Ok whole)) × (part_of at whole ≡ Some part)
+without_fault : (r : Option (Result Json PartFault)) (at : List ℕ) (part : Json) → option_and_then (part_of at) (option_and_then result_ok r) ≡ Some part → (whole : Json) × (r ≡ Some (Ok whole)) × (part_of at whole ≡ Some part)
 without_fault None at part found = absurd (cc)
 without_fault (Some (Ok whole)) at part found = (whole, refl, found)
 without_fault (Some (Err fault)) at part found = absurd (cc)

@@ -3,7 +3,9 @@ use Rattle.std.proofs.Common.{◌≡◌, ℕ, zero, suc, ◌+◌, ◌-◌, ◌<�
 use Rattle.std.proofs.lemmas.Bool.Decides.{nat_tests}
 use Rattle.std.proofs.lemmas.List.{drop_all}
 use Rattle.std.specs.Prelude.{◌||◌, Option, Some, None, Result, Ok, Err, nat_lt}
-use Rattle.std.proofs.lemmas.List.Sums.{sum_by-cons}
+use Rattle.std.proofs.lemmas.List.Sums.{sum_by-cons, sum_by-append}
+use Rattle.std.proofs.lemmas.List.Folds.{list_any-append}
+use Rattle.std.proofs.lemmas.Bool.{or_from, or_left, or_right}
 use Rattle.std.specs.List.{list_any, flat_map, sum_by}
 use Rattle.wot_json.specs.Tree.{Json, elements_of, members_of}
 use Rattle.wot_json.specs.Lookup.{listed_members, member_named}
@@ -21,27 +23,10 @@ use Rattle.tm_resolve.specs.declared.weight.Stop.TheVariants.{TooLarge, NoMemory
 use Rattle.tm_resolve.proofs.Progress.{left_at}
 
 weight_both : (vs ws : List Visit) → weight_of (vs ++ ws) ≡ weight_of vs + weight_of ws
-weight_both [] ws = omega arith
-weight_both (v ∷ vs) ws = omega (arith, weight_both vs ws, sum_by-cons (λ (u : Visit). u.weight) v (vs ++ ws), sum_by-cons (λ (u : Visit). u.weight) v vs)
-
-either_far : (b : Bool) (c d : Bool) → (b || (c || d)) ≡ ((b || c) || d)
-either_far true c d = refl
-either_far false c d = refl
+weight_both vs ws = sum_by-append (λ (v : Visit). v.weight) vs ws
 
 far_both : (vs ws : List Visit) → list_any is_too_far (vs ++ ws) ≡ (list_any is_too_far vs || list_any is_too_far ws)
-far_both [] ws = refl
-far_both (v ∷ vs) ws = ap (λ (c : Bool). is_too_far v || c) (far_both vs ws) ∙ either_far (is_too_far v) (list_any is_too_far vs) (list_any is_too_far ws)
-
-neither : (b c : Bool) → b ≡ false → c ≡ false → (b || c) ≡ false
-neither b c not_one not_other = ap (λ (d : Bool). d || c) not_one ∙ not_other
-
-one : (b c : Bool) → b ≡ true → (b || c) ≡ true
-one true c is = refl
-one false c is = absurd (cc)
-
-other : (b c : Bool) → c ≡ true → (b || c) ≡ true
-other true c is = refl
-other false c is = is
+far_both vs ws = list_any-append is_too_far vs ws
 
 -- no visits take nothing
 pub weighs_none : (left : ℕ) → Weighs [] left (Ok left)
@@ -50,15 +35,15 @@ weighs_none left = (omega arith, refl)
 -- visits behind visits that were counted
 pub weighs_then : (vs ws : List Visit) (left mid : ℕ) (r : Result ℕ Stop) → Weighs vs left (Ok mid) → Weighs ws mid r → Weighs (vs ++ ws) left r
 weighs_then vs ws left mid (Ok rest) first second =
-    (omega (arith, weight_both vs ws, first.0, second.0), far_both vs ws ∙ neither (list_any is_too_far vs) (list_any is_too_far ws) first.1 second.1)
+    (omega (arith, weight_both vs ws, first.0, second.0), far_both vs ws ∙ or_from (list_any is_too_far vs) (list_any is_too_far ws) first.1 second.1)
 weighs_then vs ws left mid (Err TooLarge) first (inl more) = inl (omega (arith, weight_both vs ws, first.0, more))
-weighs_then vs ws left mid (Err TooLarge) first (inr far) = inr (far_both vs ws ∙ other (list_any is_too_far vs) (list_any is_too_far ws) far)
+weighs_then vs ws left mid (Err TooLarge) first (inr far) = inr (far_both vs ws ∙ or_right (list_any is_too_far vs) (list_any is_too_far ws) far)
 weighs_then vs ws left mid (Err NoMemory) first second = tt
 
 -- where counting stops it stops for what comes behind too
 pub weighs_stop : (vs ws : List Visit) (left : ℕ) (stop : Stop) → Weighs vs left (Err stop) → Weighs (vs ++ ws) left (Err stop)
 weighs_stop vs ws left TooLarge (inl more) = inl (omega (arith, weight_both vs ws, more))
-weighs_stop vs ws left TooLarge (inr far) = inr (far_both vs ws ∙ one (list_any is_too_far vs) (list_any is_too_far ws) far)
+weighs_stop vs ws left TooLarge (inr far) = inr (far_both vs ws ∙ or_left (list_any is_too_far vs) (list_any is_too_far ws) far)
 weighs_stop vs ws left NoMemory stops = tt
 
 -- ---- loops
@@ -162,13 +147,13 @@ links_of_thing sources is_thing url chain es whole links left mid r thing same a
 within_limits : (visits : List Visit) (rest : ℕ) → Weighs visits most_weight (Ok rest) → is_too_large visits ≡ false
 within_limits visits rest weighs =
     let light : nat_lt most_weight (weight_of visits) ≡ false = grind (arith, nat_tests, weighs.0) in
-    neither (nat_lt most_weight (weight_of visits)) (list_any is_too_far visits) light weighs.1
+    or_from (nat_lt most_weight (weight_of visits)) (list_any is_too_far visits) light weighs.1
 
 beyond_limits : (visits : List Visit) → Weighs visits most_weight (Err TooLarge) → is_too_large visits ≡ true
 beyond_limits visits (inl more) =
     let heavy : nat_lt most_weight (weight_of visits) ≡ true = grind (arith, nat_tests, more) in
-    one (nat_lt most_weight (weight_of visits)) (list_any is_too_far visits) heavy
-beyond_limits visits (inr far) = other (nat_lt most_weight (weight_of visits)) (list_any is_too_far visits) far
+    or_left (nat_lt most_weight (weight_of visits)) (list_any is_too_far visits) heavy
+beyond_limits visits (inr far) = or_right (nat_lt most_weight (weight_of visits)) (list_any is_too_far visits) far
 
 -- ---- a step
 
@@ -194,7 +179,7 @@ step_past sources is_thing depth chain target part left found past =
     ∙ ap (λ (o : Option Json). elim o as (λ _. List Visit) [ None ↦ [] | Some v ↦ own_visit (chain ++ target ∷ []) depth v ∷ [] ]) found in
     let more : most_entries < length (chain ++ target ∷ []) = omega (arith, longer, past) in
     let far : nat_lt most_entries (length (chain ++ target ∷ [])) ≡ true = grind (arith, nat_tests, more) in
-    inr (ap (λ (us : List Visit). list_any is_too_far us) visits ∙ one (is_too_far (own_visit (chain ++ target ∷ []) depth part)) false (other _ _ far))
+    inr (ap (λ (us : List Visit). list_any is_too_far us) visits ∙ or_left (is_too_far (own_visit (chain ++ target ∷ []) depth part)) false (or_right _ _ far))
 
 -- a step within it
 pub step_into : (sources : Sources) (is_thing : Bool) (depth : ℕ) (chain longer : List Reference) (target : Reference) (part : Json) (left : ℕ) (r : Result ℕ Stop) → entered sources chain target ≡ Some part → length chain < most_entries

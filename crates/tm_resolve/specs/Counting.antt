@@ -8,14 +8,15 @@ use Rattle.tm_resolve.specs.declared.sources.Sources as kept
 use Rattle.tm_resolve.specs.declared.weight.Stop.{Stop}
 use Rattle.tm_resolve.specs.declared.weight.Stop.TheVariants.{TooLarge, NoMemory}
 
--- what a step visits from this chain on, among the models of a list, and among those of the code
+-- what a step visits from this chain on
 abbrev pub step_from : Sources → List Reference → Step
 step_from sources chain = visits_within (most_entries - length chain) sources
 
+-- the same, among the models that the code has
 abbrev pub next_step : kept.Sources → List Reference → Step
 next_step sources chain = step_from (kept_sources sources.models.items) chain
 
--- what is left once this much was taken, where there was so much
+-- what is left once this much was taken, or nothing where there was less
 abbrev pub Spends : ℕ → ℕ → Option ℕ → Type 0
 Spends amount left rest = MatchOption rest (left < amount) (λ n. n + amount ≡ left)
 

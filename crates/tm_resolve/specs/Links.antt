@@ -22,13 +22,13 @@ reference_of from (string text) = referred from text
 reference_of from v = None
 
 -- the value is this text
-abbrev pub is_text : List ℕ → Json → Bool
-is_text text (string s) = bytes_eq s text
-is_text text v = false
+abbrev pub is_this_text : List ℕ → Json → Bool
+is_this_text text (string s) = bytes_eq s text
+is_this_text text v = false
 
 -- the link has this relation
 abbrev pub has_relation : List ℕ → List (List ℕ × Json) → Bool
-has_relation relation ms = elim (member_named (codes "rel") ms) [ None ↦ false | Some v ↦ is_text relation v ]
+has_relation relation ms = elim (member_named (codes "rel") ms) [ None ↦ false | Some v ↦ is_this_text relation v ]
 
 -- a link that counts: an object with this relation, which doesn't itself come from elsewhere
 abbrev pub is_link : List ℕ → Json → Bool

@@ -138,13 +138,13 @@ fn href_of(link: &Tree) -> Option<&str>
         ≡ option_and_then text_under (member_named (codes "href") (members_under (json_of link.now))) }
 {
     match link.member("href") {
-        Some(href) => text_of(href),
+        Some(href) => as_text(href),
         None => None,
     }
 }
 
 /// The value, where it is a text.
-fn text_of(value: &Tree) -> Option<&str>
+fn as_text(value: &Tree) -> Option<&str>
     ensures { option_map (λ text. text.now) result ≡ text_under (json_of value.now) }
 {
     match value {

@@ -20,15 +20,16 @@ use wot_json::{Text, Tree};
 /// that `tm:ref` refers to, with its own references brought in first. What leads back to a part on the way to which
 /// it stands is circular; what is brought in twice side by side is not.
 ///
-/// `TooLarge` stands before all other faults, at the root and with the empty pointer: what the model brings in, with its
-/// submodels, weighs more than 262,144, is deeper than 64, or lies behind a chain of more than 16 models and parts.
+/// `TooLarge` stands before all other faults, at the root and with the empty pointer: the model with all that it brings
+/// in, and its submodels, weighs more than 262,144, is deeper than 64, or has a chain of more than 16 models and parts.
 /// The order of the others is preorder: those of an extension before those of the model, those of a `tm:ref` before
 /// those of the members beside it, and members in the byte order of their names. Of what comes behind the first fault
 /// nothing is looked at.
 ///
-/// The values are put into each model of the library once. Then counting takes a time in proportion to the weight, and
-/// at most to the limit, however large the expansion is; for each step it goes through the list of the models' URLs.
-/// What is brought in twice is made twice, so the rest is in proportion to the weight too, times the length of chains.
+/// First the values are put into each model of the library, once; no limit holds for that. Then counting takes a time in
+/// proportion to the weight, and at most to the limit, however large the expansion is. Each step parses and joins a URL
+/// and goes through the list of the models. What is brought in twice is made twice, and each node has its pointer made:
+/// so the rest is in proportion to the weight, times the lengths of chains and pointers.
 pub fn resolve(
     alloc: Global,
     library: &Library,

@@ -2,7 +2,7 @@
 
 ghost use Rattle.std.specs.Prelude.{◌≡◌, option_map};
 ghost use Rattle.wot_json.specs.Meaning.{json_of};
-ghost use Rattle.wot_json.specs.Pointer.{part_of};
+ghost use Rattle.wot_json.specs.Pointer.{part_of as part_of_value};
 ghost use Rattle.tm_parts.specs.Sources.{kept_sources};
 ghost use Rattle.tm_resolve.specs.Weight as spec;
 
@@ -31,14 +31,14 @@ pub(crate) fn entered<'a>(
         return None;
     }
     match source_named(sources.models.as_slice(), target.url.as_str()) {
-        Some(Ok(whole)) => part_at(whole, target.pointer.as_str()),
+        Some(Ok(whole)) => part_of(whole, target.pointer.as_str()),
         _ => None,
     }
 }
 
 /// What stands at a pointer, where anything does.
-pub(crate) fn part_at<'a>(whole: &'a Tree, place: &str) -> Option<&'a Tree>
-    ensures { option_map (λ part. json_of part.now) result ≡ part_of place.now (json_of whole.now) }
+pub(crate) fn part_of<'a>(whole: &'a Tree, place: &str) -> Option<&'a Tree>
+    ensures { option_map (λ part. json_of part.now) result ≡ part_of_value place.now (json_of whole.now) }
 {
     match pointer(whole, place) {
         Ok(part) => part,

@@ -7,7 +7,6 @@ ghost use Rattle.std.specs.Prelude.{◌≡◌, ◌≢◌, ◌⊎◌, [], ◌∷�
 ghost use Rattle.wot_json.specs.Meaning.{json_of};
 ghost use Rattle.wot_json.specs.Lookup.{member_named};
 ghost use Rattle.wot_json.specs.Tree.{Json, object, members_of};
-ghost use Rattle.wot_json.specs.Pointer.{part_of};
 ghost use Rattle.tm_parts.specs.Sources.{kept_sources};
 ghost use Rattle.tm_resolve.specs.Chain.{Enters};
 ghost use Rattle.tm_resolve.specs.Links.{reference_name, reference_of, extensions};
@@ -19,7 +18,7 @@ use crate::fault::{ResolveFault, ResolveKind};
 use crate::links::{
     Extensions, REFERENCE, extensions_of, link_target, reference_target, without_links,
 };
-use crate::sources::{Sources, part_at};
+use crate::sources::{Sources, part_of};
 use tm_parts::{Reference, source_named};
 use wot_json::{Items, Members, Text, Tree, below, below_index, copy, merge_patch};
 
@@ -69,7 +68,7 @@ fn entered_value(
         sources.now.models.items) url.now place.now chain.old.items target.now (Err e)) }
     ensures chain { OnOk result (chain.new.items ≡ chain.old.items) }
 {
-    let part = match part_at(whole, target.pointer.as_str()) {
+    let part = match part_of(whole, target.pointer.as_str()) {
         Some(part) => part,
         None => return Err(ResolveFault::at(sources.alloc, ResolveKind::MissingNode, url, place)),
     };

@@ -1,8 +1,9 @@
 //! How large a model grows, counted without building anything.
 //!
-//! The nodes of the expansion are visited one by one, and what each weighs is taken from what is left of the limit.
-//! Counting stops at the first visit that passes a limit. A node weighs at least 2, so there are never more than half
-//! as many visits as the limit on the weight, whatever the size of the expansion.
+//! The nodes of the expansion are visited one by one, and what each weighs is taken from what is left of the limit:
+//! each function is handed what is left before its visits, and answers what is left behind them. Counting stops at the
+//! first visit that passes a limit. A node weighs at least 2, so no more than 131,072 are counted and one more is begun,
+//! whatever the size of the expansion.
 
 ghost use Rattle.std.specs.Prelude.{◌≡◌, ◌+◌, ◌≤◌, List, [], ◌∷◌, ◌++◌, length, true, Some, IfOk, OnOk};
 ghost use Rattle.std.specs.List.{flat_map, sum_by};
@@ -60,13 +61,13 @@ impl From<AllocError> for Stop {
     }
 }
 
-/// What a step to the model of a Thing leads to passes a limit, as the first step.
+/// Whether the expansion of the model of a Thing passes a limit, where `root` is the whole of that model.
 pub(crate) fn is_too_large(sources: &Sources, root: &Reference) -> Result<bool, NoMemory>
     ensures { IfOk result (λ large. large ≡ spec.is_too_large (visits_within most_entries (kept_sources
         sources.now.models.items) true 0 [] root.now)) }
 {
     let mut chain = Vec::new(sources.alloc);
-    match step_weighs(sources, true, 0, root, &mut chain, MOST_WEIGHT) {
+    match weigh_step(sources, true, 0, root, &mut chain, MOST_WEIGHT) {
         Ok(_) => Ok(false),
         Err(Stop::TooLarge) => Ok(true),
         Err(Stop::NoMemory) => Err(AllocError),
@@ -75,7 +76,7 @@ pub(crate) fn is_too_large(sources: &Sources, root: &Reference) -> Result<bool, 
 
 /// Visits what a step to a target leads to, at this depth.
 #[cycle(weigh)]
-fn step_weighs(
+fn weigh_step(
     sources: &Sources,
     is_thing: bool,
     depth: usize,
@@ -94,14 +95,14 @@ fn step_weighs(
         return Err(Stop::TooLarge);
     }
     push_target(sources.alloc, chain, target)?;
-    let left = target_weighs(sources, is_thing, depth, target, part, chain, left)?;
+    let left = weigh_target(sources, is_thing, depth, target, part, chain, left)?;
     let _target = chain.pop();
     Ok(left)
 }
 
 /// Visits the part of the last target of the chain, and where it is a whole model what its links lead to.
 #[cycle(weigh)]
-fn target_weighs(
+fn weigh_target(
     sources: &Sources,
     is_thing: bool,
     depth: usize,
@@ -116,9 +117,9 @@ fn target_weighs(
     ensures chain { OnOk result (chain.new.items ≡ chain.old.items) }
 {
     let url = target.url.as_str();
-    let left = part_weighs(sources, url, depth, part, chain, left)?;
+    let left = weigh_part(sources, url, depth, part, chain, left)?;
     if target.pointer.as_str().is_empty() {
-        links_weigh(sources, is_thing, url, part, chain, left)
+        weigh_links(sources, is_thing, url, part, chain, left)
     } else {
         Ok(left)
     }
@@ -127,7 +128,7 @@ fn target_weighs(
 /// Visits what the links of a whole model lead to: the model that it extends, and where it is that of a Thing its
 /// submodels.
 #[cycle(weigh)]
-fn links_weigh(
+fn weigh_links(
     sources: &Sources,
     is_thing: bool,
     url: &str,
@@ -140,9 +141,9 @@ fn links_weigh(
         chain.old.items (json_of whole.now)) left result }
     ensures chain { OnOk result (chain.new.items ≡ chain.old.items) }
 {
-    let left = extension_weighs(sources, url, whole, chain, left)?;
+    let left = weigh_extension(sources, url, whole, chain, left)?;
     if is_thing {
-        submodels_weigh(sources, url, links_under(whole), chain, left)
+        weigh_submodels(sources, url, links_under(whole), chain, left)
     } else {
         Ok(left)
     }
@@ -150,7 +151,7 @@ fn links_weigh(
 
 /// Visits the model that a model extends, where it extends one.
 #[cycle(weigh)]
-fn extension_weighs(
+fn weigh_extension(
     sources: &Sources,
     url: &str,
     whole: &Tree,
@@ -163,14 +164,14 @@ fn extension_weighs(
     ensures chain { OnOk result (chain.new.items ≡ chain.old.items) }
 {
     match extensions_of(whole) {
-        Extensions::One(_, link) => link_weighs(sources, false, url, link, chain, left),
+        Extensions::One(_, link) => weigh_link(sources, false, url, link, chain, left),
         Extensions::None | Extensions::Several => Ok(left),
     }
 }
 
 /// Visits the submodels among links.
 #[cycle(weigh)]
-fn submodels_weigh(
+fn weigh_submodels(
     sources: &Sources,
     url: &str,
     links: &[Tree],
@@ -184,14 +185,14 @@ fn submodels_weigh(
 {
     let mut left = left;
     for link in links {
-        left = submodel_weighs(sources, url, link, chain, left)?;
+        left = weigh_submodel(sources, url, link, chain, left)?;
     }
     Ok(left)
 }
 
 /// Visits the submodel that a link leads to, where it is such a link.
 #[cycle(weigh)]
-fn submodel_weighs(
+fn weigh_submodel(
     sources: &Sources,
     url: &str,
     link: &Tree,
@@ -204,7 +205,7 @@ fn submodel_weighs(
     ensures chain { OnOk result (chain.new.items ≡ chain.old.items) }
 {
     if is_link(link, SUBMODEL) {
-        link_weighs(sources, true, url, link, chain, left)
+        weigh_link(sources, true, url, link, chain, left)
     } else {
         Ok(left)
     }
@@ -212,7 +213,7 @@ fn submodel_weighs(
 
 /// Visits the model that a link leads to, where it leads to one.
 #[cycle(weigh)]
-fn link_weighs(
+fn weigh_link(
     sources: &Sources,
     is_thing: bool,
     url: &str,
@@ -226,14 +227,14 @@ fn link_weighs(
     ensures chain { OnOk result (chain.new.items ≡ chain.old.items) }
 {
     match link_target(sources.alloc, url, link)? {
-        Some(model) => step_weighs(sources, is_thing, 0, &model, chain, left),
+        Some(model) => weigh_step(sources, is_thing, 0, &model, chain, left),
         None => Ok(left),
     }
 }
 
 /// Visits a part at this depth, what it refers to, and what stands in it.
 #[cycle(weigh)]
-fn part_weighs(
+fn weigh_part(
     sources: &Sources,
     url: &str,
     depth: usize,
@@ -246,17 +247,17 @@ fn part_weighs(
         (json_of part.now)) left result }
     ensures chain { OnOk result (chain.new.items ≡ chain.old.items) }
 {
-    let left = node_weighs(part, depth, left)?;
+    let left = weigh_node(part, depth, left)?;
     match part {
-        Tree::List(items) => elements_weigh(sources, url, depth + 1, items, chain, left),
-        Tree::Obj(members) => object_weighs(sources, url, depth, members, chain, left),
+        Tree::List(items) => weigh_elements(sources, url, depth + 1, items, chain, left),
+        Tree::Obj(members) => weigh_object(sources, url, depth, members, chain, left),
         _ => Ok(left),
     }
 }
 
 /// Visits what an object refers to, and its members.
 #[cycle(weigh)]
-fn object_weighs(
+fn weigh_object(
     sources: &Sources,
     url: &str,
     depth: usize,
@@ -272,15 +273,15 @@ fn object_weighs(
     ensures chain { OnOk result (chain.new.items ≡ chain.old.items) }
 {
     let left = match members.get(REFERENCE) {
-        Some(reference) => reference_weighs(sources, url, depth, reference, chain, left)?,
+        Some(reference) => weigh_reference(sources, url, depth, reference, chain, left)?,
         None => left,
     };
-    members_weigh(sources, url, depth + 1, members, chain, left)
+    weigh_members(sources, url, depth + 1, members, chain, left)
 }
 
 /// Visits what the value of a `tm:ref` refers to, which stands at the depth of the object that has it.
 #[cycle(weigh)]
-fn reference_weighs(
+fn weigh_reference(
     sources: &Sources,
     url: &str,
     depth: usize,
@@ -294,14 +295,14 @@ fn reference_weighs(
     ensures chain { OnOk result (chain.new.items ≡ chain.old.items) }
 {
     match reference_target(sources.alloc, url, reference)? {
-        Some(target) => step_weighs(sources, false, depth, &target, chain, left),
+        Some(target) => weigh_step(sources, false, depth, &target, chain, left),
         None => Ok(left),
     }
 }
 
 /// Visits the elements of a list.
 #[cycle(weigh)]
-fn elements_weigh(
+fn weigh_elements(
     sources: &Sources,
     url: &str,
     depth: usize,
@@ -317,14 +318,14 @@ fn elements_weigh(
     let list = items.as_slice();
     let mut left = left;
     for item in list {
-        left = part_weighs(sources, url, depth, item, chain, left)?;
+        left = weigh_part(sources, url, depth, item, chain, left)?;
     }
     Ok(left)
 }
 
 /// Visits the members of an object.
 #[cycle(weigh)]
-fn members_weigh(
+fn weigh_members(
     sources: &Sources,
     url: &str,
     depth: usize,
@@ -340,13 +341,13 @@ fn members_weigh(
     let list = members.as_slice();
     let mut left = left;
     for (_, member) in list {
-        left = part_weighs(sources, url, depth, member, chain, left)?;
+        left = weigh_part(sources, url, depth, member, chain, left)?;
     }
     Ok(left)
 }
 
 /// Visits a node at this depth, by a chain within its limit.
-fn node_weighs(node: &Tree, depth: usize, left: usize) -> Result<usize, Stop>
+fn weigh_node(node: &Tree, depth: usize, left: usize) -> Result<usize, Stop>
     ensures weight { (chain : List TargetValue) → length chain ≤ most_entries → Weighs (own_visit chain depth
         (json_of node.now) ∷ []) left result }
     ensures depth { OnOk result (depth ≤ most_depth) }
@@ -354,33 +355,33 @@ fn node_weighs(node: &Tree, depth: usize, left: usize) -> Result<usize, Stop>
     if depth > MOST_DEPTH {
         return Err(Stop::TooLarge);
     }
-    match without_node(node, left) {
+    match spend_node(node, left) {
         Some(left) => Ok(left),
         None => Err(Stop::TooLarge),
     }
 }
 
-/// What is left behind a node, without the nodes in it.
-fn without_node(node: &Tree, left: usize) -> Option<usize>
+/// What is left once a node is taken, without the nodes in it.
+fn spend_node(node: &Tree, left: usize) -> Option<usize>
     ensures { Spends (own_weight (json_of node.now)) left result }
 {
     match node {
-        Tree::Null => without(4, left),
-        Tree::Bool(_) => without(5, left),
-        Tree::Int(_) => without(20, left),
-        Tree::Text(text) => without_text(text.as_str(), left),
-        Tree::List(items) => without(items.len(), without(2, left)?),
-        Tree::Obj(members) => without_names(members.as_slice(), without(2, left)?),
+        Tree::Null => spend(4, left),
+        Tree::Bool(_) => spend(5, left),
+        Tree::Int(_) => spend(20, left),
+        Tree::Text(text) => spend_text(text.as_str(), left),
+        Tree::List(items) => spend(items.len(), spend(2, left)?),
+        Tree::Obj(members) => spend_names(members.as_slice(), spend(2, left)?),
     }
 }
 
-/// What is left behind the names of members, and 2 for each.
-fn without_names(members: &[(Text, Tree)], left: usize) -> Option<usize>
+/// What is left once the names of members are taken, and 2 for each.
+fn spend_names(members: &[(Text, Tree)], left: usize) -> Option<usize>
     ensures { Spends (sum_by name_weight (json_members members.now)) left result }
 {
     let mut left = left;
     for (name, _) in members {
-        match without_name(name.as_str(), left) {
+        match spend_name(name.as_str(), left) {
             Some(rest) => left = rest,
             None => return None,
         }
@@ -388,22 +389,22 @@ fn without_names(members: &[(Text, Tree)], left: usize) -> Option<usize>
     Some(left)
 }
 
-/// What is left behind a name of a member, and 2.
-fn without_name(name: &str, left: usize) -> Option<usize>
+/// What is left once a name of a member is taken, and 2.
+fn spend_name(name: &str, left: usize) -> Option<usize>
     ensures { Spends (length (json_string name.now) + 2) left result }
 {
-    without(2, without_text(name, left)?)
+    spend(2, spend_text(name, left)?)
 }
 
-/// What is left behind this much.
-fn without(amount: usize, left: usize) -> Option<usize>
+/// What is left once this much is taken.
+fn spend(amount: usize, left: usize) -> Option<usize>
     ensures { Spends amount left result }
 {
     left.checked_sub(amount)
 }
 
-/// What is left behind a text as it is written.
-fn without_text(text: &str, left: usize) -> Option<usize>
+/// What is left once a text is taken, as it is written.
+fn spend_text(text: &str, left: usize) -> Option<usize>
     ensures { Spends (length (json_string text.now)) left result }
 {
     match quoted_length(text, left) {

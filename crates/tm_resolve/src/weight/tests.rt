@@ -43,8 +43,8 @@ fn linked(alloc: Global, last: usize, relation: &str) -> Result<Library, Fail> {
     Ok(library)
 }
 
-/// The models `b0` to `b` and a number. The `x` of each refers so often to that of the next, the last `x` has a number
-/// alone, and a property of `b0` refers to its own `x`.
+/// The models `b0` to `b` and a number. The `x` of each has this many references to that of the next, and the last `x`
+/// has a number alone. Each model but the last has a property that refers to its own `x`.
 fn multiplied(alloc: Global, last: usize, references: usize) -> Result<Library, Fail> {
     let mut library = Library::new(alloc);
     for number in 0..last {
@@ -100,6 +100,8 @@ fn references_that_multiply_are_too_large(rt: HostRuntime) -> Result<(), Fail> {
     let alloc = rt.alloc();
     let table = [
         (4, 2, "value"),
+        (14, 1, "value"),
+        (15, 1, "TooLarge https://m.example/b0 "),
         (14, 2, "TooLarge https://m.example/b0 "),
         (14, 20, "TooLarge https://m.example/b0 "),
     ];
@@ -110,6 +112,41 @@ fn references_that_multiply_are_too_large(rt: HostRuntime) -> Result<(), Fail> {
     }
     Ok(())
 }
+
+/// Models that weigh little themselves, and the members that they have.
+const LIGHT: [(&str, &str); 10] = [
+    (
+        "twice",
+        r#""links":[{"href":"half","rel":"tm:submodel"},{"href":"half","rel":"tm:submodel"}]"#,
+    ),
+    (
+        "extends_twice",
+        r#""links":[{"href":"twice","rel":"tm:extends"}]"#,
+    ),
+    (
+        "extends_two",
+        r#""links":[{"href":"half","rel":"tm:extends"},{"href":"half","rel":"tm:extends"}]"#,
+    ),
+    (
+        "extends_name",
+        r#""links":[{"href":"name","rel":"tm:extends"}]"#,
+    ),
+    (
+        "of_itself",
+        r#""links":[{"href":"of_itself","rel":"tm:submodel"}]"#,
+    ),
+    (
+        "extends_deep",
+        r#""links":[{"href":"deep","rel":"tm:extends"}]"#,
+    ),
+    ("refers", r#""p":{"tm:ref":"deep#/x"}"#),
+    ("refers_deeper", r#""p":{"q":{"tm:ref":"deep#/x"}}"#),
+    ("refers_in_list", r#""p":[{"tm:ref":"deep#/x"}]"#),
+    (
+        "refers_to_extension",
+        r#""p":{"q":{"tm:ref":"extends_deep#"}}"#,
+    ),
+];
 
 /// Models whose weight and depth are at the limits. `exact` weighs 2 for the object, 9, 5 and 5 for its names, 15 for its
 /// type, 6 for the list, 4, 5, 20 and 5 for what stands in that, and 2 for the quotation marks of the text: 78 and its
@@ -133,23 +170,7 @@ fn at_the_limits(alloc: Global) -> Result<Library, Fail> {
     let nested = lists(alloc, 62)?;
     let members = format!(in alloc; "\"x\":{{\"a\":{nested}}}")?;
     add(alloc, &mut library, "deep", members.as_str())?;
-    for (name, members) in [
-        (
-            "twice",
-            "\"links\":[{\"href\":\"half\",\"rel\":\"tm:submodel\"},{\"href\":\"half\",\"rel\":\"tm:submodel\"}]",
-        ),
-        (
-            "extends_twice",
-            "\"links\":[{\"href\":\"twice\",\"rel\":\"tm:extends\"}]",
-        ),
-        (
-            "extends_deep",
-            "\"links\":[{\"href\":\"deep\",\"rel\":\"tm:extends\"}]",
-        ),
-        ("refers", "\"p\":{\"tm:ref\":\"deep#/x\"}"),
-        ("refers_deeper", "\"p\":{\"q\":{\"tm:ref\":\"deep#/x\"}}"),
-        ("refers_in_list", "\"p\":[{\"tm:ref\":\"deep#/x\"}]"),
-    ] {
+    for (name, members) in LIGHT {
         add(alloc, &mut library, name, members)?;
     }
     Ok(library)
@@ -166,6 +187,12 @@ fn weight_and_depth_have_limits(rt: HostRuntime) -> Result<(), Fail> {
         ("fault", "TooLarge https://m.example/fault "),
         ("twice", "TooLarge https://m.example/twice "),
         ("extends_twice", "value"),
+        (
+            "extends_two",
+            "TwoExtends https://m.example/extends_two /links",
+        ),
+        ("extends_name", "InName https://m.example/name /{{A}}"),
+        ("of_itself", "value"),
         ("deep", "value"),
         ("extends_deep", "value"),
         ("refers", "value"),

@@ -12,74 +12,74 @@ use Rattle.tm_resolve.proofs.Falls.{budget, budget_falls, entered_nests}
 use Rattle.tm_resolve.proofs.Visits.{loop_more, loop_stop, loop_end, object_part, links_of_thing, step_into, elements_list, members_list, submodels_list}
 use Rattle.tm_resolve.proofs.weight.+weigh.Goals as goal
 
-pub elements_weigh-part_weighs-requires : goal.elements_weigh-part_weighs-requires
-elements_weigh-part_weighs-requires t c =
+pub weigh_elements-weigh_part-requires : goal.weigh_elements-weigh_part-requires
+weigh_elements-weigh_part-requires t c =
     let nests = read_element_nests c.as_slice-list.result.now c.args.items.now c.loop-item.item-index c.item-item.result c.as_slice-list.ensures c.loop-item-test.true c.item-item.is in (
       omega (arith, nests, ap (λ (es : List Reference). budget es (kept_sources c.args.sources.now.models.items)) c.loop-item.invariant.chain),
       subst (λ (es : List Reference). length es ≤ most_entries) (sym c.loop-item.invariant.chain) c.requires.1.1,
     )
 
-pub elements_weigh-returns-clause-weight : goal.elements_weigh-returns-clause-weight
-elements_weigh-returns-clause-weight t c =
+pub weigh_elements-returns-clause-weight : goal.weigh_elements-returns-clause-weight
+weigh_elements-returns-clause-weight t c =
     subst (λ (vs : List Json). Weighs (element_visits (step_from (kept_sources c.args.sources.now.models.items) c.args.chain.now.items) c.args.url.now c.args.chain.now.items c.args.depth (elements_of vs)) c.args.left (Ok c.loop-item.left)) c.as_slice-list.ensures
     (loop_end (elements_list (kept_sources c.args.sources.now.models.items) c.args.url.now c.args.depth c.args.chain.now.items) c.as_slice-list.result.now c.loop-item.item-index c.args.left c.loop-item.left refl c.loop-item-test.false c.loop-item.invariant.counts)
 
-pub members_weigh-part_weighs-requires : goal.members_weigh-part_weighs-requires
-members_weigh-part_weighs-requires t c =
+pub weigh_members-weigh_part-requires : goal.weigh_members-weigh_part-requires
+weigh_members-weigh_part-requires t c =
     let nests = read_member_nests c.as_slice-list.result.now c.args.members.now c.loop-member.member-index c.loop-member-item.result c.as_slice-list.ensures.members c.loop-member-test.true c.loop-member-item.is in (
       omega (arith, nests, ap (λ (es : List Reference). budget es (kept_sources c.args.sources.now.models.items)) c.loop-member.invariant.chain),
       subst (λ (es : List Reference). length es ≤ most_entries) (sym c.loop-member.invariant.chain) c.requires.1.1,
     )
 
-pub members_weigh-returns-clause-weight : goal.members_weigh-returns-clause-weight
-members_weigh-returns-clause-weight t c =
+pub weigh_members-returns-clause-weight : goal.weigh_members-returns-clause-weight
+weigh_members-returns-clause-weight t c =
     subst (λ (ms : List (List ℕ × Json)). Weighs (member_visits (step_from (kept_sources c.args.sources.now.models.items) c.args.chain.now.items) c.args.url.now c.args.chain.now.items c.args.depth (members_of ms)) c.args.left (Ok c.loop-member.left)) c.as_slice-list.ensures.members
     (loop_end (members_list (kept_sources c.args.sources.now.models.items) c.args.url.now c.args.depth c.args.chain.now.items) c.as_slice-list.result.now c.loop-member.member-index c.args.left c.loop-member.left refl c.loop-member-test.false c.loop-member.invariant.counts)
 
-pub submodels_weigh-returns-clause-weight : goal.submodels_weigh-returns-clause-weight
-submodels_weigh-returns-clause-weight t c =
+pub weigh_submodels-returns-clause-weight : goal.weigh_submodels-returns-clause-weight
+weigh_submodels-returns-clause-weight t c =
     loop_end (submodels_list (kept_sources c.args.sources.now.models.items) c.args.url.now c.args.chain.now.items) c.args.links.now c.loop-link.link-index c.args.left c.loop-link.left refl c.loop-link-test.false c.loop-link.invariant.counts
 
-pub links_weigh-returns-then-is_thing-clause-weight : goal.links_weigh-returns-then-is_thing-clause-weight
-links_weigh-returns-then-is_thing-clause-weight t c =
-    links_of_thing (kept_sources c.args.sources.now.models.items) c.args.is_thing c.args.url.now c.args.chain.now.items c.extension_weighs.new.chain.items (json_of c.args.whole.now) (json_items c.links_under.result.now) c.args.left c.in_ok-left.left c.submodels_weigh.result
-    c.if-is_thing.true c.links_under.ensures c.in_ok-left.ensures.chain c.in_ok-left.ensures.weight c.submodels_weigh.ensures.weight
+pub weigh_links-returns-then-is_thing-clause-weight : goal.weigh_links-returns-then-is_thing-clause-weight
+weigh_links-returns-then-is_thing-clause-weight t c =
+    links_of_thing (kept_sources c.args.sources.now.models.items) c.args.is_thing c.args.url.now c.args.chain.now.items c.weigh_extension.new.chain.items (json_of c.args.whole.now) (json_items c.links_under.result.now) c.args.left c.in_ok-left.left c.weigh_submodels.result
+    c.if-is_thing.true c.links_under.ensures c.in_ok-left.ensures.chain c.in_ok-left.ensures.weight c.weigh_submodels.ensures.weight
 
-pub part_weighs-returns-in-Obj-clause-weight : goal.part_weighs-returns-in-Obj-clause-weight
-part_weighs-returns-in-Obj-clause-weight t c =
-    object_part (step_from (kept_sources c.args.sources.now.models.items) c.args.chain.now.items) c.args.url.now c.args.chain.now.items c.args.depth c.args.part.now c.in-Obj.members c.args.left c.in_ok-left.left c.object_weighs.result
-    c.in-Obj.is (c.in_ok-left.ensures.weight c.args.chain.now.items c.requires.1.1) c.object_weighs.ensures.weight
+pub weigh_part-returns-in-Obj-clause-weight : goal.weigh_part-returns-in-Obj-clause-weight
+weigh_part-returns-in-Obj-clause-weight t c =
+    object_part (step_from (kept_sources c.args.sources.now.models.items) c.args.chain.now.items) c.args.url.now c.args.chain.now.items c.args.depth c.args.part.now c.in-Obj.members c.args.left c.in_ok-left.left c.weigh_object.result
+    c.in-Obj.is (c.in_ok-left.ensures.weight c.args.chain.now.items c.requires.1.1) c.weigh_object.ensures.weight
 
-pub step_weighs-target_weighs-requires : goal.step_weighs-target_weighs-requires
-step_weighs-target_weighs-requires t c =
+pub weigh_step-weigh_target-requires : goal.weigh_step-weigh_target-requires
+weigh_step-weigh_target-requires t c =
     let s = kept_sources c.args.sources.now.models.items in
     let deep = entered_nests s c.args.chain.now.items c.args.target.now (json_of c.in-Some.part.now) (rw c.deref.ensures.value at (sym c.in-Some.ensures)) in
     let falls = budget_falls c.args.chain.now.items c.args.target.now s (nesting (json_of c.in-Some.part.now)) c.in_ok-push_target.ensures.room deep in
     let longer = ap (λ (es : List Reference). length es) c.in_ok-push_target.ensures.pushed ∙ length-append c.args.chain.now.items (c.args.target.now ∷ []) in
     (omega (arith, falls, ap (λ (es : List Reference). budget es s) c.in_ok-push_target.ensures.pushed), omega (arith, longer, c.len.ensures, c.if-len-ge-MOST_ENTRIES.false))
 
-pub step_weighs-returns-in_err-left-clause-weight : goal.step_weighs-returns-in_err-left-clause-weight
-step_weighs-returns-in_err-left-clause-weight t c =
+pub weigh_step-returns-in_err-left-clause-weight : goal.weigh_step-returns-in_err-left-clause-weight
+weigh_step-returns-in_err-left-clause-weight t c =
     let p = err_from_is_err_and c.from_residual-in_err-left.result c.from_residual-in_err-left.ensures.1 in
     rw (p.1, p.2)
     (step_into (kept_sources c.args.sources.now.models.items) c.args.is_thing c.args.depth c.args.chain.now.items c.push_target.new.chain.items c.args.target.now (json_of c.in-Some.part.now) c.args.left (Err c.in_err-left.field-0.0)
     (rw c.deref.ensures.value at (sym c.in-Some.ensures)) (omega (arith, c.len.ensures, c.if-len-ge-MOST_ENTRIES.false)) c.in_ok-push_target.ensures.pushed c.in_err-left.ensures.weight)
 
-pub step_weighs-returns-clause-weight : goal.step_weighs-returns-clause-weight
-step_weighs-returns-clause-weight t c =
+pub weigh_step-returns-clause-weight : goal.weigh_step-returns-clause-weight
+weigh_step-returns-clause-weight t c =
     step_into (kept_sources c.args.sources.now.models.items) c.args.is_thing c.args.depth c.args.chain.now.items c.push_target.new.chain.items c.args.target.now (json_of c.in-Some.part.now) c.args.left (Ok c.in_ok-left.left)
     (rw c.deref.ensures.value at (sym c.in-Some.ensures)) (omega (arith, c.len.ensures, c.if-len-ge-MOST_ENTRIES.false)) c.in_ok-push_target.ensures.pushed c.in_ok-left.ensures.weight
 
-pub submodels_weigh-returns-in_err-left-clause-weight : goal.submodels_weigh-returns-in_err-left-clause-weight
-submodels_weigh-returns-in_err-left-clause-weight t c =
+pub weigh_submodels-returns-in_err-left-clause-weight : goal.weigh_submodels-returns-in_err-left-clause-weight
+weigh_submodels-returns-in_err-left-clause-weight t c =
     let s = kept_sources c.args.sources.now.models.items in
     let p = err_from_is_err_and c.from_residual.result c.from_residual.ensures.1 in
     rw (p.1, p.2)
     (loop_stop (submodels_list s c.args.url.now c.args.chain.now.items) (λ es link. submodel_visits (step_from s es) c.args.url.now es (json_of link)) c.args.chain.now.items c.loop-link.chain.items (λ link links. refl)
     c.args.links.now c.loop-link.link-index c.link-item.result c.args.left c.loop-link.left c.in_err-left.field-0.0 c.loop-link-test.true c.link-item.is c.loop-link.invariant.chain c.loop-link.invariant.counts c.in_err-left.ensures.weight)
 
-pub submodels_weigh-loop-link-preserved : goal.submodels_weigh-loop-link-preserved
-submodels_weigh-loop-link-preserved t c =
+pub weigh_submodels-loop-link-preserved : goal.weigh_submodels-loop-link-preserved
+weigh_submodels-loop-link-preserved t c =
     let s = kept_sources c.args.sources.now.models.items in
     record {
       chain = c.in_ok-left.ensures.chain ∙ c.loop-link.invariant.chain;

@@ -1,17 +1,19 @@
 -- Walks through the elements of a list and the members of an object.
 use Rattle.std.proofs.Common.{◌≡◌, ℕ, ◌+◌, ◌<◌, ◌≤◌, List, [], ◌∷◌, ◌++◌, length, drop, get_or, true, false, refl, sym, ap, subst, ◌∙◌, append_assoc, add-one, drop-cons}
 use Rattle.std.proofs.lemmas.List.{append-nil, drop_all}
-use Rattle.std.specs.Prelude.{Ok, Err, codes}
+use Rattle.std.proofs.lemmas.Grind.{flat_map-append}
+use Rattle.std.specs.Prelude.{Ok, Err}
 use Rattle.std.specs.Str.{bytes_eq}
 use Rattle.std.specs.Cmp.Lexicographic.{nat_list_cmp_total}
 use Rattle.wot_json.specs.Tree.{Json, AreOrdered}
 use Rattle.wot_json.specs.Meaning.{json_of, json_items, json_member, json_members}
 use Rattle.wot_json.specs.declared.tree.Tree.{Tree}
-use Rattle.wot_json.specs.Places.{index_text, token_text, step_text}
+use Rattle.wot_json.specs.Places.{step_text}
 use Rattle.tm_parts.specs.Sources.{Sources}
 use Rattle.tm_parts.specs.Substitution.{element_step}
 use Rattle.tm_parts.specs.declared.reference.Reference.{Reference}
 use Rattle.tm_parts.proofs.Walks.{ordered_front}
+use Rattle.tm_resolve.specs.Chain.{pointer_of}
 use Rattle.tm_resolve.specs.Links.{reference_name}
 use Rattle.tm_resolve.specs.Value.{Outcome, outcome_map, PartGives, ElementsGive, MembersGive, no_elements, element_fails, element, no_members, member_fails, member, left_out}
 use Rattle.tm_resolve.specs.declared.fault.ResolveFault.{ResolveFault}
@@ -87,12 +89,10 @@ ordered_skipped (x ∷ z ∷ xs) m ys ordered = (ordered.0, ordered_skipped (z �
 
 -- ---- walks over what the code keeps
 
--- the place of an element, and that of a member, as the code makes them
-pub below_element : (below place : List ℕ) (index : ℕ) → below ≡ place ++ codes "/" ++ index_text index → below ≡ place ++ element_step index
-below_element below place index is = is ∙ append_assoc place (codes "/") (index_text index)
-
-pub below_member : (below place written name : List ℕ) → below ≡ place ++ codes "/" ++ token_text written → written ≡ name → below ≡ place ++ step_text name
-below_member below place written name is named = is ∙ append_assoc place (codes "/") (token_text written) ∙ ap (λ (n : List ℕ). place ++ step_text n) named
+-- a further piece of a pointer stands at its end
+pub piece_behind : (longer pieces : List (List ℕ)) (piece : List ℕ) → longer ≡ pieces ++ piece ∷ [] → pointer_of longer ≡ pointer_of pieces ++ piece
+piece_behind longer pieces piece is =
+    ap pointer_of is ∙ flat_map-append (λ (p : List ℕ). p) pieces (piece ∷ []) ∙ ap (λ (end : List ℕ). pointer_of pieces ++ end) (append-nil piece)
 
 -- what is left at a place is what stands there, and what is behind it
 pub left_at : {X : Type 0} (xs : List X) (i : ℕ) (x : X) → i < length xs → x ≡ get_or xs i x → drop i xs ≡ x ∷ drop (i + 1) xs

@@ -1,7 +1,7 @@
 -- How large a Thing Model grows where the models that it extends, the parts that it refers to and its submodels are
 -- brought in (Thing Description 1.1, section "Thing Model"). This is said of the visits of its expansion, which is never
 -- built: each node of the model is visited, and each node of what is brought in, as often as it is.
-use Rattle.std.specs.Prelude.{◌+◌, ◌==◌, ◌||◌, Bool, true, false, ℕ, zero, suc, nat_lt, List, [], ◌∷◌, ◌++◌, length, codes, Option, Some, None, Result, Ok, Err, option_and_then, if◌then◌else◌}
+use Rattle.std.specs.Prelude.{◌+◌, ◌==◌, ◌||◌, Bool, true, false, ℕ, zero, suc, nat_lt, List, [], ◌∷◌, ◌++◌, length, codes, Option, Some, None, option_and_then, if◌then◌else◌}
 use Rattle.std.specs.List.{list_any, flat_map, sum_by}
 use Rattle.std.specs.Result.{result_ok}
 use Rattle.wot_json.specs.Tree.{Json, null, boolean, integer, string, array, object, Elements, no_elements, element, Members, no_members, member}

@@ -1,12 +1,15 @@
-//! The targets that were stepped into on the way to a part.
+//! The way to a part: the targets that were stepped into, and the pieces of the pointer to it.
 
-ghost use Rattle.std.specs.Prelude.{◌≡◌, ◌++◌, [], ◌∷◌, ◌<◌, ◌^◌, length, OnOk};
+ghost use Rattle.std.specs.Prelude.{◌≡◌, ◌++◌, [], ◌∷◌, ◌<◌, ◌^◌, length, OnOk, IfOk};
+ghost use Rattle.wot_json.specs.Places.{step_text};
+ghost use Rattle.tm_parts.specs.Substitution.{element_step};
 ghost use Rattle.tm_resolve.specs.Chain as spec;
+ghost use Rattle.tm_resolve.specs.Links.{link_place};
 
 use servient_base::NoMemory;
 use std::alloc::Global;
 use tm_parts::Reference;
-use wot_json::Text;
+use wot_json::{Text, below, below_index};
 
 /// The target stands in the chain.
 pub(crate) fn stands_in(target: &Reference, chain: &[Reference]) -> bool
@@ -41,4 +44,55 @@ pub(crate) fn push_target(
     let pointer = Text::copy_of(alloc, target.pointer.as_str())?;
     chain.push(Reference { url, pointer })?;
     Ok(())
+}
+
+/// Puts the step to an element of a list at the end of the pieces of a pointer.
+pub(crate) fn push_element(
+    alloc: Global,
+    place: &mut Vec<Text>,
+    index: usize,
+) -> Result<(), NoMemory>
+    ensures { OnOk result (place.new.items ≡ place.old.items ++ element_step index ∷ []) }
+{
+    let step = below_index(alloc, "", index)?;
+    place.push(step)?;
+    Ok(())
+}
+
+/// Puts the step to a member of an object at the end of the pieces of a pointer.
+pub(crate) fn push_member(alloc: Global, place: &mut Vec<Text>, name: &str) -> Result<(), NoMemory>
+    ensures { OnOk result (place.new.items ≡ place.old.items ++ step_text name.now ∷ []) }
+{
+    let step = below(alloc, "", name)?;
+    place.push(step)?;
+    Ok(())
+}
+
+/// The pieces of a pointer, of which this text is the only one.
+pub(crate) fn sole_piece(alloc: Global, text: &str) -> Result<Vec<Text>, NoMemory>
+    ensures { IfOk result (λ place. place.items ≡ text.now ∷ []) }
+{
+    let mut place = Vec::new(alloc);
+    place.push(Text::copy_of(alloc, text)?)?;
+    Ok(place)
+}
+
+/// The pieces of the pointer to a link of a model.
+pub(crate) fn link_pieces(alloc: Global, index: usize) -> Result<Vec<Text>, NoMemory>
+    ensures { IfOk result (λ place. spec.pointer_of place.items ≡ link_place index) }
+{
+    let mut place = sole_piece(alloc, "/links")?;
+    push_element(alloc, &mut place, index)?;
+    Ok(place)
+}
+
+/// The text of a pointer.
+pub(crate) fn pointer_text(alloc: Global, place: &[Text]) -> Result<Text, NoMemory>
+    ensures { IfOk result (λ pointer. pointer ≡ spec.pointer_of place.now) }
+{
+    let mut text = String::new(alloc);
+    for piece in place {
+        text.push_str(piece.as_str())?;
+    }
+    Ok(Text::from_string(text))
 }

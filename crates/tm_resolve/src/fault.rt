@@ -1,8 +1,10 @@
 //! Why a model has no value.
 
 ghost use Rattle.std.specs.Prelude.{◌≡◌, ◌⊎◌};
+ghost use Rattle.tm_resolve.specs.Chain.{pointer_of};
 ghost use Rattle.tm_resolve.specs.Value.{fault_in};
 
+use crate::chain::pointer_text;
 use std::alloc::{AllocError, Global};
 use thiserror::Error;
 use tm_parts::PartFault;
@@ -66,6 +68,21 @@ impl ResolveFault {
         match (Text::copy_of(alloc, url), Text::copy_of(alloc, place)) {
             (Ok(url), Ok(place)) => ResolveFault::At(kind, url, place),
             _ => ResolveFault::NoMemory,
+        }
+    }
+
+    /// The fault of this kind at the place of a model to which a pointer leads that is in pieces.
+    pub(crate) fn at_place(
+        alloc: Global,
+        kind: ResolveKind,
+        url: &str,
+        place: &[Text],
+    ) -> ResolveFault
+        ensures { (result ≡ ResolveFault.NoMemory) ⊎ (result ≡ ResolveFault.At kind url.now (pointer_of place.now)) }
+    {
+        match pointer_text(alloc, place) {
+            Ok(pointer) => ResolveFault::at(alloc, kind, url, pointer.as_str()),
+            Err(_) => ResolveFault::NoMemory,
         }
     }
 

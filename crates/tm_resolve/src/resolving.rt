@@ -28,8 +28,8 @@ use wot_json::{Text, Tree};
 ///
 /// First the values are put into each model of the library, once; no limit holds for that. Then counting takes a time in
 /// proportion to the weight, and at most to the limit, however large the expansion is. Each step parses and joins a URL
-/// and goes through the list of the models. What is brought in twice is made twice, and each node has its pointer made:
-/// so the rest is in proportion to the weight, times the lengths of chains and pointers.
+/// and goes through the list of the models. What is brought in twice is made twice, so making the value is in proportion
+/// to the weight, times the length of chains.
 pub fn resolve(
     alloc: Global,
     library: &Library,
@@ -51,5 +51,5 @@ pub fn resolve(
         return Err(ResolveFault::at(alloc, ResolveKind::TooLarge, root, ""));
     }
     let mut chain = Vec::new(alloc);
-    target_value(&sources, root, "", &target, &mut chain)
+    target_value(&sources, root, &[], &target, &mut chain)
 }

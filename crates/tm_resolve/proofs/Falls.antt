@@ -90,11 +90,23 @@ hidden : {X : Type 0} (b : Bool) (r : Option X) (x : X) → cond b None r ≡ So
 hidden {X} true r x is = absurd (cc)
 hidden {X} false r x is = is
 
+-- and the condition doesn't hold
+shown_new : {X : Type 0} (b : Bool) (r : Option X) (x : X) → cond b None r ≡ Some x → b ≡ false
+shown_new {X} true r x is = absurd (cc)
+shown_new {X} false r x is = refl
+
+-- a part that is entered stands in a model that may be
+pub entered_parts : (sources : Sources) (chain : List Reference) (target : Reference) (part : Json) → entered sources chain target ≡ Some part
+    → (whole : Json) × (source_named target.url sources ≡ Some (Ok whole)) × (stands_in target chain ≡ false) × (part_of target.pointer whole ≡ Some part)
+entered_parts sources chain target part found =
+    let inside = without_fault (source_named target.url sources) target.pointer part (hidden (stands_in target chain) _ part found) in
+    (inside.0, inside.1, shown_new (stands_in target chain) _ part found, inside.2)
+
 -- a part that is entered nests no deeper than the models
 pub entered_nests : (sources : Sources) (chain : List Reference) (target : Reference) (part : Json) → entered sources chain target ≡ Some part → nesting part ≤ deepest sources
 entered_nests sources chain target part found =
-    let inside = without_fault (source_named target.url sources) target.pointer part (hidden (stands_in target chain) _ part found) in
-    omega (arith, part_nests target.pointer inside.0 part inside.2, source_nests sources target.url inside.0 inside.1)
+    let inside = entered_parts sources chain target part found in
+    omega (arith, part_nests target.pointer inside.0 part inside.3, source_nests sources target.url inside.0 inside.1)
 
 -- What is left to a walk: for each target that the chain has room for, all parts of a model. A chain is a vector, which
 -- has fewer than 2 ^ 64 entries.

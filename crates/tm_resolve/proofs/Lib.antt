@@ -6,3 +6,4 @@ pub mod Visits
 pub mod Once
 pub mod Whole
 pub mod NeverLarge
+pub mod Total

@@ -24,7 +24,7 @@ part_deep sources chain target pointer whole part enters stands =
     omega (arith, part_nests pointer whole part stands, source_nests sources target.url whole enters.found)
 
 -- a text is empty or not
-empty_or_not : (bs : List ℕ) → (bs ≡ []) ⊎ (bs ≢ [])
+pub empty_or_not : (bs : List ℕ) → (bs ≡ []) ⊎ (bs ≢ [])
 empty_or_not [] = inl refl
 empty_or_not (b ∷ bs) = inr (λ same. absurd (cc (same)))
 
@@ -32,7 +32,7 @@ empty_or_not (b ∷ bs) = inr (λ same. absurd (cc (same)))
 pub whole_there : (pointer : List ℕ) (whole : Json) → pointer ≡ [] → part_of pointer whole ≡ Some whole
 whole_there pointer whole empty = ap (λ (bs : List ℕ). part_of bs whole) empty
 
-whole_stands : (pointer : List ℕ) (whole part : Json) → pointer ≡ [] → part_of pointer whole ≡ Some part → part ≡ whole
+pub whole_stands : (pointer : List ℕ) (whole part : Json) → pointer ≡ [] → part_of pointer whole ≡ Some part → part ≡ whole
 whole_stands pointer whole part empty stands =
     let both : Some whole ≡ Some part = sym (whole_there pointer whole empty) ∙ stands in
     sym cc

@@ -17,6 +17,12 @@ pub fn outcome_is_one()
         → Resolves models values root o → Resolves models values root q → o ≡ q }
 {}
 
+/// Each model has an outcome, whatever the library. With `outcome_is_one` it has exactly one.
+pub fn each_model_has_an_outcome()
+    ensures { (models : Models) → (values : Values) → (root : List ℕ)
+        → (o : Outcome Json) × Resolves models values root o }
+{}
+
 /// A model is answered to be too large exactly where its expansion passes a limit, and then with its own URL and the
 /// empty pointer.
 pub fn too_large_is_exact()

@@ -10,7 +10,7 @@ use Rattle.wot_json.specs.Pointer.{is_pointer, tokens_in, element_at, part_at, v
 use Rattle.tm_parts.specs.Sources.{Sources, source_named}
 use Rattle.tm_parts.specs.declared.reference.Reference.{Reference}
 use Rattle.tm_parts.specs.declared.substitution.PartFault.{PartFault}
-use Rattle.tm_resolve.specs.Chain.{stands_in}
+use Rattle.tm_resolve.specs.Chain.{stands_in, model_entered}
 use Rattle.tm_resolve.specs.Weight.{entered}
 
 -- how deep the models nest that may be entered
@@ -57,9 +57,9 @@ one_step (array es) token v found = omega (arith, element_part es token 0 v foun
 one_step (object ms) token v found = omega (arith, member_part ms token v found)
 
 -- what a step leads to, where it leads to anything
-stepped : (r : Option Json) (tokens : List (List ℕ)) (v : Json) → option_and_then (value_at tokens) r ≡ Some v → (w : Json) × (r ≡ Some w) × (value_at tokens w ≡ Some v)
-stepped None tokens v found = absurd (cc)
-stepped (Some w) tokens v found = (w, refl, found)
+stepped : (f : Json → Option Json) (r : Option Json) (v : Json) → option_and_then f r ≡ Some v → (w : Json) × (r ≡ Some w) × (f w ≡ Some v)
+stepped f None v found = absurd (cc)
+stepped f (Some w) v found = (w, refl, found)
 
 -- what stands in a value nests no deeper
 tokens_nest : (tokens : List (List ℕ)) (whole part : Json) → value_at tokens whole ≡ Some part → nesting part ≤ nesting whole
@@ -67,7 +67,7 @@ tokens_nest [] whole part found =
     let same : whole ≡ part = cc in
     omega (arith, ap nesting same)
 tokens_nest (token ∷ tokens) whole part found =
-    let step = stepped (part_at token whole) tokens part found in
+    let step = stepped (value_at tokens) (part_at token whole) part found in
     omega (arith, one_step whole token step.0 step.1, tokens_nest tokens step.0 part step.2)
 
 -- what is shown on a condition is there
@@ -79,34 +79,40 @@ pub part_nests : (at : List ℕ) (whole part : Json) → part_of at whole ≡ So
 part_nests at whole part found =
     tokens_nest (tokens_in at) whole part (shown (is_pointer at) (value_at (tokens_in at) whole) part found)
 
--- what a model is without its fault
-without_fault : (r : Option (Result Json PartFault)) (at : List ℕ) (part : Json) → option_and_then (part_of at) (option_and_then result_ok r) ≡ Some part → (whole : Json) × (r ≡ Some (Ok whole)) × (part_of at whole ≡ Some part)
-without_fault None at part found = absurd (cc)
-without_fault (Some (Ok whole)) at part found = (whole, refl, found)
-without_fault (Some (Err fault)) at part found = absurd (cc)
-
--- what is not shown on a condition is there
-hidden : {X : Type 0} (b : Bool) (r : Option X) (x : X) → cond b None r ≡ Some x → r ≡ Some x
+-- what is not hidden on a condition is there, and the condition doesn't hold
+hidden : {X : Type 0} (b : Bool) (r : Option X) (x : X) → cond b None r ≡ Some x → (r ≡ Some x) × (b ≡ false)
 hidden {X} true r x is = absurd (cc)
-hidden {X} false r x is = is
+hidden {X} false r x is = (is, refl)
 
--- and the condition doesn't hold
-shown_new : {X : Type 0} (b : Bool) (r : Option X) (x : X) → cond b None r ≡ Some x → b ≡ false
-shown_new {X} true r x is = absurd (cc)
-shown_new {X} false r x is = refl
+-- a model that has no fault
+without_fault : (r : Option (Result Json PartFault)) (whole : Json) → option_and_then result_ok r ≡ Some whole → r ≡ Some (Ok whole)
+without_fault None whole is = absurd (cc)
+without_fault (Some (Ok model)) whole is = let same : model ≡ whole = cc in ap (λ (v : Json). Some (Ok v)) same
+without_fault (Some (Err fault)) whole is = absurd (cc)
 
--- a part that is entered stands in a model that may be
+-- a model that is entered stands under its URL, and its target isn't in the chain
+pub model_parts : (sources : Sources) (chain : List Reference) (target : Reference) (whole : Json) → model_entered sources chain target ≡ Some whole
+    → (source_named target.url sources ≡ Some (Ok whole)) × (stands_in target chain ≡ false)
+model_parts sources chain target whole is =
+    let inside = hidden (stands_in target chain) (option_and_then result_ok (source_named target.url sources)) whole is in
+    (without_fault (source_named target.url sources) whole inside.0, inside.1)
+
+-- and the other way round
+pub model_is : (sources : Sources) (chain : List Reference) (target : Reference) (whole : Json) → source_named target.url sources ≡ Some (Ok whole) → stands_in target chain ≡ false → model_entered sources chain target ≡ Some whole
+model_is sources chain target whole found new =
+    ap (λ (b : Bool). cond b None (option_and_then result_ok (source_named target.url sources))) new
+    ∙ ap (λ (r : Option (Result Json PartFault)). option_and_then result_ok r) found
+
+-- a part that is entered stands in a model that is
 pub entered_parts : (sources : Sources) (chain : List Reference) (target : Reference) (part : Json) → entered sources chain target ≡ Some part
-    → (whole : Json) × (source_named target.url sources ≡ Some (Ok whole)) × (stands_in target chain ≡ false) × (part_of target.pointer whole ≡ Some part)
-entered_parts sources chain target part found =
-    let inside = without_fault (source_named target.url sources) target.pointer part (hidden (stands_in target chain) _ part found) in
-    (inside.0, inside.1, shown_new (stands_in target chain) _ part found, inside.2)
+    → (whole : Json) × (model_entered sources chain target ≡ Some whole) × (part_of target.pointer whole ≡ Some part)
+entered_parts sources chain target part found = stepped (part_of target.pointer) (model_entered sources chain target) part found
 
 -- a part that is entered nests no deeper than the models
 pub entered_nests : (sources : Sources) (chain : List Reference) (target : Reference) (part : Json) → entered sources chain target ≡ Some part → nesting part ≤ deepest sources
 entered_nests sources chain target part found =
     let inside = entered_parts sources chain target part found in
-    omega (arith, part_nests target.pointer inside.0 part inside.3, source_nests sources target.url inside.0 inside.1)
+    omega (arith, part_nests target.pointer inside.0 part inside.2, source_nests sources target.url inside.0 (model_parts sources chain target inside.0 inside.1).0)
 
 -- What is left to a walk: for each target that the chain has room for, all parts of a model. A chain is a vector, which
 -- has fewer than 2 ^ 64 entries.

@@ -14,7 +14,7 @@ use Rattle.tm_parts.specs.Sources.{Sources, sources_of, source_named}
 use Rattle.tm_parts.specs.Substitution.{Values, element_step}
 use Rattle.tm_parts.specs.declared.reference.Reference.{Reference}
 use Rattle.tm_parts.specs.declared.substitution.PartFault.{PartFault}
-use Rattle.tm_resolve.specs.Chain.{whole_of, stands_in, Enters}
+use Rattle.tm_resolve.specs.Chain.{whole_of, stands_in, model_entered}
 use Rattle.tm_resolve.specs.Links.{reference_name, reference_of, extensions, link_place, linked_model, without_links}
 use Rattle.tm_resolve.specs.Value.{Outcome, outcome_map, is_plain, is_object, fault_in, TargetGives, ModelGives, PartGives, ElementsGive, MembersGive, Resolves}
 use Rattle.tm_resolve.specs.Value as rule
@@ -22,6 +22,7 @@ use Rattle.tm_resolve.specs.Weight.{expansion, is_too_large}
 use Rattle.tm_resolve.specs.declared.fault.ResolveFault.{ResolveFault}
 use Rattle.tm_resolve.specs.declared.fault.ResolveFault.TheVariants.{At}
 use Rattle.tm_resolve.specs.declared.fault.ResolveKind.TheVariants.{BadHref}
+use Rattle.tm_resolve.proofs.Falls.{model_parts}
 use Rattle.tm_resolve.proofs.Rules.{whole_there}
 
 -- ---- what the rules ask for is there once
@@ -35,15 +36,13 @@ none_some {X} {A} r x a b = let both : None ≡ Some x = sym a ∙ b in absurd (
 false_true : {A : Type 0} (b : Bool) → b ≡ false → b ≡ true → A
 false_true {A} b f t = absurd (true≢false (sym t ∙ f))
 
-enters_same : (sources : Sources) (chain : List Reference) (target : Reference) (v w : Json) → Enters sources chain target v → Enters sources chain target w → v ≡ w
-enters_same sources chain target v w a b =
-    let both : Ok v ≡ Ok w = some_same (source_named target.url sources) _ _ a.found b.found in
-    cc
+enters_same : (sources : Sources) (chain : List Reference) (target : Reference) (v w : Json) → model_entered sources chain target ≡ Some v → model_entered sources chain target ≡ Some w → v ≡ w
+enters_same sources chain target v w a b = some_same (model_entered sources chain target) v w a b
 
 -- a model with a fault of the substitution isn't entered
-faulty_not : {A : Type 0} (sources : Sources) (chain : List Reference) (target : Reference) (whole : Json) (fault : PartFault) → source_named target.url sources ≡ Some (Err fault) → Enters sources chain target whole → A
+faulty_not : {A : Type 0} (sources : Sources) (chain : List Reference) (target : Reference) (whole : Json) (fault : PartFault) → source_named target.url sources ≡ Some (Err fault) → model_entered sources chain target ≡ Some whole → A
 faulty_not {A} sources chain target whole fault found enters =
-    let both : Err fault ≡ Ok whole = some_same (source_named target.url sources) _ _ found enters.found in
+    let both : Err fault ≡ Ok whole = some_same (source_named target.url sources) _ _ found (model_parts sources chain target _ enters).0 in
     absurd (cc)
 
 -- ---- shapes
@@ -131,15 +130,15 @@ mutual
   target_once sources url pointer chain target one other (rule.no_model _ _ _ _ _ absent is) (rule.no_model _ _ _ _ _ absent' is') = is ∙ sym is'
   target_once sources url pointer chain target one other (rule.no_model _ _ _ _ _ absent is) (rule.circular _ _ _ _ _ model' found' old' is') = none_some (source_named target.url sources) _ absent found'
   target_once sources url pointer chain target one other (rule.no_model _ _ _ _ _ absent is) (rule.faulty _ _ _ _ _ fault' found' new' is') = none_some (source_named target.url sources) _ absent found'
-  target_once sources url pointer chain target one other (rule.no_model _ _ _ _ _ absent is) (rule.no_part _ _ _ _ _ whole' enters' none' is') = none_some (source_named target.url sources) _ absent enters'.found
-  target_once sources url pointer chain target one other (rule.no_model _ _ _ _ _ absent is) (rule.enters_model _ _ _ _ _ whole' enters' empty' inner') = none_some (source_named target.url sources) _ absent enters'.found
-  target_once sources url pointer chain target one other (rule.no_model _ _ _ _ _ absent is) (rule.enters_part _ _ _ _ _ whole' part' enters' more' stands' inner') = none_some (source_named target.url sources) _ absent enters'.found
+  target_once sources url pointer chain target one other (rule.no_model _ _ _ _ _ absent is) (rule.no_part _ _ _ _ _ whole' enters' none' is') = none_some (source_named target.url sources) _ absent (model_parts sources chain target _ enters').0
+  target_once sources url pointer chain target one other (rule.no_model _ _ _ _ _ absent is) (rule.enters_model _ _ _ _ _ whole' enters' empty' inner') = none_some (source_named target.url sources) _ absent (model_parts sources chain target _ enters').0
+  target_once sources url pointer chain target one other (rule.no_model _ _ _ _ _ absent is) (rule.enters_part _ _ _ _ _ whole' part' enters' more' stands' inner') = none_some (source_named target.url sources) _ absent (model_parts sources chain target _ enters').0
   target_once sources url pointer chain target one other (rule.circular _ _ _ _ _ model found old is) (rule.no_model _ _ _ _ _ absent' is') = none_some (source_named target.url sources) _ absent' found
   target_once sources url pointer chain target one other (rule.circular _ _ _ _ _ model found old is) (rule.circular _ _ _ _ _ model' found' old' is') = is ∙ sym is'
   target_once sources url pointer chain target one other (rule.circular _ _ _ _ _ model found old is) (rule.faulty _ _ _ _ _ fault' found' new' is') = false_true (stands_in target chain) new' old
-  target_once sources url pointer chain target one other (rule.circular _ _ _ _ _ model found old is) (rule.no_part _ _ _ _ _ whole' enters' none' is') = false_true (stands_in target chain) enters'.new old
-  target_once sources url pointer chain target one other (rule.circular _ _ _ _ _ model found old is) (rule.enters_model _ _ _ _ _ whole' enters' empty' inner') = false_true (stands_in target chain) enters'.new old
-  target_once sources url pointer chain target one other (rule.circular _ _ _ _ _ model found old is) (rule.enters_part _ _ _ _ _ whole' part' enters' more' stands' inner') = false_true (stands_in target chain) enters'.new old
+  target_once sources url pointer chain target one other (rule.circular _ _ _ _ _ model found old is) (rule.no_part _ _ _ _ _ whole' enters' none' is') = false_true (stands_in target chain) (model_parts sources chain target _ enters').1 old
+  target_once sources url pointer chain target one other (rule.circular _ _ _ _ _ model found old is) (rule.enters_model _ _ _ _ _ whole' enters' empty' inner') = false_true (stands_in target chain) (model_parts sources chain target _ enters').1 old
+  target_once sources url pointer chain target one other (rule.circular _ _ _ _ _ model found old is) (rule.enters_part _ _ _ _ _ whole' part' enters' more' stands' inner') = false_true (stands_in target chain) (model_parts sources chain target _ enters').1 old
   target_once sources url pointer chain target one other (rule.faulty _ _ _ _ _ fault found new is) (rule.no_model _ _ _ _ _ absent' is') = none_some (source_named target.url sources) _ absent' found
   target_once sources url pointer chain target one other (rule.faulty _ _ _ _ _ fault found new is) (rule.circular _ _ _ _ _ model' found' old' is') = false_true (stands_in target chain) new old'
   target_once sources url pointer chain target one other (rule.faulty _ _ _ _ _ fault found new is) (rule.faulty _ _ _ _ _ fault' found' new' is') =
@@ -149,21 +148,21 @@ mutual
   target_once sources url pointer chain target one other (rule.faulty _ _ _ _ _ fault found new is) (rule.no_part _ _ _ _ _ whole' enters' none' is') = faulty_not sources chain target whole' fault found enters'
   target_once sources url pointer chain target one other (rule.faulty _ _ _ _ _ fault found new is) (rule.enters_model _ _ _ _ _ whole' enters' empty' inner') = faulty_not sources chain target whole' fault found enters'
   target_once sources url pointer chain target one other (rule.faulty _ _ _ _ _ fault found new is) (rule.enters_part _ _ _ _ _ whole' part' enters' more' stands' inner') = faulty_not sources chain target whole' fault found enters'
-  target_once sources url pointer chain target one other (rule.no_part _ _ _ _ _ whole enters none is) (rule.no_model _ _ _ _ _ absent' is') = none_some (source_named target.url sources) _ absent' enters.found
-  target_once sources url pointer chain target one other (rule.no_part _ _ _ _ _ whole enters none is) (rule.circular _ _ _ _ _ model' found' old' is') = false_true (stands_in target chain) enters.new old'
+  target_once sources url pointer chain target one other (rule.no_part _ _ _ _ _ whole enters none is) (rule.no_model _ _ _ _ _ absent' is') = none_some (source_named target.url sources) _ absent' (model_parts sources chain target _ enters).0
+  target_once sources url pointer chain target one other (rule.no_part _ _ _ _ _ whole enters none is) (rule.circular _ _ _ _ _ model' found' old' is') = false_true (stands_in target chain) (model_parts sources chain target _ enters).1 old'
   target_once sources url pointer chain target one other (rule.no_part _ _ _ _ _ whole enters none is) (rule.faulty _ _ _ _ _ fault' found' new' is') = faulty_not sources chain target whole fault' found' enters
   target_once sources url pointer chain target one other (rule.no_part _ _ _ _ _ whole enters none is) (rule.no_part _ _ _ _ _ whole' enters' none' is') = is ∙ sym is'
   target_once sources url pointer chain target one other (rule.no_part _ _ _ _ _ whole enters none is) (rule.enters_model _ _ _ _ _ whole' enters' empty' inner') = none_some (part_of target.pointer whole) whole none (whole_there target.pointer whole empty')
   target_once sources url pointer chain target one other (rule.no_part _ _ _ _ _ whole enters none is) (rule.enters_part _ _ _ _ _ whole' part' enters' more' stands' inner') = none_some (part_of target.pointer whole) part' none (ap (λ (x : Json). part_of target.pointer x) (enters_same sources chain target whole whole' enters enters') ∙ stands')
-  target_once sources url pointer chain target one other (rule.enters_model _ _ _ _ _ whole enters empty inner) (rule.no_model _ _ _ _ _ absent' is') = none_some (source_named target.url sources) _ absent' enters.found
-  target_once sources url pointer chain target one other (rule.enters_model _ _ _ _ _ whole enters empty inner) (rule.circular _ _ _ _ _ model' found' old' is') = false_true (stands_in target chain) enters.new old'
+  target_once sources url pointer chain target one other (rule.enters_model _ _ _ _ _ whole enters empty inner) (rule.no_model _ _ _ _ _ absent' is') = none_some (source_named target.url sources) _ absent' (model_parts sources chain target _ enters).0
+  target_once sources url pointer chain target one other (rule.enters_model _ _ _ _ _ whole enters empty inner) (rule.circular _ _ _ _ _ model' found' old' is') = false_true (stands_in target chain) (model_parts sources chain target _ enters).1 old'
   target_once sources url pointer chain target one other (rule.enters_model _ _ _ _ _ whole enters empty inner) (rule.faulty _ _ _ _ _ fault' found' new' is') = faulty_not sources chain target whole fault' found' enters
   target_once sources url pointer chain target one other (rule.enters_model _ _ _ _ _ whole enters empty inner) (rule.no_part _ _ _ _ _ whole' enters' none' is') = none_some (part_of target.pointer whole') whole' none' (whole_there target.pointer whole' empty)
   target_once sources url pointer chain target one other (rule.enters_model _ _ _ _ _ whole enters empty inner) (rule.enters_model _ _ _ _ _ whole' enters' empty' inner') =
       model_once sources target.url (chain ++ target ∷ []) whole one other inner (subst (λ (x : Json). ModelGives sources target.url (chain ++ target ∷ []) x other) (enters_same sources chain target whole' whole enters' enters) inner')
   target_once sources url pointer chain target one other (rule.enters_model _ _ _ _ _ whole enters empty inner) (rule.enters_part _ _ _ _ _ whole' part' enters' more' stands' inner') = absurd (more' empty)
-  target_once sources url pointer chain target one other (rule.enters_part _ _ _ _ _ whole part enters more stands inner) (rule.no_model _ _ _ _ _ absent' is') = none_some (source_named target.url sources) _ absent' enters.found
-  target_once sources url pointer chain target one other (rule.enters_part _ _ _ _ _ whole part enters more stands inner) (rule.circular _ _ _ _ _ model' found' old' is') = false_true (stands_in target chain) enters.new old'
+  target_once sources url pointer chain target one other (rule.enters_part _ _ _ _ _ whole part enters more stands inner) (rule.no_model _ _ _ _ _ absent' is') = none_some (source_named target.url sources) _ absent' (model_parts sources chain target _ enters).0
+  target_once sources url pointer chain target one other (rule.enters_part _ _ _ _ _ whole part enters more stands inner) (rule.circular _ _ _ _ _ model' found' old' is') = false_true (stands_in target chain) (model_parts sources chain target _ enters).1 old'
   target_once sources url pointer chain target one other (rule.enters_part _ _ _ _ _ whole part enters more stands inner) (rule.faulty _ _ _ _ _ fault' found' new' is') = faulty_not sources chain target whole fault' found' enters
   target_once sources url pointer chain target one other (rule.enters_part _ _ _ _ _ whole part enters more stands inner) (rule.no_part _ _ _ _ _ whole' enters' none' is') = none_some (part_of target.pointer whole') part none' (ap (λ (x : Json). part_of target.pointer x) (enters_same sources chain target whole' whole enters' enters) ∙ stands)
   target_once sources url pointer chain target one other (rule.enters_part _ _ _ _ _ whole part enters more stands inner) (rule.enters_model _ _ _ _ _ whole' enters' empty' inner') = absurd (more empty')

@@ -8,9 +8,9 @@ use Rattle.wot_json.specs.declared.tree.Tree.{Tree}
 use Rattle.wot_json.specs.declared.tree.Tree.TheVariants as tree
 use Rattle.tm_parts.specs.Sources.{Sources}
 use Rattle.tm_parts.specs.declared.reference.Reference.{Reference}
-use Rattle.tm_resolve.specs.Chain.{Enters}
+use Rattle.tm_resolve.specs.Chain.{model_entered}
 use Rattle.tm_resolve.specs.Value.{Outcome, is_plain, TargetGives, ModelGives, PartGives, enters_model, enters_part}
-use Rattle.tm_resolve.proofs.Falls.{deepest, source_nests, part_nests}
+use Rattle.tm_resolve.proofs.Falls.{deepest, source_nests, part_nests, model_parts}
 
 -- the second of two, where it leads to another
 pub or_else : {A P Q : Type 0} → A ⊎ P → (P → Q) → A ⊎ Q
@@ -19,9 +19,9 @@ or_else {A} {P} {Q} (inr p) f = inr (f p)
 
 -- a part of a model that may be entered nests no deeper than the models
 pub part_deep : (sources : Sources) (chain : List Reference) (target : Reference) (pointer : List ℕ) (whole part : Json)
-    → Enters sources chain target whole → part_of pointer whole ≡ Some part → nesting part ≤ deepest sources
+    → model_entered sources chain target ≡ Some whole → part_of pointer whole ≡ Some part → nesting part ≤ deepest sources
 part_deep sources chain target pointer whole part enters stands =
-    omega (arith, part_nests pointer whole part stands, source_nests sources target.url whole enters.found)
+    omega (arith, part_nests pointer whole part stands, source_nests sources target.url whole (model_parts sources chain target _ enters).0)
 
 -- a text is empty or not
 pub empty_or_not : (bs : List ℕ) → (bs ≡ []) ⊎ (bs ≢ [])
@@ -39,7 +39,7 @@ whole_stands pointer whole part empty stands =
 
 -- a step into a target, to a whole model or to a part of one
 pub step_gives : (sources : Sources) (url place : List ℕ) (chain longer : List Reference) (target : Reference) (whole part : Json) (o : Outcome Json)
-    → Enters sources chain target whole → part_of target.pointer whole ≡ Some part → longer ≡ chain ++ target ∷ []
+    → model_entered sources chain target ≡ Some whole → part_of target.pointer whole ≡ Some part → longer ≡ chain ++ target ∷ []
     → (target.pointer ≡ [] → ModelGives sources target.url longer part o)
     → (target.pointer ≢ [] → PartGives sources target.url target.pointer longer part o)
     → TargetGives sources url place chain target o
@@ -55,7 +55,7 @@ step_gives sources url place chain longer target whole part o enters stands push
 
 -- and where it has a fault
 pub step_fails : (sources : Sources) (url place : List ℕ) (chain longer : List Reference) (target : Reference) (whole part : Json) (o : Outcome Json) {A : Type 0}
-    → Enters sources chain target whole → part_of target.pointer whole ≡ Some part → longer ≡ chain ++ target ∷ []
+    → model_entered sources chain target ≡ Some whole → part_of target.pointer whole ≡ Some part → longer ≡ chain ++ target ∷ []
     → (target.pointer ≡ [] → A ⊎ ModelGives sources target.url longer part o)
     → (target.pointer ≢ [] → A ⊎ PartGives sources target.url target.pointer longer part o)
     → A ⊎ TargetGives sources url place chain target o

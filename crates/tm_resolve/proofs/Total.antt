@@ -17,14 +17,14 @@ use Rattle.tm_parts.specs.Sources.{Sources, sources_of, source_named}
 use Rattle.tm_parts.specs.Substitution.{Values, element_step}
 use Rattle.tm_parts.specs.declared.reference.Reference.{Reference}
 use Rattle.tm_parts.specs.declared.substitution.PartFault.{PartFault}
-use Rattle.tm_resolve.specs.Chain.{whole_of, stands_in, Enters}
+use Rattle.tm_resolve.specs.Chain.{whole_of, stands_in, model_entered}
 use Rattle.tm_resolve.specs.Links.{reference_name, reference_of, extensions, links_place, link_place, linked_model, without_links}
 use Rattle.tm_resolve.specs.Value.{Outcome, outcome_map, is_object, fault_in, TargetGives, ModelGives, PartGives, ElementsGive, MembersGive, Resolves}
 use Rattle.tm_resolve.specs.Value as rule
 use Rattle.tm_resolve.specs.Weight.{Visit, Step, most_weight, most_entries, weight_of, is_too_far, is_too_large, own_visit, reference_visits, part_visits, element_visits, member_visits, extension_visits, links_visits, target_visits, entered, visits_within, expansion}
 use Rattle.tm_resolve.specs.declared.fault.ResolveFault.TheVariants.{At}
 use Rattle.tm_resolve.specs.declared.fault.ResolveKind.TheVariants.{TooLarge, BadRef, BadHref, MissingModel, MissingNode, NotObject, Circular, TwoExtends}
-use Rattle.tm_resolve.proofs.Falls.{entered_parts}
+use Rattle.tm_resolve.proofs.Falls.{model_is, entered_parts}
 use Rattle.tm_resolve.proofs.Rules.{empty_or_not, whole_stands}
 
 -- none of these visits goes too far
@@ -169,10 +169,10 @@ model_total sources step url chain whole own (first ∷ second ∷ more) steps e
 no_part : (sources : Sources) (url pointer : List ℕ) (chain : List Reference) (target : Reference) (whole : Json) (part : Option Json) → source_named target.url sources ≡ Some (Ok whole) → stands_in target chain ≡ false
     → part_of target.pointer whole ≡ part → part ≡ None → (o : Outcome Json) × TargetGives sources url pointer chain target o
 no_part sources url pointer chain target whole part found new is none =
-    (Err (At MissingNode url pointer), rule.no_part url pointer chain target (Err (At MissingNode url pointer)) whole (record { found = found; new = new }) (is ∙ none) refl)
+    (Err (At MissingNode url pointer), rule.no_part url pointer chain target (Err (At MissingNode url pointer)) whole (model_is sources chain target whole found new) (is ∙ none) refl)
 
 not_entered : (sources : Sources) (url pointer : List ℕ) (chain : List Reference) (target : Reference) (source : Option (Result Json PartFault)) (stands : Bool) → source_named target.url sources ≡ source → stands_in target chain ≡ stands
-    → cond stands None (option_and_then (part_of target.pointer) (option_and_then result_ok source)) ≡ None → (o : Outcome Json) × TargetGives sources url pointer chain target o
+    → option_and_then (part_of target.pointer) (cond stands None (option_and_then result_ok source)) ≡ None → (o : Outcome Json) × TargetGives sources url pointer chain target o
 not_entered sources url pointer chain target None stands absent old none =
     (Err (At MissingModel url pointer), rule.no_model url pointer chain target (Err (At MissingModel url pointer)) absent refl)
 not_entered sources url pointer chain target (Some source) true found old none =
@@ -187,7 +187,6 @@ is_entered : (sources : Sources) (step : Step) (is_thing : Bool) (depth : ℕ) (
     → StepsGive sources step (chain ++ target ∷ []) → Near (target_visits step is_thing depth (chain ++ target ∷ []) target part) → (o : Outcome Json) × TargetGives sources url pointer chain target o
 is_entered sources step is_thing depth url pointer chain target part found steps near =
     let inside = entered_parts sources chain target part found in
-    let enters : Enters sources chain target inside.0 = record { found = inside.1; new = inside.2 } in
     let parts = near_parts (part_visits step target.url (chain ++ target ∷ []) depth part) (cond (length target.pointer == 0) (links_visits step is_thing target.url (chain ++ target ∷ []) part) []) near in
     elim (empty_or_not target.pointer) [
       | inl empty ↦
@@ -197,12 +196,12 @@ is_entered sources step is_thing depth url pointer chain target part found steps
           let own = part_total sources step target.url [] (chain ++ target ∷ []) depth part steps parts.0 in
           let model = model_total sources step target.url (chain ++ target ∷ []) part own.0 (extensions part) steps refl extension.0 own.1 in (
             model.0,
-            rule.enters_model url pointer chain target model.0 inside.0 enters empty
-                (subst (λ (v : Json). ModelGives sources target.url (chain ++ target ∷ []) v model.0) (whole_stands target.pointer inside.0 part empty inside.3) model.1),
+            rule.enters_model url pointer chain target model.0 inside.0 inside.1 empty
+                (subst (λ (v : Json). ModelGives sources target.url (chain ++ target ∷ []) v model.0) (whole_stands target.pointer inside.0 part empty inside.2) model.1),
           )
       | inr more ↦
           let own = part_total sources step target.url target.pointer (chain ++ target ∷ []) depth part steps parts.0 in
-          (own.0, rule.enters_part url pointer chain target own.0 inside.0 part enters more inside.3 own.1)
+          (own.0, rule.enters_part url pointer chain target own.0 inside.0 part inside.1 more inside.2 own.1)
     ]
 
 -- a visit by a chain beyond the limit is too far

@@ -1,6 +1,7 @@
 -- The way that leads to a part: the targets that were stepped into, from the root model on.
-use Rattle.std.specs.Prelude.{◌≡◌, ◌&&◌, Bool, false, ℕ, List, [], Some, Ok}
+use Rattle.std.specs.Prelude.{◌&&◌, Bool, ℕ, List, [], Option, None, option_and_then, if◌then◌else◌}
 use Rattle.std.specs.List.{list_any, flat_map}
+use Rattle.std.specs.Result.{result_ok}
 use Rattle.std.specs.Str.{bytes_eq}
 use Rattle.wot_json.specs.Tree.{Json}
 use Rattle.tm_parts.specs.Sources.{Sources, source_named}
@@ -22,8 +23,7 @@ stands_in target chain = list_any (is_target target) chain
 abbrev pub pointer_of : List (List ℕ) → List ℕ
 pointer_of pieces = flat_map (λ piece. piece) pieces
 
--- The target may be stepped into, and this is its model: it stands under the target's URL, the substitution in it has
--- no fault, and the chain hasn't got the target.
-pub record Enters (sources : Sources) (chain : List Reference) (target : Reference) (whole : Json) : Type 0 where
-  pub found : source_named target.url sources ≡ Some (Ok whole)
-  pub new : stands_in target chain ≡ false
+-- The model that a step to the target enters, where one can be made: it stands under the target's URL, the substitution
+-- in it has no fault, and the chain hasn't got the target.
+abbrev pub model_entered : Sources → List Reference → Reference → Option Json
+model_entered sources chain target = if stands_in target chain then None else option_and_then result_ok (source_named target.url sources)

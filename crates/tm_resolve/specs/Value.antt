@@ -14,7 +14,7 @@ use Rattle.tm_parts.specs.Substitution.{Values, element_step}
 use Rattle.tm_parts.specs.declared.reference.Reference.{Reference}
 use Rattle.tm_parts.specs.declared.substitution.PartFault.{PartFault}
 use Rattle.tm_parts.specs.declared.substitution.PartFault.TheVariants as part
-use Rattle.tm_resolve.specs.Chain.{whole_of, stands_in, Enters}
+use Rattle.tm_resolve.specs.Chain.{whole_of, stands_in, model_entered}
 use Rattle.tm_resolve.specs.Links.{reference_name, reference_of, extensions, links_place, link_place, linked_model, without_links}
 use Rattle.tm_resolve.specs.Weight.{expansion, is_too_large}
 use Rattle.tm_resolve.specs.declared.fault.ResolveKind.TheVariants.{TooLarge, BadRef, BadHref, MissingModel, MissingNode, NotObject, Circular, TwoExtends, NotText, InName}
@@ -73,19 +73,19 @@ mutual
         → TargetGives sources url pointer chain target o
     -- nothing stands at the target's pointer, in the model without its extension
     no_part : (url pointer : List ℕ) (chain : List Reference) (target : Reference) (o : Outcome Json) (whole : Json)
-        → Enters sources chain target whole
+        → model_entered sources chain target ≡ Some whole
         → part_of target.pointer whole ≡ None
         → o ≡ Err (At MissingNode url pointer)
         → TargetGives sources url pointer chain target o
     -- the target is a whole model, which comes with its extension
     enters_model : (url pointer : List ℕ) (chain : List Reference) (target : Reference) (o : Outcome Json) (whole : Json)
-        → Enters sources chain target whole
+        → model_entered sources chain target ≡ Some whole
         → target.pointer ≡ []
         → ModelGives sources target.url (chain ++ target ∷ []) whole o
         → TargetGives sources url pointer chain target o
     -- the target is a part of a model
     enters_part : (url pointer : List ℕ) (chain : List Reference) (target : Reference) (o : Outcome Json) (whole part : Json)
-        → Enters sources chain target whole
+        → model_entered sources chain target ≡ Some whole
         → target.pointer ≢ []
         → part_of target.pointer whole ≡ Some part
         → PartGives sources target.url target.pointer (chain ++ target ∷ []) part o

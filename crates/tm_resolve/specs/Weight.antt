@@ -3,14 +3,13 @@
 -- built: each node of the model is visited, and each node of what is brought in, as often as it is.
 use Rattle.std.specs.Prelude.{◌+◌, ◌==◌, ◌||◌, Bool, true, false, ℕ, zero, suc, nat_lt, List, [], ◌∷◌, ◌++◌, length, codes, Option, Some, None, option_and_then, if◌then◌else◌}
 use Rattle.std.specs.List.{list_any, flat_map, sum_by}
-use Rattle.std.specs.Result.{result_ok}
 use Rattle.wot_json.specs.Tree.{Json, null, boolean, integer, string, array, object, Elements, no_elements, element, Members, no_members, member}
 use Rattle.wot_json.specs.Json.{json_string}
 use Rattle.wot_json.specs.Lookup.{listed, listed_members, member_named}
 use Rattle.wot_json.specs.Pointer.{part_of}
-use Rattle.tm_parts.specs.Sources.{Sources, source_named}
+use Rattle.tm_parts.specs.Sources.{Sources}
 use Rattle.tm_parts.specs.declared.reference.Reference.{Reference}
-use Rattle.tm_resolve.specs.Chain.{whole_of, stands_in}
+use Rattle.tm_resolve.specs.Chain.{whole_of, model_entered}
 use Rattle.tm_resolve.specs.Links.{reference_name, reference_of, is_link, links_under, extensions, linked_model}
 
 -- ---- one visit
@@ -101,12 +100,9 @@ target_visits step is_thing depth chain target part =
     part_visits step target.url chain depth part
     ++ (if is_whole target then links_visits step is_thing target.url chain part else [])
 
--- The part that a step leads to. None is made to a target that stands in the chain, to a model that the library hasn't
--- got or whose substitution has a fault, and where nothing stands at the pointer.
+-- the part that a step leads to, where one can be made and something stands at the pointer
 abbrev pub entered : Sources → List Reference → Reference → Option Json
-entered sources chain target =
-    if stands_in target chain then None
-    else option_and_then (part_of target.pointer) (option_and_then result_ok (source_named target.url sources))
+entered sources chain target = option_and_then (part_of target.pointer) (model_entered sources chain target)
 
 -- The visits of a step, where the chain has room for so many more targets. A step beyond that room visits its part
 -- alone, which is enough to make the expansion too large.

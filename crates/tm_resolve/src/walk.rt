@@ -11,7 +11,7 @@ ghost use Rattle.wot_json.specs.Tree.{Json, object, members_of};
 ghost use Rattle.tm_parts.specs.Sources.{kept_sources};
 ghost use Rattle.wot_json.specs.Places.{step_text};
 ghost use Rattle.tm_parts.specs.Substitution.{element_step};
-ghost use Rattle.tm_resolve.specs.Chain.{pointer_of, Enters};
+ghost use Rattle.tm_resolve.specs.Chain.{pointer_of, model_entered};
 ghost use Rattle.tm_resolve.specs.Links.{reference_name, reference_of, extensions};
 ghost use Rattle.tm_resolve.specs.Value.{TargetGives, ModelGives, PartGives, ElementsGive, MembersGive};
 ghost use Rattle.tm_resolve.specs.Value as spec;
@@ -64,7 +64,8 @@ fn entered_value(
     whole: &Tree,
     chain: &mut Vec<Reference>,
 ) -> Result<Tree, ResolveFault>
-    requires { Enters (kept_sources sources.now.models.items) chain.old.items target.now (json_of whole.now) }
+    requires { model_entered (kept_sources sources.now.models.items) chain.old.items target.now ≡ Some (json_of
+        whole.now) }
     ensures value { IfOk result (λ t. TargetGives (kept_sources sources.now.models.items) url.now (pointer_of place.now)
         chain.old.items target.now (Ok (json_of t))) }
     ensures fault { IfErr result (λ e. (e ≡ ResolveFault.NoMemory) ⊎ TargetGives (kept_sources

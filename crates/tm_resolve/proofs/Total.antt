@@ -17,13 +17,15 @@ use Rattle.tm_parts.specs.Sources.{Sources, sources_of, source_named}
 use Rattle.tm_parts.specs.Substitution.{Values, element_step}
 use Rattle.tm_parts.specs.declared.reference.Reference.{Reference}
 use Rattle.tm_parts.specs.declared.substitution.PartFault.{PartFault}
-use Rattle.tm_resolve.specs.Chain.{whole_of, stands_in, model_entered}
+use Rattle.tm_resolve.specs.Chain.{whole_of, stands_in}
 use Rattle.tm_resolve.specs.Links.{reference_name, reference_of, extensions, links_place, link_place, linked_model, without_links}
 use Rattle.tm_resolve.specs.Value.{Outcome, outcome_map, is_object, fault_in, TargetGives, ModelGives, PartGives, ElementsGive, MembersGive, Resolves}
 use Rattle.tm_resolve.specs.Value as rule
 use Rattle.tm_resolve.specs.Weight.{Visit, Step, most_weight, most_entries, weight_of, is_too_far, is_too_large, own_visit, reference_visits, part_visits, element_visits, member_visits, extension_visits, links_visits, target_visits, entered, visits_within, expansion}
 use Rattle.tm_resolve.specs.declared.fault.ResolveFault.TheVariants.{At}
 use Rattle.tm_resolve.specs.declared.fault.ResolveKind.TheVariants.{TooLarge, BadRef, BadHref, MissingModel, MissingNode, NotObject, Circular, TwoExtends}
+use Rattle.tm_resolve.specs.declared.weight.Role.{Role}
+use Rattle.tm_resolve.specs.declared.weight.Role.TheVariants.{Thing, Part}
 use Rattle.tm_resolve.proofs.Falls.{model_is, entered_parts}
 use Rattle.tm_resolve.proofs.Rules.{empty_or_not, whole_stands}
 
@@ -39,7 +41,7 @@ near_behind v vs near = (or_parts (is_too_far v) (list_any is_too_far vs) near).
 
 -- each step from this chain that visits nothing too far gives something
 abbrev StepsGive : Sources → Step → List Reference → Type 0
-StepsGive sources step chain = (is_thing : Bool) → (depth : ℕ) → (target : Reference) → (url pointer : List ℕ) → Near (step is_thing depth chain target)
+StepsGive sources step chain = (role : Role) → (depth : ℕ) → (target : Reference) → (url pointer : List ℕ) → Near (step role depth chain target)
     → (o : Outcome Json) × TargetGives sources url pointer chain target o
 
 -- lists of elements and of members, there and back
@@ -83,12 +85,12 @@ after_target sources url pointer chain ms reference target others (Err fault) so
 
 after_reference : (sources : Sources) (step : Step) (url pointer : List ℕ) (chain : List Reference) (depth : ℕ) (ms : Members) (reference : Json) (others : Outcome (List (List ℕ × Json))) (t : Option Reference)
     → StepsGive sources step chain → member_named reference_name (listed_members ms) ≡ Some reference → reference_of url reference ≡ t
-    → Near (elim t as (λ _. List Visit) [ None ↦ [] | Some target ↦ step false depth chain target ]) → MembersGive sources url pointer chain (listed_members ms) others
+    → Near (elim t as (λ _. List Visit) [ None ↦ [] | Some target ↦ step Part depth chain target ]) → MembersGive sources url pointer chain (listed_members ms) others
     → (o : Outcome Json) × PartGives sources url pointer chain (object ms) o
 after_reference sources step url pointer chain depth ms reference others None steps some none near further =
     (Err (At BadRef url pointer), rule.refers_nowhere url pointer chain (object ms) (Err (At BadRef url pointer)) (listed_members ms) reference (ap object (sym (members_back ms))) some none refl)
 after_reference sources step url pointer chain depth ms reference others (Some target) steps some refers near further =
-    let given = steps false depth target url pointer near in
+    let given = steps Part depth target url pointer near in
     after_target sources url pointer chain ms reference target others given.0 some refers given.1 further
 
 after_members : (sources : Sources) (step : Step) (url pointer : List ℕ) (chain : List Reference) (depth : ℕ) (ms : Members) (others : Outcome (List (List ℕ × Json))) (r : Option Json)
@@ -150,11 +152,11 @@ after_base sources url chain whole index link base own (Ok extended) ext leads i
 after_base sources url chain whole index link base own (Err fault) ext leads inner further = (Err fault, rule.base_fails url chain whole (Err fault) index link base fault ext leads inner refl)
 
 after_link : (sources : Sources) (step : Step) (url : List ℕ) (chain : List Reference) (whole : Json) (index : ℕ) (link : Json) (own : Outcome Json) (t : Option Reference) → StepsGive sources step chain → extensions whole ≡ (index, link) ∷ [] → linked_model url link ≡ t
-    → Near (elim t as (λ _. List Visit) [ None ↦ [] | Some model ↦ step false 0 chain model ]) → PartGives sources url [] chain whole own → (o : Outcome Json) × ModelGives sources url chain whole o
+    → Near (elim t as (λ _. List Visit) [ None ↦ [] | Some model ↦ step Part 0 chain model ]) → PartGives sources url [] chain whole own → (o : Outcome Json) × ModelGives sources url chain whole o
 after_link sources step url chain whole index link own None steps ext none near further =
     (Err (At BadHref url (link_place index)), rule.leads_nowhere url chain whole (Err (At BadHref url (link_place index))) index link ext none refl)
 after_link sources step url chain whole index link own (Some base) steps ext leads near further =
-    let given = steps false 0 base url (link_place index) near in
+    let given = steps Part 0 base url (link_place index) near in
     after_base sources url chain whole index link base own given.0 ext leads given.1 further
 
 model_total : (sources : Sources) (step : Step) (url : List ℕ) (chain : List Reference) (whole : Json) (own : Outcome Json) (links : List (ℕ × Json)) → StepsGive sources step chain → extensions whole ≡ links
@@ -183,15 +185,15 @@ not_entered sources url pointer chain target (Some (Ok whole)) false found new n
     no_part sources url pointer chain target whole (part_of target.pointer whole) found new refl none
 
 -- a target that is entered gives what its part gives
-is_entered : (sources : Sources) (step : Step) (is_thing : Bool) (depth : ℕ) (url pointer : List ℕ) (chain : List Reference) (target : Reference) (part : Json) → entered sources chain target ≡ Some part
-    → StepsGive sources step (chain ++ target ∷ []) → Near (target_visits step is_thing depth (chain ++ target ∷ []) target part) → (o : Outcome Json) × TargetGives sources url pointer chain target o
-is_entered sources step is_thing depth url pointer chain target part found steps near =
+is_entered : (sources : Sources) (step : Step) (role : Role) (depth : ℕ) (url pointer : List ℕ) (chain : List Reference) (target : Reference) (part : Json) → entered sources chain target ≡ Some part
+    → StepsGive sources step (chain ++ target ∷ []) → Near (target_visits step role depth (chain ++ target ∷ []) target part) → (o : Outcome Json) × TargetGives sources url pointer chain target o
+is_entered sources step role depth url pointer chain target part found steps near =
     let inside = entered_parts sources chain target part found in
-    let parts = near_parts (part_visits step target.url (chain ++ target ∷ []) depth part) (cond (length target.pointer == 0) (links_visits step is_thing target.url (chain ++ target ∷ []) part) []) near in
+    let parts = near_parts (part_visits step target.url (chain ++ target ∷ []) depth part) (cond (length target.pointer == 0) (links_visits step role target.url (chain ++ target ∷ []) part) []) near in
     elim (empty_or_not target.pointer) [
       | inl empty ↦
-          let links : Near (links_visits step is_thing target.url (chain ++ target ∷ []) part) =
-          subst (λ (p : List ℕ). Near (cond (length p == 0) (links_visits step is_thing target.url (chain ++ target ∷ []) part) [])) empty parts.1 in
+          let links : Near (links_visits step role target.url (chain ++ target ∷ []) part) =
+          subst (λ (p : List ℕ). Near (cond (length p == 0) (links_visits step role target.url (chain ++ target ∷ []) part) [])) empty parts.1 in
           let extension = near_parts (extension_visits step target.url (chain ++ target ∷ []) (extensions part)) _ links in
           let own = part_total sources step target.url [] (chain ++ target ∷ []) depth part steps parts.0 in
           let model = model_total sources step target.url (chain ++ target ∷ []) part own.0 (extensions part) steps refl extension.0 own.1 in (
@@ -211,17 +213,17 @@ beyond chain target depth part full near =
     let far : nat_lt most_entries (length (chain ++ target ∷ [])) ≡ true = grind (arith, nat_tests, more) in
     true≢false (sym (or_left (is_too_far (own_visit (chain ++ target ∷ []) depth part)) false (or_right _ _ far)) ∙ near)
 
-target_total : (room : ℕ) (sources : Sources) (is_thing : Bool) (depth : ℕ) (chain : List Reference) (target : Reference) (url pointer : List ℕ) (e : Option Json) → room + length chain ≡ most_entries → entered sources chain target ≡ e
-    → Near (visits_within room sources is_thing depth chain target) → (o : Outcome Json) × TargetGives sources url pointer chain target o
-target_total room sources is_thing depth chain target url pointer None fits is near = not_entered sources url pointer chain target (source_named target.url sources) (stands_in target chain) refl refl is
-target_total zero sources is_thing depth chain target url pointer (Some part) fits is near =
+target_total : (room : ℕ) (sources : Sources) (role : Role) (depth : ℕ) (chain : List Reference) (target : Reference) (url pointer : List ℕ) (e : Option Json) → room + length chain ≡ most_entries → entered sources chain target ≡ e
+    → Near (visits_within room sources role depth chain target) → (o : Outcome Json) × TargetGives sources url pointer chain target o
+target_total room sources role depth chain target url pointer None fits is near = not_entered sources url pointer chain target (source_named target.url sources) (stands_in target chain) refl refl is
+target_total zero sources role depth chain target url pointer (Some part) fits is near =
     absurd (beyond chain target depth part (omega (arith, fits))
     (subst (λ (o : Option Json). Near (elim o as (λ _. List Visit) [ None ↦ [] | Some v ↦ own_visit (chain ++ target ∷ []) depth v ∷ [] ])) is near))
-target_total (suc room) sources is_thing depth chain target url pointer (Some part) fits is near =
+target_total (suc room) sources role depth chain target url pointer (Some part) fits is near =
     let longer : room + length (chain ++ target ∷ []) ≡ most_entries = omega (arith, fits, length-append chain (target ∷ [])) in
-    is_entered sources (visits_within room sources) is_thing depth url pointer chain target part is
+    is_entered sources (visits_within room sources) role depth url pointer chain target part is
     (λ thing deep next from place visits. target_total room sources thing deep (chain ++ target ∷ []) next from place (entered sources (chain ++ target ∷ []) next) longer refl visits)
-    (subst (λ (o : Option Json). Near (elim o as (λ _. List Visit) [ None ↦ [] | Some v ↦ target_visits (visits_within room sources) is_thing depth (chain ++ target ∷ []) target v ])) is near)
+    (subst (λ (o : Option Json). Near (elim o as (λ _. List Visit) [ None ↦ [] | Some v ↦ target_visits (visits_within room sources) role depth (chain ++ target ∷ []) target v ])) is near)
 
 -- each model has an outcome, too large or not
 pub resolves_total : (models : Models) (values : Values) (root : List ℕ) → (o : Outcome Json) × Resolves models values root o
@@ -231,6 +233,6 @@ resolves_total models values root =
       | inl large ↦ (Err (At TooLarge root []), inl (large, refl))
       | inr within ↦
           let near = (or_parts (nat_lt most_weight (weight_of (expansion sources root))) (list_any is_too_far (expansion sources root)) within).1 in
-          let given = target_total most_entries sources true 0 [] (whole_of root) root [] (entered sources [] (whole_of root)) (omega arith) refl near in
+          let given = target_total most_entries sources Thing 0 [] (whole_of root) root [] (entered sources [] (whole_of root)) (omega arith) refl near in
           (given.0, inr (within, given.1))
     ]

@@ -1,5 +1,5 @@
 -- Counting visits, one list of them behind another.
-use Rattle.std.proofs.Common.{◌≡◌, ℕ, zero, suc, ◌+◌, ◌-◌, ◌<◌, ◌≤◌, List, [], ◌∷◌, ◌++◌, length, drop, get_or, Bool, true, false, refl, sym, ap, subst, inl, inr, ◌∙◌, arith, length-append}
+use Rattle.std.proofs.Common.{◌≡◌, ℕ, zero, suc, ◌+◌, ◌-◌, ◌<◌, ◌≤◌, List, [], ◌∷◌, ◌++◌, length, drop, get_or, true, false, refl, sym, ap, subst, inl, inr, ◌∙◌, arith, length-append}
 use Rattle.std.proofs.lemmas.Bool.Decides.{nat_tests}
 use Rattle.std.proofs.lemmas.List.{drop_all}
 use Rattle.std.specs.Prelude.{◌||◌, Option, Some, None, Result, Ok, Err, nat_lt}
@@ -18,6 +18,8 @@ use Rattle.tm_parts.specs.declared.reference.Reference.{Reference}
 use Rattle.tm_resolve.specs.Links.{reference_name, links_under, extensions}
 use Rattle.tm_resolve.specs.Weight.{Visit, Step, name_weight, own_weight, most_weight, most_entries, own_visit, reference_visits, part_visits, element_visits, member_visits, extension_visits, submodel_visits, links_visits, is_too_far, weight_of, is_too_large, entered, target_visits, visits_within}
 use Rattle.tm_resolve.specs.Counting.{step_from, Spends, Weighs}
+use Rattle.tm_resolve.specs.declared.weight.Role.{Role}
+use Rattle.tm_resolve.specs.declared.weight.Role.TheVariants.{Thing}
 use Rattle.tm_resolve.specs.declared.weight.Stop.{Stop}
 use Rattle.tm_resolve.specs.declared.weight.Stop.TheVariants.{TooLarge, NoMemory}
 use Rattle.tm_resolve.proofs.Progress.{left_at}
@@ -132,13 +134,13 @@ object_part step url chain depth t ms left mid r is own inside =
     (weighs_then (own_visit chain depth (json_of (tree.Obj ms)) ∷ []) (reference_visits step url chain depth (member_named reference_name (listed_members (members_of ms))) ++ member_visits step url chain (depth + 1) (members_of ms)) left mid r first listed)
 
 -- the links of the model of a Thing: the model that it extends, and its submodels
-pub links_of_thing : (sources : Sources) (is_thing : Bool) (url : List ℕ) (chain es : List Reference) (whole : Json) (links : List Json) (left mid : ℕ) (r : Result ℕ Stop) → is_thing ≡ true → links ≡ links_under whole → es ≡ chain
+pub links_of_thing : (sources : Sources) (role : Role) (url : List ℕ) (chain es : List Reference) (whole : Json) (links : List Json) (left mid : ℕ) (r : Result ℕ Stop) → role ≡ Thing → links ≡ links_under whole → es ≡ chain
     → Weighs (extension_visits (step_from sources chain) url chain (extensions whole)) left (Ok mid) → Weighs (flat_map (submodel_visits (step_from sources es) url es) links) mid r
-    → Weighs (links_visits (step_from sources chain) is_thing url chain whole) left r
-links_of_thing sources is_thing url chain es whole links left mid r thing same at_chain first further =
+    → Weighs (links_visits (step_from sources chain) role url chain whole) left r
+links_of_thing sources role url chain es whole links left mid r thing same at_chain first further =
     let here : Weighs (flat_map (submodel_visits (step_from sources chain) url chain) links) mid r = subst (λ (cs : List Reference). Weighs (flat_map (submodel_visits (step_from sources cs) url cs) links) mid r) at_chain further in
     let all : Weighs (flat_map (submodel_visits (step_from sources chain) url chain) (links_under whole)) mid r = subst (λ (vs : List Json). Weighs (flat_map (submodel_visits (step_from sources chain) url chain) vs) mid r) same here in
-    subst (λ (b : Bool). Weighs (links_visits (step_from sources chain) b url chain whole) left r) (sym thing)
+    subst (λ (b : Role). Weighs (links_visits (step_from sources chain) b url chain whole) left r) (sym thing)
     (weighs_then (extension_visits (step_from sources chain) url chain (extensions whole)) (flat_map (submodel_visits (step_from sources chain) url chain) (links_under whole)) left mid r first all)
 
 -- ---- the limits
@@ -158,48 +160,48 @@ beyond_limits visits (inr far) = or_right (nat_lt most_weight (weight_of visits)
 -- ---- a step
 
 -- what is seen of an option that is there, or isn't
-seen_none : (room : ℕ) (sources : Sources) (is_thing : Bool) (depth : ℕ) (chain : List Reference) (target : Reference) → entered sources chain target ≡ None → visits_within room sources is_thing depth chain target ≡ []
-seen_none zero sources is_thing depth chain target none = ap (λ (o : Option Json). elim o as (λ _. List Visit) [ None ↦ [] | Some part ↦ own_visit (chain ++ target ∷ []) depth part ∷ [] ]) none
-seen_none (suc room) sources is_thing depth chain target none = ap (λ (o : Option Json). elim o as (λ _. List Visit) [ None ↦ [] | Some part ↦ target_visits (visits_within room sources) is_thing depth (chain ++ target ∷ []) target part ]) none
+seen_none : (room : ℕ) (sources : Sources) (role : Role) (depth : ℕ) (chain : List Reference) (target : Reference) → entered sources chain target ≡ None → visits_within room sources role depth chain target ≡ []
+seen_none zero sources role depth chain target none = ap (λ (o : Option Json). elim o as (λ _. List Visit) [ None ↦ [] | Some part ↦ own_visit (chain ++ target ∷ []) depth part ∷ [] ]) none
+seen_none (suc room) sources role depth chain target none = ap (λ (o : Option Json). elim o as (λ _. List Visit) [ None ↦ [] | Some part ↦ target_visits (visits_within room sources) role depth (chain ++ target ∷ []) target part ]) none
 
-pub step_nowhere : (sources : Sources) (is_thing : Bool) (depth : ℕ) (chain : List Reference) (target : Reference) (left : ℕ) → entered sources chain target ≡ None → Weighs (step_from sources chain is_thing depth chain target) left (Ok left)
-step_nowhere sources is_thing depth chain target left none =
-    subst (λ (us : List Visit). Weighs us left (Ok left)) (sym (seen_none (most_entries - length chain) sources is_thing depth chain target none)) (weighs_none left)
+pub step_nowhere : (sources : Sources) (role : Role) (depth : ℕ) (chain : List Reference) (target : Reference) (left : ℕ) → entered sources chain target ≡ None → Weighs (step_from sources chain role depth chain target) left (Ok left)
+step_nowhere sources role depth chain target left none =
+    subst (λ (us : List Visit). Weighs us left (Ok left)) (sym (seen_none (most_entries - length chain) sources role depth chain target none)) (weighs_none left)
 
-room_is : (room : ℕ) (n : ℕ) (sources : Sources) (is_thing : Bool) (depth : ℕ) (chain : List Reference) (target : Reference) → room ≡ n → visits_within room sources is_thing depth chain target ≡ visits_within n sources is_thing depth chain target
-room_is room n sources is_thing depth chain target is = ap (λ (k : ℕ). visits_within k sources is_thing depth chain target) is
+room_is : (room : ℕ) (n : ℕ) (sources : Sources) (role : Role) (depth : ℕ) (chain : List Reference) (target : Reference) → room ≡ n → visits_within room sources role depth chain target ≡ visits_within n sources role depth chain target
+room_is room n sources role depth chain target is = ap (λ (k : ℕ). visits_within k sources role depth chain target) is
 
 -- a step beyond the room of a chain
-pub step_past : (sources : Sources) (is_thing : Bool) (depth : ℕ) (chain : List Reference) (target : Reference) (part : Json) (left : ℕ) → entered sources chain target ≡ Some part → most_entries ≤ length chain
-    → Weighs (step_from sources chain is_thing depth chain target) left (Err TooLarge)
-step_past sources is_thing depth chain target part left found past =
+pub step_past : (sources : Sources) (role : Role) (depth : ℕ) (chain : List Reference) (target : Reference) (part : Json) (left : ℕ) → entered sources chain target ≡ Some part → most_entries ≤ length chain
+    → Weighs (step_from sources chain role depth chain target) left (Err TooLarge)
+step_past sources role depth chain target part left found past =
     let none_left : most_entries - length chain ≡ 0 = omega (arith, past) in
     let longer : length (chain ++ target ∷ []) ≡ length chain + 1 = length-append chain (target ∷ []) in
-    let visits = room_is (most_entries - length chain) 0 sources is_thing depth chain target none_left
+    let visits = room_is (most_entries - length chain) 0 sources role depth chain target none_left
     ∙ ap (λ (o : Option Json). elim o as (λ _. List Visit) [ None ↦ [] | Some v ↦ own_visit (chain ++ target ∷ []) depth v ∷ [] ]) found in
     let more : most_entries < length (chain ++ target ∷ []) = omega (arith, longer, past) in
     let far : nat_lt most_entries (length (chain ++ target ∷ [])) ≡ true = grind (arith, nat_tests, more) in
     inr (ap (λ (us : List Visit). list_any is_too_far us) visits ∙ or_left (is_too_far (own_visit (chain ++ target ∷ []) depth part)) false (or_right _ _ far))
 
 -- a step within it
-pub step_into : (sources : Sources) (is_thing : Bool) (depth : ℕ) (chain longer : List Reference) (target : Reference) (part : Json) (left : ℕ) (r : Result ℕ Stop) → entered sources chain target ≡ Some part → length chain < most_entries
-    → longer ≡ chain ++ target ∷ [] → Weighs (target_visits (step_from sources longer) is_thing depth longer target part) left r → Weighs (step_from sources chain is_thing depth chain target) left r
-step_into sources is_thing depth chain longer target part left r found within is weighs =
+pub step_into : (sources : Sources) (role : Role) (depth : ℕ) (chain longer : List Reference) (target : Reference) (part : Json) (left : ℕ) (r : Result ℕ Stop) → entered sources chain target ≡ Some part → length chain < most_entries
+    → longer ≡ chain ++ target ∷ [] → Weighs (target_visits (step_from sources longer) role depth longer target part) left r → Weighs (step_from sources chain role depth chain target) left r
+step_into sources role depth chain longer target part left r found within is weighs =
     let one_more : length (chain ++ target ∷ []) ≡ length chain + 1 = length-append chain (target ∷ []) in
     let room : most_entries - length chain ≡ suc (most_entries - length (chain ++ target ∷ [])) = omega (arith, one_more, within) in
-    let visits = room_is (most_entries - length chain) (suc (most_entries - length (chain ++ target ∷ []))) sources is_thing depth chain target room
-    ∙ ap (λ (o : Option Json). elim o as (λ _. List Visit) [ None ↦ [] | Some v ↦ target_visits (step_from sources (chain ++ target ∷ [])) is_thing depth (chain ++ target ∷ []) target v ]) found in
+    let visits = room_is (most_entries - length chain) (suc (most_entries - length (chain ++ target ∷ []))) sources role depth chain target room
+    ∙ ap (λ (o : Option Json). elim o as (λ _. List Visit) [ None ↦ [] | Some v ↦ target_visits (step_from sources (chain ++ target ∷ [])) role depth (chain ++ target ∷ []) target v ]) found in
     subst (λ (us : List Visit). Weighs us left r) (sym visits)
-    (subst (λ (es : List Reference). Weighs (target_visits (step_from sources es) is_thing depth es target part) left r) is weighs)
+    (subst (λ (es : List Reference). Weighs (target_visits (step_from sources es) role depth es target part) left r) is weighs)
 
 -- ---- the first step
 
-pub first_within : (sources : Sources) (chain : List Reference) (target : Reference) (rest : ℕ) → chain ≡ [] → Weighs (step_from sources chain true 0 chain target) most_weight (Ok rest) → false ≡ is_too_large (visits_within most_entries sources true 0 [] target)
+pub first_within : (sources : Sources) (chain : List Reference) (target : Reference) (rest : ℕ) → chain ≡ [] → Weighs (step_from sources chain Thing 0 chain target) most_weight (Ok rest) → false ≡ is_too_large (visits_within most_entries sources Thing 0 [] target)
 first_within sources chain target rest empty weighs =
-    sym (within_limits (visits_within most_entries sources true 0 [] target) rest
-    (subst (λ (es : List Reference). Weighs (step_from sources es true 0 es target) most_weight (Ok rest)) empty weighs))
+    sym (within_limits (visits_within most_entries sources Thing 0 [] target) rest
+    (subst (λ (es : List Reference). Weighs (step_from sources es Thing 0 es target) most_weight (Ok rest)) empty weighs))
 
-pub first_beyond : (sources : Sources) (chain : List Reference) (target : Reference) → chain ≡ [] → Weighs (step_from sources chain true 0 chain target) most_weight (Err TooLarge) → true ≡ is_too_large (visits_within most_entries sources true 0 [] target)
+pub first_beyond : (sources : Sources) (chain : List Reference) (target : Reference) → chain ≡ [] → Weighs (step_from sources chain Thing 0 chain target) most_weight (Err TooLarge) → true ≡ is_too_large (visits_within most_entries sources Thing 0 [] target)
 first_beyond sources chain target empty weighs =
-    sym (beyond_limits (visits_within most_entries sources true 0 [] target)
-    (subst (λ (es : List Reference). Weighs (step_from sources es true 0 es target) most_weight (Err TooLarge)) empty weighs))
+    sym (beyond_limits (visits_within most_entries sources Thing 0 [] target)
+    (subst (λ (es : List Reference). Weighs (step_from sources es Thing 0 es target) most_weight (Err TooLarge)) empty weighs))

@@ -1,7 +1,7 @@
 -- How large a Thing Model grows where the models that it extends, the parts that it refers to and its submodels are
 -- brought in (Thing Description 1.1, section "Thing Model"). This is said of the visits of its expansion, which is never
 -- built: each node of the model is visited, and each node of what is brought in, as often as it is.
-use Rattle.std.specs.Prelude.{◌+◌, ◌==◌, ◌||◌, Bool, true, false, ℕ, zero, suc, nat_lt, List, [], ◌∷◌, ◌++◌, length, codes, Option, Some, None, option_and_then, if◌then◌else◌}
+use Rattle.std.specs.Prelude.{◌+◌, ◌==◌, ◌||◌, Bool, ℕ, zero, suc, nat_lt, List, [], ◌∷◌, ◌++◌, length, codes, Option, Some, None, option_and_then, if◌then◌else◌}
 use Rattle.std.specs.List.{list_any, flat_map, sum_by}
 use Rattle.wot_json.specs.Tree.{Json, null, boolean, integer, string, array, object, Elements, no_elements, element, Members, no_members, member}
 use Rattle.wot_json.specs.Json.{json_string}
@@ -10,6 +10,8 @@ use Rattle.wot_json.specs.Pointer.{part_of}
 use Rattle.tm_parts.specs.Sources.{Sources}
 use Rattle.tm_parts.specs.declared.reference.Reference.{Reference}
 use Rattle.tm_resolve.specs.Chain.{whole_of, model_entered}
+use Rattle.tm_resolve.specs.declared.weight.Role.{Role}
+use Rattle.tm_resolve.specs.declared.weight.Role.TheVariants.{Thing, Part}
 use Rattle.tm_resolve.specs.Links.{reference_name, reference_of, is_link, links_under, extensions, linked_model}
 
 -- ---- one visit
@@ -35,10 +37,10 @@ own_weight (object ms) = 2 + sum_by name_weight (listed_members ms)
 
 -- ---- the visits of an expansion
 
--- What a step visits, by whether it leads to the model of a Thing, the depth at which it leads there, the chain before
--- it, and its target.
+-- What a step visits, by what it leads to, the model of a Thing or a part of one, the depth at which it leads there, the
+-- chain before it, and its target.
 abbrev pub Step : Type 0
-Step = Bool → ℕ → List Reference → Reference → List Visit
+Step = Role → ℕ → List Reference → Reference → List Visit
 
 -- the visit of a node itself
 abbrev pub own_visit : List Reference → ℕ → Json → Visit
@@ -47,7 +49,7 @@ own_visit chain depth v = record { depth = depth; entries = length chain; weight
 -- an object with a `tm:ref` that refers to a target visits that at its own depth
 abbrev pub reference_visits : Step → List ℕ → List Reference → ℕ → Option Json → List Visit
 reference_visits step url chain depth None = []
-reference_visits step url chain depth (Some reference) = elim (reference_of url reference) [ None ↦ [] | Some target ↦ step false depth chain target ]
+reference_visits step url chain depth (Some reference) = elim (reference_of url reference) [ None ↦ [] | Some target ↦ step Part depth chain target ]
 
 -- The visits of a part at this depth of the model under `url`: the part itself, what it refers to, and one deeper what
 -- stands in it.
@@ -72,33 +74,38 @@ abbrev mutual
   member_visits step url chain depth (member n v ms) = part_visits step url chain depth v ++ member_visits step url chain depth ms
 
 -- what a link of the model under `url` leads to is visited at depth 0
-abbrev pub link_visits : Step → Bool → List ℕ → List Reference → Json → List Visit
-link_visits step is_thing url chain link = elim (linked_model url link) [ None ↦ [] | Some model ↦ step is_thing 0 chain model ]
+abbrev pub link_visits : Step → Role → List ℕ → List Reference → Json → List Visit
+link_visits step role url chain link = elim (linked_model url link) [ None ↦ [] | Some model ↦ step role 0 chain model ]
 
 -- a model that extends exactly one visits that one
 abbrev pub extension_visits : Step → List ℕ → List Reference → List (ℕ × Json) → List Visit
-extension_visits step url chain (link ∷ []) = link_visits step false url chain link.1
+extension_visits step url chain (link ∷ []) = link_visits step Part url chain link.1
 extension_visits step url chain links = []
 
 -- a link to a submodel visits that one, which is the model of a Thing
 abbrev pub submodel_visits : Step → List ℕ → List Reference → Json → List Visit
-submodel_visits step url chain link = if is_link (codes "tm:submodel") link then link_visits step true url chain link else []
+submodel_visits step url chain link = if is_link (codes "tm:submodel") link then link_visits step Thing url chain link else []
+
+-- visits that are made from the model of a Thing alone
+abbrev pub of_thing : Role → List Visit → List Visit
+of_thing Thing visits = visits
+of_thing Part visits = []
 
 -- what the links of a whole model visit: the model that it extends, and for the model of a Thing its submodels
-abbrev pub links_visits : Step → Bool → List ℕ → List Reference → Json → List Visit
-links_visits step is_thing url chain whole =
+abbrev pub links_visits : Step → Role → List ℕ → List Reference → Json → List Visit
+links_visits step role url chain whole =
     extension_visits step url chain (extensions whole)
-    ++ (if is_thing then flat_map (submodel_visits step url chain) (links_under whole) else [])
+    ++ of_thing role (flat_map (submodel_visits step url chain) (links_under whole))
 
 -- the target is a whole model
 abbrev pub is_whole : Reference → Bool
 is_whole target = length target.pointer == 0
 
 -- the visits of a target whose part this is, with it in the chain: those of the part, and for a whole model of its links
-abbrev pub target_visits : Step → Bool → ℕ → List Reference → Reference → Json → List Visit
-target_visits step is_thing depth chain target part =
+abbrev pub target_visits : Step → Role → ℕ → List Reference → Reference → Json → List Visit
+target_visits step role depth chain target part =
     part_visits step target.url chain depth part
-    ++ (if is_whole target then links_visits step is_thing target.url chain part else [])
+    ++ (if is_whole target then links_visits step role target.url chain part else [])
 
 -- the part that a step leads to, where one can be made and something stands at the pointer
 abbrev pub entered : Sources → List Reference → Reference → Option Json
@@ -107,12 +114,12 @@ entered sources chain target = option_and_then (part_of target.pointer) (model_e
 -- The visits of a step, where the chain has room for so many more targets. A step beyond that room visits its part
 -- alone, which is enough to make the expansion too large.
 abbrev pub visits_within : ℕ → Sources → Step
-visits_within zero sources is_thing depth chain target =
+visits_within zero sources role depth chain target =
     elim (entered sources chain target) [ None ↦ [] | Some part ↦ own_visit (chain ++ target ∷ []) depth part ∷ [] ]
-visits_within (suc room) sources is_thing depth chain target =
+visits_within (suc room) sources role depth chain target =
     elim (entered sources chain target) [
       | None ↦ []
-      | Some part ↦ target_visits (visits_within room sources) is_thing depth (chain ++ target ∷ []) target part
+      | Some part ↦ target_visits (visits_within room sources) role depth (chain ++ target ∷ []) target part
     ]
 
 -- ---- the limits
@@ -131,7 +138,7 @@ most_entries = 16
 
 -- the visits of the expansion of the model of a Thing, from its root at depth 0
 abbrev pub expansion : Sources → List ℕ → List Visit
-expansion sources root = visits_within most_entries sources true 0 [] (whole_of root)
+expansion sources root = visits_within most_entries sources Thing 0 [] (whole_of root)
 
 -- a visit goes too deep, or by too long a chain
 abbrev pub is_too_far : Visit → Bool

@@ -5,7 +5,7 @@
 //! first visit that passes a limit. A node weighs at least 2, so no more than 131,072 are counted and one more is begun,
 //! whatever the size of the expansion.
 
-ghost use Rattle.std.specs.Prelude.{◌≡◌, ◌+◌, ◌≤◌, List, [], ◌∷◌, ◌++◌, length, true, Some, IfOk, OnOk};
+ghost use Rattle.std.specs.Prelude.{◌≡◌, ◌+◌, ◌≤◌, List, [], ◌∷◌, ◌++◌, length, Some, IfOk, OnOk};
 ghost use Rattle.std.specs.List.{flat_map, sum_by};
 ghost use Rattle.wot_json.specs.Json.{json_string};
 ghost use Rattle.wot_json.specs.Lookup.{member_named};
@@ -41,6 +41,15 @@ const MOST_DEPTH: usize = 64;
 /// The most targets of a chain.
 const MOST_ENTRIES: usize = 16;
 
+/// What a step leads to.
+#[derive(Debug, Clone, Copy)]
+pub(crate) enum Role {
+    /// The model of a Thing, which comes with its submodels.
+    Thing,
+    /// A part of one: the model that it extends, or what a `tm:ref` leads to.
+    Part,
+}
+
 /// Why counting stopped.
 #[derive(Debug, Drop)]
 pub(crate) enum Stop {
@@ -64,10 +73,10 @@ impl From<AllocError> for Stop {
 /// Whether the expansion of the model of a Thing passes a limit, where `root` is the whole of that model.
 pub(crate) fn is_too_large(sources: &Sources, root: &Reference) -> Result<bool, NoMemory>
     ensures { IfOk result (λ large. large ≡ spec.is_too_large (visits_within most_entries (kept_sources
-        sources.now.models.items) true 0 [] root.now)) }
+        sources.now.models.items) Role.Thing 0 [] root.now)) }
 {
     let mut chain = Vec::new(sources.alloc);
-    match weigh_step(sources, true, 0, root, &mut chain, MOST_WEIGHT) {
+    match weigh_step(sources, Role::Thing, 0, root, &mut chain, MOST_WEIGHT) {
         Ok(_) => Ok(false),
         Err(Stop::TooLarge) => Ok(true),
         Err(Stop::NoMemory) => Err(AllocError),
@@ -78,13 +87,13 @@ pub(crate) fn is_too_large(sources: &Sources, root: &Reference) -> Result<bool, 
 #[cycle(weigh)]
 fn weigh_step(
     sources: &Sources,
-    is_thing: bool,
+    role: Role,
     depth: usize,
     target: &Reference,
     chain: &mut Vec<Reference>,
     left: usize,
 ) -> Result<usize, Stop>
-    ensures weight { Weighs (next_step sources.now chain.old.items is_thing depth chain.old.items target.now)
+    ensures weight { Weighs (next_step sources.now chain.old.items role depth chain.old.items target.now)
         left result }
     ensures chain { OnOk result (chain.new.items ≡ chain.old.items) }
 {
@@ -95,7 +104,7 @@ fn weigh_step(
         return Err(Stop::TooLarge);
     }
     push_target(sources.alloc, chain, target)?;
-    let left = weigh_target(sources, is_thing, depth, target, part, chain, left)?;
+    let left = weigh_target(sources, role, depth, target, part, chain, left)?;
     let _target = chain.pop();
     Ok(left)
 }
@@ -104,7 +113,7 @@ fn weigh_step(
 #[cycle(weigh)]
 fn weigh_target(
     sources: &Sources,
-    is_thing: bool,
+    role: Role,
     depth: usize,
     target: &Reference,
     part: &Tree,
@@ -112,14 +121,14 @@ fn weigh_target(
     left: usize,
 ) -> Result<usize, Stop>
     requires { length chain.old.items ≤ most_entries }
-    ensures weight { Weighs (target_visits (next_step sources.now chain.old.items) is_thing depth
+    ensures weight { Weighs (target_visits (next_step sources.now chain.old.items) role depth
         chain.old.items target.now (json_of part.now)) left result }
     ensures chain { OnOk result (chain.new.items ≡ chain.old.items) }
 {
     let url = target.url.as_str();
     let left = weigh_part(sources, url, depth, part, chain, left)?;
     if target.pointer.as_str().is_empty() {
-        weigh_links(sources, is_thing, url, part, chain, left)
+        weigh_links(sources, role, url, part, chain, left)
     } else {
         Ok(left)
     }
@@ -130,22 +139,21 @@ fn weigh_target(
 #[cycle(weigh)]
 fn weigh_links(
     sources: &Sources,
-    is_thing: bool,
+    role: Role,
     url: &str,
     whole: &Tree,
     chain: &mut Vec<Reference>,
     left: usize,
 ) -> Result<usize, Stop>
     requires { length chain.old.items ≤ most_entries }
-    ensures weight { Weighs (links_visits (next_step sources.now chain.old.items) is_thing url.now
+    ensures weight { Weighs (links_visits (next_step sources.now chain.old.items) role url.now
         chain.old.items (json_of whole.now)) left result }
     ensures chain { OnOk result (chain.new.items ≡ chain.old.items) }
 {
     let left = weigh_extension(sources, url, whole, chain, left)?;
-    if is_thing {
-        weigh_submodels(sources, url, links_under(whole), chain, left)
-    } else {
-        Ok(left)
+    match role {
+        Role::Thing => weigh_submodels(sources, url, links_under(whole), chain, left),
+        Role::Part => Ok(left),
     }
 }
 
@@ -164,7 +172,7 @@ fn weigh_extension(
     ensures chain { OnOk result (chain.new.items ≡ chain.old.items) }
 {
     match extensions_of(whole) {
-        Extensions::One(_, link) => weigh_link(sources, false, url, link, chain, left),
+        Extensions::One(_, link) => weigh_link(sources, Role::Part, url, link, chain, left),
         Extensions::None | Extensions::Several => Ok(left),
     }
 }
@@ -205,7 +213,7 @@ fn weigh_submodel(
     ensures chain { OnOk result (chain.new.items ≡ chain.old.items) }
 {
     if is_link(link, SUBMODEL) {
-        weigh_link(sources, true, url, link, chain, left)
+        weigh_link(sources, Role::Thing, url, link, chain, left)
     } else {
         Ok(left)
     }
@@ -215,19 +223,19 @@ fn weigh_submodel(
 #[cycle(weigh)]
 fn weigh_link(
     sources: &Sources,
-    is_thing: bool,
+    role: Role,
     url: &str,
     link: &Tree,
     chain: &mut Vec<Reference>,
     left: usize,
 ) -> Result<usize, Stop>
     requires { length chain.old.items ≤ most_entries }
-    ensures weight { Weighs (link_visits (next_step sources.now chain.old.items) is_thing url.now
+    ensures weight { Weighs (link_visits (next_step sources.now chain.old.items) role url.now
         chain.old.items (json_of link.now)) left result }
     ensures chain { OnOk result (chain.new.items ≡ chain.old.items) }
 {
     match link_target(sources.alloc, url, link)? {
-        Some(model) => weigh_step(sources, is_thing, 0, &model, chain, left),
+        Some(model) => weigh_step(sources, role, 0, &model, chain, left),
         None => Ok(left),
     }
 }
@@ -295,7 +303,7 @@ fn weigh_reference(
     ensures chain { OnOk result (chain.new.items ≡ chain.old.items) }
 {
     match reference_target(sources.alloc, url, reference)? {
-        Some(target) => weigh_step(sources, false, depth, &target, chain, left),
+        Some(target) => weigh_step(sources, Role::Part, depth, &target, chain, left),
         None => Ok(left),
     }
 }

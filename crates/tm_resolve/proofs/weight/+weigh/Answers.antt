@@ -40,10 +40,10 @@ pub weigh_submodels-returns-clause-weight : goal.weigh_submodels-returns-clause-
 weigh_submodels-returns-clause-weight t c =
     loop_end (submodels_list (kept_sources c.args.sources.now.models.items) c.args.url.now c.args.chain.now.items) c.args.links.now c.loop-link.link-index c.args.left c.loop-link.left refl c.loop-link-test.false c.loop-link.invariant.counts
 
-pub weigh_links-returns-then-is_thing-clause-weight : goal.weigh_links-returns-then-is_thing-clause-weight
-weigh_links-returns-then-is_thing-clause-weight t c =
-    links_of_thing (kept_sources c.args.sources.now.models.items) c.args.is_thing c.args.url.now c.args.chain.now.items c.weigh_extension.new.chain.items (json_of c.args.whole.now) (json_items c.links_under.result.now) c.args.left c.in_ok-left.left c.weigh_submodels.result
-    c.if-is_thing.true c.links_under.ensures c.in_ok-left.ensures.chain c.in_ok-left.ensures.weight c.weigh_submodels.ensures.weight
+pub weigh_links-returns-in-Thing-clause-weight : goal.weigh_links-returns-in-Thing-clause-weight
+weigh_links-returns-in-Thing-clause-weight t c =
+    links_of_thing (kept_sources c.args.sources.now.models.items) c.args.role c.args.url.now c.args.chain.now.items c.weigh_extension.new.chain.items (json_of c.args.whole.now) (json_items c.links_under.result.now) c.args.left c.in_ok-left.left c.weigh_submodels.result
+    c.in-Thing.is c.links_under.ensures c.in_ok-left.ensures.chain c.in_ok-left.ensures.weight c.weigh_submodels.ensures.weight
 
 pub weigh_part-returns-in-Obj-clause-weight : goal.weigh_part-returns-in-Obj-clause-weight
 weigh_part-returns-in-Obj-clause-weight t c =
@@ -62,12 +62,12 @@ pub weigh_step-returns-in_err-left-clause-weight : goal.weigh_step-returns-in_er
 weigh_step-returns-in_err-left-clause-weight t c =
     let p = err_from_is_err_and c.from_residual-in_err-left.result c.from_residual-in_err-left.ensures.1 in
     rw (p.1, p.2)
-    (step_into (kept_sources c.args.sources.now.models.items) c.args.is_thing c.args.depth c.args.chain.now.items c.push_target.new.chain.items c.args.target.now (json_of c.in-Some.part.now) c.args.left (Err c.in_err-left.field-0.0)
+    (step_into (kept_sources c.args.sources.now.models.items) c.args.role c.args.depth c.args.chain.now.items c.push_target.new.chain.items c.args.target.now (json_of c.in-Some.part.now) c.args.left (Err c.in_err-left.field-0.0)
     (rw c.deref.ensures.value at (sym c.in-Some.ensures)) (omega (arith, c.len.ensures, c.if-len-ge-MOST_ENTRIES.false)) c.in_ok-push_target.ensures.pushed c.in_err-left.ensures.weight)
 
 pub weigh_step-returns-clause-weight : goal.weigh_step-returns-clause-weight
 weigh_step-returns-clause-weight t c =
-    step_into (kept_sources c.args.sources.now.models.items) c.args.is_thing c.args.depth c.args.chain.now.items c.push_target.new.chain.items c.args.target.now (json_of c.in-Some.part.now) c.args.left (Ok c.in_ok-left.left)
+    step_into (kept_sources c.args.sources.now.models.items) c.args.role c.args.depth c.args.chain.now.items c.push_target.new.chain.items c.args.target.now (json_of c.in-Some.part.now) c.args.left (Ok c.in_ok-left.left)
     (rw c.deref.ensures.value at (sym c.in-Some.ensures)) (omega (arith, c.len.ensures, c.if-len-ge-MOST_ENTRIES.false)) c.in_ok-push_target.ensures.pushed c.in_ok-left.ensures.weight
 
 pub weigh_submodels-returns-in_err-left-clause-weight : goal.weigh_submodels-returns-in_err-left-clause-weight

@@ -4,9 +4,8 @@ ghost use Rattle.std.specs.Prelude.{◌≡◌, ◌≤◌, ℕ, ◌==◌, ◌&&�
 
 /// The number that a text writes in decimal, if it is at most `most`.
 pub fn parse_decimal(text: &str, most: u64) -> Option<u64>
-    ensures text { IfSome result (λ n. text.now ≡ decimal n) }
-    ensures bound { IfSome result (λ n. n ≤ most) }
-    ensures found { (n : ℕ) → n ≤ most → text.now ≡ decimal n → result ≡ Some n }
+    ensures ok { IfSome result (λ n. (text.now ≡ decimal n) × (n ≤ most)) }
+    ensures complete { (n : ℕ) → n ≤ most → text.now ≡ decimal n → result ≡ Some n }
 {
     if has_sign_or_leading_zero(text) {
         return None;

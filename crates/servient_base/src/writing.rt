@@ -1,8 +1,8 @@
-//! Writing into a caller's slice, piece behind piece.
+//! Writing into a caller's slice, one piece after another.
 
 ghost use Rattle.std.specs.Prelude.{◌≡◌, ◌+◌, ◌≤◌, ◌++◌, length, take, drop};
 
-/// Writes bytes at a place of `out`, and returns the place behind them.
+/// Writes bytes at a place of `out`, and returns the place after them.
 pub fn put_bytes(out: &mut [u8], at: usize, bytes: &[u8]) -> usize
     requires { at + length bytes.now ≤ length out.old }
     ensures end { result ≡ at + length bytes.now }

@@ -23,9 +23,9 @@ ReadsFile held name limit Failed into = Unit {0}
 ReadsFile held name limit NoMemory into = Unit {0}
 
 -- the reads that a call adds to the list of them: itself, but not where there was no memory
-abbrev pub listed : List ℕ → ℕ → Got → List FileRead
-listed name limit NoMemory = []
-listed name limit Whole = record { name = name; limit = limit } ∷ []
-listed name limit Absent = record { name = name; limit = limit } ∷ []
-listed name limit TooLong = record { name = name; limit = limit } ∷ []
-listed name limit Failed = record { name = name; limit = limit } ∷ []
+abbrev pub added_reads : List ℕ → ℕ → Got → List FileRead
+added_reads name limit NoMemory = []
+added_reads name limit Whole = record { name = name; limit = limit } ∷ []
+added_reads name limit Absent = record { name = name; limit = limit } ∷ []
+added_reads name limit TooLong = record { name = name; limit = limit } ∷ []
+added_reads name limit Failed = record { name = name; limit = limit } ∷ []

@@ -101,7 +101,7 @@ pub trait Files {
     ghost use Rattle.servient_edge.specs.declared.files.HeldFile.{HeldFile};
     ghost use Rattle.servient_edge.specs.declared.files.FileRead.{FileRead};
     ghost use Rattle.servient_edge.specs.Told.{Continues};
-    ghost use Rattle.servient_edge.specs.Files.{ReadsFile, listed};
+    ghost use Rattle.servient_edge.specs.Files.{ReadsFile, added_reads};
 
     /// What each file holds, where the files tell it.
     ghost held: { Self → Option (List HeldFile) };
@@ -119,5 +119,5 @@ pub trait Files {
         ensures failed { result ≡ Got.Failed → Rose (faults self.old) (faults self.new) }
         ensures faults { faults self.old ≤ faults self.new }
         ensures held { held self.new ≡ held self.old }
-        ensures reads { Continues (reads self.old) (reads self.new) (listed name.now limit result) };
+        ensures reads { Continues (reads self.old) (reads self.new) (added_reads name.now limit result) };
 }

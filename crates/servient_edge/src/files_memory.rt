@@ -92,7 +92,7 @@ impl Files for FilesMemory {
     ghost use Rattle.std.specs.Prelude.{◌≡◌, ◌≢◌, ◌≤◌, ◌⊎◌, Some};
     ghost use Rattle.servient_base.specs.Count.{Rose};
     ghost use Rattle.servient_edge.specs.Told.{Continues, one_more};
-    ghost use Rattle.servient_edge.specs.Files.{ReadsFile, listed};
+    ghost use Rattle.servient_edge.specs.Files.{ReadsFile, added_reads};
     ghost use Rattle.servient_edge.specs.CallCount.{FailsNext, after_call};
     ghost use Rattle.servient_edge.specs.FilesMemory.{calls_of, held_files, listed_reads, fault_count};
 
@@ -110,7 +110,7 @@ impl Files for FilesMemory {
         ensures faults { fault_count self.old ≤ fault_count self.new }
         ensures held { Some (held_files self.new) ≡ Some (held_files self.old) }
         ensures reads { Continues (Some (listed_reads self.old)) (Some (listed_reads self.new))
-            (listed name.now limit result) }
+            (added_reads name.now limit result) }
 
         // Which calls fail, and what they leave.
         ensures fails_only { result ≡ Got.Failed → FailsNext (calls_of self.old) }

@@ -11,7 +11,7 @@ use Rattle.thing_handler.specs.declared.handler.CallKind.{CallKind}
 use Rattle.thing_handler.specs.declared.handler.Answer.{Answer}
 use Rattle.thing_handler.specs.declared.handler.Turn.{Turn}
 use Rattle.thing_handler.specs.Handler.{Seen, CallsHandler, misses_of}
-use Rattle.thing_handler.specs.Turns.{RunTurn, as_kept, turns_of_slot, AreNumberedFrom, GrewBy, AreTurnsSince}
+use Rattle.thing_handler.specs.Turns.{RunTurn, kept_turn, turns_of_slot, AreNumberedFrom, GrewBy, AreTurnsSince}
 
 -- handlers that stayed as they were grew by no turns
 grew_by_none : (slot : ℕ) (slots : List Seen) → GrewBy [] slot slots slots
@@ -26,7 +26,7 @@ turns_since_none slots first = record { numbered = tt; stand = tt; kept = grew_b
 pub turns_of_slot-append : (slot : ℕ) (ps qs : List RunTurn) → turns_of_slot slot (ps ++ qs) ≡ turns_of_slot slot ps ++ turns_of_slot slot qs
 turns_of_slot-append slot [] qs = refl
 turns_of_slot-append slot (p ∷ ps) qs = elim (cases_eq p.slot slot) [
-  | inl same ↦ let t : eqb p.slot slot ≡ true = eq-eqb p.slot slot same in rw t (ap (λ (ts : List Turn). as_kept p ∷ ts) (turns_of_slot-append slot ps qs))
+  | inl same ↦ let t : eqb p.slot slot ≡ true = eq-eqb p.slot slot same in rw t (ap (λ (ts : List Turn). kept_turn p ∷ ts) (turns_of_slot-append slot ps qs))
   | inr other ↦ let f : eqb p.slot slot ≡ false = ne_eqb p.slot slot other in rw f (turns_of_slot-append slot ps qs)
 ]
 
@@ -86,7 +86,7 @@ grew_by_set turns slot from (suc i) (h ∷ slots) x y place stood kind grown oth
     (refl, sym (append-nil h.turns) ∙ ap (λ (ts : List Turn). h.turns ++ ts) (sym (others from differs)), grew_by_set turns slot (suc from) i slots x y (omega arith) stood kind grown others)
 
 -- a turn is one of its slot and of no other
-of_slot : (t : RunTurn) → turns_of_slot t.slot (t ∷ []) ≡ as_kept t ∷ []
+of_slot : (t : RunTurn) → turns_of_slot t.slot (t ∷ []) ≡ kept_turn t ∷ []
 of_slot t = let e : eqb t.slot t.slot ≡ true = eq-eqb t.slot t.slot refl in rw e refl
 
 of_other : (t : RunTurn) (other : ℕ) → other ≢ t.slot → turns_of_slot other (t ∷ []) ≡ []

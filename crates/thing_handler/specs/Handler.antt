@@ -14,8 +14,8 @@ pub record Seen : Type 0 where
   pub misses : ℕ
 
 -- a handler that was not called yet
-abbrev pub fresh : Kind → Seen
-fresh kind = record { kind = kind; turns = []; misses = 0 }
+abbrev pub fresh_handler : Kind → Seen
+fresh_handler kind = record { kind = kind; turns = []; misses = 0 }
 
 -- A call that is answered makes exactly one turn, of this number, call and answer. A call that finds no
 -- memory makes none, and the handler's count of those rises. The kind never changes.

@@ -14,13 +14,13 @@ pub record RunTurn : Type 0 where
   pub answer : Answer
 
 -- the turn as its handler keeps it
-abbrev pub as_kept : RunTurn → Turn
-as_kept t = record { number = t.number; what = t.what; answer = t.answer }
+abbrev pub kept_turn : RunTurn → Turn
+kept_turn t = record { number = t.number; what = t.what; answer = t.answer }
 
 -- the turns of one slot, as its handler keeps them
 abbrev pub turns_of_slot : ℕ → List RunTurn → List Turn
 turns_of_slot slot [] = []
-turns_of_slot slot (t ∷ ts) = if t.slot == slot then as_kept t ∷ turns_of_slot slot ts else turns_of_slot slot ts
+turns_of_slot slot (t ∷ ts) = if t.slot == slot then kept_turn t ∷ turns_of_slot slot ts else turns_of_slot slot ts
 
 -- the numbers go up one by one, from this one
 abbrev pub AreNumberedFrom : ℕ → List RunTurn → Type 0

@@ -1,7 +1,7 @@
 //! A property that holds a value.
 
 ghost use Rattle.std.specs.Prelude.{◌≡◌, IfOk};
-ghost use Rattle.thing_handler.specs.Handler.{fresh};
+ghost use Rattle.thing_handler.specs.Handler.{fresh_handler};
 
 use crate::turn_log::TurnLog;
 use crate::{Answer, CallKind, Handler, Kind, Turn};
@@ -21,7 +21,7 @@ impl Cell {
 
     /// A cell that holds this value.
     pub fn new(alloc: Global, value: Tree) -> Self
-        ensures seen { ⟦<Cell as Handler>⟧.seen result ≡ fresh Kind.Property }
+        ensures seen { ⟦<Cell as Handler>⟧.seen result ≡ fresh_handler Kind.Property }
         ensures value { value_in result ≡ value }
     {
         Cell {

@@ -1,7 +1,7 @@
 //! A handler that answers from a list.
 
 ghost use Rattle.std.specs.Prelude.{◌≡◌, IfOk, OnErr};
-ghost use Rattle.thing_handler.specs.Handler.{fresh};
+ghost use Rattle.thing_handler.specs.Handler.{fresh_handler};
 
 use crate::turn_log::{TurnLog, copy_answer};
 use crate::{Answer, CallKind, Handler, Kind, Turn};
@@ -25,7 +25,7 @@ impl Scripted {
 
     /// A handler of this kind that gives these answers.
     pub fn new(alloc: Global, kind: Kind, answers: Vec<Answer>) -> Self
-        ensures seen { ⟦<Scripted as Handler>⟧.seen result ≡ fresh kind }
+        ensures seen { ⟦<Scripted as Handler>⟧.seen result ≡ fresh_handler kind }
         ensures answers { answers_left result ≡ answers.items }
     {
         Scripted {

@@ -37,9 +37,9 @@ IsRefused from location = (e : ParseError) × (joined_url from location ≡ Err 
 
 -- The text of the URL of the model that a location leads to, where it leads to one: the empty location to the model
 -- itself, under its own text, and any other to the URL that it gives when it is joined.
-abbrev pub led_to : List ℕ → List ℕ → Option (List ℕ)
-led_to from [] = Some from
-led_to from (b ∷ bs) = option_map serialize (result_ok (joined_url from (b ∷ bs)))
+abbrev pub location_target : List ℕ → List ℕ → Option (List ℕ)
+location_target from [] = Some from
+location_target from (b ∷ bs) = option_map serialize (result_ok (joined_url from (b ∷ bs)))
 
 -- The pointer that a fragment writes, where it writes one: decoded from its percent-encoding it is text, and a pointer
 -- (RFC 6901, section 6).
@@ -54,8 +54,8 @@ is_marked text = nat_lt (position_or_len is_mark text) (length text)
 
 -- The target that a text refers to from the model of this URL, where it refers to one: the model that its location
 -- leads to, and the pointer that its fragment writes.
-abbrev pub referred : List ℕ → List ℕ → Option Reference
-referred from text =
+abbrev pub reference_target : List ℕ → List ℕ → Option Reference
+reference_target from text =
     if is_marked text
-    then option_and_then (λ url. option_map (reference url) (pointer_written (fragment_of text))) (led_to from (location_of text))
+    then option_and_then (λ url. option_map (reference url) (pointer_written (fragment_of text))) (location_target from (location_of text))
     else None

@@ -6,13 +6,13 @@ use Rattle.wot_json.specs.Meaning.{json_of}
 use Rattle.wot_json.specs.declared.tree.Tree.{Tree}
 use Rattle.tm_parts.specs.Library.{Models}
 use Rattle.tm_parts.specs.Placeholders.{first_of}
-use Rattle.tm_parts.specs.Substitution.{Values, substituted, faults_of}
+use Rattle.tm_parts.specs.Substitution.{Values, substituted_value, faults_of}
 use Rattle.tm_parts.specs.declared.sources.Source.{Source}
 use Rattle.tm_parts.specs.declared.substitution.PartFault.{PartFault}
 
 -- what a model is with these values: itself with the values in place of its placeholders, or the first fault of that
 abbrev pub substitution : Json → Values → Result Json PartFault
-substitution model values = elim (first_of (faults_of model values)) as (λ _. Result Json PartFault) [ None ↦ Ok (substituted model values) | Some fault ↦ Err fault ]
+substitution model values = elim (first_of (faults_of model values)) as (λ _. Result Json PartFault) [ None ↦ Ok (substituted_value model values) | Some fault ↦ Err fault ]
 
 -- models with values in place of their placeholders, or their faults, each with the text of its URL
 abbrev pub Sources : Type 0

@@ -14,8 +14,8 @@ abbrev pub Values : Type 0
 Values = List (List ℕ × Json)
 
 -- the value that is bound to a name, where one is
-abbrev pub bound : List ℕ → Values → Option Json
-bound name values = member_named name values
+abbrev pub bound_value : List ℕ → Values → Option Json
+bound_value name values = member_named name values
 
 -- ---- one text
 
@@ -33,12 +33,12 @@ put_faults name v = NotText name ∷ []
 -- it is written
 abbrev pub piece_text : Values → Piece → List ℕ
 piece_text values (plain b) = b ∷ []
-piece_text values (placeholder name) = elim (bound name values) [ None ↦ placeholder_text name | Some v ↦ put_text v ]
+piece_text values (placeholder name) = elim (bound_value name values) [ None ↦ placeholder_text name | Some v ↦ put_text v ]
 
 -- the faults of a piece of a text
 abbrev pub piece_faults : Values → Piece → List PartFault
 piece_faults values (plain b) = []
-piece_faults values (placeholder name) = elim (bound name values) [ None ↦ [] | Some v ↦ put_faults name v ]
+piece_faults values (placeholder name) = elim (bound_value name values) [ None ↦ [] | Some v ↦ put_faults name v ]
 
 -- What a text becomes: where it is exactly one placeholder, the value that is bound to that, of any type, and
 -- else a text.
@@ -46,7 +46,7 @@ abbrev pub text_value : List ℕ → Values → Json
 text_value text values =
     elim (sole_placeholder (pieces text)) [
       | None ↦ string (flat_map (piece_text values) (pieces text))
-      | Some name ↦ unwrap_or (bound name values) (string text)
+      | Some name ↦ unwrap_or (bound_value name values) (string text)
     ]
 
 -- the faults of a text, from the left; one that is exactly one placeholder has none
@@ -61,27 +61,27 @@ text_faults text values =
 
 -- the value with the bound values in place of its placeholders; names of members stay
 abbrev mutual
-  pub substituted : Json → Values → Json
-  substituted null values = null
-  substituted (boolean b) values = boolean b
-  substituted (integer z) values = integer z
-  substituted (string s) values = text_value s values
-  substituted (array es) values = array (substituted_elements es values)
-  substituted (object ms) values = object (substituted_members ms values)
+  pub substituted_value : Json → Values → Json
+  substituted_value null values = null
+  substituted_value (boolean b) values = boolean b
+  substituted_value (integer z) values = integer z
+  substituted_value (string s) values = text_value s values
+  substituted_value (array es) values = array (substituted_elements es values)
+  substituted_value (object ms) values = object (substituted_members ms values)
 
   pub substituted_elements : Elements → Values → Elements
   substituted_elements no_elements values = no_elements
-  substituted_elements (element v es) values = element (substituted v values) (substituted_elements es values)
+  substituted_elements (element v es) values = element (substituted_value v values) (substituted_elements es values)
 
   pub substituted_members : Members → Values → Members
   substituted_members no_members values = no_members
-  substituted_members (member n v ms) values = member n (substituted v values) (substituted_members ms values)
+  substituted_members (member n v ms) values = member n (substituted_value v values) (substituted_members ms values)
 
 -- a fault as it is seen from the value around the part that has it: its pointer begins with this step
-abbrev pub inside : List ℕ → PartFault → PartFault
-inside step (InName pointer) = InName (step ++ pointer)
-inside step (NotText name) = NotText name
-inside step NoMemory = NoMemory
+abbrev pub faults_inside : List ℕ → PartFault → PartFault
+faults_inside step (InName pointer) = InName (step ++ pointer)
+faults_inside step (NotText name) = NotText name
+faults_inside step NoMemory = NoMemory
 
 -- the step to an element of a list: `/` and its index (RFC 6901, section 4)
 abbrev pub element_step : ℕ → List ℕ
@@ -109,11 +109,11 @@ abbrev mutual
 
   pub element_faults : ℕ → Elements → Values → List PartFault
   element_faults index no_elements values = []
-  element_faults index (element v es) values = map (inside (element_step index)) (faults_of v values) ++ element_faults (index + 1) es values
+  element_faults index (element v es) values = map (faults_inside (element_step index)) (faults_of v values) ++ element_faults (index + 1) es values
 
   pub member_faults : Members → Values → List PartFault
   member_faults no_members values = []
-  member_faults (member n v ms) values = map (inside (step_text n)) (faults_of v values) ++ member_faults ms values
+  member_faults (member n v ms) values = map (faults_inside (step_text n)) (faults_of v values) ++ member_faults ms values
 
 -- this is the first of these faults, or there was no memory
 abbrev pub IsFirstFault : PartFault → List PartFault → Type 0

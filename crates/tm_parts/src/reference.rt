@@ -4,7 +4,7 @@ ghost use Rattle.std.specs.Prelude.{◌≡◌, ◌⊎◌, Some, None, Ok, IfOk, 
 ghost use Rattle.std.specs.Str.{IsUtf8};
 ghost use Rattle.percent_encoding.specs.Percent as percent;
 ghost use Rattle.url.specs.Parser.{IsOutOfRoom};
-ghost use Rattle.tm_parts.specs.References.{joined_url, IsRefused, led_to, pointer_written, referred};
+ghost use Rattle.tm_parts.specs.References.{joined_url, IsRefused, location_target, pointer_written, reference_target};
 
 use percent_encoding::{DecodeError, percent_decode};
 use servient_base::NoMemory;
@@ -49,8 +49,8 @@ impl From<AllocError> for RefFault {
 /// `from`, and stands as the URL Standard writes it. The fragment is percent-decoded, and is a JSON Pointer
 /// (RFC 6901, section 6).
 pub fn target(alloc: Global, from: &str, text: &str) -> Result<Reference, RefFault>
-    ensures ok { IfOk result (λ r. referred from.now text.now ≡ Some r) }
-    ensures bad { IfErr result (λ e. (e ≡ RefFault.NoMemory) ⊎ (referred from.now text.now ≡ None)) }
+    ensures ok { IfOk result (λ r. reference_target from.now text.now ≡ Some r) }
+    ensures bad { IfErr result (λ e. (e ≡ RefFault.NoMemory) ⊎ (reference_target from.now text.now ≡ None)) }
 {
     match text.split_once('#') {
         None => Err(RefFault::BadRef),
@@ -90,8 +90,8 @@ fn decoded_text(alloc: Global, fragment: &str) -> Result<Text, RefFault>
 
 /// The text of the URL that a location leads to.
 fn location_url(alloc: Global, from: &str, location: &str) -> Result<Text, RefFault>
-    ensures ok { IfOk result (λ u. led_to from.now location.now ≡ Some u) }
-    ensures bad { IfErr result (λ e. (e ≡ RefFault.NoMemory) ⊎ (led_to from.now location.now ≡ None)) }
+    ensures ok { IfOk result (λ u. location_target from.now location.now ≡ Some u) }
+    ensures bad { IfErr result (λ e. (e ≡ RefFault.NoMemory) ⊎ (location_target from.now location.now ≡ None)) }
 {
     if location.is_empty() {
         return Ok(Text::copy_of(alloc, from)?);

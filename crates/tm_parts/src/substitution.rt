@@ -7,7 +7,7 @@ ghost use Rattle.wot_json.specs.Meaning.{json_of, json_members};
 ghost use Rattle.wot_json.specs.Places.{step_text};
 ghost use Rattle.tm_parts.specs.Placeholders.{pieces, placeholder as placeholder_piece};
 ghost use Rattle.tm_parts.specs.Pieces.{pieces_of};
-ghost use Rattle.tm_parts.specs.Substitution.{substituted, substituted_elements, substituted_members, faults_of, element_faults, member_faults, name_faults, text_value, text_faults, piece_text, piece_faults, inside, element_step, IsFirstFault};
+ghost use Rattle.tm_parts.specs.Substitution.{substituted_value, substituted_elements, substituted_members, faults_of, element_faults, member_faults, name_faults, text_value, text_faults, piece_text, piece_faults, faults_inside, element_step, IsFirstFault};
 
 use crate::bindings::Bindings;
 use crate::placeholder::{Piece, first_piece, first_placeholder, whole_placeholder};
@@ -44,7 +44,7 @@ impl From<AllocError> for PartFault {
 impl PartFault {
     /// The fault as it is seen from the object around the member that has it.
     fn inside_member(self, alloc: Global, name: &str) -> PartFault
-        ensures { (result ≡ PartFault.NoMemory) ⊎ (result ≡ inside (step_text name.now) self) }
+        ensures { (result ≡ PartFault.NoMemory) ⊎ (result ≡ faults_inside (step_text name.now) self) }
     {
         match self {
             PartFault::InName(pointer) => match into_member(alloc, name, &pointer) {
@@ -57,7 +57,7 @@ impl PartFault {
 
     /// The fault as it is seen from the list around the element that has it.
     fn inside_element(self, alloc: Global, index: usize) -> PartFault
-        ensures { (result ≡ PartFault.NoMemory) ⊎ (result ≡ inside (element_step index) self) }
+        ensures { (result ≡ PartFault.NoMemory) ⊎ (result ≡ faults_inside (element_step index) self) }
     {
         match self {
             PartFault::InName(pointer) => match into_element(alloc, index, &pointer) {
@@ -78,7 +78,7 @@ impl PartFault {
 /// values add.
 #[cycle(substitute)]
 pub fn substitute(alloc: Global, tree: &Tree, bindings: &Bindings) -> Result<Tree, PartFault>
-    ensures value { IfOk result (λ t. json_of t ≡ substituted (json_of tree.now) bindings.now) }
+    ensures value { IfOk result (λ t. json_of t ≡ substituted_value (json_of tree.now) bindings.now) }
     ensures faultless { OnOk result (faults_of (json_of tree.now) bindings.now ≡ []) }
     ensures fault { IfErr result (λ e. IsFirstFault e (faults_of (json_of tree.now) bindings.now)) }
 {

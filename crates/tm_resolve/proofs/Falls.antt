@@ -4,7 +4,7 @@ use Rattle.std.specs.Prelude.{Option, Some, None, Result, Ok, Err, option_and_th
 use Rattle.std.specs.Result.{result_ok}
 use Rattle.std.specs.Str.{bytes_eq}
 use Rattle.wot_json.specs.Tree.{Json, null, boolean, integer, string, array, object, nesting, elements_nesting, members_nesting, Elements, no_elements, element, Members, no_members, member}
-use Rattle.wot_json.specs.Lookup.{listed, listed_members, member_named}
+use Rattle.wot_json.specs.Lookup.{element_list, member_list, member_named}
 use Rattle.wot_json.specs.Places.{index_text}
 use Rattle.wot_json.specs.Pointer.{is_pointer, tokens_in, element_at, part_at, value_at, part_of}
 use Rattle.tm_parts.specs.Sources.{Sources, source_named}
@@ -34,16 +34,16 @@ source_nests (s ∷ ss) url whole found = elim (chosen (bytes_eq url s.0) s.1 (O
   | inr later ↦ omega (arith, source_nests ss url whole later)
 ]
 
-element_part : (es : Elements) (token : List ℕ) (index : ℕ) (v : Json) → element_at token index (listed es) ≡ Some v → nesting v ≤ elements_nesting es
+element_part : (es : Elements) (token : List ℕ) (index : ℕ) (v : Json) → element_at token index (element_list es) ≡ Some v → nesting v ≤ elements_nesting es
 element_part no_elements token index v found = absurd (cc)
-element_part (element w es) token index v found = elim (chosen (bytes_eq token (index_text index)) w v (element_at token (index + 1) (listed es)) found) [
+element_part (element w es) token index v found = elim (chosen (bytes_eq token (index_text index)) w v (element_at token (index + 1) (element_list es)) found) [
   | inl this ↦ omega (arith, ap nesting this)
   | inr later ↦ omega (arith, element_part es token (index + 1) v later)
 ]
 
-member_part : (ms : Members) (token : List ℕ) (v : Json) → member_named token (listed_members ms) ≡ Some v → nesting v ≤ members_nesting ms
+member_part : (ms : Members) (token : List ℕ) (v : Json) → member_named token (member_list ms) ≡ Some v → nesting v ≤ members_nesting ms
 member_part no_members token v found = absurd (cc)
-member_part (member name w ms) token v found = elim (chosen (bytes_eq token name) w v (member_named token (listed_members ms)) found) [
+member_part (member name w ms) token v found = elim (chosen (bytes_eq token name) w v (member_named token (member_list ms)) found) [
   | inl this ↦ omega (arith, ap nesting this)
   | inr later ↦ omega (arith, member_part ms token v later)
 ]

@@ -4,7 +4,7 @@ use Rattle.std.specs.Prelude.{Option, Some, None, Ok, Err}
 use Rattle.std.specs.Str.{bytes_eq}
 use Rattle.std.proofs.lemmas.Bool.{true≢false}
 use Rattle.wot_json.specs.Tree.{Json, array, object, Elements, elements_of, Members, members_of}
-use Rattle.wot_json.specs.Lookup.{listed, listed_members, member_named}
+use Rattle.wot_json.specs.Lookup.{element_list, member_list, member_named}
 use Rattle.wot_json.specs.Merge.{merge}
 use Rattle.wot_json.specs.Places.{step_text}
 use Rattle.wot_json.specs.Pointer.{part_of}
@@ -75,13 +75,13 @@ lists_same : (p : Json) (vs ws : List Json) → p ≡ array (elements_of vs) →
 lists_same p vs ws a b =
     let both : array (elements_of vs) ≡ array (elements_of ws) = sym a ∙ b in
     let inside : elements_of vs ≡ elements_of ws = cc in
-    sym (listed_lem vs) ∙ ap (λ (es : Elements). listed es) inside ∙ listed_lem ws
+    sym (listed_lem vs) ∙ ap (λ (es : Elements). element_list es) inside ∙ listed_lem ws
 
 objects_same : (p : Json) (ms ns : List (List ℕ × Json)) → p ≡ object (members_of ms) → p ≡ object (members_of ns) → ms ≡ ns
 objects_same p ms ns a b =
     let both : object (members_of ms) ≡ object (members_of ns) = sym a ∙ b in
     let inside : members_of ms ≡ members_of ns = cc in
-    sym (listed_members_lem ms) ∙ ap (λ (es : Members). listed_members es) inside ∙ listed_members_lem ns
+    sym (listed_members_lem ms) ∙ ap (λ (es : Members). member_list es) inside ∙ listed_members_lem ns
 
 plain_list : {A : Type 0} (p : Json) (vs : List Json) → is_plain p ≡ true → p ≡ array (elements_of vs) → A
 plain_list {A} p vs a b = false_true (is_plain p) (ap is_plain b) a

@@ -8,7 +8,7 @@ use Rattle.std.proofs.lemmas.Bool.{true≢false, cases_Bool, or_parts, or_left, 
 use Rattle.std.proofs.lemmas.Bool.Decides.{nat_tests}
 use Rattle.std.proofs.lemmas.List.Folds.{list_any-append}
 use Rattle.wot_json.specs.Tree.{Json, null, boolean, integer, string, array, object, Elements, no_elements, element, elements_of, Members, no_members, member, members_of}
-use Rattle.wot_json.specs.Lookup.{listed, listed_members, member_named}
+use Rattle.wot_json.specs.Lookup.{element_list, member_list, member_named}
 use Rattle.wot_json.specs.Merge.{merge}
 use Rattle.wot_json.specs.Places.{step_text}
 use Rattle.wot_json.specs.Pointer.{part_of}
@@ -45,11 +45,11 @@ StepsGive sources step chain = (role : Role) → (depth : ℕ) → (target : Ref
     → (o : Outcome Json) × TargetGives sources url pointer chain target o
 
 -- lists of elements and of members, there and back
-elements_back : (es : Elements) → elements_of (listed es) ≡ es
+elements_back : (es : Elements) → elements_of (element_list es) ≡ es
 elements_back no_elements = refl
 elements_back (element v es) = ap (λ (fs : Elements). element v fs) (elements_back es)
 
-members_back : (ms : Members) → members_of (listed_members ms) ≡ ms
+members_back : (ms : Members) → members_of (member_list ms) ≡ ms
 members_back no_members = refl
 members_back (member n v ms) = ap (λ (ns : Members). member n v ns) (members_back ms)
 
@@ -67,38 +67,38 @@ after_member sources url pointer chain m more (Err fault) named part r rest = (E
 
 -- what an object becomes once its target and its other members have outcomes
 after_import : (sources : Sources) (url pointer : List ℕ) (chain : List Reference) (ms : Members) (reference : Json) (target : Reference) (imported : Json) (others : Outcome (List (List ℕ × Json))) (b : Bool)
-    → member_named reference_name (listed_members ms) ≡ Some reference → reference_of url reference ≡ Some target → TargetGives sources url pointer chain target (Ok imported)
-    → MembersGive sources url pointer chain (listed_members ms) others → is_object imported ≡ b → (o : Outcome Json) × PartGives sources url pointer chain (object ms) o
+    → member_named reference_name (member_list ms) ≡ Some reference → reference_of url reference ≡ Some target → TargetGives sources url pointer chain target (Ok imported)
+    → MembersGive sources url pointer chain (member_list ms) others → is_object imported ≡ b → (o : Outcome Json) × PartGives sources url pointer chain (object ms) o
 after_import sources url pointer chain ms reference target imported others true some refers inner further tested = (
   outcome_map (λ ws. merge imported (object (members_of ws))) others,
-  rule.refers url pointer chain (object ms) (outcome_map (λ ws. merge imported (object (members_of ws))) others) (listed_members ms) reference target imported others (ap object (sym (members_back ms))) some refers inner tested further refl,
+  rule.refers url pointer chain (object ms) (outcome_map (λ ws. merge imported (object (members_of ws))) others) (member_list ms) reference target imported others (ap object (sym (members_back ms))) some refers inner tested further refl,
 )
 after_import sources url pointer chain ms reference target imported others false some refers inner further tested =
-    (Err (At NotObject url pointer), rule.no_object url pointer chain (object ms) (Err (At NotObject url pointer)) (listed_members ms) reference target imported (ap object (sym (members_back ms))) some refers inner tested refl)
+    (Err (At NotObject url pointer), rule.no_object url pointer chain (object ms) (Err (At NotObject url pointer)) (member_list ms) reference target imported (ap object (sym (members_back ms))) some refers inner tested refl)
 
 after_target : (sources : Sources) (url pointer : List ℕ) (chain : List Reference) (ms : Members) (reference : Json) (target : Reference) (others : Outcome (List (List ℕ × Json))) (r : Outcome Json)
-    → member_named reference_name (listed_members ms) ≡ Some reference → reference_of url reference ≡ Some target → TargetGives sources url pointer chain target r
-    → MembersGive sources url pointer chain (listed_members ms) others → (o : Outcome Json) × PartGives sources url pointer chain (object ms) o
+    → member_named reference_name (member_list ms) ≡ Some reference → reference_of url reference ≡ Some target → TargetGives sources url pointer chain target r
+    → MembersGive sources url pointer chain (member_list ms) others → (o : Outcome Json) × PartGives sources url pointer chain (object ms) o
 after_target sources url pointer chain ms reference target others (Ok imported) some refers inner further = after_import sources url pointer chain ms reference target imported others (is_object imported) some refers inner further refl
 after_target sources url pointer chain ms reference target others (Err fault) some refers inner further =
-    (Err fault, rule.target_fails url pointer chain (object ms) (Err fault) (listed_members ms) reference target fault (ap object (sym (members_back ms))) some refers inner refl)
+    (Err fault, rule.target_fails url pointer chain (object ms) (Err fault) (member_list ms) reference target fault (ap object (sym (members_back ms))) some refers inner refl)
 
 after_reference : (sources : Sources) (step : Step) (url pointer : List ℕ) (chain : List Reference) (depth : ℕ) (ms : Members) (reference : Json) (others : Outcome (List (List ℕ × Json))) (t : Option Reference)
-    → StepsGive sources step chain → member_named reference_name (listed_members ms) ≡ Some reference → reference_of url reference ≡ t
-    → Near (elim t as (λ _. List Visit) [ None ↦ [] | Some target ↦ step Part depth chain target ]) → MembersGive sources url pointer chain (listed_members ms) others
+    → StepsGive sources step chain → member_named reference_name (member_list ms) ≡ Some reference → reference_of url reference ≡ t
+    → Near (elim t as (λ _. List Visit) [ None ↦ [] | Some target ↦ step Part depth chain target ]) → MembersGive sources url pointer chain (member_list ms) others
     → (o : Outcome Json) × PartGives sources url pointer chain (object ms) o
 after_reference sources step url pointer chain depth ms reference others None steps some none near further =
-    (Err (At BadRef url pointer), rule.refers_nowhere url pointer chain (object ms) (Err (At BadRef url pointer)) (listed_members ms) reference (ap object (sym (members_back ms))) some none refl)
+    (Err (At BadRef url pointer), rule.refers_nowhere url pointer chain (object ms) (Err (At BadRef url pointer)) (member_list ms) reference (ap object (sym (members_back ms))) some none refl)
 after_reference sources step url pointer chain depth ms reference others (Some target) steps some refers near further =
     let given = steps Part depth target url pointer near in
     after_target sources url pointer chain ms reference target others given.0 some refers given.1 further
 
 after_members : (sources : Sources) (step : Step) (url pointer : List ℕ) (chain : List Reference) (depth : ℕ) (ms : Members) (others : Outcome (List (List ℕ × Json))) (r : Option Json)
-    → StepsGive sources step chain → member_named reference_name (listed_members ms) ≡ r → Near (reference_visits step url chain depth r) → MembersGive sources url pointer chain (listed_members ms) others
+    → StepsGive sources step chain → member_named reference_name (member_list ms) ≡ r → Near (reference_visits step url chain depth r) → MembersGive sources url pointer chain (member_list ms) others
     → (o : Outcome Json) × PartGives sources url pointer chain (object ms) o
 after_members sources step url pointer chain depth ms others None steps none near further = (
   outcome_map (λ ws. object (members_of ws)) others,
-  rule.members url pointer chain (object ms) (outcome_map (λ ws. object (members_of ws)) others) (listed_members ms) others (ap object (sym (members_back ms))) none further refl,
+  rule.members url pointer chain (object ms) (outcome_map (λ ws. object (members_of ws)) others) (member_list ms) others (ap object (sym (members_back ms))) none further refl,
 )
 after_members sources step url pointer chain depth ms others (Some reference) steps some near further =
     after_reference sources step url pointer chain depth ms reference others (reference_of url reference) steps some refl near further
@@ -114,33 +114,33 @@ mutual
   part_total sources step url pointer chain depth (string s) steps near = (Ok (string s), rule.plain url pointer chain (string s) (Ok (string s)) refl refl)
   part_total sources step url pointer chain depth (array es) steps near =
       let each = elements_total sources step url pointer chain (depth + 1) 0 es steps (near_behind (own_visit chain depth (array es)) (element_visits step url chain (depth + 1) es) near) in
-      (outcome_map (λ ws. array (elements_of ws)) each.0, rule.list url pointer chain (array es) (outcome_map (λ ws. array (elements_of ws)) each.0) (listed es) each.0 (ap array (sym (elements_back es))) each.1 refl)
+      (outcome_map (λ ws. array (elements_of ws)) each.0, rule.list url pointer chain (array es) (outcome_map (λ ws. array (elements_of ws)) each.0) (element_list es) each.0 (ap array (sym (elements_back es))) each.1 refl)
   part_total sources step url pointer chain depth (object ms) steps near =
-      let r = member_named reference_name (listed_members ms) in
+      let r = member_named reference_name (member_list ms) in
       let parts = near_parts (reference_visits step url chain depth r) (member_visits step url chain (depth + 1) ms)
       (near_behind (own_visit chain depth (object ms)) (reference_visits step url chain depth r ++ member_visits step url chain (depth + 1) ms) near) in
       let others = members_total sources step url pointer chain (depth + 1) ms steps parts.1 in
       after_members sources step url pointer chain depth ms others.0 r steps refl parts.0 others.1
 
   elements_total : (sources : Sources) (step : Step) (url pointer : List ℕ) (chain : List Reference) (depth index : ℕ) (es : Elements) → StepsGive sources step chain → Near (element_visits step url chain depth es)
-      → (o : Outcome (List Json)) × ElementsGive sources url pointer chain index (listed es) o
+      → (o : Outcome (List Json)) × ElementsGive sources url pointer chain index (element_list es) o
   elements_total sources step url pointer chain depth index no_elements steps near = (Ok [], rule.no_elements url pointer chain index [] (Ok []) refl refl)
   elements_total sources step url pointer chain depth index (element v es) steps near =
       let parts = near_parts (part_visits step url chain depth v) (element_visits step url chain depth es) near in
       let first = part_total sources step url (pointer ++ element_step index) chain depth v steps parts.0 in
       let rest = elements_total sources step url pointer chain depth (index + 1) es steps parts.1 in
-      after_element sources url pointer chain index v (listed es) first.0 first.1 rest.0 rest.1
+      after_element sources url pointer chain index v (element_list es) first.0 first.1 rest.0 rest.1
 
   members_total : (sources : Sources) (step : Step) (url pointer : List ℕ) (chain : List Reference) (depth : ℕ) (ms : Members) → StepsGive sources step chain → Near (member_visits step url chain depth ms)
-      → (o : Outcome (List (List ℕ × Json))) × MembersGive sources url pointer chain (listed_members ms) o
+      → (o : Outcome (List (List ℕ × Json))) × MembersGive sources url pointer chain (member_list ms) o
   members_total sources step url pointer chain depth no_members steps near = (Ok [], rule.no_members url pointer chain [] (Ok []) refl refl)
   members_total sources step url pointer chain depth (member n v ms) steps near =
       let parts = near_parts (part_visits step url chain depth v) (member_visits step url chain depth ms) near in
       let first = part_total sources step url (pointer ++ step_text n) chain depth v steps parts.0 in
       let rest = members_total sources step url pointer chain depth ms steps parts.1 in
       elim (cases_Bool (bytes_eq n reference_name)) [
-        | inl reference ↦ (rest.0, rule.left_out url pointer chain ((n, v) ∷ listed_members ms) rest.0 (n, v) (listed_members ms) refl reference rest.1)
-        | inr other ↦ after_member sources url pointer chain (n, v) (listed_members ms) first.0 other first.1 rest.0 rest.1
+        | inl reference ↦ (rest.0, rule.left_out url pointer chain ((n, v) ∷ member_list ms) rest.0 (n, v) (member_list ms) refl reference rest.1)
+        | inr other ↦ after_member sources url pointer chain (n, v) (member_list ms) first.0 other first.1 rest.0 rest.1
       ]
 
 -- ---- whole models

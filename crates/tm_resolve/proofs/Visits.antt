@@ -8,7 +8,7 @@ use Rattle.std.proofs.lemmas.List.Folds.{list_any-append}
 use Rattle.std.proofs.lemmas.Bool.{or_from, or_left, or_right}
 use Rattle.std.specs.List.{list_any, flat_map, sum_by}
 use Rattle.wot_json.specs.Tree.{Json, elements_of, members_of}
-use Rattle.wot_json.specs.Lookup.{listed_members, member_named}
+use Rattle.wot_json.specs.Lookup.{member_list, member_named}
 use Rattle.wot_json.specs.Meaning.{json_of, json_items, json_member, json_members}
 use Rattle.wot_json.specs.declared.tree.Tree.{Tree}
 use Rattle.wot_json.specs.declared.tree.Tree.TheVariants as tree
@@ -127,11 +127,11 @@ spends_object t ms ns left mid rest is same begins spends =
 pub object_part : (step : Step) (url : List ℕ) (chain : List Reference) (depth : ℕ) (t : Tree) (ms : List (List ℕ × Json)) (left mid : ℕ) (r : Result ℕ Stop) → t ≡ tree.Obj ms → Weighs (own_visit chain depth (json_of t) ∷ []) left (Ok mid)
     → Weighs (reference_visits step url chain depth (member_named reference_name ms) ++ member_visits step url chain (depth + 1) (members_of ms)) mid r → Weighs (part_visits step url chain depth (json_of t)) left r
 object_part step url chain depth t ms left mid r is own inside =
-    let listed : Weighs (reference_visits step url chain depth (member_named reference_name (listed_members (members_of ms))) ++ member_visits step url chain (depth + 1) (members_of ms)) mid r =
+    let listed : Weighs (reference_visits step url chain depth (member_named reference_name (member_list (members_of ms))) ++ member_visits step url chain (depth + 1) (members_of ms)) mid r =
     subst (λ (ns : List (List ℕ × Json)). Weighs (reference_visits step url chain depth (member_named reference_name ns) ++ member_visits step url chain (depth + 1) (members_of ms)) mid r) (sym (listed_members_lem ms)) inside in
     let first : Weighs (own_visit chain depth (json_of (tree.Obj ms)) ∷ []) left (Ok mid) = subst (λ (u : Tree). Weighs (own_visit chain depth (json_of u) ∷ []) left (Ok mid)) is own in
     subst (λ (u : Tree). Weighs (part_visits step url chain depth (json_of u)) left r) (sym is)
-    (weighs_then (own_visit chain depth (json_of (tree.Obj ms)) ∷ []) (reference_visits step url chain depth (member_named reference_name (listed_members (members_of ms))) ++ member_visits step url chain (depth + 1) (members_of ms)) left mid r first listed)
+    (weighs_then (own_visit chain depth (json_of (tree.Obj ms)) ∷ []) (reference_visits step url chain depth (member_named reference_name (member_list (members_of ms))) ++ member_visits step url chain (depth + 1) (members_of ms)) left mid r first listed)
 
 -- the links of the model of a Thing: the model that it extends, and its submodels
 pub links_of_thing : (sources : Sources) (role : Role) (url : List ℕ) (chain es : List Reference) (whole : Json) (links : List Json) (left mid : ℕ) (r : Result ℕ Stop) → role ≡ Thing → links ≡ links_under whole → es ≡ chain

@@ -5,10 +5,10 @@ use Rattle.std.specs.Str.{bytes_eq}
 use Rattle.url.specs.Parts.{serialize}
 use Rattle.url.specs.Setters.{set_fragment}
 use Rattle.wot_json.specs.Tree.{Json, string, array, object, members_of}
-use Rattle.wot_json.specs.Lookup.{listed, listed_members, member_named}
+use Rattle.wot_json.specs.Lookup.{element_list, member_list, member_named}
 use Rattle.wot_json.specs.Merge.{members_under, without_member}
 use Rattle.wot_json.specs.Places.{index_text}
-use Rattle.tm_parts.specs.References.{joined_url, referred}
+use Rattle.tm_parts.specs.References.{joined_url, reference_target}
 use Rattle.tm_parts.specs.declared.reference.Reference.{Reference}
 use Rattle.tm_resolve.specs.Chain.{whole_of}
 
@@ -18,7 +18,7 @@ reference_name = codes "tm:ref"
 
 -- the target that the value of a `tm:ref` in the model `from` refers to, where it is a text that does
 abbrev pub reference_of : List ℕ → Json → Option Reference
-reference_of from (string text) = referred from text
+reference_of from (string text) = reference_target from text
 reference_of from v = None
 
 -- the value is this text
@@ -32,12 +32,12 @@ has_relation relation ms = elim (member_named (codes "rel") ms) [ None ↦ false
 
 -- a link that counts: an object with this relation, which doesn't itself come from elsewhere
 abbrev pub is_link : List ℕ → Json → Bool
-is_link relation (object ms) = is_none (member_named reference_name (listed_members ms)) && has_relation relation (listed_members ms)
+is_link relation (object ms) = is_none (member_named reference_name (member_list ms)) && has_relation relation (member_list ms)
 is_link relation v = false
 
 -- the elements of a value, which has none where it is no list
 abbrev pub elements_under : Json → List Json
-elements_under (array es) = listed es
+elements_under (array es) = element_list es
 elements_under v = []
 
 -- all links of a model, whatever their relation

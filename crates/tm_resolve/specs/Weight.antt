@@ -5,7 +5,7 @@ use Rattle.std.specs.Prelude.{◌+◌, ◌==◌, ◌||◌, Bool, ℕ, zero, suc,
 use Rattle.std.specs.List.{list_any, flat_map, sum_by}
 use Rattle.wot_json.specs.Tree.{Json, null, boolean, integer, string, array, object, Elements, no_elements, element, Members, no_members, member}
 use Rattle.wot_json.specs.Json.{json_string}
-use Rattle.wot_json.specs.Lookup.{listed, listed_members, member_named}
+use Rattle.wot_json.specs.Lookup.{element_list, member_list, member_named}
 use Rattle.wot_json.specs.Pointer.{part_of}
 use Rattle.tm_parts.specs.Sources.{Sources}
 use Rattle.tm_parts.specs.declared.reference.Reference.{Reference}
@@ -32,8 +32,8 @@ own_weight null = 4
 own_weight (boolean b) = 5
 own_weight (integer z) = 20
 own_weight (string s) = length (json_string s)
-own_weight (array es) = 2 + length (listed es)
-own_weight (object ms) = 2 + sum_by name_weight (listed_members ms)
+own_weight (array es) = 2 + length (element_list es)
+own_weight (object ms) = 2 + sum_by name_weight (member_list ms)
 
 -- ---- the visits of an expansion
 
@@ -62,7 +62,7 @@ abbrev mutual
   part_visits step url chain depth (array es) = own_visit chain depth (array es) ∷ element_visits step url chain (depth + 1) es
   part_visits step url chain depth (object ms) =
       own_visit chain depth (object ms)
-      ∷ reference_visits step url chain depth (member_named reference_name (listed_members ms))
+      ∷ reference_visits step url chain depth (member_named reference_name (member_list ms))
       ++ member_visits step url chain (depth + 1) ms
 
   pub element_visits : Step → List ℕ → List Reference → ℕ → Elements → List Visit

@@ -4,7 +4,7 @@ use Rattle.std.specs.List.{flat_map}
 use Rattle.std.specs.Option.{option_map_or}
 use Rattle.std.specs.Str.{bytes_eq}
 use Rattle.wot_json.specs.Tree.{Json, null, boolean, integer, string, array, object}
-use Rattle.wot_json.specs.Lookup.{listed}
+use Rattle.wot_json.specs.Lookup.{element_list}
 use Rattle.wot_terms.specs.declared.kind.Kind.{Kind}
 use Rattle.wot_terms.specs.declared.kind.Kind.TheVariants as kind
 use Rattle.wot_terms.specs.declared.op.Op.{Op}
@@ -43,7 +43,7 @@ ops_named (object ms) = []
 
 -- the operations that a text or a list of texts names
 abbrev pub all_named : Json → List Op
-all_named (array es) = flat_map ops_named (listed es)
+all_named (array es) = flat_map ops_named (element_list es)
 all_named v = ops_named v
 
 -- the operations of a form: those that `op` names, and else the default ones
@@ -73,7 +73,7 @@ form_of defaults v = record {
 
 -- the forms that stand in a list
 abbrev pub forms_listed : List Op → Json → List Form
-forms_listed defaults (array es) = map (form_of defaults) (listed es)
+forms_listed defaults (array es) = map (form_of defaults) (element_list es)
 forms_listed defaults v = []
 
 -- the forms that stand under `forms`

@@ -12,7 +12,7 @@ use Rattle.serde_json.specs.Data.{Data}
 use Rattle.serde_json.specs.Find.{of_integer}
 use Rattle.serde_json.specs.Written.{number_text, compact_text, items_text, members_text as fields_text}
 use Rattle.wot_json.specs.Tree.{Json, null, boolean, integer, string, array, object, Elements, no_elements, element, Members, no_members, member}
-use Rattle.wot_json.specs.Json.{hex_digit, escaped, json_string, text_of, elements_text, more_elements_text, members_text, more_members_text}
+use Rattle.wot_json.specs.Json.{hex_digit, escaped_byte, json_string, text_of, elements_text, more_elements_text, members_text, more_members_text}
 
 -- the value as `serde_json` has it
 abbrev mutual
@@ -38,28 +38,28 @@ same_digit d = grind (arith, nat_tests)
 -- all bytes below n are written alike
 abbrev alike_below : ℕ → Bool
 alike_below zero = true
-alike_below (suc n) = bytes_eq (escaped n) (escape_byte n) && alike_below n
+alike_below (suc n) = bytes_eq (escaped_byte n) (escape_byte n) && alike_below n
 
-low_byte : (n : ℕ) → alike_below n ≡ true → (b : ℕ) → b < n → escaped b ≡ escape_byte b
+low_byte : (n : ℕ) → alike_below n ≡ true → (b : ℕ) → b < n → escaped_byte b ≡ escape_byte b
 low_byte zero e b h = absurd (omega arith)
 low_byte (suc n) e b h =
     let both = and_parts _ _ e in
-    elim (cases_eq b n) [ inl same ↦ rw same ((bytes_eq-Decides (escaped n) (escape_byte n)).0 both.0) | inr other ↦ low_byte n both.1 b (omega arith) ]
+    elim (cases_eq b n) [ inl same ↦ rw same ((bytes_eq-Decides (escaped_byte n) (escape_byte n)).0 both.0) | inr other ↦ low_byte n both.1 b (omega arith) ]
 
 all_low : alike_below 128 ≡ true
 unfolding escape_byte
 all_low = refl
 
-plain_byte : (b : ℕ) → 128 ≤ b → escaped b ≡ b ∷ []
+plain_byte : (b : ℕ) → 128 ≤ b → escaped_byte b ≡ b ∷ []
 plain_byte b high = grind (arith, nat_tests)
 
-same_byte : (b : ℕ) → escaped b ≡ escape_byte b
+same_byte : (b : ℕ) → escaped_byte b ≡ escape_byte b
 same_byte b = elim (cases_lt b 128) [
   | inl low ↦ low_byte 128 all_low b low
   | inr high ↦ plain_byte b high ∙ sym (escape_byte_plain b (λ e. omega arith) (λ e. omega arith) (omega arith))
 ]
 
-same_bytes : (s : List ℕ) → flat_map escaped s ≡ escape s
+same_bytes : (s : List ℕ) → flat_map escaped_byte s ≡ escape s
 same_bytes [] = refl
 same_bytes (b ∷ s) = ap₂ (λ (here rest : List ℕ). here ++ rest) (same_byte b) (same_bytes s)
 

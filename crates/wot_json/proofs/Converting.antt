@@ -18,7 +18,7 @@ use Rattle.serde_json.proofs.Views.{Entry}
 use Rattle.wot_json.specs.Tree.{Json, integer, array, object, Elements, no_elements, element, Members, no_members, member, elements_of, members_of, AreOrdered}
 use Rattle.wot_json.specs.Meaning.{json_of, json_members}
 use Rattle.wot_json.specs.Places.{index_text}
-use Rattle.wot_json.specs.Reading.{tree_of_value, tree_of_items, tree_of_members, behind, wrong_numbers, wrong_in_items, wrong_in_members, first_pointer}
+use Rattle.wot_json.specs.Reading.{tree_of_value, tree_of_items, tree_of_members, places_below, wrong_numbers, wrong_in_items, wrong_in_members, first_pointer}
 use Rattle.wot_json.specs.Faults.{NamesFirst}
 use Rattle.wot_json.specs.declared.tree.Tree.{Tree}
 use Rattle.wot_json.specs.declared.reading.ReadFault.{ReadFault}
@@ -79,7 +79,7 @@ whole_number : (o : Option ℤ) (v : Json) (wrong : List (List (List ℕ))) → 
 whole_number None v wrong e = absurd (cc)
 whole_number (Some z) v wrong e = refl
 
-nothing_below : (token : List ℕ) (places more : List (List (List ℕ))) → places ≡ [] → more ≡ [] → behind token places ++ more ≡ []
+nothing_below : (token : List ℕ) (places more : List (List (List ℕ))) → places ≡ [] → more ≡ [] → places_below token places ++ more ≡ []
 nothing_below token places more none_here none_later = rw (none_here, none_later)
 
 -- a value that has a tree has no wrong number
@@ -126,16 +126,16 @@ pub items_places_more : (all : List (List (List ℕ))) (vs : List Value) (i : �
     → all ≡ wrong_in_items i (items_view (drop i vs)) → tree_of_value (view x) ≡ Some v → all ≡ wrong_in_items (i + 1) (items_view (drop (i + 1) vs))
 items_places_more all vs i x v within is so_far one =
     so_far ∙ at_drop_more (λ rest. wrong_in_items i (items_view rest)) vs i x within
-    ∙ ap (λ (here : List (List (List ℕ))). behind (index_text i) here ++ wrong_in_items (i + 1) (items_view (drop (i + 1) vs))) (ap (λ (y : Value). wrong_numbers (view y)) (sym is) ∙ none_wrong (view x) v one)
+    ∙ ap (λ (here : List (List (List ℕ))). places_below (index_text i) here ++ wrong_in_items (i + 1) (items_view (drop (i + 1) vs))) (ap (λ (y : Value). wrong_numbers (view y)) (sym is) ∙ none_wrong (view x) v one)
 
 pub item_fault : (all : List (List (List ℕ))) (vs : List Value) (i n : ℕ) (x : Value) (f g : ReadFault) → i < length vs → x ≡ get_or vs i x → n ≡ i
     → all ≡ wrong_in_items i (items_view (drop i vs)) → NamesFirst (wrong_numbers (view x)) f
-    → ((places : List (List (List ℕ))) → NamesFirst places f → NamesFirst (behind (index_text n) places) g) → NamesFirst all g
+    → ((places : List (List (List ℕ))) → NamesFirst places f → NamesFirst (places_below (index_text n) places) g) → NamesFirst all g
 item_fault all vs i n x f g within is count so_far here out =
-    let whole : all ≡ behind (index_text n) (wrong_numbers (view x)) ++ wrong_in_items (i + 1) (items_view (drop (i + 1) vs)) =
+    let whole : all ≡ places_below (index_text n) (wrong_numbers (view x)) ++ wrong_in_items (i + 1) (items_view (drop (i + 1) vs)) =
     so_far ∙ at_drop_more (λ rest. wrong_in_items i (items_view rest)) vs i x within
-    ∙ ap (λ (y : Value). behind (index_text i) (wrong_numbers (view y)) ++ wrong_in_items (i + 1) (items_view (drop (i + 1) vs))) (sym is)
-    ∙ ap (λ (k : ℕ). behind (index_text k) (wrong_numbers (view x)) ++ wrong_in_items (i + 1) (items_view (drop (i + 1) vs))) (sym count) in
+    ∙ ap (λ (y : Value). places_below (index_text i) (wrong_numbers (view y)) ++ wrong_in_items (i + 1) (items_view (drop (i + 1) vs))) (sym is)
+    ∙ ap (λ (k : ℕ). places_below (index_text k) (wrong_numbers (view x)) ++ wrong_in_items (i + 1) (items_view (drop (i + 1) vs))) (sym count) in
     subst (λ (places : List (List (List ℕ))). NamesFirst places g) (sym whole)
     (NamesFirst-append _ (wrong_in_items (i + 1) (items_view (drop (i + 1) vs))) g (out (wrong_numbers (view x)) here))
 
@@ -181,11 +181,11 @@ members_all all done left over so_far = so_far ∙ rw over (ap Some (members_bef
 pub members_places_more : (all : List (List (List ℕ))) (e : Entry) (left : List Entry) (v : Json)
     → all ≡ wrong_in_members (members_view (e ∷ left)) → tree_of_value (view e.1) ≡ Some v → all ≡ wrong_in_members (members_view left)
 members_places_more all e left v so_far one =
-    so_far ∙ ap (λ (here : List (List (List ℕ))). behind (string_bytes e.0) here ++ wrong_in_members (members_view left)) (none_wrong (view e.1) v one)
+    so_far ∙ ap (λ (here : List (List (List ℕ))). places_below (string_bytes e.0) here ++ wrong_in_members (members_view left)) (none_wrong (view e.1) v one)
 
 pub member_fault : (all : List (List (List ℕ))) (e : Entry) (left : List Entry) (f g : ReadFault) → all ≡ wrong_in_members (members_view (e ∷ left))
     → NamesFirst (wrong_numbers (view e.1)) f
-    → ((places : List (List (List ℕ))) → NamesFirst places f → NamesFirst (behind (string_bytes e.0) places) g) → NamesFirst all g
+    → ((places : List (List (List ℕ))) → NamesFirst places f → NamesFirst (places_below (string_bytes e.0) places) g) → NamesFirst all g
 member_fault all e left f g so_far here out =
     subst (λ (places : List (List (List ℕ))). NamesFirst places g) (sym so_far) (NamesFirst-append _ (wrong_in_members (members_view left)) g (out (wrong_numbers (view e.1)) here))
 

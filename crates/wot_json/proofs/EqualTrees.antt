@@ -3,34 +3,34 @@ use Rattle.std.proofs.Common.{◌≡◌, ℕ, ◌+◌, ◌<◌, List, [], ◌∷
 use mathlib.Core.Bool.{false≢true}
 use Rattle.std.proofs.lemmas.List.{map_more, get_or-map}
 use Rattle.wot_json.specs.Tree.{Json, array, object, elements_of, members_of}
-use Rattle.wot_json.specs.Lookup.{listed, listed_members, member_named, found}
+use Rattle.wot_json.specs.Lookup.{element_list, member_list, member_named, value_under}
 
 -- the elements of an array are its elements
-pub listed_lem : (vs : List Json) → listed (elements_of vs) ≡ vs
+pub listed_lem : (vs : List Json) → element_list (elements_of vs) ≡ vs
 listed_lem [] = refl
 listed_lem (v ∷ vs) = ap (λ (ws : List Json). v ∷ ws) (listed_lem vs)
 
 -- the members of an object are its members
-pub listed_members_lem : (ms : List (List ℕ × Json)) → listed_members (members_of ms) ≡ ms
+pub listed_members_lem : (ms : List (List ℕ × Json)) → member_list (members_of ms) ≡ ms
 listed_members_lem [] = refl
 listed_members_lem (m ∷ ms) = ap (λ (ns : List (List ℕ × Json)). m ∷ ns) (listed_members_lem ms)
 
 -- what stands under a name in a list of members, the object of them has there
-pub found-members_of : (name : List ℕ) (ms : List (List ℕ × Json)) → found name (members_of ms) ≡ member_named name ms
+pub found-members_of : (name : List ℕ) (ms : List (List ℕ × Json)) → value_under name (members_of ms) ≡ member_named name ms
 found-members_of name ms = ap (member_named name) (listed_members_lem ms)
 
 -- arrays are the same where their elements are
 pub arrays_equal : (xs ys : List Json) (r : Bool) → (IsTrue r ↔ (xs ≡ ys)) → IsTrue r ↔ (array (elements_of xs) ≡ array (elements_of ys))
 arrays_equal xs ys r e = (
   λ yes'. ap (λ (vs : List Json). array (elements_of vs)) (e.0 yes'),
-  λ same. let inside : elements_of xs ≡ elements_of ys = cc in e.1 (sym (listed_lem xs) ∙ ap listed inside ∙ listed_lem ys),
+  λ same. let inside : elements_of xs ≡ elements_of ys = cc in e.1 (sym (listed_lem xs) ∙ ap element_list inside ∙ listed_lem ys),
 )
 
 -- objects are the same where their members are
 pub objects_equal : (xs ys : List (List ℕ × Json)) (r : Bool) → (IsTrue r ↔ (xs ≡ ys)) → IsTrue r ↔ (object (members_of xs) ≡ object (members_of ys))
 objects_equal xs ys r e = (
   λ yes'. ap (λ (ms : List (List ℕ × Json)). object (members_of ms)) (e.0 yes'),
-  λ same. let inside : members_of xs ≡ members_of ys = cc in e.1 (sym (listed_members_lem xs) ∙ ap listed_members inside ∙ listed_members_lem ys),
+  λ same. let inside : members_of xs ≡ members_of ys = cc in e.1 (sym (listed_members_lem xs) ∙ ap member_list inside ∙ listed_members_lem ys),
 )
 
 -- two lists that stand for the same so far, and at the next place

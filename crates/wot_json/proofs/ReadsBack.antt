@@ -29,7 +29,7 @@ use Rattle.serde_json.proofs.Texts.{print-outline}
 use Rattle.wot_json.specs.Tree.{Json, null, boolean, integer, string, array, object, Elements, no_elements, element, Members, no_members, member, AreOrdered}
 use Rattle.wot_json.specs.Json.{text_of, elements_text, more_elements_text, members_text, more_members_text, json_string}
 use Rattle.wot_json.specs.Reading.{value_of, tree_of, tree_of_value, tree_of_items, tree_of_members, max_depth}
-use Rattle.wot_json.specs.Lookup.{listed_members}
+use Rattle.wot_json.specs.Lookup.{member_list}
 use Rattle.wot_json.specs.WellFormed.{depth, elements_depth, members_depth, IsWellFormed, ElementsAreWellFormed, MembersAreWellFormed}
 use Rattle.wot_json.proofs.CompactTexts.{data_of, items_of, fields_of, same_string, text_of-compact}
 use Rattle.wot_json.proofs.TreeOf.{value_of-some}
@@ -89,11 +89,11 @@ abbrev ComeBefore : json.Members → Members → Type 0
 ComeBefore done no_members = ⊤
 ComeBefore done (member name v ms) = AllBelow name done
 
-ordered_tail : (name : List ℕ) (v : Json) (ms : Members) → AreOrdered (listed_members (member name v ms)) → AreOrdered (listed_members ms)
+ordered_tail : (name : List ℕ) (v : Json) (ms : Members) → AreOrdered (member_list (member name v ms)) → AreOrdered (member_list ms)
 ordered_tail name v no_members h = tt
 ordered_tail name v (member next w ms) h = h.1
 
-come_before_more : (done : json.Members) (name : List ℕ) (v : Json) (d : Data) (ms : Members) → AllBelow name done → AreOrdered (listed_members (member name v ms)) → ComeBefore (then_member done name d) ms
+come_before_more : (done : json.Members) (name : List ℕ) (v : Json) (d : Data) (ms : Members) → AllBelow name done → AreOrdered (member_list (member name v ms)) → ComeBefore (then_member done name d) ms
 come_before_more done name v d no_members h ordered = tt
 come_before_more done name v d (member next w ms) h ordered = AllBelow-then next done name d (AllBelow-trans name next done ordered.0 h) ordered.0
 
@@ -114,7 +114,7 @@ mutual
       ap (option_and_then (λ d. option_map (json.item d) (of_items (items_outline (items_of es))))) (reads_value v h.0)
       ∙ ap (option_map (json.item (data_of v))) (reads_elements es h.1)
 
-  reads_members : (ms : Members) (done : json.Members) → ComeBefore done ms → AreOrdered (listed_members ms) → MembersAreWellFormed ms → of_members (members_outline (fields_of ms)) done ≡ Some (joined done (fields_of ms))
+  reads_members : (ms : Members) (done : json.Members) → ComeBefore done ms → AreOrdered (member_list ms) → MembersAreWellFormed ms → of_members (members_outline (fields_of ms)) done ≡ Some (joined done (fields_of ms))
   reads_members no_members done before ordered h = ap Some (sym (joined-none done))
   reads_members (member name v ms) done before ordered h =
       ap (option_and_then (λ d. of_members (members_outline (fields_of ms)) (put name d done))) (reads_value v h.1)

@@ -6,17 +6,17 @@ use Rattle.std.specs.Cmp.Lexicographic.{slice_cmp}
 use Rattle.wot_json.specs.Tree.{Json}
 
 -- the first name stands before the second in byte order
-abbrev pub StandsBefore : List ℕ → List ℕ → Type 0
-StandsBefore first second = slice_cmp nat_cmp first second ≡ Less
+abbrev pub IsBefore : List ℕ → List ℕ → Type 0
+IsBefore first second = slice_cmp nat_cmp first second ≡ Less
 
 -- the name stands before that of each member, and behind that of each
-abbrev pub StandsBeforeAll : List ℕ → List (List ℕ × Json) → Type 0
-StandsBeforeAll name [] = Unit {0}
-StandsBeforeAll name (m ∷ ms) = StandsBefore name m.0 × StandsBeforeAll name ms
+abbrev pub IsBeforeAll : List ℕ → List (List ℕ × Json) → Type 0
+IsBeforeAll name [] = Unit {0}
+IsBeforeAll name (m ∷ ms) = IsBefore name m.0 × IsBeforeAll name ms
 
-abbrev pub StandsBehindAll : List ℕ → List (List ℕ × Json) → Type 0
-StandsBehindAll name [] = Unit {0}
-StandsBehindAll name (m ∷ ms) = StandsBefore m.0 name × StandsBehindAll name ms
+abbrev pub IsAfterAll : List ℕ → List (List ℕ × Json) → Type 0
+IsAfterAll name [] = Unit {0}
+IsAfterAll name (m ∷ ms) = IsBefore m.0 name × IsAfterAll name ms
 
 -- a member of this name in front, where there is one
 abbrev pub with_first : List ℕ → Option Json → List (List ℕ × Json) → List (List ℕ × Json)
@@ -26,5 +26,5 @@ with_first name (Some v) ms = (name, v) ∷ ms
 -- The members are those before the name, that of the name if there is one, and those behind it.
 pub record IsCutAt (name : List ℕ) (members before : List (List ℕ × Json)) (value : Option Json) (behind : List (List ℕ × Json)) : Type 0 where
   pub parts : members ≡ before ++ with_first name value behind
-  pub smaller : StandsBehindAll name before
-  pub greater : StandsBeforeAll name behind
+  pub smaller : IsAfterAll name before
+  pub greater : IsBeforeAll name behind

@@ -12,8 +12,8 @@ hex_digit n = if nat_lt n 10 then 48 + n else 97 + (n - 10)
 
 -- One byte of a text in UTF-8 (RFC 8259 section 7): the quotation mark and the backslash are escaped by
 -- a backslash, control characters by their letter or by four hexadecimal digits, and all else is itself.
-abbrev pub escaped : ℕ → List ℕ
-escaped b =
+abbrev pub escaped_byte : ℕ → List ℕ
+escaped_byte b =
     if b == 34 then codes "\\\""
     else if b == 92 then codes "\\\\"
     else if b == 8 then codes "\\b"
@@ -26,7 +26,7 @@ escaped b =
 
 -- the text of a JSON string: its bytes, escaped, between quotation marks
 abbrev pub json_string : List ℕ → List ℕ
-json_string bytes = codes "\"" ++ flat_map escaped bytes ++ codes "\""
+json_string bytes = codes "\"" ++ flat_map escaped_byte bytes ++ codes "\""
 
 -- The text of a value, with no blanks: literals (section 3), whole numbers with a minus sign where they are
 -- below zero and without a leading zero (section 6), strings (section 7), arrays (section 5) and objects (section 4).

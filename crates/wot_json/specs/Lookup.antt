@@ -4,14 +4,14 @@ use Rattle.std.specs.Str.{bytes_eq}
 use Rattle.wot_json.specs.Tree.{Json, Elements, no_elements, element, Members, no_members, member}
 
 -- the elements of an array as a list
-abbrev pub listed : Elements → List Json
-listed no_elements = []
-listed (element v es) = v ∷ listed es
+abbrev pub element_list : Elements → List Json
+element_list no_elements = []
+element_list (element v es) = v ∷ element_list es
 
 -- the members of an object as a list
-abbrev pub listed_members : Members → List (List ℕ × Json)
-listed_members no_members = []
-listed_members (member n v ms) = (n, v) ∷ listed_members ms
+abbrev pub member_list : Members → List (List ℕ × Json)
+member_list no_members = []
+member_list (member n v ms) = (n, v) ∷ member_list ms
 
 -- the value of the member of this name, where the object has one
 abbrev pub member_named : List ℕ → List (List ℕ × Json) → Option Json
@@ -19,5 +19,5 @@ member_named name [] = None
 member_named name (m ∷ ms) = if bytes_eq name m.0 then Some m.1 else member_named name ms
 
 -- the value of the member of this name among the members of an object, where it has one
-abbrev pub found : List ℕ → Members → Option Json
-found name ms = member_named name (listed_members ms)
+abbrev pub value_under : List ℕ → Members → Option Json
+value_under name ms = member_named name (member_list ms)

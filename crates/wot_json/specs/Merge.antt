@@ -4,7 +4,7 @@ use Rattle.std.specs.Ordering.{nat_cmp, match_ordering}
 use Rattle.std.specs.Cmp.Lexicographic.{slice_cmp}
 use Rattle.std.specs.Str.{bytes_eq}
 use Rattle.wot_json.specs.Tree.{Json, null, boolean, integer, string, array, object, Members, no_members, member, members_of}
-use Rattle.wot_json.specs.Lookup.{listed_members, member_named}
+use Rattle.wot_json.specs.Lookup.{member_list, member_named}
 
 -- the members with this one: in place of that of its name, or where its name belongs in byte order
 abbrev pub with_member : List ℕ → Json → List (List ℕ × Json) → List (List ℕ × Json)
@@ -23,25 +23,25 @@ members_under (boolean b) = []
 members_under (integer z) = []
 members_under (string s) = []
 members_under (array es) = []
-members_under (object ms) = listed_members ms
+members_under (object ms) = member_list ms
 
 -- a member of the patch that is null takes the member of its name away, and any other puts the merged value there
-abbrev pub changed : List ℕ → Json → Json → List (List ℕ × Json) → List (List ℕ × Json)
-changed name null merged_value ms = without_member name ms
-changed name (boolean b) merged_value ms = with_member name merged_value ms
-changed name (integer z) merged_value ms = with_member name merged_value ms
-changed name (string s) merged_value ms = with_member name merged_value ms
-changed name (array es) merged_value ms = with_member name merged_value ms
-changed name (object os) merged_value ms = with_member name merged_value ms
+abbrev pub changed_members : List ℕ → Json → Json → List (List ℕ × Json) → List (List ℕ × Json)
+changed_members name null merged_value ms = without_member name ms
+changed_members name (boolean b) merged_value ms = with_member name merged_value ms
+changed_members name (integer z) merged_value ms = with_member name merged_value ms
+changed_members name (string s) merged_value ms = with_member name merged_value ms
+changed_members name (array es) merged_value ms = with_member name merged_value ms
+changed_members name (object os) merged_value ms = with_member name merged_value ms
 
 -- what a member of the patch adds: nothing where it is null
-abbrev pub added : List ℕ → Json → Json → List (List ℕ × Json)
-added name null merged_value = []
-added name (boolean b) merged_value = (name, merged_value) ∷ []
-added name (integer z) merged_value = (name, merged_value) ∷ []
-added name (string s) merged_value = (name, merged_value) ∷ []
-added name (array es) merged_value = (name, merged_value) ∷ []
-added name (object os) merged_value = (name, merged_value) ∷ []
+abbrev pub added_members : List ℕ → Json → Json → List (List ℕ × Json)
+added_members name null merged_value = []
+added_members name (boolean b) merged_value = (name, merged_value) ∷ []
+added_members name (integer z) merged_value = (name, merged_value) ∷ []
+added_members name (string s) merged_value = (name, merged_value) ∷ []
+added_members name (array es) merged_value = (name, merged_value) ∷ []
+added_members name (object os) merged_value = (name, merged_value) ∷ []
 
 -- MergePatch(Target, Patch) of section 2. A patch that is no object is the result itself. One that is changes the
 -- members of the target, one after another: the member of a name is merged with that of the patch, or null is
@@ -53,8 +53,8 @@ abbrev mutual
   merge target (integer z) = integer z
   merge target (string s) = string s
   merge target (array es) = array es
-  merge target (object changes) = object (members_of (merged (members_under target) changes))
+  merge target (object changes) = object (members_of (merged_members (members_under target) changes))
 
-  pub merged : List (List ℕ × Json) → Members → List (List ℕ × Json)
-  merged ms no_members = ms
-  merged ms (member name v changes) = merged (changed name v (merge (unwrap_or (member_named name ms) null) v) ms) changes
+  pub merged_members : List (List ℕ × Json) → Members → List (List ℕ × Json)
+  merged_members ms no_members = ms
+  merged_members ms (member name v changes) = merged_members (changed_members name v (merge (unwrap_or (member_named name ms) null) v) ms) changes

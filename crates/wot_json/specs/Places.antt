@@ -18,6 +18,10 @@ index_text index = decimal index
 abbrev pub step_text : List ℕ → List ℕ
 step_text token = codes "/" ++ token_text token
 
+-- one step into a list: `/` and the index of an element (section 4)
+abbrev pub element_step_text : ℕ → List ℕ
+element_step_text index = codes "/" ++ index_text index
+
 -- the pointer to the place that these tokens lead to, from the whole value inwards (section 3)
 abbrev pub place_text : List (List ℕ) → List ℕ
 place_text tokens = flat_map step_text tokens

@@ -2,7 +2,7 @@
 use Rattle.std.specs.Prelude.{◌≡◌, ◌==◌, ◌&&◌, ◌||◌, Bool, true, false, ℕ, ◌+◌, List, [], ◌∷◌, Option, Some, None, option_and_then, if◌then◌else◌}
 use Rattle.std.specs.Str.{bytes_eq}
 use Rattle.wot_json.specs.Tree.{Json, null, boolean, integer, string, array, object}
-use Rattle.wot_json.specs.Lookup.{listed, listed_members, member_named}
+use Rattle.wot_json.specs.Lookup.{element_list, member_list, member_named}
 use Rattle.wot_json.specs.Places.{index_text, place_text}
 
 -- the text is a pointer: some tokens, each behind a `/` (section 3)
@@ -20,8 +20,8 @@ part_at token null = None
 part_at token (boolean b) = None
 part_at token (integer z) = None
 part_at token (string s) = None
-part_at token (array es) = element_at token 0 (listed es)
-part_at token (object ms) = member_named token (listed_members ms)
+part_at token (array es) = element_at token 0 (element_list es)
+part_at token (object ms) = member_named token (member_list ms)
 
 -- what stands where these tokens lead, from the whole value inwards (section 4)
 abbrev pub value_at : List (List ℕ) → Json → Option Json
@@ -44,15 +44,15 @@ is_pointer [] = true
 is_pointer (b ∷ bs) = (b == 47) && escapes bs
 
 -- the bytes of a token behind a `~`, together with that: `~0` is `~`, and `~1` is `/` (section 4)
-abbrev pub unescaped : List ℕ → List ℕ
-unescaped [] = []
-unescaped (b ∷ bs) = (if b == 48 then 126 else 47) ∷ bs
+abbrev pub unescaped_token : List ℕ → List ℕ
+unescaped_token [] = []
+unescaped_token (b ∷ bs) = (if b == 48 then 126 else 47) ∷ bs
 
 -- a byte before a token and those behind it: `/` ends a token, `~` begins an escape, and all else is itself
 abbrev pub with_byte : ℕ → List ℕ × List (List ℕ) → List ℕ × List (List ℕ)
 with_byte b tokens =
     if b == 47 then ([], tokens.0 ∷ tokens.1)
-    else if b == 126 then (unescaped tokens.0, tokens.1)
+    else if b == 126 then (unescaped_token tokens.0, tokens.1)
     else (b ∷ tokens.0, tokens.1)
 
 -- the first token that a text writes, and those behind it

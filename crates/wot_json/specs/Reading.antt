@@ -40,8 +40,8 @@ abbrev pub tree_of : List ℕ → Option Json
 tree_of bytes = option_and_then (λ d. if nat_le (depth d) max_depth then tree_of_value d else None) (value_of bytes)
 
 -- these places behind one step more, which this token names
-abbrev pub behind : List ℕ → List (List (List ℕ)) → List (List (List ℕ))
-behind token places = map (λ place. token ∷ place) places
+abbrev pub places_below : List ℕ → List (List (List ℕ)) → List (List (List ℕ))
+places_below token places = map (λ place. token ∷ place) places
 
 -- The places of the numbers of a value that are not whole or need more than 64 bits with sign, in preorder: a list in
 -- the order of its elements, an object in the byte order of its names.
@@ -57,11 +57,11 @@ abbrev mutual
   -- in the elements from this index on
   pub wrong_in_items : ℕ → json.Items → List (List (List ℕ))
   wrong_in_items i json.no_items = []
-  wrong_in_items i (json.item d ds) = behind (index_text i) (wrong_numbers d) ++ wrong_in_items (i + 1) ds
+  wrong_in_items i (json.item d ds) = places_below (index_text i) (wrong_numbers d) ++ wrong_in_items (i + 1) ds
 
   pub wrong_in_members : json.Members → List (List (List ℕ))
   wrong_in_members json.no_members = []
-  wrong_in_members (json.member name d ms) = behind name (wrong_numbers d) ++ wrong_in_members ms
+  wrong_in_members (json.member name d ms) = places_below name (wrong_numbers d) ++ wrong_in_members ms
 
 -- the pointer to the first of these places
 abbrev pub first_pointer : List (List (List ℕ)) → Option (List ℕ)

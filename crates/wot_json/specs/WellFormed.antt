@@ -1,7 +1,7 @@
 -- How deep a value nests, and what holds of the value of each tree.
 use Rattle.std.specs.Prelude.{ℕ, ◌+◌, max, IsUtf8, FitsSigned, ⊤}
 use Rattle.std.specs.Int.{w64}
-use Rattle.wot_json.specs.Lookup.{listed_members}
+use Rattle.wot_json.specs.Lookup.{member_list}
 use Rattle.wot_json.specs.Tree.{Json, null, boolean, integer, string, array, object, Elements, no_elements, element, Members, no_members, member, AreOrdered}
 
 -- How deep lists and objects nest: 0 for a value that is neither, and one that is empty counts 1.
@@ -31,7 +31,7 @@ abbrev mutual
   IsWellFormed (integer z) = FitsSigned w64 z
   IsWellFormed (string s) = IsUtf8 s
   IsWellFormed (array es) = ElementsAreWellFormed es
-  IsWellFormed (object ms) = AreOrdered (listed_members ms) × MembersAreWellFormed ms
+  IsWellFormed (object ms) = AreOrdered (member_list ms) × MembersAreWellFormed ms
 
   pub ElementsAreWellFormed : Elements → Type 0
   ElementsAreWellFormed no_elements = ⊤

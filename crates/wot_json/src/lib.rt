@@ -25,7 +25,7 @@ pub use equality::is_equal;
 pub use laws::{merging_twice_is_merging_once, text_is_read_back, tree_is_well_formed};
 pub use lookup::{BadPointer, pointer};
 pub use merging::merge_patch;
-pub use places::{below, below_index};
+pub use places::{below, below_index, through_element, through_member};
 pub use reading::{ReadFault, read};
 pub use servient_base::NoMemory;
 pub use text::Text;

@@ -1,10 +1,10 @@
 //! Merge patch (RFC 7396): a tree that changes another.
 
 ghost use Rattle.std.specs.Prelude.{◌≡◌, ◌≤◌, ◌<◌, ◌++◌, [], ◌∷◌, ℕ, List, length, option_map, unwrap_or, slice_index_or, IfOk, OnOk};
-ghost use Rattle.wot_json.specs.Cutting.{IsCutAt, StandsBefore, with_first};
-ghost use Rattle.wot_json.specs.Lookup.{listed_members};
+ghost use Rattle.wot_json.specs.Cutting.{IsCutAt, IsBefore, with_first};
+ghost use Rattle.wot_json.specs.Lookup.{member_list};
 ghost use Rattle.wot_json.specs.Meaning.{json_of, json_members};
-ghost use Rattle.wot_json.specs.Merge.{merge, merged, members_under, added};
+ghost use Rattle.wot_json.specs.Merge.{merge, merged_members, members_under, added_members};
 ghost use Rattle.wot_json.specs.Tree.{AreOrdered, members_of, null};
 
 #[cfg(test)]
@@ -52,18 +52,18 @@ fn merge_members(
     changes: &Members,
 ) -> Result<Members, NoMemory>
     requires { AreOrdered (json_members members.now) }
-    ensures { IfOk result (λ m. m ≡ merged (json_members members.now) (members_of changes.now)) }
+    ensures { IfOk result (λ m. m ≡ merged_members (json_members members.now) (members_of changes.now)) }
 {
-    let mut merged = Vec::new(alloc);
+    let mut merged_members = Vec::new(alloc);
     let mut rest = members;
     for member in &changes.list {
         let (before, value, behind) = cut_at(rest, member.0.as_str());
-        push_copies(alloc, before, &mut merged)?;
-        push_change(alloc, &member.0, value, &member.1, &mut merged)?;
+        push_copies(alloc, before, &mut merged_members)?;
+        push_change(alloc, &member.0, value, &member.1, &mut merged_members)?;
         rest = behind;
     }
-    push_copies(alloc, rest, &mut merged)?;
-    Ok(Members { list: merged })
+    push_copies(alloc, rest, &mut merged_members)?;
+    Ok(Members { list: merged_members })
 }
 
 /// Puts what a member of the patch makes of that of the target at the end, if anything.
@@ -76,17 +76,17 @@ fn push_change(
     into: &mut Vec<(Text, Tree)>,
 ) -> Result<(), NoMemory>
     ensures { OnOk result (json_members into.new.items ≡ json_members into.old.items
-        ++ added name.now (json_of change.now) (merge (unwrap_or (option_map (λ t. json_of t.now) value.entry) null) (json_of change.now))) }
+        ++ added_members name.now (json_of change.now) (merge (unwrap_or (option_map (λ t. json_of t.now) value.entry) null) (json_of change.now))) }
 {
     if matches!(change, Tree::Null) {
         return Ok(());
     }
-    let merged = match value {
+    let merged_members = match value {
         Some(value) => merge_patch(alloc, value, change)?,
         None => merge_patch(alloc, &Tree::Null, change)?,
     };
     let name = Text::copy_of(alloc, name.as_str())?;
-    into.push((name, merged))?;
+    into.push((name, merged_members))?;
     Ok(())
 }
 
@@ -132,8 +132,8 @@ fn cut_at<'a>(
 /// How many members in front have names before this one.
 fn count_before(members: &[(Text, Tree)], name: &str) -> usize
     ensures bound { result ≤ length members.now }
-    ensures before { (k : ℕ) → (d : List ℕ × Tree) → k < result → StandsBefore (slice_index_or members.now k d).0 name.now }
-    ensures next { (d : List ℕ × Tree) → result < length members.now → StandsBefore (slice_index_or members.now result d).0 name.now → ⊥ }
+    ensures before { (k : ℕ) → (d : List ℕ × Tree) → k < result → IsBefore (slice_index_or members.now k d).0 name.now }
+    ensures next { (d : List ℕ × Tree) → result < length members.now → IsBefore (slice_index_or members.now result d).0 name.now → ⊥ }
 {
     for (place, member) in members.iter().enumerate() {
         if member.0.as_str().cmp(name) != Ordering::Less {

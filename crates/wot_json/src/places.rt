@@ -4,7 +4,7 @@
 
 ghost use Rattle.std.specs.Prelude.{◌≡◌, ◌++◌, codes, IfOk, OnOk, string_bytes};
 ghost use Rattle.std.specs.Char.{encode_utf8};
-ghost use Rattle.wot_json.specs.Places.{token_text, index_text, step_text};
+ghost use Rattle.wot_json.specs.Places.{token_text, index_text, step_text, element_step_text};
 
 use crate::Text;
 use itoa::Buffer;
@@ -14,7 +14,7 @@ use std::alloc::Global;
 /// The place of a member of an object that stands at `place`: `/` and its name go behind that, `~` written
 /// as `~0` and `/` as `~1` (RFC 6901, section 3). Its time is in proportion to the length of the result.
 pub fn below(alloc: Global, place: &str, name: &str) -> Result<Text, NoMemory>
-    ensures { IfOk result (λ t. t ≡ place.now ++ codes "/" ++ token_text name.now) }
+    ensures { IfOk result (λ t. t ≡ place.now ++ step_text name.now) }
 {
     let mut text = String::from_str(alloc, place)?;
     push_step(&mut text, name)?;
@@ -24,12 +24,35 @@ pub fn below(alloc: Global, place: &str, name: &str) -> Result<Text, NoMemory>
 /// The place of an element of a list that stands at `place`: `/` and its index, counted from 0, go behind
 /// that (RFC 6901, section 4).
 pub fn below_index(alloc: Global, place: &str, index: usize) -> Result<Text, NoMemory>
-    ensures { IfOk result (λ t. t ≡ place.now ++ codes "/" ++ index_text index) }
+    ensures { IfOk result (λ t. t ≡ place.now ++ element_step_text index) }
 {
     let mut buffer = Buffer::new();
     let mut text = String::from_str(alloc, place)?;
     text.push_str("/")?;
     text.push_str(buffer.format(index))?;
+    Ok(Text::from_string(text))
+}
+
+/// The place that is reached through the member of this name, and from there by `rest`. A walk that finds something on
+/// its way down makes the pointer to it on its way back, one step for each value around it.
+pub fn through_member(alloc: Global, name: &str, rest: &str) -> Result<Text, NoMemory>
+    ensures { IfOk result (λ t. t ≡ step_text name.now ++ rest.now) }
+{
+    let mut text = String::new(alloc);
+    push_step(&mut text, name)?;
+    text.push_str(rest)?;
+    Ok(Text::from_string(text))
+}
+
+/// The place that is reached through the element of this index, counted from 0, and from there by `rest`.
+pub fn through_element(alloc: Global, index: usize, rest: &str) -> Result<Text, NoMemory>
+    ensures { IfOk result (λ t. t ≡ element_step_text index ++ rest.now) }
+{
+    let mut buffer = Buffer::new();
+    let mut text = String::new(alloc);
+    text.push_str("/")?;
+    text.push_str(buffer.format(index))?;
+    text.push_str(rest)?;
     Ok(Text::from_string(text))
 }
 

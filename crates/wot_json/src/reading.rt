@@ -9,7 +9,7 @@ ghost use Rattle.serde_json.specs.View.{view, items_view, members_view};
 ghost use Rattle.wot_json.specs.Faults.{IsNotJson, NamesFirst};
 ghost use Rattle.wot_json.specs.Meaning.{json_of};
 ghost use Rattle.wot_json.specs.Places.{index_text, step_text};
-ghost use Rattle.wot_json.specs.Reading.{value_of, tree_of, tree_of_value, tree_of_items, tree_of_members, behind, wrong_numbers, wrong_in_items, wrong_in_members, IsTooDeep, IsFirstWrong};
+ghost use Rattle.wot_json.specs.Reading.{value_of, tree_of, tree_of_value, tree_of_items, tree_of_members, places_below, wrong_numbers, wrong_in_items, wrong_in_members, IsTooDeep, IsFirstWrong};
 ghost use Rattle.wot_json.specs.Tree.{elements_of, members_of};
 
 #[cfg(test)]
@@ -181,7 +181,7 @@ fn convert_members(alloc: Global, members: &Map<String, Value>) -> Result<Member
 /// The fault of an element, seen from its list.
 fn in_element(alloc: Global, index: usize, fault: ReadFault) -> ReadFault
     ensures { (places : List (List (List ℕ))) → NamesFirst places fault
-        → NamesFirst (behind (index_text index) places) result }
+        → NamesFirst (places_below (index_text index) places) result }
 {
     let mut buffer = Buffer::new();
     further_out(alloc, buffer.format(index), fault)
@@ -190,7 +190,7 @@ fn in_element(alloc: Global, index: usize, fault: ReadFault) -> ReadFault
 /// A fault, seen from one step further out.
 fn further_out(alloc: Global, token: &str, fault: ReadFault) -> ReadFault
     ensures { (places : List (List (List ℕ))) → NamesFirst places fault
-        → NamesFirst (behind token.now places) result }
+        → NamesFirst (places_below token.now places) result }
 {
     match fault {
         ReadFault::NotInteger(place) => match pointer_through(alloc, token, place.as_str()) {

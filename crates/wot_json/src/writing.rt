@@ -2,7 +2,7 @@
 
 ghost use Rattle.std.specs.Prelude.{◌≡◌, ◌≤◌, ◌<◌, length, take, drop, IfSome, IfNone, IfOk};
 ghost use Rattle.std.specs.List.{flat_map};
-ghost use Rattle.wot_json.specs.Json.{json_text, json_string, escaped, hex_digit as digit_of, text_of as text_of_value, field_text, further_element, further_field};
+ghost use Rattle.wot_json.specs.Json.{json_text, json_string, escaped_byte, hex_digit as digit_of, text_of as text_of_value, field_text, further_element, further_field};
 ghost use Rattle.wot_json.specs.Tree.{array, object, elements_of, members_of};
 ghost use Rattle.wot_json.specs.Writing.{PutsIfRoom};
 
@@ -76,7 +76,7 @@ pub fn quoted_length(text: &str, most: usize) -> Option<usize>
 
 /// How many bytes are written for one byte of a text.
 fn escaped_length(byte: u8) -> usize
-    ensures { result ≡ length (escaped byte) }
+    ensures { result ≡ length (escaped_byte byte) }
 {
     match byte {
         b'"' | b'\\' | 8 | b'\t' | b'\n' | 12 | b'\r' => 2,
@@ -99,7 +99,7 @@ fn put_piece(out: &mut [u8], at: usize, bytes: &[u8]) -> Option<usize>
 /// Writes one byte of a text, escaped where it needs to be.
 fn put_escaped(out: &mut [u8], at: usize, byte: u8) -> Option<usize>
     requires { at ≤ length out.old }
-    ensures { PutsIfRoom (escaped byte) at out.old out.new result }
+    ensures { PutsIfRoom (escaped_byte byte) at out.old out.new result }
 {
     match byte {
         b'"' => put_piece(out, at, b"\\\""),
@@ -130,7 +130,7 @@ fn put_string(text: &Text, out: &mut [u8], at: usize) -> Option<usize>
 /// Writes the bytes of a text, each escaped where it needs to be.
 fn put_all_escaped(bytes: &[u8], out: &mut [u8], at: usize) -> Option<usize>
     requires { at ≤ length out.old }
-    ensures { PutsIfRoom (flat_map escaped bytes.now) at out.old out.new result }
+    ensures { PutsIfRoom (flat_map escaped_byte bytes.now) at out.old out.new result }
 {
     let mut end = at;
     for byte in bytes {

@@ -8,7 +8,7 @@ use Rattle.std.proofs.lemmas.List.{take_more, map-append}
 use Rattle.wot_json.specs.Tree.{Json, null, boolean, integer, string, array, object, Elements, no_elements, element, Members, no_members, member, elements_of, members_of, nesting, members_nesting}
 use Rattle.wot_json.specs.Meaning.{json_of, json_items, json_members}
 use Rattle.wot_json.specs.declared.tree.Tree.{Tree}
-use Rattle.wot_json.specs.Lookup.{found}
+use Rattle.wot_json.specs.Lookup.{value_under}
 use Rattle.wot_schema.specs.declared.fault.SchemaFault.{SchemaFault}
 use Rattle.wot_schema.specs.Values.{EachElement, IfArray, IfObject}
 use Rattle.wot_schema.specs.Acceptance.{Accepts, Holder, one_of, items, properties, name_of, Within, Asks, ExactlyOne, AcceptNone, InOrder, AcceptMembers}
@@ -24,10 +24,10 @@ use Rattle.wot_schema.proofs.FirstFaults.{stops}
 use Rattle.wot_schema.proofs.Steps.{rest_at}
 
 -- a member nests no deeper than its object
-pub found_nests : (name : List ℕ) (ms : Members) (s : Json) → Some s ≡ found name ms → nesting s ≤ members_nesting ms
+pub found_nests : (name : List ℕ) (ms : Members) (s : Json) → Some s ≡ value_under name ms → nesting s ≤ members_nesting ms
 found_nests name no_members s is = absurd cc
 found_nests name (member n v ms) s is =
-    elim (bytes_eq name n) as (λ b. Some s ≡ (if b then Some v else found name ms) → nesting s ≤ members_nesting (member n v ms)) [
+    elim (bytes_eq name n) as (λ b. Some s ≡ (if b then Some v else value_under name ms) → nesting s ≤ members_nesting (member n v ms)) [
       | true ↦ λ here. let same : nesting s ≡ nesting v = ap nesting (of_some s v here) in omega arith
       | false ↦ λ later. omega (arith, found_nests name ms s later)
     ] is
@@ -36,41 +36,41 @@ found_nests name (member n v ms) s is =
     of_some a b same = cc
 
 -- the faults below a member, by the member
-faults_found : (holder : Holder) (place : List ℕ) (ms : Members) → faults_within holder place ms ≡ option_map_or (faults_below holder (place_of_member place (name_of holder))) (found (name_of holder) ms) []
+faults_found : (holder : Holder) (place : List ℕ) (ms : Members) → faults_within holder place ms ≡ option_map_or (faults_below holder (place_of_member place (name_of holder))) (value_under (name_of holder) ms) []
 faults_found holder place no_members = refl
 faults_found holder place (member n s ms) =
     elim (bytes_eq (name_of holder) n) as (λ b.
     (if b then faults_below holder (place_of_member place (name_of holder)) s else faults_within holder place ms)
-    ≡ option_map_or (faults_below holder (place_of_member place (name_of holder))) (if b then Some s else found (name_of holder) ms) [])
+    ≡ option_map_or (faults_below holder (place_of_member place (name_of holder))) (if b then Some s else value_under (name_of holder) ms) [])
     [ true ↦ refl | false ↦ faults_found holder place ms ]
 
 -- where the member is absent, nothing is asked and nothing is wrong
-pub absent_asks : (holder : Holder) (ms : Members) → None ≡ found (name_of holder) ms → (v : Json) → Within holder ms v
+pub absent_asks : (holder : Holder) (ms : Members) → None ≡ value_under (name_of holder) ms → (v : Json) → Within holder ms v
 absent_asks holder ms is v = (within_is holder ms v None (sym is)).1 tt
 
-pub absent_faultless : (holder : Holder) (place : List ℕ) (ms : Members) → None ≡ found (name_of holder) ms → faults_within holder place ms ≡ []
+pub absent_faultless : (holder : Holder) (place : List ℕ) (ms : Members) → None ≡ value_under (name_of holder) ms → faults_within holder place ms ≡ []
 absent_faultless holder place ms is =
     faults_found holder place ms ∙ ap (λ o. option_map_or (faults_below holder (place_of_member place (name_of holder))) o []) (sym is)
 
-there : (holder : Holder) (place p : List ℕ) (ms : Members) (s : Json) → Some s ≡ found (name_of holder) ms → p ≡ place_of_member place (name_of holder) → faults_within holder place ms ≡ faults_below holder p s
+there : (holder : Holder) (place p : List ℕ) (ms : Members) (s : Json) → Some s ≡ value_under (name_of holder) ms → p ≡ place_of_member place (name_of holder) → faults_within holder place ms ≡ faults_below holder p s
 there holder place p ms s is at =
     faults_found holder place ms
     ∙ (ap (λ o. option_map_or (faults_below holder (place_of_member place (name_of holder))) o []) (sym is)
     ∙ ap (λ q. faults_below holder q s) (sym at))
 
 -- where it is there, what it holds is asked, and what is wrong there is wrong
-pub there_asks : {A : Type 0} (r : Result A SchemaFault) (X : A → Json → Type 0) (holder : Holder) (ms : Members) (s : Json) → Some s ≡ found (name_of holder) ms →
+pub there_asks : {A : Type 0} (r : Result A SchemaFault) (X : A → Json → Type 0) (holder : Holder) (ms : Members) (s : Json) → Some s ≡ value_under (name_of holder) ms →
     IfOk r (λ x. (v : Json) → (X x v ↔ Asks holder s v)) → IfOk r (λ x. (v : Json) → (X x v ↔ Within holder ms v))
 there_asks (Ok x) X holder ms s is asked =
     λ v. (λ h. (within_is holder ms v (Some s) (sym is)).1 ((asked v).0 h), λ h. (asked v).1 ((within_is holder ms v (Some s) (sym is)).0 h))
 there_asks (Err e) X holder ms s is asked = tt
 
-pub there_faultless : {A : Type 0} (r : Result A SchemaFault) (holder : Holder) (place p : List ℕ) (ms : Members) (s : Json) → Some s ≡ found (name_of holder) ms → p ≡ place_of_member place (name_of holder) →
+pub there_faultless : {A : Type 0} (r : Result A SchemaFault) (holder : Holder) (place p : List ℕ) (ms : Members) (s : Json) → Some s ≡ value_under (name_of holder) ms → p ≡ place_of_member place (name_of holder) →
     OnOk r (faults_below holder p s ≡ []) → OnOk r (faults_within holder place ms ≡ [])
 there_faultless (Ok x) holder place p ms s is at none = there holder place p ms s is at ∙ none
 there_faultless (Err e) holder place p ms s is at none = tt
 
-pub there_fault : {A : Type 0} (r : Result A SchemaFault) (holder : Holder) (place p : List ℕ) (ms : Members) (s : Json) → Some s ≡ found (name_of holder) ms → p ≡ place_of_member place (name_of holder) →
+pub there_fault : {A : Type 0} (r : Result A SchemaFault) (holder : Holder) (place p : List ℕ) (ms : Members) (s : Json) → Some s ≡ value_under (name_of holder) ms → p ≡ place_of_member place (name_of holder) →
     IfErr r (IsFirstFault (faults_below holder p s)) → IfErr r (IsFirstFault (faults_within holder place ms))
 there_fault (Ok x) holder place p ms s is at first = tt
 there_fault (Err e) holder place p ms s is at first = subst (λ fs. IsFirstFault fs e) (sym (there holder place p ms s is at)) first
@@ -116,7 +116,7 @@ members_alike [] (t ∷ ts) vs alike = absurd alike
 members_alike (s ∷ ss) [] vs alike = absurd alike
 members_alike (s ∷ ss) (t ∷ ts) vs alike =
     let rest = members_alike ss ts vs alike.2 in
-    let value = one_member s.1 t.1 (found t.0 vs) alike.1 in
+    let value = one_member s.1 t.1 (value_under t.0 vs) alike.1 in
     rw alike.0 (λ h. (value.0 h.0, rest.0 h.1), λ h. (value.1 h.0, rest.1 h.1))
   where
     one_member : (s t : Json) (o : Option Json) → AcceptAlike s t → IfSome o (λ v. Accepts s v) ↔ IfSome o (λ v. Accepts t v)
@@ -168,10 +168,10 @@ free_named (array es) = tt
 free_named (object ms) = tt
 
 -- a rule that asks for nothing is that of an absent member
-pub free_list_absent : (ms : Members) → None ≡ found (codes "items") ms → (v : Json) → Asks items (list_of []) v ↔ Within items ms v
+pub free_list_absent : (ms : Members) → None ≡ value_under (codes "items") ms → (v : Json) → Asks items (list_of []) v ↔ Within items ms v
 free_list_absent ms is v = (λ h. absent_asks items ms is v, λ h. free_list v)
 
-pub free_named_absent : (ms : Members) → None ≡ found (codes "properties") ms → (v : Json) → Asks properties (properties_of []) v ↔ Within properties ms v
+pub free_named_absent : (ms : Members) → None ≡ value_under (codes "properties") ms → (v : Json) → Asks properties (properties_of []) v ↔ Within properties ms v
 free_named_absent ms is v = (λ h. absent_asks properties ms is v, λ h. free_named v)
 
 -- one more schema of a list

@@ -3,7 +3,7 @@ use Rattle.std.proofs.Common.{◌≡◌, ℕ, zero, suc, List, [], ◌∷◌, �
 use Rattle.std.specs.List.{flat_map}
 use Rattle.std.specs.Option.{option_map_or}
 use Rattle.wot_json.specs.Tree.{Json, Members}
-use Rattle.wot_json.specs.Lookup.{found}
+use Rattle.wot_json.specs.Lookup.{value_under}
 use Rattle.wot_schema.specs.declared.fault.SchemaFault.{SchemaFault}
 use Rattle.wot_schema.specs.Faults.{Judge, row_faults, table_faults, unsupported_rows, number_rows, absent, whole_number, number_above_zero, type_name, any_value, list_with_element, count, object_or_list, any_object, list_of_texts, IsFirstFault}
 
@@ -99,4 +99,4 @@ no_judge (Some s) = refl
 
 -- `const` may be any value
 pub constant_none : (place : List ℕ) (ms : Members) → row_faults place ms (codes "const", any_value) ≡ []
-constant_none place ms = no_judge (found (codes "const") ms)
+constant_none place ms = no_judge (value_under (codes "const") ms)

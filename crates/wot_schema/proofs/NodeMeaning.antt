@@ -6,7 +6,7 @@ use Rattle.std.specs.declared.alloc.Global.{Global}
 use Rattle.std.specs.Str.{bytes_eq}
 use Rattle.std.specs.Cmp.Lexicographic.{same_text}
 use Rattle.wot_json.specs.Tree.{Json, Members, no_members, member, members_of}
-use Rattle.wot_json.specs.Lookup.{found}
+use Rattle.wot_json.specs.Lookup.{value_under}
 use Rattle.wot_schema.specs.Acceptance.{Accepts, Holder, one_of, items, properties, name_of, Within, Asks}
 use Rattle.wot_schema.specs.Rules.{IsAllowed, AreRulesOf}
 use Rattle.wot_schema.specs.Nodes.{present, node_rows, node_members, schema_of, list_of, items_of, properties_of}
@@ -39,7 +39,7 @@ is_false : (b : Bool) → not b ≡ true → b ≡ false
 is_false true h = absurd cc
 is_false false h = refl
 
-new_absent : (name : List ℕ) (rows : List Row) → is_new name rows ≡ true → found name (members_of (present rows)) ≡ None
+new_absent : (name : List ℕ) (rows : List Row) → is_new name rows ≡ true → value_under name (members_of (present rows)) ≡ None
 new_absent name [] new = refl
 new_absent name ((n, None) ∷ rows) new = new_absent name rows (both (not (bytes_eq name n)) (is_new name rows) new).1
 new_absent name ((n, Some v) ∷ rows) new =
@@ -47,7 +47,7 @@ new_absent name ((n, Some v) ∷ rows) new =
     rw (is_false (bytes_eq name n) parts.0) (new_absent name rows parts.1)
 
 -- of rows with distinct names the members that are there have the rows' values
-found_present : (name : List ℕ) (rows : List Row) → are_distinct rows ≡ true → found name (members_of (present rows)) ≡ picked name rows
+found_present : (name : List ℕ) (rows : List Row) → are_distinct rows ≡ true → value_under name (members_of (present rows)) ≡ picked name rows
 found_present name [] distinct = refl
 found_present name ((n, Some v) ∷ rows) distinct =
     ap (λ o. if bytes_eq name n then Some v else o) (found_present name rows (both (is_new n rows) (are_distinct rows) distinct).1)
@@ -55,15 +55,15 @@ found_present name ((n, None) ∷ rows) distinct =
     let parts = both (is_new n rows) (are_distinct rows) distinct in
     absent_row name n rows (bytes_eq name n) refl parts.0 (found_present name rows parts.1)
   where
-    absent_row : (name n : List ℕ) (rows : List Row) (b : Bool) → b ≡ bytes_eq name n → is_new n rows ≡ true → found name (members_of (present rows)) ≡ picked name rows →
-        found name (members_of (present rows)) ≡ (if b then None else picked name rows)
+    absent_row : (name n : List ℕ) (rows : List Row) (b : Bool) → b ≡ bytes_eq name n → is_new n rows ≡ true → value_under name (members_of (present rows)) ≡ picked name rows →
+        value_under name (members_of (present rows)) ≡ (if b then None else picked name rows)
     absent_row name n rows true same new rest = new_absent name rows (subst (λ m. is_new m rows ≡ true) (sym (same_text name n same)) new)
     absent_row name n rows false same new rest = rest
 
 -- the rules of a node are those that its members give
 rules_of_node : (a : Inside) → AreRulesOf (members_of (node_members a)) a.rules
 rules_of_node a =
-    let at : (name : List ℕ) → found name (members_of (node_members a)) ≡ picked name (node_rows a) = λ name. found_present name (node_rows a) refl in
+    let at : (name : List ℕ) → value_under name (members_of (node_members a)) ≡ picked name (node_rows a) = λ name. found_present name (node_rows a) refl in
     record {
       type = at (codes "type");
       constant = at (codes "const");
@@ -83,14 +83,14 @@ rules_of_node a =
     }
 
 -- a row of a member that holds schemas, by the member
-pub within_found : (holder : Holder) (ms : Members) (v : Json) → Within holder ms v ↔ IfSome (found (name_of holder) ms) (λ s. Asks holder s v)
+pub within_found : (holder : Holder) (ms : Members) (v : Json) → Within holder ms v ↔ IfSome (value_under (name_of holder) ms) (λ s. Asks holder s v)
 within_found holder no_members v = (λ h. h, λ h. h)
 within_found holder (member n s ms) v =
-    elim (bytes_eq (name_of holder) n) as (λ b. MatchBool b (Asks holder s v) (Within holder ms v) ↔ IfSome (if b then Some s else found (name_of holder) ms) (λ s. Asks holder s v))
+    elim (bytes_eq (name_of holder) n) as (λ b. MatchBool b (Asks holder s v) (Within holder ms v) ↔ IfSome (if b then Some s else value_under (name_of holder) ms) (λ s. Asks holder s v))
     [ true ↦ (λ h. h, λ h. h) | false ↦ within_found holder ms v ]
 
 -- the same, where it is known what the member is
-pub within_is : (holder : Holder) (ms : Members) (v : Json) (o : Option Json) → found (name_of holder) ms ≡ o → Within holder ms v ↔ IfSome o (λ s. Asks holder s v)
+pub within_is : (holder : Holder) (ms : Members) (v : Json) (o : Option Json) → value_under (name_of holder) ms ≡ o → Within holder ms v ↔ IfSome o (λ s. Asks holder s v)
 within_is holder ms v o is = subst (λ (p : Option Json). Within holder ms v ↔ IfSome p (λ s. Asks holder s v)) is (within_found holder ms v)
 
 -- what the schemas below a node ask

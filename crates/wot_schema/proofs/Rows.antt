@@ -7,7 +7,7 @@ use Rattle.std.specs.Option.{option_map}
 use Rattle.wot_json.specs.Tree.{Json, null, boolean, integer, string, array, object, Elements, Members, elements_of}
 use Rattle.wot_json.specs.Meaning.{json_of, json_items}
 use Rattle.wot_json.specs.declared.tree.Tree.{Tree}
-use Rattle.wot_json.specs.Lookup.{found}
+use Rattle.wot_json.specs.Lookup.{value_under}
 use Rattle.wot_schema.specs.Values.{IfInteger, IfString, IfArray, IfObject, SomeElement, element_count, code_points}
 use Rattle.wot_schema.specs.Acceptance.{type_of, AreNamesIn, Rows}
 use Rattle.wot_schema.specs.Kinds.{kind_name}
@@ -145,30 +145,30 @@ pub rows_hold : (ms : Members) (r : Rules) (v : Json) → AreRulesOf ms r → Is
 rows_hold ms r v is allowed =
     let p : Parts r v = parts r v allowed.contents in
     record {
-      type = (row (λ (k : Kind). string (kind_name k)) (found (codes "type") ms) r.kind (λ s. s ≡ string (type_of v)) is.type).0
+      type = (row (λ (k : Kind). string (kind_name k)) (value_under (codes "type") ms) r.kind (λ s. s ≡ string (type_of v)) is.type).0
           (each_value r.kind (λ k. kind_name k ≡ type_of v) (λ k. string (kind_name k) ≡ string (type_of v)) (λ k e. ap (λ (t : List ℕ). string t) e) allowed.type);
-      constant = (row json_of (found (codes "const") ms) r.constant (λ s. v ≡ s) is.constant).0 allowed.constant;
-      choice = (row (λ (ts : Vec Tree Global). array (elements_of (json_items ts.items))) (found (codes "enum") ms) r.choices (λ s. IfArray s (SomeElement (λ s. v ≡ s))) is.choice).0
+      constant = (row json_of (value_under (codes "const") ms) r.constant (λ s. v ≡ s) is.constant).0 allowed.constant;
+      choice = (row (λ (ts : Vec Tree Global). array (elements_of (json_items ts.items))) (value_under (codes "enum") ms) r.choices (λ s. IfArray s (SomeElement (λ s. v ≡ s))) is.choice).0
           (each_value r.choices (λ ts. IsAmong v ts.items) (λ ts. SomeElement (λ s. v ≡ s) (elements_of (json_items ts.items))) (λ ts h. (among v ts.items).0 h) allowed.choice);
-      minimum = number_row v r.numbers (found (codes "minimum") ms) r.numbers.minimum (λ least n. least ≤ℤ n) is.numbers.minimum (λ n h. h.minimum) p.numbers;
-      maximum = number_row v r.numbers (found (codes "maximum") ms) r.numbers.maximum (λ most n. n ≤ℤ most) is.numbers.maximum (λ n h. h.maximum) p.numbers;
-      exclusive_minimum = number_row v r.numbers (found (codes "exclusiveMinimum") ms) r.numbers.exclusive_minimum (λ bound n. bound <ℤ n) is.numbers.exclusive_minimum (λ n h. h.exclusive_minimum) p.numbers;
-      exclusive_maximum = number_row v r.numbers (found (codes "exclusiveMaximum") ms) r.numbers.exclusive_maximum (λ bound n. n <ℤ bound) is.numbers.exclusive_maximum (λ n h. h.exclusive_maximum) p.numbers;
-      multiple_of = (count (found (codes "multipleOf") ms) r.numbers.multiple_of (λ unit. IfInteger v (λ n. (k : ℤ) × (n ≡ k *ℤ unit))) is.numbers.multiple_of).0
+      minimum = number_row v r.numbers (value_under (codes "minimum") ms) r.numbers.minimum (λ least n. least ≤ℤ n) is.numbers.minimum (λ n h. h.minimum) p.numbers;
+      maximum = number_row v r.numbers (value_under (codes "maximum") ms) r.numbers.maximum (λ most n. n ≤ℤ most) is.numbers.maximum (λ n h. h.maximum) p.numbers;
+      exclusive_minimum = number_row v r.numbers (value_under (codes "exclusiveMinimum") ms) r.numbers.exclusive_minimum (λ bound n. bound <ℤ n) is.numbers.exclusive_minimum (λ n h. h.exclusive_minimum) p.numbers;
+      exclusive_maximum = number_row v r.numbers (value_under (codes "exclusiveMaximum") ms) r.numbers.exclusive_maximum (λ bound n. n <ℤ bound) is.numbers.exclusive_maximum (λ n h. h.exclusive_maximum) p.numbers;
+      multiple_of = (count (value_under (codes "multipleOf") ms) r.numbers.multiple_of (λ unit. IfInteger v (λ n. (k : ℤ) × (n ≡ k *ℤ unit))) is.numbers.multiple_of).0
           ((integers v r.numbers.multiple_of (λ unit n. (k : ℤ) × (n ≡ k *ℤ pos unit))).0 (each_integer v (IsNumberWithin r.numbers) (λ n. IfSome r.numbers.multiple_of (λ unit. (k : ℤ) × (n ≡ k *ℤ pos unit))) (λ n h. h.multiple_of) p.numbers));
-      min_length = (count (found (codes "minLength") ms) r.characters.least (λ x. IfString v (λ t. x ≤ℤ pos (code_points t))) is.min_length).0
+      min_length = (count (value_under (codes "minLength") ms) r.characters.least (λ x. IfString v (λ t. x ≤ℤ pos (code_points t))) is.min_length).0
           ((strings v r.characters.least (λ n t. pos n ≤ℤ pos (code_points t))).0
           (each_string v (λ t. IsCountWithin r.characters (code_points t)) (λ t. IfSome r.characters.least (λ n. pos n ≤ℤ pos (code_points t))) (λ t w. each_value r.characters.least (λ n. n ≤ code_points t) (λ n. pos n ≤ℤ pos (code_points t)) (λ n h. pos_le n (code_points t) h) w.0) p.characters));
-      max_length = (count (found (codes "maxLength") ms) r.characters.most (λ x. IfString v (λ t. pos (code_points t) ≤ℤ x)) is.max_length).0
+      max_length = (count (value_under (codes "maxLength") ms) r.characters.most (λ x. IfString v (λ t. pos (code_points t) ≤ℤ x)) is.max_length).0
           ((strings v r.characters.most (λ n t. pos (code_points t) ≤ℤ pos n)).0
           (each_string v (λ t. IsCountWithin r.characters (code_points t)) (λ t. IfSome r.characters.most (λ n. pos (code_points t) ≤ℤ pos n)) (λ t w. each_value r.characters.most (λ n. code_points t ≤ n) (λ n. pos (code_points t) ≤ℤ pos n) (λ n h. pos_le (code_points t) n h) w.1) p.characters));
-      min_items = (count (found (codes "minItems") ms) r.items.least (λ x. IfArray v (λ es. x ≤ℤ pos (element_count es))) is.min_items).0
+      min_items = (count (value_under (codes "minItems") ms) r.items.least (λ x. IfArray v (λ es. x ≤ℤ pos (element_count es))) is.min_items).0
           ((arrays v r.items.least (λ n es. pos n ≤ℤ pos (element_count es))).0
           (each_array v (λ es. IsCountWithin r.items (element_count es)) (λ es. IfSome r.items.least (λ n. pos n ≤ℤ pos (element_count es))) (λ es w. each_value r.items.least (λ n. n ≤ element_count es) (λ n. pos n ≤ℤ pos (element_count es)) (λ n h. pos_le n (element_count es) h) w.0) p.items));
-      max_items = (count (found (codes "maxItems") ms) r.items.most (λ x. IfArray v (λ es. pos (element_count es) ≤ℤ x)) is.max_items).0
+      max_items = (count (value_under (codes "maxItems") ms) r.items.most (λ x. IfArray v (λ es. pos (element_count es) ≤ℤ x)) is.max_items).0
           ((arrays v r.items.most (λ n es. pos (element_count es) ≤ℤ pos n)).0
           (each_array v (λ es. IsCountWithin r.items (element_count es)) (λ es. IfSome r.items.most (λ n. pos (element_count es) ≤ℤ pos n)) (λ es w. each_value r.items.most (λ n. element_count es ≤ n) (λ n. pos (element_count es) ≤ℤ pos n) (λ n h. pos_le (element_count es) n h) w.1) p.items));
-      required = (row (λ (names : Vec (List ℕ) Global). array (elements_of (map string names.items))) (found (codes "required") ms) r.required (λ s. IfArray s (λ names. IfObject v (AreNamesIn names))) is.required).0
+      required = (row (λ (names : Vec (List ℕ) Global). array (elements_of (map string names.items))) (value_under (codes "required") ms) r.required (λ s. IfArray s (λ names. IfObject v (AreNamesIn names))) is.required).0
           ((objects v r.required (λ names vs. AreNamesIn (elements_of (map string names.items)) vs)).0
           (each_object v (λ vs. IfSome r.required (λ names. HasAll vs names.items)) (λ vs. IfSome r.required (λ names. AreNamesIn (elements_of (map string names.items)) vs)) (λ vs w. each_value r.required (λ names. HasAll vs names.items) (λ names. AreNamesIn (elements_of (map string names.items)) vs) (λ names h. (have vs names.items).0 h) w) p.required));
     }
@@ -178,30 +178,30 @@ pub rows_asked : (ms : Members) (r : Rules) (v : Json) → AreRulesOf ms r → R
 rows_asked ms r v is rows =
     record {
       type = each_value r.kind (λ k. string (kind_name k) ≡ string (type_of v)) (λ k. kind_name k ≡ type_of v) (λ k e. text_equal (kind_name k) (type_of v) e)
-          ((row (λ (k : Kind). string (kind_name k)) (found (codes "type") ms) r.kind (λ s. s ≡ string (type_of v)) is.type).1 rows.type);
-      constant = (row json_of (found (codes "const") ms) r.constant (λ s. v ≡ s) is.constant).1 rows.constant;
+          ((row (λ (k : Kind). string (kind_name k)) (value_under (codes "type") ms) r.kind (λ s. s ≡ string (type_of v)) is.type).1 rows.type);
+      constant = (row json_of (value_under (codes "const") ms) r.constant (λ s. v ≡ s) is.constant).1 rows.constant;
       choice = each_value r.choices (λ ts. SomeElement (λ s. v ≡ s) (elements_of (json_items ts.items))) (λ ts. IsAmong v ts.items) (λ ts h. (among v ts.items).1 h)
-          ((row (λ (ts : Vec Tree Global). array (elements_of (json_items ts.items))) (found (codes "enum") ms) r.choices (λ s. IfArray s (SomeElement (λ s. v ≡ s))) is.choice).1 rows.choice);
+          ((row (λ (ts : Vec Tree Global). array (elements_of (json_items ts.items))) (value_under (codes "enum") ms) r.choices (λ s. IfArray s (SomeElement (λ s. v ≡ s))) is.choice).1 rows.choice);
       contents = contents r v (record {
         numbers = numbers_hold v r.numbers
-            (number_row_back v (found (codes "minimum") ms) r.numbers.minimum (λ least n. least ≤ℤ n) is.numbers.minimum rows.minimum)
-            (number_row_back v (found (codes "maximum") ms) r.numbers.maximum (λ most n. n ≤ℤ most) is.numbers.maximum rows.maximum)
-            (number_row_back v (found (codes "exclusiveMinimum") ms) r.numbers.exclusive_minimum (λ bound n. bound <ℤ n) is.numbers.exclusive_minimum rows.exclusive_minimum)
-            (number_row_back v (found (codes "exclusiveMaximum") ms) r.numbers.exclusive_maximum (λ bound n. n <ℤ bound) is.numbers.exclusive_maximum rows.exclusive_maximum)
-            ((integers v r.numbers.multiple_of (λ unit n. (k : ℤ) × (n ≡ k *ℤ pos unit))).1 ((count (found (codes "multipleOf") ms) r.numbers.multiple_of (λ unit. IfInteger v (λ n. (k : ℤ) × (n ≡ k *ℤ unit))) is.numbers.multiple_of).1 rows.multiple_of));
+            (number_row_back v (value_under (codes "minimum") ms) r.numbers.minimum (λ least n. least ≤ℤ n) is.numbers.minimum rows.minimum)
+            (number_row_back v (value_under (codes "maximum") ms) r.numbers.maximum (λ most n. n ≤ℤ most) is.numbers.maximum rows.maximum)
+            (number_row_back v (value_under (codes "exclusiveMinimum") ms) r.numbers.exclusive_minimum (λ bound n. bound <ℤ n) is.numbers.exclusive_minimum rows.exclusive_minimum)
+            (number_row_back v (value_under (codes "exclusiveMaximum") ms) r.numbers.exclusive_maximum (λ bound n. n <ℤ bound) is.numbers.exclusive_maximum rows.exclusive_maximum)
+            ((integers v r.numbers.multiple_of (λ unit n. (k : ℤ) × (n ≡ k *ℤ pos unit))).1 ((count (value_under (codes "multipleOf") ms) r.numbers.multiple_of (λ unit. IfInteger v (λ n. (k : ℤ) × (n ≡ k *ℤ unit))) is.numbers.multiple_of).1 rows.multiple_of));
         characters = counts_within_string v r.characters
             (each_string v (λ t. IfSome r.characters.least (λ n. pos n ≤ℤ pos (code_points t))) (λ t. IfSome r.characters.least (λ n. n ≤ code_points t)) (λ t w. each_value r.characters.least (λ n. pos n ≤ℤ pos (code_points t)) (λ n. n ≤ code_points t) (λ n h. pos_le_back n (code_points t) h) w)
-            ((strings v r.characters.least (λ n t. pos n ≤ℤ pos (code_points t))).1 ((count (found (codes "minLength") ms) r.characters.least (λ x. IfString v (λ t. x ≤ℤ pos (code_points t))) is.min_length).1 rows.min_length)))
+            ((strings v r.characters.least (λ n t. pos n ≤ℤ pos (code_points t))).1 ((count (value_under (codes "minLength") ms) r.characters.least (λ x. IfString v (λ t. x ≤ℤ pos (code_points t))) is.min_length).1 rows.min_length)))
             (each_string v (λ t. IfSome r.characters.most (λ n. pos (code_points t) ≤ℤ pos n)) (λ t. IfSome r.characters.most (λ n. code_points t ≤ n)) (λ t w. each_value r.characters.most (λ n. pos (code_points t) ≤ℤ pos n) (λ n. code_points t ≤ n) (λ n h. pos_le_back (code_points t) n h) w)
-            ((strings v r.characters.most (λ n t. pos (code_points t) ≤ℤ pos n)).1 ((count (found (codes "maxLength") ms) r.characters.most (λ x. IfString v (λ t. pos (code_points t) ≤ℤ x)) is.max_length).1 rows.max_length)));
+            ((strings v r.characters.most (λ n t. pos (code_points t) ≤ℤ pos n)).1 ((count (value_under (codes "maxLength") ms) r.characters.most (λ x. IfString v (λ t. pos (code_points t) ≤ℤ x)) is.max_length).1 rows.max_length)));
         items = counts_within_array v r.items
             (each_array v (λ es. IfSome r.items.least (λ n. pos n ≤ℤ pos (element_count es))) (λ es. IfSome r.items.least (λ n. n ≤ element_count es)) (λ es w. each_value r.items.least (λ n. pos n ≤ℤ pos (element_count es)) (λ n. n ≤ element_count es) (λ n h. pos_le_back n (element_count es) h) w)
-            ((arrays v r.items.least (λ n es. pos n ≤ℤ pos (element_count es))).1 ((count (found (codes "minItems") ms) r.items.least (λ x. IfArray v (λ es. x ≤ℤ pos (element_count es))) is.min_items).1 rows.min_items)))
+            ((arrays v r.items.least (λ n es. pos n ≤ℤ pos (element_count es))).1 ((count (value_under (codes "minItems") ms) r.items.least (λ x. IfArray v (λ es. x ≤ℤ pos (element_count es))) is.min_items).1 rows.min_items)))
             (each_array v (λ es. IfSome r.items.most (λ n. pos (element_count es) ≤ℤ pos n)) (λ es. IfSome r.items.most (λ n. element_count es ≤ n)) (λ es w. each_value r.items.most (λ n. pos (element_count es) ≤ℤ pos n) (λ n. element_count es ≤ n) (λ n h. pos_le_back (element_count es) n h) w)
-            ((arrays v r.items.most (λ n es. pos (element_count es) ≤ℤ pos n)).1 ((count (found (codes "maxItems") ms) r.items.most (λ x. IfArray v (λ es. pos (element_count es) ≤ℤ x)) is.max_items).1 rows.max_items)));
+            ((arrays v r.items.most (λ n es. pos (element_count es) ≤ℤ pos n)).1 ((count (value_under (codes "maxItems") ms) r.items.most (λ x. IfArray v (λ es. pos (element_count es) ≤ℤ x)) is.max_items).1 rows.max_items)));
         required =
             each_object v (λ vs. IfSome r.required (λ names. AreNamesIn (elements_of (map string names.items)) vs)) (λ vs. IfSome r.required (λ names. HasAll vs names.items)) (λ vs w. each_value r.required (λ names. AreNamesIn (elements_of (map string names.items)) vs) (λ names. HasAll vs names.items) (λ names h. (have vs names.items).1 h) w)
             ((objects v r.required (λ names vs. AreNamesIn (elements_of (map string names.items)) vs)).1
-            ((row (λ (names : Vec (List ℕ) Global). array (elements_of (map string names.items))) (found (codes "required") ms) r.required (λ s. IfArray s (λ names. IfObject v (AreNamesIn names))) is.required).1 rows.required));
+            ((row (λ (names : Vec (List ℕ) Global). array (elements_of (map string names.items))) (value_under (codes "required") ms) r.required (λ s. IfArray s (λ names. IfObject v (AreNamesIn names))) is.required).1 rows.required));
       });
     }

@@ -2,7 +2,7 @@
 use Rattle.std.specs.Prelude.{◌≡◌, ℕ, ℤ, pos, ◌≤ℤ◌, ◌<ℤ◌, ◌*ℤ◌, ◌⊎◌, List, IfSome, IsSome, MatchBool, ⊤, codes}
 use Rattle.std.specs.Str.{bytes_eq}
 use Rattle.wot_json.specs.Tree.{Json, null, boolean, integer, string, array, object, Elements, no_elements, element, Members, no_members, member}
-use Rattle.wot_json.specs.Lookup.{found}
+use Rattle.wot_json.specs.Lookup.{value_under}
 use Rattle.wot_schema.specs.Values.{IfInteger, IfString, IfArray, IfObject, EachElement, SomeElement, element_count, code_points}
 
 -- the type of a value, as `type` names it
@@ -16,21 +16,21 @@ type_of (object ms) = codes "object"
 
 -- what the member of this name says, where the schema has one that is an integer
 abbrev pub IfIntegerNamed : List ℕ → Members → (ℤ → Type 0) → Type 0
-IfIntegerNamed name ms P = IfSome (found name ms) (λ s. IfInteger s P)
+IfIntegerNamed name ms P = IfSome (value_under name ms) (λ s. IfInteger s P)
 
 -- what the member of this name says, where the schema has one that is a list
 abbrev pub IfArrayNamed : List ℕ → Members → (Elements → Type 0) → Type 0
-IfArrayNamed name ms P = IfSome (found name ms) (λ s. IfArray s P)
+IfArrayNamed name ms P = IfSome (value_under name ms) (λ s. IfArray s P)
 
 -- each text of a list names a member
 abbrev pub AreNamesIn : Elements → Members → Type 0
-AreNamesIn names members = EachElement (λ name. IfString name (λ n. IsSome (found n members))) names
+AreNamesIn names members = EachElement (λ name. IfString name (λ n. IsSome (value_under n members))) names
 
 -- What the members of a schema that hold no schemas ask of a value, row by row (sections 5.3.2.1 to 5.3.2.8). A
 -- value of another type than a row speaks of is not asked for anything.
 pub record Rows (ms : Members) (v : Json) : Type 0 where
-  pub type : IfSome (found (codes "type") ms) (λ s. s ≡ string (type_of v))
-  pub constant : IfSome (found (codes "const") ms) (λ s. v ≡ s)
+  pub type : IfSome (value_under (codes "type") ms) (λ s. s ≡ string (type_of v))
+  pub constant : IfSome (value_under (codes "const") ms) (λ s. v ≡ s)
   pub choice : IfArrayNamed (codes "enum") ms (SomeElement (λ s. v ≡ s))
   pub minimum : IfIntegerNamed (codes "minimum") ms (λ least. IfInteger v (λ n. least ≤ℤ n))
   pub maximum : IfIntegerNamed (codes "maximum") ms (λ most. IfInteger v (λ n. n ≤ℤ most))
@@ -89,4 +89,4 @@ abbrev mutual
 
   pub AcceptMembers : Members → Members → Type 0
   AcceptMembers no_members vs = ⊤
-  AcceptMembers (member name s ps) vs = IfSome (found name vs) (λ v. Accepts s v) × AcceptMembers ps vs
+  AcceptMembers (member name s ps) vs = IfSome (value_under name vs) (λ v. Accepts s v) × AcceptMembers ps vs

@@ -5,7 +5,7 @@ use Rattle.std.specs.Option.{option_map_or}
 use Rattle.std.specs.Str.{bytes_eq}
 use Rattle.wot_json.specs.Tree.{Json, integer, string, array, object, Elements, no_elements, element, Members, no_members, member}
 use Rattle.wot_json.specs.Places.{token_text, index_text}
-use Rattle.wot_json.specs.Lookup.{found}
+use Rattle.wot_json.specs.Lookup.{value_under}
 use Rattle.wot_schema.specs.declared.fault.SchemaFault.{SchemaFault}
 use Rattle.wot_schema.specs.declared.fault.SchemaFault.TheVariants.{Unsupported, Malformed, NoMemory}
 use Rattle.wot_schema.specs.Acceptance.{Holder, one_of, items, properties, name_of}
@@ -120,7 +120,7 @@ table =
 
 -- the faults of one row of the table, where the schema has its member
 abbrev pub row_faults : List ℕ → Members → List ℕ × Judge → List SchemaFault
-row_faults place ms row = option_map_or (row.1 (place_of_member place row.0)) (found row.0 ms) []
+row_faults place ms row = option_map_or (row.1 (place_of_member place row.0)) (value_under row.0 ms) []
 
 -- the faults of all rows, in order
 abbrev pub table_faults : List ℕ → Members → List SchemaFault

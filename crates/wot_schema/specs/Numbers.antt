@@ -2,7 +2,7 @@
 use Rattle.std.specs.Prelude.{◌≡◌, ℤ, pos, ◌≤ℤ◌, ◌<ℤ◌, ◌*ℤ◌, IfSome, codes}
 use Rattle.std.specs.Option.{option_map}
 use Rattle.wot_json.specs.Tree.{integer, Members}
-use Rattle.wot_json.specs.Lookup.{found}
+use Rattle.wot_json.specs.Lookup.{value_under}
 use Rattle.wot_schema.specs.declared.numbers.NumberRules.{NumberRules}
 
 -- the number meets the rules
@@ -15,8 +15,8 @@ pub record IsNumberWithin (r : NumberRules) (n : ℤ) : Type 0 where
 
 -- the rules are those that these members give
 pub record AreNumbersOf (ms : Members) (r : NumberRules) : Type 0 where
-  pub minimum : found (codes "minimum") ms ≡ option_map integer r.minimum
-  pub maximum : found (codes "maximum") ms ≡ option_map integer r.maximum
-  pub exclusive_minimum : found (codes "exclusiveMinimum") ms ≡ option_map integer r.exclusive_minimum
-  pub exclusive_maximum : found (codes "exclusiveMaximum") ms ≡ option_map integer r.exclusive_maximum
-  pub multiple_of : found (codes "multipleOf") ms ≡ option_map (λ n. integer (pos n)) r.multiple_of
+  pub minimum : value_under (codes "minimum") ms ≡ option_map integer r.minimum
+  pub maximum : value_under (codes "maximum") ms ≡ option_map integer r.maximum
+  pub exclusive_minimum : value_under (codes "exclusiveMinimum") ms ≡ option_map integer r.exclusive_minimum
+  pub exclusive_maximum : value_under (codes "exclusiveMaximum") ms ≡ option_map integer r.exclusive_maximum
+  pub multiple_of : value_under (codes "multipleOf") ms ≡ option_map (λ n. integer (pos n)) r.multiple_of

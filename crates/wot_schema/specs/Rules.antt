@@ -4,7 +4,7 @@ use Rattle.std.specs.Option.{option_map}
 use Rattle.wot_json.specs.Tree.{Json, null, boolean, integer, string, array, object, Members, elements_of}
 use Rattle.wot_json.specs.Meaning.{json_of, json_items}
 use Rattle.wot_json.specs.declared.tree.Tree.{Tree}
-use Rattle.wot_json.specs.Lookup.{found}
+use Rattle.wot_json.specs.Lookup.{value_under}
 use Rattle.wot_schema.specs.Values.{element_count, code_points}
 use Rattle.wot_schema.specs.Acceptance.{type_of}
 use Rattle.wot_schema.specs.Kinds.{kind_name}
@@ -20,7 +20,7 @@ IsAmong v (t ∷ ts) = (v ≡ json_of t) ⊎ IsAmong v ts
 -- each of these names is that of a member
 abbrev pub HasAll : Members → List (List ℕ) → Type 0
 HasAll ms [] = ⊤
-HasAll ms (n ∷ ns) = IsSome (found n ms) × HasAll ms ns
+HasAll ms (n ∷ ns) = IsSome (value_under n ms) × HasAll ms ns
 
 -- what the rules ask of a number, a text, a list and an object
 abbrev pub AreContentsAllowed : Rules → Json → Type 0
@@ -40,12 +40,12 @@ pub record IsAllowed (r : Rules) (v : Json) : Type 0 where
 
 -- the rules are those that these members give
 pub record AreRulesOf (ms : Members) (r : Rules) : Type 0 where
-  pub type : found (codes "type") ms ≡ option_map (λ k. string (kind_name k)) r.kind
-  pub constant : found (codes "const") ms ≡ option_map json_of r.constant
-  pub choice : found (codes "enum") ms ≡ option_map (λ ts. array (elements_of (json_items ts.items))) r.choices
+  pub type : value_under (codes "type") ms ≡ option_map (λ k. string (kind_name k)) r.kind
+  pub constant : value_under (codes "const") ms ≡ option_map json_of r.constant
+  pub choice : value_under (codes "enum") ms ≡ option_map (λ ts. array (elements_of (json_items ts.items))) r.choices
   pub numbers : AreNumbersOf ms r.numbers
-  pub min_length : found (codes "minLength") ms ≡ option_map (λ n. integer (pos n)) r.characters.least
-  pub max_length : found (codes "maxLength") ms ≡ option_map (λ n. integer (pos n)) r.characters.most
-  pub min_items : found (codes "minItems") ms ≡ option_map (λ n. integer (pos n)) r.items.least
-  pub max_items : found (codes "maxItems") ms ≡ option_map (λ n. integer (pos n)) r.items.most
-  pub required : found (codes "required") ms ≡ option_map (λ names. array (elements_of (map string names.items))) r.required
+  pub min_length : value_under (codes "minLength") ms ≡ option_map (λ n. integer (pos n)) r.characters.least
+  pub max_length : value_under (codes "maxLength") ms ≡ option_map (λ n. integer (pos n)) r.characters.most
+  pub min_items : value_under (codes "minItems") ms ≡ option_map (λ n. integer (pos n)) r.items.least
+  pub max_items : value_under (codes "maxItems") ms ≡ option_map (λ n. integer (pos n)) r.items.most
+  pub required : value_under (codes "required") ms ≡ option_map (λ names. array (elements_of (map string names.items))) r.required

@@ -3,7 +3,7 @@
 ghost use Rattle.std.specs.Prelude.{◌≡◌, ◌≤◌, pos, [], ◌∷◌, ◌++◌, ◌↔◌, IsTrue, IfSome, IfOk, OnOk, IfErr};
 ghost use Rattle.std.specs.Option.{option_map};
 ghost use Rattle.wot_json.specs.Tree.{integer, members_of};
-ghost use Rattle.wot_json.specs.Lookup.{found};
+ghost use Rattle.wot_json.specs.Lookup.{value_under};
 ghost use Rattle.wot_schema.specs.Faults.{row_faults, count as count_judge, IsFirstFault};
 ghost use Rattle.wot_schema.specs.Counts.{IsCountWithin};
 
@@ -29,9 +29,9 @@ impl CountRange {
         most: &str,
     ) -> Result<CountRange, SchemaFault>
         ensures least { IfOk result (λ r.
-            found least.now (members_of members.now) ≡ option_map (λ n. integer (pos n)) r.least) }
+            value_under least.now (members_of members.now) ≡ option_map (λ n. integer (pos n)) r.least) }
         ensures most { IfOk result (λ r.
-            found most.now (members_of members.now) ≡ option_map (λ n. integer (pos n)) r.most) }
+            value_under most.now (members_of members.now) ≡ option_map (λ n. integer (pos n)) r.most) }
         ensures faultless { OnOk result (row_faults place.now (members_of members.now) (least.now, count_judge)
             ++ row_faults place.now (members_of members.now) (most.now, count_judge) ≡ []) }
         ensures fault { IfErr result (IsFirstFault (row_faults place.now (members_of members.now) (least.now, count_judge)
@@ -77,7 +77,7 @@ fn read_count(
     name: &str,
 ) -> Result<Option<u64>, SchemaFault>
     ensures value { IfOk result (λ o.
-        found name.now (members_of members.now) ≡ option_map (λ n. integer (pos n)) o) }
+        value_under name.now (members_of members.now) ≡ option_map (λ n. integer (pos n)) o) }
     ensures faultless { OnOk result (row_faults place.now (members_of members.now) (name.now, count_judge) ≡ []) }
     ensures fault { IfErr result (IsFirstFault (row_faults place.now (members_of members.now) (name.now, count_judge))) }
 {

@@ -4,7 +4,7 @@ ghost use Rattle.std.specs.Prelude.{◌≡◌, ◌↔◌, ◌<◌, ◌≤ℤ◌,
 ghost use Rattle.std.specs.Option.{ForSome, option_map};
 ghost use Rattle.std.specs.List.{flat_map};
 ghost use Rattle.wot_json.specs.Tree.{integer, members_of};
-ghost use Rattle.wot_json.specs.Lookup.{found};
+ghost use Rattle.wot_json.specs.Lookup.{value_under};
 ghost use Rattle.wot_schema.specs.Faults.{row_faults, whole_number, number_above_zero, number_rows, IsFirstFault};
 
 use crate::SchemaFault;
@@ -116,7 +116,7 @@ fn read_integer(
     name: &str,
 ) -> Result<Option<i64>, SchemaFault>
     ensures value { IfOk result (λ o.
-        found name.now (members_of members.now) ≡ option_map integer o) }
+        value_under name.now (members_of members.now) ≡ option_map integer o) }
     ensures faultless { OnOk result (row_faults place.now (members_of members.now) (name.now, whole_number) ≡ []) }
     ensures fault { IfErr result (IsFirstFault (row_faults place.now (members_of members.now) (name.now, whole_number))) }
 {
@@ -135,7 +135,7 @@ fn read_unit(
     name: &str,
 ) -> Result<Option<u64>, SchemaFault>
     ensures value { IfOk result (λ o.
-        found name.now (members_of members.now) ≡ option_map (λ n. integer (pos n)) o) }
+        value_under name.now (members_of members.now) ≡ option_map (λ n. integer (pos n)) o) }
     ensures above_zero { IfOk result (λ o. ForSome o (λ n. 0 < n)) }
     ensures faultless { OnOk result (row_faults place.now (members_of members.now) (name.now, number_above_zero) ≡ []) }
     ensures fault { IfErr result (IsFirstFault (row_faults place.now (members_of members.now) (name.now, number_above_zero))) }

@@ -5,7 +5,7 @@ ghost use Rattle.std.specs.Option.{option_map};
 ghost use Rattle.std.specs.List.{flat_map};
 ghost use Rattle.wot_json.specs.Tree.{members_of, elements_of, array, string};
 ghost use Rattle.wot_json.specs.Meaning.{json_of, json_items};
-ghost use Rattle.wot_json.specs.Lookup.{found};
+ghost use Rattle.wot_json.specs.Lookup.{value_under};
 ghost use Rattle.wot_schema.specs.Kinds.{kind_name};
 ghost use Rattle.wot_schema.specs.Faults.{row_faults, unsupported_rows, absent, are_texts, type_name, list_with_element, object_or_list, any_object, list_of_texts, IsFirstFault};
 
@@ -51,7 +51,7 @@ pub(crate) fn read_kind(
     members: &Members,
 ) -> Result<Option<Kind>, SchemaFault>
     ensures value { IfOk result (λ o.
-        found (codes "type") (members_of members.now) ≡ option_map (λ k. string (kind_name k)) o) }
+        value_under (codes "type") (members_of members.now) ≡ option_map (λ k. string (kind_name k)) o) }
     ensures faultless { OnOk result (row_faults place.now (members_of members.now) (codes "type", type_name) ≡ []) }
     ensures fault { IfErr result (IsFirstFault (row_faults place.now (members_of members.now) (codes "type", type_name))) }
 {
@@ -70,7 +70,7 @@ pub(crate) fn read_kind(
 
 /// `const`.
 pub(crate) fn read_constant(alloc: Global, members: &Members) -> Result<Option<Tree>, NoMemory>
-    ensures { IfOk result (λ o. found (codes "const") (members_of members.now) ≡ option_map json_of o) }
+    ensures { IfOk result (λ o. value_under (codes "const") (members_of members.now) ≡ option_map json_of o) }
 {
     match member(members, "const") {
         None => Ok(None),
@@ -85,7 +85,7 @@ pub(crate) fn read_choices(
     members: &Members,
 ) -> Result<Option<Vec<Tree>>, SchemaFault>
     ensures value { IfOk result (λ o.
-        found (codes "enum") (members_of members.now) ≡ option_map (λ ts. array (elements_of (json_items ts.items))) o) }
+        value_under (codes "enum") (members_of members.now) ≡ option_map (λ ts. array (elements_of (json_items ts.items))) o) }
     ensures faultless { OnOk result (row_faults place.now (members_of members.now) (codes "enum", list_with_element) ≡ []) }
     ensures fault { IfErr result (IsFirstFault (row_faults place.now (members_of members.now) (codes "enum", list_with_element))) }
 {
@@ -155,7 +155,7 @@ pub(crate) fn read_required(
     place: &str,
     members: &Members,
 ) -> Result<Option<Vec<Text>>, SchemaFault>
-    ensures value { IfOk result (λ o. found (codes "required") (members_of members.now) ≡
+    ensures value { IfOk result (λ o. value_under (codes "required") (members_of members.now) ≡
         option_map (λ names. array (elements_of (map string names.items))) o) }
     ensures faultless { OnOk result (row_faults place.now (members_of members.now) (codes "required", list_of_texts) ≡ []) }
     ensures fault { IfErr result (IsFirstFault (row_faults place.now (members_of members.now) (codes "required", list_of_texts))) }

@@ -4,7 +4,7 @@ use Rattle.std.specs.Option.{option_map_or}
 use Rattle.wot_json.specs.Tree.{Json, array, object, Members, elements_of, members_of}
 use Rattle.wot_json.specs.Meaning.{json_of, json_items, json_members}
 use Rattle.wot_json.specs.declared.tree.Tree.{Tree}
-use Rattle.wot_json.specs.Lookup.{found}
+use Rattle.wot_json.specs.Lookup.{value_under}
 use Rattle.std.proofs.lemmas.List.{drop_more}
 use Rattle.wot_schema.proofs.Steps.{rest_at}
 use Rattle.wot_terms.specs.declared.fault.RowFault.{RowFault}
@@ -20,7 +20,7 @@ stops (y ∷ p) q (row_fault.At x) first = first
 
 -- behind a part with no wrong place comes what the others report
 pub goes_on : (p q : Places) (r : Result (Unit {0}) RowFault) → p ≡ [] → Reports q r → Reports (p ++ q) r
-goes_on p q r none found = rw none found
+goes_on p q r none value_under = rw none value_under
 
 -- an element with no wrong place leaves the others
 pub element_passed : (J : Judge) (places : Places) (ts : List Tree) (i : ℕ) (t : Tree) → i < length ts → t ≡ get_or ts i t →
@@ -51,13 +51,13 @@ member_stops J places ts i t name e within is named left first =
     (stops (in_member t.0 (J (json_of t.1))) (each_member J (members_of (json_members (drop (i + 1) ts)))) e (subst (λ n. Reports (in_member n (J (json_of t.1))) (Err e)) named first))
 
 -- what is reported of a member that is there
-pub there : (name : List ℕ) (J : Judge) (absent : Places) (ms : Members) (v : Json) (r : Result (Unit {0}) RowFault) → Some v ≡ found name ms →
-    Reports (in_member name (J v)) r → Reports (in_member name (option_map_or J (found name ms) absent)) r
+pub there : (name : List ℕ) (J : Judge) (absent : Places) (ms : Members) (v : Json) (r : Result (Unit {0}) RowFault) → Some v ≡ value_under name ms →
+    Reports (in_member name (J v)) r → Reports (in_member name (option_map_or J (value_under name ms) absent)) r
 there name J absent ms v r is reported = subst (λ o. Reports (in_member name (option_map_or J o absent)) r) is reported
 
 -- what is reported of a member that is missing
-pub nowhere : (name : List ℕ) (J : Judge) (absent : Places) (ms : Members) (r : Result (Unit {0}) RowFault) → None ≡ found name ms →
-    Reports (in_member name absent) r → Reports (in_member name (option_map_or J (found name ms) absent)) r
+pub nowhere : (name : List ℕ) (J : Judge) (absent : Places) (ms : Members) (r : Result (Unit {0}) RowFault) → None ≡ value_under name ms →
+    Reports (in_member name absent) r → Reports (in_member name (option_map_or J (value_under name ms) absent)) r
 nowhere name J absent ms r is reported = subst (λ o. Reports (in_member name (option_map_or J o absent)) r) is reported
 
 -- what is reported of a list and of an object that are not empty

@@ -6,7 +6,7 @@ use Rattle.std.specs.Option.{option_map_or}
 use Rattle.wot_json.specs.Tree.{Json, null, boolean, integer, string, array, object, Members, no_members, member, members_of}
 use Rattle.wot_json.specs.Meaning.{json_of, json_members}
 use Rattle.wot_json.specs.declared.tree.Tree.{Tree}
-use Rattle.wot_json.specs.Lookup.{found}
+use Rattle.wot_json.specs.Lookup.{value_under}
 use Rattle.wot_schema.specs.Faults.{schema_faults}
 use Rattle.wot_schema.proofs.Steps.{rest_at}
 use Rattle.wot_terms.specs.declared.kind.Kind.{Kind}
@@ -63,8 +63,8 @@ part_schema : (name : List ℕ) (o : Option Json) → in_member name (option_map
 part_schema name None none = tt
 part_schema name (Some v) none = is_schema v (none_of _ (schema v) none)
 
-member_schema : (name : List ℕ) (ms : Members) → optional name schema ms ≡ [] → IfSome (found name ms) IsSchema
-member_schema name ms none = part_schema name (found name ms) none
+member_schema : (name : List ℕ) (ms : Members) → optional name schema ms ≡ [] → IfSome (value_under name ms) IsSchema
+member_schema name ms none = part_schema name (value_under name ms) none
 
 of_object : (k : Kind) (ms : Members) → affordance_schemas k ms ≡ [] → HasSchemas k (object ms)
 of_object kind.Property ms none = (is_schema (object ms) none, is_schema (object ms) none)
@@ -112,7 +112,7 @@ of_found k (Some v) are none = of_holder k v (none_of _ (object_with (each_membe
 
 -- in a valid description each affordance has schemas without a fault
 pub valid_schemas : (ms : Members) (k : Kind) → faults_of (object ms) ≡ [] → HoldSchemas k ms
-valid_schemas ms k none = of_found k (found (holder k) ms) (maps_none ms k (valid_row ms 9 none)) (each_none affordance_schemas ms k (valid_row ms 16 none))
+valid_schemas ms k none = of_found k (value_under (holder k) ms) (maps_none ms k (valid_row ms 9 none)) (each_none affordance_schemas ms k (valid_row ms 16 none))
 
 -- the affordances that are left, from one of them on
 pub schemas_left : (k : Kind) (ts : List (List ℕ × Tree)) (i : ℕ) (t : List ℕ × Tree) → i < length ts → t ≡ get_or ts i t →

@@ -2,7 +2,7 @@
 use Rattle.std.specs.Prelude.{ℕ, List, [], ◌∷◌, ◌++◌, Bool, false, Option, Some, None, codes}
 use Rattle.std.specs.Option.{option_map_or}
 use Rattle.wot_json.specs.Tree.{Json, boolean, object, Members, no_members, member}
-use Rattle.wot_json.specs.Lookup.{member_named, found}
+use Rattle.wot_json.specs.Lookup.{member_named, value_under}
 use Rattle.wot_json.specs.Merge.{members_under}
 use Rattle.wot_terms.specs.declared.kind.Kind.{Kind}
 use Rattle.wot_terms.specs.declared.kind.Kind.TheVariants as kind
@@ -51,7 +51,7 @@ held_affordances k (object ms) = named_affordances k ms
 held_affordances k v = []
 
 abbrev pub affordances_in : Kind → Members → List Affordance
-affordances_in k ms = option_map_or (held_affordances k) (found (holder k) ms) []
+affordances_in k ms = option_map_or (held_affordances k) (value_under (holder k) ms) []
 
 -- all affordances of a description: its properties, its actions and its events
 abbrev pub affordances_of : Json → List Affordance

@@ -5,7 +5,7 @@ use Rattle.std.specs.Option.{option_map_or}
 use Rattle.std.specs.Str.{bytes_eq}
 use Rattle.wot_json.specs.Tree.{Json, boolean, string, array, object, Elements, no_elements, element, Members, no_members, member}
 use Rattle.wot_json.specs.Places.{step_text, index_text}
-use Rattle.wot_json.specs.Lookup.{found}
+use Rattle.wot_json.specs.Lookup.{value_under}
 use Rattle.wot_schema.specs.declared.fault.SchemaFault.{SchemaFault}
 use Rattle.wot_schema.specs.declared.fault.SchemaFault.TheVariants as schema_fault
 use Rattle.wot_schema.specs.Faults.{schema_faults}
@@ -54,10 +54,10 @@ each_element judge i (element v es) = in_element i (judge v) ++ each_element jud
 
 -- a member that has to be there, and one that may be absent
 abbrev pub required : List ℕ → Judge → MembersJudge
-required name judge ms = in_member name (option_map_or judge (found name ms) here)
+required name judge ms = in_member name (option_map_or judge (value_under name ms) here)
 
 abbrev pub optional : List ℕ → Judge → MembersJudge
-optional name judge ms = in_member name (option_map_or judge (found name ms) [])
+optional name judge ms = in_member name (option_map_or judge (value_under name ms) [])
 
 abbrev pub optional_each : List (List ℕ) → Judge → MembersJudge
 optional_each names judge ms = flat_map (λ name. optional name judge ms) names
@@ -174,11 +174,11 @@ security_definitions ms =
 
 -- 5: `security` (section 5.3.1.1): names of security definitions
 abbrev pub has_member : Option Json → List ℕ → Bool
-has_member (Some (object ms)) name = is_some (found name ms)
+has_member (Some (object ms)) name = is_some (value_under name ms)
 has_member v name = false
 
 abbrev pub security : MembersJudge
-security ms = required (codes "security") (texts (has_member (found (codes "securityDefinitions") ms))) ms
+security ms = required (codes "security") (texts (has_member (value_under (codes "securityDefinitions") ms))) ms
 
 -- 6: `id` (section 5.3.1.1)
 abbrev pub is_text_not_empty : Json → Bool

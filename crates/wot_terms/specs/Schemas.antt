@@ -1,7 +1,7 @@
 -- The schemas of the affordances of a valid description.
 use Rattle.std.specs.Prelude.{◌≡◌, [], IfSome, ⊤}
 use Rattle.wot_json.specs.Tree.{Json, object, Members, no_members, member}
-use Rattle.wot_json.specs.Lookup.{found}
+use Rattle.wot_json.specs.Lookup.{value_under}
 use Rattle.wot_schema.specs.Faults.{schema_faults}
 use Rattle.wot_terms.specs.declared.kind.Kind.{Kind}
 use Rattle.wot_terms.specs.Faults.{holder}
@@ -24,4 +24,4 @@ HoldsSchemas k (object ms) = HaveSchemas k ms
 HoldsSchemas k v = ⊤
 
 abbrev pub HoldSchemas : Kind → Members → Type 0
-HoldSchemas k ms = IfSome (found (holder k) ms) (HoldsSchemas k)
+HoldSchemas k ms = IfSome (value_under (holder k) ms) (HoldsSchemas k)

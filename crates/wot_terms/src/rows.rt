@@ -4,7 +4,7 @@ ghost use Rattle.std.specs.Prelude.{◌≡◌, codes};
 ghost use Rattle.std.specs.Str.{bytes_eq};
 ghost use Rattle.wot_json.specs.Tree.{elements_of, members_of};
 ghost use Rattle.wot_json.specs.Meaning.{json_of, json_items};
-ghost use Rattle.wot_json.specs.Lookup.{found as found_member};
+ghost use Rattle.wot_json.specs.Lookup.{value_under as found_member};
 ghost use Rattle.wot_terms.specs.Faults.{is, is_text_with, each_element as each_of, each_member as each_named, object_with, object_of_some, required as required_member, texts, context as context_row, is_td_context as is_td_context_value, has_text as has_text_in, security_definitions as security_definitions_row, security as security_row, has_member, types as types_row, type_of_thing as type_of_thing_judge, affordances as affordances_row, affordance_maps as affordance_maps_row, root_forms as root_forms_row, links as links_row, version as version_row};
 ghost use Rattle.wot_terms.specs.Rows.{Reports, entry_judge, judge_of};
 ghost use Rattle.wot_terms.specs.declared.asked.Asked.{Asked};

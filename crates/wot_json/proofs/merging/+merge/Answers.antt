@@ -2,7 +2,7 @@ use Rattle.std.proofs.Common.{◌≡◌, ◌++◌, ◌+◌, ◌<◌, ◌∙◌, 
 use Rattle.std.proofs.lemmas.List.{map-append, drop_all}
 use Rattle.wot_json.specs.Tree.{Json, members_of, AreOrdered}
 use Rattle.wot_json.specs.Meaning.{json_of, json_member, json_members}
-use Rattle.wot_json.specs.Merge.{merged}
+use Rattle.wot_json.specs.Merge.{merged_members}
 use Rattle.wot_json.specs.declared.tree.Tree.{Tree}
 use Rattle.wot_json.proofs.MergeLaws.{merge_step, merged_ordered}
 use Rattle.wot_json.proofs.MemberCuts.{ordered_drop}
@@ -36,7 +36,7 @@ merge_members-loop-member-preserved t c =
     record {
       whole = merge_step (json_members old) (json_members c.push_copies.new.into.items) (json_members c.push_change.new.into.items) rest (json_members before) (json_members c.cut_at.result.2.now) (json_members (drop (i + 1) list)) _ _ m.0 (json_of m.1)
           cut (before_others (json_member m) (json_members (drop (i + 1) list)) left_order) copied c.in_ok-push_change.ensures
-          (ap (λ (xs : List (List ℕ × Tree)). json_members old ++ merged rest (members_of (json_members xs))) (sym left) ∙ c.loop-member.invariant.whole);
+          (ap (λ (xs : List (List ℕ × Tree)). json_members old ++ merged_members rest (members_of (json_members xs))) (sym left) ∙ c.loop-member.invariant.whole);
       order = c.cut_at.ensures.order;
     }
 
@@ -46,6 +46,6 @@ merge_members-invariant_of-result t c =
     let old : List (List ℕ × Tree) = c.loop-member.merged.items in
     let rest : List (List ℕ × Tree) = c.loop-member.rest.now in
     let all = ap json_members c.in_ok-push_copies-2.ensures ∙ map-append json_member old rest
-    ∙ ap (λ (xs : List (List ℕ × Tree)). json_members old ++ merged (json_members rest) (members_of (json_members xs))) (sym (drop_all c.loop-member.member-index list c.loop-member-test.false))
+    ∙ ap (λ (xs : List (List ℕ × Tree)). json_members old ++ merged_members (json_members rest) (members_of (json_members xs))) (sym (drop_all c.loop-member.member-index list c.loop-member-test.false))
     ∙ c.loop-member.invariant.whole in
     subst AreOrdered (sym all) (merged_ordered (json_members c.args.members.now) (members_of (json_members list)) c.requires)

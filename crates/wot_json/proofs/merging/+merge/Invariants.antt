@@ -1,7 +1,7 @@
 use Rattle.std.proofs.Common.{◌≡◌, ◌++◌, ◌+◌, ◌*◌, drop}
 use Rattle.wot_json.specs.Tree.{nesting, most_member_nesting, members_of, AreOrdered}
 use Rattle.wot_json.specs.Meaning.{json_of, json_members}
-use Rattle.wot_json.specs.Merge.{merged}
+use Rattle.wot_json.specs.Merge.{merged_members}
 use Rattle.wot_json.proofs.merging.+merge.Given as goal
 
 abbrev pub decreases-merge_patch : goal.decreases-merge_patch
@@ -16,6 +16,6 @@ decreases-push_change l = 3 * nesting (json_of l.change.now) + 1
 -- what is done, and what the changes that are left make of the members that are left, is the whole
 abbrev pub invariant-merge_members-loop-member : goal.invariant-merge_members-loop-member
 invariant-merge_members-loop-member l = record {
-  whole : json_members l.merged.items ++ merged (json_members l.rest) (members_of (json_members (drop l.member-index l.member-items))) ≡ merged (json_members l.members) (members_of (json_members l.member-items));
+  whole : json_members l.merged.items ++ merged_members (json_members l.rest) (members_of (json_members (drop l.member-index l.member-items))) ≡ merged_members (json_members l.members) (members_of (json_members l.member-items));
   order : AreOrdered (json_members l.rest);
 }

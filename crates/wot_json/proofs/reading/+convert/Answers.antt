@@ -1,7 +1,7 @@
 use Rattle.std.proofs.Common.{◌≡◌, ◌++◌, ◌∷◌, length, List, ℕ, arith, ap, subst, ◌∙◌, [], string_bytes}
 use Rattle.std.proofs.lemmas.Grind.{common_steps}
 use Rattle.std.proofs.lemmas.List.{length_push}
-use Rattle.wot_json.specs.Reading.{behind}
+use Rattle.wot_json.specs.Reading.{places_below}
 use Rattle.wot_json.specs.Faults.{NamesFirst}
 use Rattle.wot_json.proofs.Converting.{items_more, items_all, items_places_more, item_fault, members_more, members_all, members_places_more, member_fault, names_more, ordered_as_entries}
 use Rattle.wot_json.proofs.reading.+convert.Goals as goal
@@ -42,7 +42,7 @@ convert_members-returns-in-Err-clause-err t c =
     let l = c.loop-name in
     let steps = c.in-Some.ensures.steps in
     member_fault _ (c.in-Some.name.now, c.in-Some.member.now) c.next.new.self c.in-Err.fault c.further_out.result (rw steps at l.invariant.places) c.in-Err.ensures.err
-    (λ places h. subst (λ (token : List ℕ). NamesFirst (behind token places) c.further_out.result) c.as_str-in-Err.ensures.value (c.further_out.ensures places h))
+    (λ places h. subst (λ (token : List ℕ). NamesFirst (places_below token places) c.further_out.result) c.as_str-in-Err.ensures.value (c.further_out.ensures places h))
 
 pub convert_members-invariant_of-result : goal.convert_members-invariant_of-result
 convert_members-invariant_of-result t c =

@@ -1,12 +1,12 @@
 use Rattle.std.proofs.Common.{refl}
-use Rattle.wot_json.specs.Json.{escaped}
+use Rattle.wot_json.specs.Json.{escaped_byte}
 use Rattle.wot_json.proofs.Pieces.{puts_more, no_room_more}
 use Rattle.wot_json.proofs.writing.put_all_escaped.Goals as goal
 
 pub returns-in-None : goal.returns-in-None
 returns-in-None c =
-    no_room_more escaped c.args.bytes.now c.loop-byte.byte-index 0 _ c.args.at c.loop-byte.end c.args.out.now c.loop-byte.out c.loop-byte-test.true refl c.loop-byte.auto.out c.loop-byte.invariant c.in-None.ensures
+    no_room_more escaped_byte c.args.bytes.now c.loop-byte.byte-index 0 _ c.args.at c.loop-byte.end c.args.out.now c.loop-byte.out c.loop-byte-test.true refl c.loop-byte.auto.out c.loop-byte.invariant c.in-None.ensures
 
 pub loop-byte-preserved : goal.loop-byte-preserved
 loop-byte-preserved c =
-    puts_more escaped c.args.bytes.now c.loop-byte.byte-index 0 _ c.args.at c.loop-byte.end c.in-Some.next c.args.out.now c.loop-byte.out c.put_escaped.new.out c.loop-byte-test.true refl c.loop-byte.invariant c.in-Some.ensures
+    puts_more escaped_byte c.args.bytes.now c.loop-byte.byte-index 0 _ c.args.at c.loop-byte.end c.in-Some.next c.args.out.now c.loop-byte.out c.put_escaped.new.out c.loop-byte-test.true refl c.loop-byte.invariant c.in-Some.ensures

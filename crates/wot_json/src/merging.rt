@@ -54,16 +54,16 @@ fn merge_members(
     requires { AreOrdered (json_members members.now) }
     ensures { IfOk result (λ m. m ≡ merged_members (json_members members.now) (members_of changes.now)) }
 {
-    let mut merged_members = Vec::new(alloc);
+    let mut merged = Vec::new(alloc);
     let mut rest = members;
     for member in &changes.list {
         let (before, value, behind) = cut_at(rest, member.0.as_str());
-        push_copies(alloc, before, &mut merged_members)?;
-        push_change(alloc, &member.0, value, &member.1, &mut merged_members)?;
+        push_copies(alloc, before, &mut merged)?;
+        push_change(alloc, &member.0, value, &member.1, &mut merged)?;
         rest = behind;
     }
-    push_copies(alloc, rest, &mut merged_members)?;
-    Ok(Members { list: merged_members })
+    push_copies(alloc, rest, &mut merged)?;
+    Ok(Members { list: merged })
 }
 
 /// Puts what a member of the patch makes of that of the target at the end, if anything.
@@ -81,12 +81,12 @@ fn push_change(
     if matches!(change, Tree::Null) {
         return Ok(());
     }
-    let merged_members = match value {
+    let merged = match value {
         Some(value) => merge_patch(alloc, value, change)?,
         None => merge_patch(alloc, &Tree::Null, change)?,
     };
     let name = Text::copy_of(alloc, name.as_str())?;
-    into.push((name, merged_members))?;
+    into.push((name, merged))?;
     Ok(())
 }
 

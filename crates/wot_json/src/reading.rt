@@ -33,13 +33,13 @@ pub enum ReadFault {
     #[error("the bytes are no JSON text")]
     NotJson,
     /// Lists and objects nest more than 64 deep.
-    #[error("lists and objects nest more than 64 deep")]
+    #[error("lists and objects nest more than {MAX_DEPTH} deep")]
     TooDeep,
     /// A number isn't whole or needs more than 64 bits with sign; the pointer (RFC 6901) to the first one.
-    #[error("a number is not whole or needs more than 64 bits with sign")]
+    #[error("the number at `{0}` is not whole or needs more than 64 bits with sign")]
     NotInteger(Text),
-    /// There was no memory.
-    #[error("there was no memory")]
+    /// Out of memory.
+    #[error("out of memory")]
     NoMemory,
 }
 

@@ -5,6 +5,7 @@ ghost use Rattle.std.specs.String.{string_bytes};
 
 use servient_base::NoMemory;
 use std::alloc::Global;
+use std::fmt;
 use std::marker::Model;
 
 /// A text. Contracts see the list of its UTF-8 bytes.
@@ -48,5 +49,11 @@ impl Text {
         ensures { result.now ≡ self.now }
     {
         self.text.as_str()
+    }
+}
+
+impl fmt::Display for Text {
+    fn fmt<W: fmt::Write>(&self, f: &mut fmt::Formatter<W>) -> fmt::Result {
+        f.pad(self.as_str())
     }
 }

@@ -1,21 +1,18 @@
--- Counts of what failed.
-use Rattle.std.specs.Prelude.{◌≡◌, ℕ, ◌+◌, ◌-◌, ◌^◌, ◌≤◌, min, max, List, [], ◌∷◌, Some, slice_get}
+-- Counts of what failed. A count has 64 bits, and one that is at its last value, 2 ^ 64 - 1, stays there.
+use Rattle.std.specs.Prelude.{ℕ, ◌+◌, ◌-◌, ◌^◌, ◌≤◌, min, max}
 
--- A count went up by one or more. One that stays at its last value, 2 ^ 64 - 1, counts as one that rose.
+-- a count of 64 bits that went up by one, or stayed at its last value
+abbrev pub one_more : ℕ → ℕ
+one_more count = min (count + 1) (2 ^ 64 - 1)
+
+-- a count of 64 bits that went up by so much, or to its last value and no further
+abbrev pub raised : ℕ → ℕ → ℕ
+raised more count = min (count + more) (max count (2 ^ 64 - 1))
+
+-- A count went up by so much or more. One that stays at its last value counts as one that rose.
+abbrev pub RoseBy : ℕ → ℕ → ℕ → Type 0
+RoseBy more before now = min (before + more) (max before (2 ^ 64 - 1)) ≤ now
+
+-- a count went up by one or more
 abbrev pub Rose : ℕ → ℕ → Type 0
-Rose before now = min (before + 1) (max before (2 ^ 64 - 1)) ≤ now
-
--- of counts in a row, none fell
-abbrev pub NoneFell : List ℕ → List ℕ → Type 0
-NoneFell [] [] = Unit {0}
-NoneFell (before ∷ befores) (now ∷ nows) = (before ≤ now) × NoneFell befores nows
-NoneFell [] (now ∷ nows) = ⊥
-NoneFell (before ∷ befores) [] = ⊥
-
--- of counts in a row, the one at this place rose
-pub record RoseAt (place : ℕ) (befores nows : List ℕ) : Type 0 where
-  pub before : ℕ
-  pub now : ℕ
-  pub stood : slice_get befores place ≡ Some before
-  pub stands : slice_get nows place ≡ Some now
-  pub rose : Rose before now
+Rose before now = RoseBy 1 before now

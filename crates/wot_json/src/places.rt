@@ -14,7 +14,7 @@ use std::alloc::Global;
 /// The place of a member of an object that stands at `place`: `/` and its name go behind that, `~` written
 /// as `~0` and `/` as `~1` (RFC 6901, section 3). Its time is in proportion to the length of the result.
 pub fn below(alloc: Global, place: &str, name: &str) -> Result<Text, NoMemory>
-    ensures { IfOk result (λ t. t ≡ place.now ++ step_text name.now) }
+    ensures { IfOk result (λ t. t ≡ place.now ++ codes "/" ++ token_text name.now) }
 {
     let mut text = String::from_str(alloc, place)?;
     push_step(&mut text, name)?;
@@ -24,7 +24,7 @@ pub fn below(alloc: Global, place: &str, name: &str) -> Result<Text, NoMemory>
 /// The place of an element of a list that stands at `place`: `/` and its index, counted from 0, go behind
 /// that (RFC 6901, section 4).
 pub fn below_index(alloc: Global, place: &str, index: usize) -> Result<Text, NoMemory>
-    ensures { IfOk result (λ t. t ≡ place.now ++ element_step_text index) }
+    ensures { IfOk result (λ t. t ≡ place.now ++ codes "/" ++ index_text index) }
 {
     let mut buffer = Buffer::new();
     let mut text = String::from_str(alloc, place)?;

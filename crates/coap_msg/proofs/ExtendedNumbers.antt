@@ -2,18 +2,18 @@
 use Rattle.std.proofs.Common.{◌≡◌, ℕ, ◌+◌, ◌-◌, ◌*◌, ◌/◌, ◌%◌, ◌^◌, ◌<◌, ◌≤◌, true, false, ltb, eqb, List, [], ◌∷◌, ◌++◌, length, get_or, Option, Some, None, refl, subst, arith, inl, inr}
 use Rattle.std.proofs.lemmas.Bool.{cases_lt, cases_eq, lt-ltb, le-ltb, eq-eqb, ne_eqb}
 use Rattle.std.proofs.lemmas.Option.{same_Some}
-use Rattle.coap_msg.specs.Grammar.{nibble, extended}
-use Rattle.coap_msg.specs.Reading.{number_at, one_byte, two_bytes}
+use Rattle.coap_msg.specs.Grammar.{nibble, extended, largest_number}
+use Rattle.coap_msg.specs.Options.{number_at, one_byte, two_bytes}
 
 -- each number of a list is a byte
 abbrev pub IsBytes : List ℕ → Type 0
 IsBytes bytes = (i : ℕ) → get_or bytes i 0 < 2 ^ 8
 
--- a nibble and the extended bytes at the front spell a number, and the rest stands behind
+-- a nibble and the bytes up to the rest spell a number
 pub record TakesNumber (n number : ℕ) (bytes rest : List ℕ) : Type 0 where
   pub nibble_is : n ≡ nibble number
   pub bytes_are : bytes ≡ extended number ++ rest
-  pub bound : number ≤ 65804
+  pub bound : number ≤ largest_number
 
 -- a nibble below 13 is the number itself
 takes_none : (n : ℕ) (bytes : List ℕ) → n < 13 → TakesNumber n n bytes bytes
@@ -61,7 +61,7 @@ two_bytes_takes (high ∷ low ∷ bytes) x are_bytes read =
     renamed 14 (high ∷ low ∷ bytes) (256 * high + low + 269, bytes) x (takes_two high low bytes (are_bytes 0) (are_bytes 1)) read
 
 -- what is nothing is not something
-none_read : (o : Option (ℕ × List ℕ)) (x : ℕ × List ℕ) → o ≡ None → o ≡ Some x → ⊥
+pub none_read : {A : Type 0} (o : Option A) (x : A) → o ≡ None → o ≡ Some x → ⊥
 none_read o x none some = absurd cc
 
 -- what `number_at` reads
@@ -82,7 +82,7 @@ number_takes n bytes x are_bytes read =
     ]
 
 -- what is spelled is read again
-pub number_at-extended : (number : ℕ) (rest : List ℕ) → number ≤ 65804 →
+pub number_at-extended : (number : ℕ) (rest : List ℕ) → number ≤ largest_number →
     number_at (nibble number) (extended number ++ rest) ≡ Some (number, rest)
 unfolding number_at
 number_at-extended number rest bound =

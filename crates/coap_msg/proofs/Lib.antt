@@ -1,5 +1,5 @@
 pub mod ExtendedNumbers
-pub mod OptionReading
+pub mod OneOption
 pub mod OptionLists
 pub mod Bodies
 pub mod Messages

@@ -5,7 +5,7 @@ use Rattle.coap_msg.specs.declared.message.Type4.{Type4}
 use Rattle.coap_msg.specs.declared.message.Type4.TheVariants.{Con, Non, Ack, Rst}
 use Rattle.coap_msg.specs.declared.header.Header.{Header}
 use Rattle.coap_msg.specs.Grammar.{CoapOption, CoapMessage, type_bits, header, IsClass, HasHeaderAlone, IsWellFormed, Spells, options_spelling, payload_spelling}
-use Rattle.coap_msg.specs.Reading.{SpellsHeader, SpellsBody}
+use Rattle.coap_msg.specs.Parts.{SpellsHeader, SpellsBody}
 use Rattle.coap_msg.proofs.OptionLists.{one_body}
 
 -- type bits are two bits
@@ -34,9 +34,9 @@ same_type Rst Non same = absurd (omega arith)
 same_type Rst Ack same = absurd (omega arith)
 same_type Rst Rst same = refl
 
--- the bytes behind the header of a message
-abbrev pub behind_header : CoapMessage → List ℕ
-behind_header m = m.token ++ (options_spelling 0 m.options ++ payload_spelling m.payload)
+-- the bytes after the header of a message
+abbrev pub bytes_after_header : CoapMessage → List ℕ
+bytes_after_header m = m.token ++ (options_spelling 0 m.options ++ payload_spelling m.payload)
 
 -- a header says of a message what the message is
 pub record IsHeaderOf (m : CoapMessage) (h : Header) (rest : List ℕ) : Type 0 where
@@ -45,9 +45,9 @@ pub record IsHeaderOf (m : CoapMessage) (h : Header) (rest : List ℕ) : Type 0 
   pub token_length : h.token_length ≡ length m.token
   pub code : h.code ≡ m.code
   pub id : h.id ≡ m.id
-  pub rest_is : rest ≡ behind_header m
+  pub rest_is : rest ≡ bytes_after_header m
 
--- the header at the front of a message is its header
+-- the header that a message begins with is its header
 pub header_of : (m : CoapMessage) (h : Header) (bytes rest : List ℕ) → SpellsHeader h bytes rest →
     Spells m bytes → IsHeaderOf m h rest
 header_of m h bytes rest of_header of_message =
@@ -69,7 +69,7 @@ header_of m h bytes rest of_header of_message =
       rest_is = ap (λ (xs : List ℕ). drop 4 xs) same;
     }
 
--- the bytes behind the token of a message are its options and payload
+-- the bytes after the token of a message are its options and payload
 pub body_of : (m : CoapMessage) (h : Header) (bytes rest token body : List ℕ) → IsHeaderOf m h rest →
     Spells m bytes → rest ≡ token ++ body → length token ≡ h.token_length →
     (token ≡ m.token) × SpellsBody m.options m.payload body
@@ -88,29 +88,29 @@ body_of m h bytes rest token body of_header spells split count =
     )
 
 -- the message of a header, a token and a body
-abbrev pub assembled : Header → List ℕ → List CoapOption → List ℕ → CoapMessage
-assembled h token options payload =
+abbrev pub assembled_message : Header → List ℕ → List CoapOption → List ℕ → CoapMessage
+assembled_message h token options payload =
     record { kind = h.kind; code = h.code; id = h.id; token = token; options = options; payload = payload }
 
 -- a header, a token of its length and a body within the bounds spell their message
 pub assembled_spells : (h : Header) (bytes rest token body : List ℕ) (options : List CoapOption) (payload : List ℕ) →
     SpellsHeader h bytes rest → h.version ≡ 1 → h.token_length ≤ 8 → IsClass (h.code / 32) →
-    (h.code ≡ 0 → HasHeaderAlone (assembled h token options payload)) → rest ≡ token ++ body →
+    (h.code ≡ 0 → HasHeaderAlone (assembled_message h token options payload)) → rest ≡ token ++ body →
     length token ≡ h.token_length → SpellsBody options payload body →
-    Spells (assembled h token options payload) bytes
+    Spells (assembled_message h token options payload) bytes
 assembled_spells h bytes rest token body options payload of_header version short class empty split count of_body =
     let first : 64 * h.version + 16 * type_bits h.kind + h.token_length ≡ 64 * 1 + 16 * type_bits h.kind + length token = omega arith in
-    let behind : rest ≡ token ++ (options_spelling 0 options ++ payload_spelling payload) = split
+    let after : rest ≡ token ++ (options_spelling 0 options ++ payload_spelling payload) = split
     ∙ ap (λ (xs : List ℕ). token ++ xs) of_body.body_is in
     record {
       bounds = record { code = of_header.code; class = class; id = of_header.id; token = omega arith; options = of_body.order; empty = empty };
       bytes_are =
           of_header.bytes_are
           ∙ ap (λ (n : ℕ). n ∷ h.code ∷ (h.id / 256) ∷ (h.id % 256) ∷ rest) first
-          ∙ ap (λ (xs : List ℕ). (64 * 1 + 16 * type_bits h.kind + length token) ∷ h.code ∷ (h.id / 256) ∷ (h.id % 256) ∷ xs) behind;
+          ∙ ap (λ (xs : List ℕ). (64 * 1 + 16 * type_bits h.kind + length token) ∷ h.code ∷ (h.id / 256) ∷ (h.id % 256) ∷ xs) after;
     }
 
--- header, token, options and payload one behind another spell their message
+-- header, token, options and payload one after another spell their message
 pub pieces_spell : (m : CoapMessage) (a b c bytes options : List ℕ) → IsWellFormed m → a ≡ header m →
     b ≡ a ++ m.token → options ≡ options_spelling 0 m.options → c ≡ b ++ options →
     bytes ≡ c ++ payload_spelling m.payload → Spells m bytes
@@ -119,11 +119,11 @@ pieces_spell m a b c bytes options bounds a_is b_is options_are c_is bytes_are =
   bytes_are = rw (bytes_are, c_is, options_are, b_is, a_is) (simp append_assoc);
 }
 
--- where nothing stands behind a header, token, options and payload are empty
-pub nothing_behind : (h : Header) (rest token body : List ℕ) (options : List CoapOption) (payload : List ℕ) →
+-- where nothing comes after a header, token, options and payload are empty
+pub nothing_after : (h : Header) (rest token body : List ℕ) (options : List CoapOption) (payload : List ℕ) →
     length rest ≡ 0 → rest ≡ token ++ body → SpellsBody options payload body →
-    HasHeaderAlone (assembled h token options payload)
-nothing_behind h rest token body options payload none split of_body =
+    HasHeaderAlone (assembled_message h token options payload)
+nothing_after h rest token body options payload none split of_body =
     let counted = length-append token body in
     let whole = ap length split in
     let token_is : token ≡ [] = nil_from_length token (omega arith) in
@@ -149,7 +149,7 @@ header_fields m = record { version = 1; kind = m.kind; token_length = length m.t
 
 -- a message's bytes begin with its header
 spells_header : (m : CoapMessage) (bytes : List ℕ) → Spells m bytes →
-    SpellsHeader (header_fields m) bytes (behind_header m)
+    SpellsHeader (header_fields m) bytes (bytes_after_header m)
 spells_header m bytes spells =
     let short = spells.bounds.token in
     record { bytes_are = spells.bytes_are; version = omega arith; token_length = omega arith; code = spells.bounds.code; id = spells.bounds.id }
@@ -157,8 +157,8 @@ spells_header m bytes spells =
 -- bytes spell at most one message
 pub at_most_one_message : (m n : CoapMessage) (bytes : List ℕ) → Spells m bytes → Spells n bytes → m ≡ n
 at_most_one_message m n bytes of_m of_n =
-    let header = header_of n (header_fields m) bytes (behind_header m) (spells_header m bytes of_m) of_n in
+    let header = header_of n (header_fields m) bytes (bytes_after_header m) (spells_header m bytes of_m) of_n in
     let body_is = options_spelling 0 m.options ++ payload_spelling m.payload in
-    let behind = body_of n (header_fields m) bytes (behind_header m) m.token body_is header of_n refl refl in
-    let body = one_body m.options n.options m.payload n.payload body_is (record { order = of_m.bounds.options; body_is = refl }) behind.1 in
-    same_parts m n (same_type m.kind n.kind header.kind) header.code header.id behind.0 body.0 body.1
+    let after = body_of n (header_fields m) bytes (bytes_after_header m) m.token body_is header of_n refl refl in
+    let body = one_body m.options n.options m.payload n.payload body_is (record { order = of_m.bounds.options; body_is = refl }) after.1 in
+    same_parts m n (same_type m.kind n.kind header.kind) header.code header.id after.0 body.0 body.1

@@ -1,19 +1,20 @@
--- Lists of options and the bytes behind a token: one more option at the end, and that bytes spell one list.
+-- Lists of options and the bytes after a token: one more option at the end, and that bytes spell one list.
 use Rattle.std.proofs.Common.{◌≡◌, ℕ, ◌≤◌, List, [], ◌∷◌, ◌++◌, refl, sym, ap, subst, ◌∙◌, arith, append_assoc}
 use Rattle.std.proofs.lemmas.List.{append-nil}
 use Rattle.std.proofs.lemmas.Option.{same_Some}
-use Rattle.coap_msg.specs.Grammar.{CoapOption, option_spelling, options_spelling, payload_spelling, MayStandBehind, AreInOrder}
-use Rattle.coap_msg.specs.Written.{last_number, AreWritten}
-use Rattle.coap_msg.specs.Reading.{option_at, options_of, SpellsBody}
-use Rattle.coap_msg.proofs.OptionReading.{found, option_at-spelling, option_begins, options_of-spelling}
+use Rattle.coap_msg.specs.Grammar.{CoapOption, option_spelling, options_spelling, payload_spelling, MayFollow, AreInOrder}
+use Rattle.coap_msg.specs.Opts.{last_number, AreWritten}
+use Rattle.coap_msg.specs.Options.{option_at, options_of}
+use Rattle.coap_msg.specs.Parts.{SpellsBody}
+use Rattle.coap_msg.proofs.OneOption.{some_read, option_at-spelling, option_begins, options_of-spelling}
 
 -- an option that may follow the last one keeps the order
 pub AreInOrder-push : (last : ℕ) (os : List CoapOption) (o : CoapOption) → AreInOrder last os →
-    MayStandBehind (last_number last os) o → AreInOrder last (os ++ o ∷ [])
+    MayFollow (last_number last os) o → AreInOrder last (os ++ o ∷ [])
 AreInOrder-push last [] o order follows = (follows, tt)
 AreInOrder-push last (x ∷ os) o order follows = (order.0, AreInOrder-push x.0 os o order.1 follows)
 
--- the spelling of one more option stands behind that of the others
+-- the spelling of one more option comes after that of the others
 pub options_spelling-push : (last : ℕ) (os : List CoapOption) (o : CoapOption) (rest : List ℕ) →
     options_spelling last (os ++ o ∷ []) ++ rest ≡ options_spelling last os ++ (option_spelling (last_number last os) o ++ rest)
 options_spelling-push last [] o rest = ap (λ (xs : List ℕ). xs ++ rest) (append-nil (option_spelling last o))
@@ -34,8 +35,8 @@ pub record IsPushed (os : List CoapOption) (o : CoapOption) (new : List ℕ) : T
   pub written : AreWritten o.0 new
   pub bytes_are : new ≡ options_spelling 0 (os ++ o ∷ [])
 
--- an option that is spelled behind written options is pushed
-pub pushed : (old new : List ℕ) (last : ℕ) (o : CoapOption) → AreWritten last old → MayStandBehind last o →
+-- an option that is spelled after written options is pushed
+pub pushed : (old new : List ℕ) (last : ℕ) (o : CoapOption) → AreWritten last old → MayFollow last o →
     new ≡ old ++ option_spelling last o → IsPushed (options_of old) o new
 pushed old new last o written follows new_is =
     let os = options_of old in
@@ -78,16 +79,16 @@ option_begins_here last o tail none =
     omega (arith, begins.3)
 
 -- bytes begin with one option at most
-pub same_option : (last : ℕ) (o p : CoapOption) (x y : List ℕ) → MayStandBehind last o → MayStandBehind last p →
+pub same_option : (last : ℕ) (o p : CoapOption) (x y : List ℕ) → MayFollow last o → MayFollow last p →
     option_spelling last o ++ x ≡ option_spelling last p ++ y → ◌≡◌ {A = CoapOption × List ℕ} (o, x) (p, y)
 same_option last o p x y of_o of_p same =
-    let read : found (o, x) ≡ found (p, y) =
+    let read : some_read (o, x) ≡ some_read (p, y) =
     sym (option_at-spelling last o x of_o)
     ∙ ap (λ (zs : List ℕ). option_at last zs) same
     ∙ option_at-spelling last p y of_p in
     same_Some (o, x) (p, y) read
 
--- bytes begin with one list of options at most, where none begins behind them
+-- bytes begin with one list of options at most, where none begins after them
 same_options : (last : ℕ) (os ps : List CoapOption) (x y : List ℕ) → AreInOrder last os → AreInOrder last ps →
     BeginsNoOption x → BeginsNoOption y → options_spelling last os ++ x ≡ options_spelling last ps ++ y →
     (os ≡ ps) × (x ≡ y)
@@ -104,9 +105,9 @@ same_options last (o ∷ os) (p ∷ ps) x y a b ends_x ends_y same =
     let option : o ≡ p = ap (λ (r : CoapOption × List ℕ). r.0) first in
     let number : p.0 ≡ o.0 = ap (λ (q : CoapOption). q.0) (sym option) in
     let order : AreInOrder o.0 ps = subst (λ (n : ℕ). AreInOrder n ps) number b.1 in
-    let behind : options_spelling o.0 os ++ x ≡ options_spelling o.0 ps ++ y =
+    let others_are : options_spelling o.0 os ++ x ≡ options_spelling o.0 ps ++ y =
     subst (λ (n : ℕ). options_spelling o.0 os ++ x ≡ options_spelling n ps ++ y) number (ap (λ (r : CoapOption × List ℕ). r.1) first) in
-    let others = same_options o.0 os ps x y a.1 order ends_x ends_y behind in
+    let others = same_options o.0 os ps x y a.1 order ends_x ends_y others_are in
     (ap (λ (q : CoapOption). q ∷ os) option ∙ ap (λ (qs : List CoapOption). p ∷ qs) others.0, others.1)
 
 -- payloads are told apart by their spelling
@@ -116,7 +117,7 @@ same_payload [] (b ∷ bytes) same = absurd cc
 same_payload (a ∷ bytes) [] same = absurd cc
 same_payload (a ∷ p) (b ∷ q) same = cc
 
--- the bytes behind a token are options and a payload in one way at most
+-- the bytes after a token are options and a payload in one way at most
 pub one_body : (os ps : List CoapOption) (p q body : List ℕ) → SpellsBody os p body → SpellsBody ps q body →
     (os ≡ ps) × (p ≡ q)
 one_body os ps p q body a b =

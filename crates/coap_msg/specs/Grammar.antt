@@ -40,13 +40,13 @@ abbrev pub extended : ℕ → List ℕ
 extended n =
     if nat_lt n 13 then [] else if nat_lt n 269 then (n - 13) ∷ [] else ((n - 269) / 256) ∷ ((n - 269) % 256) ∷ []
 
--- An option behind one of the number last: delta and length in one byte, the extended delta, the
+-- An option after one of the number last: delta and length in one byte, the extended delta, the
 -- extended length, the value (section 3.1).
 unfoldable pub option_spelling : ℕ → CoapOption → List ℕ
 option_spelling last o =
     (16 * nibble (o.0 - last) + nibble (length o.1)) ∷ extended (o.0 - last) ++ extended (length o.1) ++ o.1
 
--- each option behind the one before it, the first as if behind the number 0
+-- each option after the one before it, the first as if after the number 0
 abbrev pub options_spelling : ℕ → List CoapOption → List ℕ
 options_spelling last [] = []
 options_spelling last (o ∷ os) = option_spelling last o ++ options_spelling o.0 os
@@ -60,17 +60,21 @@ payload_spelling (b ∷ bs) = 255 ∷ b ∷ bs
 abbrev pub spelling : CoapMessage → List ℕ
 spelling m = header m ++ (m.token ++ (options_spelling 0 m.options ++ payload_spelling m.payload))
 
--- An option may stand behind one of the number last: numbers don't fall, a number has 16 bits, and a
+-- the largest delta or length that a nibble and its extended bytes can say, 269 + 65535 (section 3.1)
+abbrev pub largest_number : ℕ
+largest_number = 65804
+
+-- An option may follow one of the number last: numbers don't fall, a number has 16 bits, and a
 -- value has no more bytes than a length can say.
-pub record MayStandBehind (last : ℕ) (o : CoapOption) : Type 0 where
+pub record MayFollow (last : ℕ) (o : CoapOption) : Type 0 where
   pub order : last ≤ o.0
   pub number : o.0 < 2 ^ 16
-  pub value : length o.1 ≤ 65804
+  pub value : length o.1 ≤ largest_number
 
--- each option may stand behind the one before it
+-- each option may follow the one before it
 abbrev pub AreInOrder : ℕ → List CoapOption → Type 0
 AreInOrder last [] = Unit {0}
-AreInOrder last (o ∷ os) = MayStandBehind last o × AreInOrder o.0 os
+AreInOrder last (o ∷ os) = MayFollow last o × AreInOrder o.0 os
 
 -- the classes that are not reserved: requests 0, success 2, client errors 4, server errors 5 (section 12.1)
 abbrev pub IsClass : ℕ → Type 0

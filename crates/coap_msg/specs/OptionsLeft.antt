@@ -3,7 +3,7 @@ use Rattle.std.specs.Prelude.{ℕ, List, length}
 use Rattle.std.specs.Borrow.{Bor}
 use Rattle.coap_msg.specs.declared.options.OptionsIter.{OptionsIter}
 use Rattle.coap_msg.specs.Grammar.{CoapOption}
-use Rattle.coap_msg.specs.Reading.{options_at}
+use Rattle.coap_msg.specs.Options.{options_at}
 
 -- the options that are still to come
 abbrev pub options_left : OptionsIter → List CoapOption

@@ -26,17 +26,19 @@ pub struct Plain<'a> {
     pub payload: &'a [u8],
 }
 
-/// Writes a message at the front of `out`, and returns how many bytes it has.
+/// Writes a message to the beginning of `out`, and returns how many bytes it has.
 pub fn encode(message: &Plain<'_>, out: &mut [u8]) -> Result<usize, NoRoom>
     requires token { length message.now.token.now ≤ 8 }
     requires class { IsClass (message.now.code / 32) }
     requires empty { message.now.code ≡ 0 → HasHeaderAlone (plain_message message.now) }
 
+    ensures ok { IfOk result (λ n. Spells (plain_message message.now) (take n out.new)) }
     ensures within { IfOk result (λ n. n ≤ length out.new) }
-    ensures spells { IfOk result (λ n. Spells (plain_message message.now) (take n out.new)) }
-    ensures only { IfOk result (λ n. (m : CoapMessage) → Spells m (take n out.new) →
+
+    // The bytes spell no other message.
+    ensures unique { IfOk result (λ n. (m : CoapMessage) → Spells m (take n out.new) →
         m ≡ plain_message message.now) }
-    ensures rest { IfOk result (λ n. drop n out.new ≡ drop n out.old) }
+    ensures after { IfOk result (λ n. drop n out.new ≡ drop n out.old) }
 
     ensures unchanged { OnErr result (out.new ≡ out.old) }
     ensures no_room { OnErr result (length out.old < length (spelling (plain_message message.now))) }
@@ -61,7 +63,7 @@ fn spelled_length(message: &Plain<'_>) -> u128
 
 /// How many bytes a payload has with its marker.
 fn payload_length(payload: &[u8]) -> u128
-    ensures value { result ≡ length (payload_spelling payload.now) }
+    ensures ok { result ≡ length (payload_spelling payload.now) }
     ensures bound { result ≤ length payload.now + 1 }
 {
     if payload.is_empty() {
@@ -74,7 +76,7 @@ fn payload_length(payload: &[u8]) -> u128
 /// The four bytes of a header.
 fn header_bytes(message: &Plain<'_>) -> [u8; 4]
     requires { length message.now.token.now ≤ 8 }
-    ensures bytes { result ≡ header (plain_message message.now) }
+    ensures ok { result ≡ header (plain_message message.now) }
     ensures code { message.now.code < 2 ^ 8 }
     ensures id { message.now.id < 2 ^ 16 }
 {
@@ -83,12 +85,12 @@ fn header_bytes(message: &Plain<'_>) -> [u8; 4]
     [first, message.code, high, low]
 }
 
-/// Writes the payload marker and a payload, or nothing for an empty one; returns the place behind.
+/// Writes the payload marker and a payload, or nothing for an empty one; returns the place after them.
 fn put_payload(out: &mut [u8], at: usize, payload: &[u8]) -> usize
     requires { at + length (payload_spelling payload.now) ≤ length out.old }
     ensures end { result ≡ at + length (payload_spelling payload.now) }
     ensures bytes { take result out.new ≡ take at out.old ++ payload_spelling payload.now }
-    ensures rest { drop result out.new ≡ drop result out.old }
+    ensures after { drop result out.new ≡ drop result out.old }
 {
     if payload.is_empty() {
         return at;

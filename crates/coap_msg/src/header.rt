@@ -1,7 +1,7 @@
 //! The header of a message: its first four bytes (RFC 7252, section 3).
 
 ghost use Rattle.std.specs.Prelude.{◌<◌, length, IfSome, IfNone};
-ghost use Rattle.coap_msg.specs.Reading.{SpellsHeader};
+ghost use Rattle.coap_msg.specs.Parts.{SpellsHeader};
 
 use crate::Type4;
 
@@ -20,10 +20,10 @@ pub struct Header {
     pub id: u16,
 }
 
-/// The fields of the header at the front, and the bytes behind it.
+/// The fields of the header that the bytes begin with, and the bytes after it.
 pub fn take_header(bytes: &[u8]) -> Option<(Header, &[u8])>
-    ensures found { IfSome result (λ taken. SpellsHeader taken.0 bytes.now taken.1.now) }
-    ensures short { IfNone result (length bytes.now < 4) }
+    ensures ok { IfSome result (λ taken. SpellsHeader taken.0 bytes.now taken.1.now) }
+    ensures fault { IfNone result (length bytes.now < 4) }
 {
     match bytes {
         [first, code, high, low, rest @ ..] => {

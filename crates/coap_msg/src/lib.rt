@@ -1,13 +1,38 @@
-//! CoAP messages as bytes (RFC 7252, section 3), and nothing above them: what a message asks for
-//! is the business of other crates. No function here takes memory.
+//! CoAP messages as bytes (RFC 7252, section 3), and nothing above them: what a message asks for is decided in other
+//! crates. No function here takes memory.
 //!
-//! The grammar stands in `specs/Grammar.antt`. The contract in a sentence: `decode` gives exactly the
-//! one message that its bytes spell where it is a message that is taken so far
-//! (`specs/Request.antt`), and `encode` writes exactly the spelling of the message that it is given.
-//! Their clauses `unique` and `only` say that the two are inverse. The laws below them: a message has one
-//! spelling, and bytes spell at most one message.
+//! ```
+//! use coap_msg::{Opts, Plain, Type4, decode, encode};
+//!
+//! // GET /lamp, non-confirmable, with the message ID 7 and no token.
+//! let mut room = [0; 16];
+//! let mut options = Opts::on(&mut room);
+//! options.push(11, b"lamp")?;
+//! let request = Plain {
+//!     kind: Type4::Non,
+//!     code: 1,
+//!     id: 7,
+//!     token: b"",
+//!     options: &options,
+//!     payload: b"",
+//! };
+//! let mut datagram = [0; 64];
+//! let size = encode(&request, &mut datagram)?;
+//! assert_eq!(&datagram[..size], b"\x50\x01\x00\x07\xb4lamp");
+//!
+//! let message = decode(&datagram[..size])?;
+//! for (number, value) in message.options.iter() {
+//!     assert_eq!((number, value), (11, b"lamp".as_slice()));
+//! }
+//! ```
+//!
+//! The grammar is `specs/Grammar.antt`. The contract in a sentence: `decode` gives exactly the one message that its
+//! bytes spell where it is a message that is taken so far (`specs/Request.antt`), and `encode` writes exactly the
+//! spelling of the message that it is given. Their clauses `unique` say that the two are inverse. The laws: a message
+//! has one spelling, and bytes spell at most one message.
 #![tactic(auto)]
 
+mod decoding;
 mod encoding;
 mod endpoint;
 mod header;
@@ -15,15 +40,11 @@ mod laws;
 mod message;
 mod options;
 mod opts;
-mod reading;
-#[cfg(test)]
-mod tests;
-mod writing;
 
+pub use decoding::decode;
 pub use encoding::{Plain, encode};
 pub use endpoint::Endpoint;
 pub use laws::{one_message, one_spelling};
 pub use message::{Message, MsgFault, Type4};
 pub use options::{Options, OptionsIter};
 pub use opts::{NoRoom, Opts};
-pub use reading::decode;

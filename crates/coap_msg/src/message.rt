@@ -38,8 +38,8 @@ impl Type4 {
 
     /// The two bits of the type.
     pub(crate) fn bits(self) -> u8
-        ensures value { result ≡ type_bits self }
-        ensures two { result < 4 }
+        ensures ok { result ≡ type_bits self }
+        ensures bound { result < 4 }
     {
         match self {
             Type4::Con => 0,

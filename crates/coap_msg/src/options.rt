@@ -1,7 +1,8 @@
 //! The options of a message that was read, over the bytes that spell them (RFC 7252, section 3.1).
 
 ghost use Rattle.std.specs.Prelude.{◌≡◌, ◌<◌, ◌≤◌, option_map, IfSome};
-ghost use Rattle.coap_msg.specs.Reading.{number_at, option_at, options_of};
+ghost use Rattle.coap_msg.specs.Grammar.{largest_number};
+ghost use Rattle.coap_msg.specs.Options.{number_at, option_at, options_of};
 ghost use Rattle.coap_msg.specs.OptionsLeft.{options_left};
 
 use std::marker::Model;
@@ -15,7 +16,7 @@ pub struct Options<'a> {
 impl<'a> Model for Options<'a> {
     ghost use Rattle.std.specs.Prelude.{List};
     ghost use Rattle.coap_msg.specs.Grammar.{CoapOption};
-    ghost use Rattle.coap_msg.specs.Reading.{options_of};
+    ghost use Rattle.coap_msg.specs.Options.{options_of};
 
     ghost Value = { List CoapOption };
 
@@ -70,12 +71,12 @@ impl<'a> Iterator for OptionsIter<'a> {
     }
 }
 
-/// The number of a nibble and the extended bytes at the front, and the bytes behind.
-#[tactic(auto, unfolding(crate::specs::Reading::number_at))]
+/// The number of a nibble with its extended bytes, and the bytes after them.
+#[tactic(auto, unfolding(crate::specs::Options::number_at))]
 fn take_number(nibble: u8, bytes: &[u8]) -> Option<(usize, &[u8])>
     requires { nibble < 16 }
-    ensures value { option_map (λ taken. (taken.0, taken.1.now)) result ≡ number_at nibble bytes.now }
-    ensures bound { IfSome result (λ taken. taken.0 ≤ 65804) }
+    ensures ok { option_map (λ taken. (taken.0, taken.1.now)) result ≡ number_at nibble bytes.now }
+    ensures bound { IfSome result (λ taken. taken.0 ≤ largest_number) }
 {
     match nibble {
         0..=12 => Some((nibble as usize, bytes)),
@@ -91,8 +92,8 @@ fn take_number(nibble: u8, bytes: &[u8]) -> Option<(usize, &[u8])>
     }
 }
 
-/// Number and value of the option at the front, behind one of the number `last`, and the bytes behind.
-#[tactic(auto, unfolding(crate::specs::Reading::option_at))]
+/// Number and value of the first option, after one of the number `last`, and the bytes after it.
+#[tactic(auto, unfolding(crate::specs::Options::option_at))]
 pub fn take_option(last: u16, bytes: &[u8]) -> Option<(u16, &[u8], &[u8])>
     ensures { option_map (λ taken. ((taken.0, taken.1.now), taken.2.now)) result ≡ option_at last bytes.now }
 {

@@ -1,10 +1,10 @@
-//! Options that are written one behind another into a caller's slice.
+//! Options that are written one after another into a caller's slice (RFC 7252, section 3.1).
 
-ghost use Rattle.std.specs.Prelude.{◌≡◌, ◌≤◌, ◌<◌, [], ◌∷◌, ◌++◌, length, OnOk, OnErr};
-ghost use Rattle.coap_msg.specs.Grammar.{options_spelling, AreInOrder};
-ghost use Rattle.coap_msg.specs.Written.{WrittenOptions, last_number};
+ghost use Rattle.std.specs.Prelude.{◌≡◌, ◌≤◌, ◌<◌, ◌+◌, [], ◌∷◌, ◌++◌, length, take, IfOk, OnOk, OnErr};
+ghost use Rattle.coap_msg.specs.Grammar.{nibble, extended, option_spelling, options_spelling, largest_number, AreInOrder};
+ghost use Rattle.coap_msg.specs.Opts.{WrittenOptions, last_number};
 
-use crate::writing::put_option;
+use servient_base::put_bytes;
 use std::marker::Model;
 use thiserror::Error;
 
@@ -23,8 +23,8 @@ pub struct Opts<'r> {
 
 impl<'r> Model for Opts<'r> {
     ghost use Rattle.std.specs.Prelude.{◌≤◌, length, take};
-    ghost use Rattle.coap_msg.specs.Reading.{options_of};
-    ghost use Rattle.coap_msg.specs.Written.{WrittenOptions, AreWritten};
+    ghost use Rattle.coap_msg.specs.Options.{options_of};
+    ghost use Rattle.coap_msg.specs.Opts.{WrittenOptions, AreWritten};
 
     ghost Value = { WrittenOptions };
 
@@ -45,10 +45,10 @@ impl<'r> Opts<'r> {
         }
     }
 
-    /// Writes an option behind those that are there. A value that has no room leaves all as it was.
+    /// Writes an option after those that were written.
     pub fn push(&mut self, number: u16, value: &[u8]) -> Result<(), NoRoom>
         requires order { last_number 0 self.old.list ≤ number }
-        requires value { length value.now ≤ 65804 }
+        requires value { length value.now ≤ largest_number }
         ensures ok { OnOk result (self.new ≡
             record self.old { list = self.old.list ++ (number, value.now) ∷ [] }) }
         ensures fits { OnOk result
@@ -65,9 +65,85 @@ impl<'r> Opts<'r> {
 
     /// The bytes that spell the options.
     pub(crate) fn as_bytes(&self) -> &[u8]
-        ensures spelled { result.now ≡ options_spelling 0 self.now.list }
+        ensures ok { result.now ≡ options_spelling 0 self.now.list }
         ensures order { AreInOrder 0 self.now.list }
     {
         &self.room[..self.used]
+    }
+}
+
+/// Writes an option after one of the number `last`, and returns the place after it.
+fn put_option(
+    out: &mut [u8],
+    at: usize,
+    last: u16,
+    number: u16,
+    value: &[u8],
+) -> Result<usize, NoRoom>
+    requires within { at ≤ length out.old }
+    requires order { last ≤ number }
+    requires value { length value.now ≤ largest_number }
+    ensures end { IfOk result (λ end. (end ≡ at + length (option_spelling last (number, value.now)))
+        × (end ≤ length out.new)) }
+    ensures bytes { IfOk result (λ end. take end out.new ≡
+        take at out.old ++ option_spelling last (number, value.now)) }
+    ensures unchanged { OnErr result (out.new ≡ out.old) }
+    ensures no_room { OnErr result (length out.old <
+        at + length (option_spelling last (number, value.now))) }
+{
+    let delta = (number - last) as usize;
+    let size = value.len();
+    if out.len() - at < 1 + extended_length(delta) + extended_length(size) + size {
+        return Err(NoRoom);
+    }
+    let first = 16 * nibble_of(delta) + nibble_of(size);
+    let at = put_bytes(out, at, &[first]);
+    let at = put_extended(out, at, delta);
+    let at = put_extended(out, at, size);
+    Ok(put_bytes(out, at, value))
+}
+
+/// The nibble of an option delta or an option length.
+fn nibble_of(number: usize) -> u8
+    ensures ok { result ≡ nibble number }
+    ensures bound { result ≤ 14 }
+{
+    if number < 13 {
+        number as u8
+    } else if number < 269 {
+        13
+    } else {
+        14
+    }
+}
+
+/// How many extended bytes an option delta or an option length has.
+fn extended_length(number: usize) -> usize
+    ensures ok { result ≡ length (extended number) }
+    ensures bound { result ≤ 2 }
+{
+    if number < 13 {
+        0
+    } else if number < 269 {
+        1
+    } else {
+        2
+    }
+}
+
+/// Writes the extended bytes of an option delta or an option length, and returns the place after them.
+fn put_extended(out: &mut [u8], at: usize, number: usize) -> usize
+    requires room { at + length (extended number) ≤ length out.old }
+    requires number { number ≤ largest_number }
+    ensures end { result ≡ at + length (extended number) }
+    ensures bytes { take result out.new ≡ take at out.old ++ extended number }
+{
+    if number < 13 {
+        at
+    } else if number < 269 {
+        put_bytes(out, at, &[(number - 13) as u8])
+    } else {
+        let above = number - 269;
+        put_bytes(out, at, &[(above / 256) as u8, (above % 256) as u8])
     }
 }

@@ -1,7 +1,7 @@
 use Rattle.std.proofs.Common.{◌≡◌, ◌≤◌, List, length, take, ap, arith, length-take}
 use Rattle.coap_msg.specs.declared.message.Type4.TheVariants.{Non}
 use Rattle.coap_msg.specs.Grammar.{CoapOption, options_spelling}
-use Rattle.coap_msg.specs.Written.{WrittenOptions}
+use Rattle.coap_msg.specs.Opts.{WrittenOptions}
 use Rattle.servient_core.specs.declared.outcome.Outcome.{Outcome}
 use Rattle.servient_core.specs.declared.outcome.Outcome.TheVariants as outcome
 use Rattle.servient_core.specs.Outcomes.{reply_of}

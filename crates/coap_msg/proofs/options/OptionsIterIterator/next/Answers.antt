@@ -1,5 +1,5 @@
 use Rattle.std.proofs.Common.{rules, ap, length}
-use Rattle.coap_msg.proofs.OptionReading.{options_left_step}
+use Rattle.coap_msg.proofs.OneOption.{options_left_step}
 use Rattle.coap_msg.proofs.options.OptionsIterIterator.next.Goals as goal
 
 pub returns-in-Some-clause-steps : goal.returns-in-Some-clause-steps

@@ -1,9 +1,9 @@
 use Rattle.std.proofs.Common.{◌≡◌, ℕ, ◌+◌, ◌^◌, ◌<◌, ◌≤◌, List, [], ◌∷◌, ◌++◌, length, take, arith, refl, ap, sym, ◌∙◌, length-append}
 use Rattle.std.specs.Prelude.{Result, Ok, Err, OnErr}
 use Rattle.std.proofs.lemmas.List.{length-take-le}
-use Rattle.coap_msg.specs.Grammar.{CoapOption, option_spelling, options_spelling, MayStandBehind}
-use Rattle.coap_msg.specs.Reading.{options_of}
-use Rattle.coap_msg.specs.Written.{WrittenOptions, AreWritten, last_number}
+use Rattle.coap_msg.specs.Grammar.{CoapOption, option_spelling, options_spelling, largest_number, MayFollow}
+use Rattle.coap_msg.specs.Options.{options_of}
+use Rattle.coap_msg.specs.Opts.{WrittenOptions, AreWritten, last_number}
 use Rattle.coap_msg.proofs.OptionLists.{IsPushed, pushed}
 use Rattle.coap_msg.proofs.opts.Opts.push.Goals as goal
 
@@ -13,22 +13,22 @@ on_err (Ok x) p = tt
 on_err (Err e) p = p
 
 -- written options of this list and this room
-abbrev written : List CoapOption → ℕ → WrittenOptions
-written list room = record { list = list; room = room }
+abbrev written_options : List CoapOption → ℕ → WrittenOptions
+written_options list room = record { list = list; room = room }
 
 -- an option of a number that isn't below the last one may follow
 follows : (self : WrittenOptions) (old : List ℕ) (last number : ℕ) (value : List ℕ) →
     options_of old ≡ self.list → AreWritten last old → last_number 0 self.list ≤ number → number < 2 ^ 16 →
-    length value ≤ 65804 → MayStandBehind last (number, value)
+    length value ≤ largest_number → MayFollow last (number, value)
 follows self old last number value list_is are_written order below bound =
     let last_is : last_number 0 self.list ≡ last = ap (λ (os : List CoapOption). last_number 0 os) (sym list_is)
     ∙ are_written.last_is in
     record { order = omega arith; number = below; value = bound }
 
--- an option of such a number that is spelled behind the written ones is pushed
+-- an option of such a number that is spelled after the written ones is pushed
 pushed_here : (self : WrittenOptions) (old new : List ℕ) (last number : ℕ) (value : List ℕ) →
     options_of old ≡ self.list → AreWritten last old → last_number 0 self.list ≤ number → number < 2 ^ 16 →
-    length value ≤ 65804 → new ≡ old ++ option_spelling last (number, value) →
+    length value ≤ largest_number → new ≡ old ++ option_spelling last (number, value) →
     IsPushed (options_of old) (number, value) new
 pushed_here self old new last number value list_is are_written order below bound new_is =
     pushed old new last (number, value) are_written (follows self old last number value list_is are_written order below bound) new_is
@@ -43,7 +43,7 @@ invariant_of-self-2 c =
     (c.in_ok-end.ensures.end.1, p.written)
 
 -- written options with the same list and room are the same
-same_written : (l m : List CoapOption) (r s : ℕ) → l ≡ m → r ≡ s → written l r ≡ written m s
+same_written : (l m : List CoapOption) (r s : ℕ) → l ≡ m → r ≡ s → written_options l r ≡ written_options m s
 same_written l m r s list room = cc
 
 pub returns-clause-ok : goal.returns-clause-ok
@@ -56,9 +56,9 @@ returns-clause-ok c =
     c.self.invariant.1 c.requires.order (omega (arith, c.ranges.number)) c.requires.value c.in_ok-end.ensures.bytes in
     same_written _ _ _ _ (p.list ∙ ap (λ (os : List CoapOption). os ++ (c.args.number, c.args.value.now) ∷ []) list_is) (c.put_option.auto.out ∙ room_is)
 
--- where the spelling of an option has no room behind that of the others, the longer list has none
+-- where the spelling of an option has no room after that of the others, the longer list has none
 no_room : (self : WrittenOptions) (bytes : List ℕ) (used last room : ℕ) (o : CoapOption) →
-    options_of bytes ≡ self.list → room ≡ self.room → AreWritten last bytes → MayStandBehind last o →
+    options_of bytes ≡ self.list → room ≡ self.room → AreWritten last bytes → MayFollow last o →
     length bytes ≡ used → room < used + length (option_spelling last o) →
     self.room < length (options_spelling 0 (self.list ++ o ∷ []))
 no_room self bytes used last room o list_is room_is are_written may_follow used_is short =

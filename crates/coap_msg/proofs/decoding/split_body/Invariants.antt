@@ -1,6 +1,6 @@
 use Rattle.std.proofs.Common.{length}
 use Rattle.coap_msg.proofs.Bodies.{Progress}
-use Rattle.coap_msg.proofs.reading.split_body.Given as goal
+use Rattle.coap_msg.proofs.decoding.split_body.Given as goal
 
 abbrev pub invariant-options : goal.invariant-options
 invariant-options l = Progress l.body l.last l.rest

@@ -5,26 +5,26 @@ use Rattle.std.specs.Option.{option_map_or}
 use Rattle.std.proofs.lemmas.Bool.{cases_lt, lt-ltb, le-ltb}
 use Rattle.std.proofs.lemmas.Option.{same_Some, option_and_then_some}
 use Rattle.std.proofs.lemmas.List.{take-append-drop, length-take-le, take_at, drop_at}
-use Rattle.coap_msg.specs.Grammar.{CoapOption, nibble, extended, option_spelling, options_spelling, MayStandBehind, AreInOrder}
-use Rattle.coap_msg.specs.Reading.{number_at, value_at, option_at, options_at, options_of}
-use Rattle.coap_msg.proofs.ExtendedNumbers.{IsBytes, TakesNumber, number_takes, number_at-extended, number_shrinks, nibble_below}
+use Rattle.coap_msg.specs.Grammar.{CoapOption, nibble, extended, option_spelling, options_spelling, largest_number, MayFollow, AreInOrder}
+use Rattle.coap_msg.specs.Options.{number_at, value_at, option_at, options_at, options_of}
+use Rattle.coap_msg.proofs.ExtendedNumbers.{IsBytes, TakesNumber, number_takes, number_at-extended, number_shrinks, nibble_below, none_read}
 
--- an option and the bytes behind it
+-- an option and the bytes after it
 abbrev Read : Type 0
 Read = CoapOption × List ℕ
 
 -- what a reading function answers with where it finds an option
-abbrev pub found : Read → Option Read
-found read = Some read
+abbrev pub some_read : Read → Option Read
+some_read read = Some read
 
--- the bytes behind some bytes are bytes
+-- the bytes after some bytes are bytes
 pub IsBytes-after : (xs rest : List ℕ) → IsBytes (xs ++ rest) → IsBytes rest
 IsBytes-after [] rest are_bytes = are_bytes
 IsBytes-after (x ∷ xs) rest are_bytes = IsBytes-after xs rest (λ i. are_bytes (suc i))
 
--- the bytes begin with an option that may stand there, and the rest stands behind it
+-- the bytes are an option that may be there, and then the rest
 pub record TakesOption (last : ℕ) (o : CoapOption) (bytes rest : List ℕ) : Type 0 where
-  pub follows : MayStandBehind last o
+  pub follows : MayFollow last o
   pub bytes_are : bytes ≡ option_spelling last o ++ rest
 
 -- four lists joined from the right are the same joined from the left
@@ -44,24 +44,20 @@ takes_parts last b delta size bytes middle tail of_delta of_size within number =
     halves
     ∙ ap (λ (n : ℕ). 16 * n + b % 16) of_delta.nibble_is
     ∙ ap (λ (n : ℕ). 16 * nibble delta + n) of_size.nibble_is in
-    let behind : bytes ≡ ((extended delta ++ extended size) ++ take size tail) ++ drop size tail =
+    let after : bytes ≡ ((extended delta ++ extended size) ++ take size tail) ++ drop size tail =
     of_delta.bytes_are
     ∙ ap (λ (xs : List ℕ). extended delta ++ xs) (of_size.bytes_are ∙ ap (λ (xs : List ℕ). extended size ++ xs) (sym (take-append-drop size tail)))
     ∙ regrouped (extended delta) (extended size) (take size tail) (drop size tail) in
     let all : b ∷ bytes ≡ (16 * nibble delta + nibble size) ∷ (((extended delta ++ extended size) ++ take size tail) ++ drop size tail) =
-    ap (λ (n : ℕ). n ∷ bytes) first ∙ ap (λ (xs : List ℕ). (16 * nibble delta + nibble size) ∷ xs) behind in
+    ap (λ (n : ℕ). n ∷ bytes) first ∙ ap (λ (xs : List ℕ). (16 * nibble delta + nibble size) ∷ xs) after in
     record {
       follows = record { order = omega arith; number = omega arith; value = omega (arith, size_is, of_size.bound) };
       bytes_are = rw (delta_is, size_is) all;
     }
 
--- what is nothing is not something
-none_read : (o : Option Read) (x : Read) → o ≡ None → o ≡ Some x → ⊥
-none_read o x none some = absurd cc
-
 -- what `value_at` reads
 value_takes : (number size : ℕ) (bytes : List ℕ) (x : Read) → value_at number size bytes ≡ Some x →
-    (size ≤ length bytes) × (number < 2 ^ 16) × (found ((number, take size bytes), drop size bytes) ≡ Some x)
+    (size ≤ length bytes) × (number < 2 ^ 16) × (some_read ((number, take size bytes), drop size bytes) ≡ Some x)
 value_takes number size bytes x read =
     elim (cases_lt (length bytes) size) [
       | inl lt ↦ let short : ltb (length bytes) size ≡ true = lt-ltb _ _ lt in absurd (none_read (value_at number size bytes) x (rw short refl) read)
@@ -71,13 +67,13 @@ value_takes number size bytes x read =
       ]
     ]
 
--- what `option_at` reads behind a first byte: two numbers, and a value
-abbrev behind_size : ℕ → ℕ × List ℕ → ℕ × List ℕ → Option Read
-behind_size last delta size = value_at (last + delta.0) size.0 size.1
+-- what `option_at` reads after a first byte: two numbers, and a value
+abbrev after_size : ℕ → ℕ × List ℕ → ℕ × List ℕ → Option Read
+after_size last delta size = value_at (last + delta.0) size.0 size.1
 
--- what `option_at` reads behind a first byte and a delta
-abbrev behind_delta : ℕ → ℕ → ℕ × List ℕ → Option Read
-behind_delta last b delta = option_and_then (behind_size last delta) (number_at (b % 16) delta.1)
+-- what `option_at` reads after a first byte and a delta
+abbrev after_delta : ℕ → ℕ → ℕ × List ℕ → Option Read
+after_delta last b delta = option_and_then (after_size last delta) (number_at (b % 16) delta.1)
 
 -- what `option_at` reads
 pub option_takes : (last : ℕ) (bytes : List ℕ) (x : Read) → IsBytes bytes → option_at last bytes ≡ Some x →
@@ -85,11 +81,11 @@ pub option_takes : (last : ℕ) (bytes : List ℕ) (x : Read) → IsBytes bytes 
 unfolding option_at
 option_takes last [] x are_bytes read = absurd cc
 option_takes last (b ∷ bytes) x are_bytes read =
-    option_and_then_some (behind_delta last b) (number_at (b / 16) bytes) x read (λ delta delta_read then_read.
+    option_and_then_some (after_delta last b) (number_at (b / 16) bytes) x read (λ delta delta_read then_read.
     let of_delta = number_takes (b / 16) bytes delta (λ i. are_bytes (suc i)) delta_read in
-    let behind = IsBytes-after (extended delta.0) delta.1 (subst IsBytes of_delta.bytes_are (λ i. are_bytes (suc i))) in
-    option_and_then_some (behind_size last delta) (number_at (b % 16) delta.1) x then_read (λ size size_read value_read.
-    let of_size = number_takes (b % 16) delta.1 size behind size_read in
+    let after = IsBytes-after (extended delta.0) delta.1 (subst IsBytes of_delta.bytes_are (λ i. are_bytes (suc i))) in
+    option_and_then_some (after_size last delta) (number_at (b % 16) delta.1) x then_read (λ size size_read value_read.
+    let of_size = number_takes (b % 16) delta.1 size after size_read in
     let value = value_takes (last + delta.0) size.0 size.1 x value_read in
     subst (λ (y : Read). TakesOption last y.0 (b ∷ bytes) y.1)
     (same_Some ((last + delta.0, take size.0 size.1), drop size.0 size.1) x value.2)
@@ -97,7 +93,7 @@ option_takes last (b ∷ bytes) x are_bytes read =
 
 -- an option is read again, from its pieces
 option_at-pieces : (last delta first : ℕ) (value rest : List ℕ) → first / 16 ≡ nibble delta →
-    first % 16 ≡ nibble (length value) → length value ≤ 65804 → last + delta < 2 ^ 16 →
+    first % 16 ≡ nibble (length value) → length value ≤ largest_number → last + delta < 2 ^ 16 →
     option_at last (first ∷ extended delta ++ (extended (length value) ++ (value ++ rest))) ≡ Some ((last + delta, value), rest)
 unfolding option_at
 option_at-pieces last delta first value rest high low bound number =
@@ -109,7 +105,7 @@ option_at-pieces last delta first value rest high low bound number =
 
 -- the same with the first byte written out
 option_at-whole : (last delta number : ℕ) (value rest : List ℕ) → last + delta ≡ number →
-    length value ≤ 65804 → number < 2 ^ 16 →
+    length value ≤ largest_number → number < 2 ^ 16 →
     option_at last ((16 * nibble delta + nibble (length value)) ∷ (((extended delta ++ extended (length value)) ++ value) ++ rest)) ≡ Some ((number, value), rest)
 option_at-whole last delta number value rest is bound below =
     let of_delta = nibble_below delta in
@@ -117,10 +113,10 @@ option_at-whole last delta number value rest is bound below =
     let first = 16 * nibble delta + nibble (length value) in
     ap (λ (xs : List ℕ). option_at last (first ∷ xs)) (sym (regrouped (extended delta) (extended (length value)) value rest))
     ∙ option_at-pieces last delta first value rest (omega arith) (omega arith) bound (omega arith)
-    ∙ ap (λ (n : ℕ). found ((n, value), rest)) is
+    ∙ ap (λ (n : ℕ). some_read ((n, value), rest)) is
 
 -- an option that is spelled is read again
-pub option_at-spelling : (last : ℕ) (o : CoapOption) (rest : List ℕ) → MayStandBehind last o →
+pub option_at-spelling : (last : ℕ) (o : CoapOption) (rest : List ℕ) → MayFollow last o →
     option_at last (option_spelling last o ++ rest) ≡ Some (o, rest)
 unfolding option_spelling
 option_at-spelling last o rest follows =
@@ -168,7 +164,7 @@ unfolding option_spelling
 length-option_spelling last o =
     omega (arith, length-append (extended (o.0 - last) ++ extended (length o.1)) o.1, length-append (extended (o.0 - last)) (extended (length o.1)))
 
--- the spelling of an option behind some bytes, from what each step of its writing put behind the step before
+-- the spelling of an option after some bytes, from what each step of its writing put after the step before
 pub written_pieces : (last number first : ℕ) (value before a b c d : List ℕ) →
     first ≡ 16 * nibble (number - last) + nibble (length value) → a ≡ before ++ first ∷ [] →
     b ≡ a ++ extended (number - last) → c ≡ b ++ extended (length value) → d ≡ c ++ value →
@@ -183,8 +179,8 @@ pub option_shrinks : (last : ℕ) (bytes : List ℕ) (x : Read) → option_at la
 unfolding option_at
 option_shrinks last [] x read = absurd cc
 option_shrinks last (b ∷ bytes) x read =
-    option_and_then_some (behind_delta last b) (number_at (b / 16) bytes) x read (λ delta delta_read then_read.
-    option_and_then_some (behind_size last delta) (number_at (b % 16) delta.1) x then_read (λ size size_read value_read.
+    option_and_then_some (after_delta last b) (number_at (b / 16) bytes) x read (λ delta delta_read then_read.
+    option_and_then_some (after_size last delta) (number_at (b % 16) delta.1) x then_read (λ size size_read value_read.
     let of_delta = number_shrinks (b / 16) bytes delta delta_read in
     let of_size = number_shrinks (b % 16) delta.1 size size_read in
     let value = value_takes (last + delta.0) size.0 size.1 x value_read in
@@ -212,7 +208,7 @@ options_at_any (suc f) (suc g) last bytes a b =
 
 -- the options that are left, where one is read
 pub options_left_step : (last number : ℕ) (bytes value next : List ℕ) →
-    found ((number, value), next) ≡ option_at last bytes →
+    some_read ((number, value), next) ≡ option_at last bytes →
     options_at (length bytes) last bytes ≡ (number, value) ∷ options_at (length next) number next
 options_left_step last number [] value next read =
     absurd (let less = option_shrinks last [] ((number, value), next) (sym read) in omega arith)

@@ -4,7 +4,7 @@ ghost use Rattle.std.specs.Prelude.{◌≡◌, ◌↔◌, ℕ, List, IfSome, IsS
 ghost use Rattle.std.specs.List.{list_all};
 ghost use Rattle.coap_msg.specs.Grammar.{CoapOption, CoapMessage, IsClass, Spells};
 ghost use Rattle.coap_msg.specs.Request.{is_uri_path, IsPathRequest};
-ghost use Rattle.coap_msg.specs.Reading.{SpellsBody};
+ghost use Rattle.coap_msg.specs.Parts.{SpellsBody};
 ghost use Rattle.coap_msg.specs.MessageOf.{message_of};
 
 use crate::header::take_header;
@@ -20,8 +20,8 @@ const URI_PATH_LIMIT: usize = 255;
 
 /// The message that the bytes spell, if it is a Non-confirmable request with no option but Uri-Path.
 pub fn decode(bytes: &[u8]) -> Result<Message<'_>, MsgFault>
-    ensures found { IfOk result (λ m. Spells (message_of m) bytes.now × IsPathRequest (message_of m)) }
-    ensures only { (m : CoapMessage) → Spells m bytes.now → IsPathRequest m →
+    ensures ok { IfOk result (λ m. Spells (message_of m) bytes.now × IsPathRequest (message_of m)) }
+    ensures complete { (m : CoapMessage) → Spells m bytes.now → IsPathRequest m →
         IsOkAnd result (λ n. message_of n ≡ m) }
 
     // Writing what was read gives the same bytes.
@@ -35,8 +35,8 @@ pub fn decode(bytes: &[u8]) -> Result<Message<'_>, MsgFault>
 
 /// The message that the bytes spell, whatever its type, class and options.
 fn read_message(bytes: &[u8]) -> Option<Message<'_>>
-    ensures found { IfSome result (λ m. Spells (message_of m) bytes.now) }
-    ensures only { (m : CoapMessage) → Spells m bytes.now → IsSomeAnd result (λ n. message_of n ≡ m) }
+    ensures ok { IfSome result (λ m. Spells (message_of m) bytes.now) }
+    ensures complete { (m : CoapMessage) → Spells m bytes.now → IsSomeAnd result (λ n. message_of n ≡ m) }
 {
     let (header, rest) = take_header(bytes)?;
     let token_length = header.token_length as usize;
@@ -65,10 +65,10 @@ fn is_class(class: u8) -> bool
     matches!(class, 0 | 2 | 4 | 5)
 }
 
-/// The options and the payload that stand behind the token.
+/// The options and the payload in the bytes after the token.
 fn split_body(body: &[u8]) -> Option<(Options<'_>, &[u8])>
-    ensures found { IfSome result (λ split. SpellsBody split.0 split.1.now body.now) }
-    ensures only { (options : List CoapOption) (payload : List ℕ) → SpellsBody options payload body.now →
+    ensures ok { IfSome result (λ split. SpellsBody split.0 split.1.now body.now) }
+    ensures complete { (options : List CoapOption) (payload : List ℕ) → SpellsBody options payload body.now →
         IsSomeAnd result (λ split. (split.0 ≡ options) × (split.1.now ≡ payload)) }
 {
     let mut rest = body;

@@ -1,14 +1,14 @@
 -- Options that are being written.
 use Rattle.std.specs.Prelude.{◌≡◌, ℕ, List, [], ◌∷◌}
 use Rattle.coap_msg.specs.Grammar.{CoapOption, options_spelling, AreInOrder}
-use Rattle.coap_msg.specs.Reading.{options_of}
+use Rattle.coap_msg.specs.Options.{options_of}
 
 -- the options so far, and how many bytes there is room for
 pub record WrittenOptions : Type 0 where
   pub list : List CoapOption
   pub room : ℕ
 
--- the number of the last option; where there is none, the number that they would stand behind
+-- the number of the last option; where there is none, the number that they follow
 abbrev pub last_number : ℕ → List CoapOption → ℕ
 last_number last [] = last
 last_number last (o ∷ os) = last_number o.0 os

@@ -1,6 +1,6 @@
 use Rattle.std.proofs.Common.{arith, rules}
-use Rattle.coap_msg.proofs.OptionReading.{length-option_spelling, written_pieces}
-use Rattle.coap_msg.proofs.writing.put_option.Goals as goal
+use Rattle.coap_msg.proofs.OneOption.{length-option_spelling, written_pieces}
+use Rattle.coap_msg.proofs.opts.put_option.Goals as goal
 
 pub returns-then-out-at-clause-no_room : goal.returns-then-out-at-clause-no_room
 returns-then-out-at-clause-no_room c =

@@ -1,11 +1,10 @@
 -- The placeholders that are left in a value.
 use Rattle.std.specs.Prelude.{ℕ, ◌+◌, List, [], ◌++◌, map}
 use Rattle.wot_json.specs.Tree.{Json, null, boolean, integer, string, array, object, Elements, no_elements, element, Members, no_members, member}
-use Rattle.wot_json.specs.Places.{step_text}
+use Rattle.wot_json.specs.Places.{step_text, element_step_text}
 use Rattle.tm_parts.specs.Placeholders.{placeholders}
-use Rattle.tm_parts.specs.Substitution.{element_step}
 
--- a placeholder that is left: its name, and the pointer to the text that it stands in
+-- a placeholder that is left: its name, and the pointer to the text that has it
 abbrev pub Hole : Type 0
 Hole = List ℕ × List ℕ
 
@@ -29,7 +28,7 @@ abbrev mutual
 
   pub element_holes : ℕ → Elements → List Hole
   element_holes index no_elements = []
-  element_holes index (element v es) = map (hole_inside (element_step index)) (holes_of v) ++ element_holes (index + 1) es
+  element_holes index (element v es) = map (hole_inside (element_step_text index)) (holes_of v) ++ element_holes (index + 1) es
 
   pub member_holes : Members → List Hole
   member_holes no_members = []

@@ -1,13 +1,12 @@
 -- References from one Thing Model to a part of another, the values of `tm:ref` (Thing Description 1.1, section "Thing Model"):
 -- the location of a model, `#`, and a JSON Pointer (RFC 6901) as the fragment.
-use Rattle.std.specs.Prelude.{◌≡◌, ◌==◌, ◌&&◌, nat_lt, ℕ, Bool, List, [], ◌∷◌, length, Option, Some, None, Err, option_map, option_and_then, if◌then◌else◌}
+use Rattle.std.specs.Prelude.{◌==◌, ◌&&◌, nat_lt, ℕ, Bool, List, [], ◌∷◌, length, Option, Some, None, option_map, option_and_then, if◌then◌else◌}
 use Rattle.std.specs.List.{position_or_len, before_first, after_first}
 use Rattle.std.specs.Result.{result_ok}
 use Rattle.std.specs.Str.{is_utf8}
 use Rattle.percent_encoding.specs.Percent.{percent_decode}
-use Rattle.url.specs.Parser.{Parsed, parse_url, and_then, IsOutOfRoom}
-use Rattle.url.specs.declared.error.ParseError.{ParseError}
-use Rattle.url.specs.Parts.{Parts, serialize}
+use Rattle.url.specs.Parts.{serialize}
+use Rattle.servient_base.specs.Location.{joined_url}
 use Rattle.wot_json.specs.Pointer.{is_pointer}
 use Rattle.tm_parts.specs.declared.reference.Reference.{Reference}
 
@@ -15,11 +14,11 @@ use Rattle.tm_parts.specs.declared.reference.Reference.{Reference}
 abbrev pub is_mark : ℕ → Bool
 is_mark b = b == 35
 
--- what stands before the first `#`: the location of the model
+-- what comes before the first `#`: the location of the model
 abbrev pub location_of : List ℕ → List ℕ
 location_of text = before_first is_mark text
 
--- what stands behind the first `#`
+-- what comes after the first `#`
 abbrev pub fragment_of : List ℕ → List ℕ
 fragment_of text = after_first is_mark text
 
@@ -27,19 +26,11 @@ fragment_of text = after_first is_mark text
 abbrev pub reference : List ℕ → List ℕ → Reference
 reference url pointer = record { url = url; pointer = pointer }
 
--- a location, joined to the URL of the model that refers to it (URL Standard, section 4.4)
-abbrev pub joined_url : List ℕ → List ℕ → Parsed Parts
-joined_url from location = and_then (parse_url None from) (λ base. parse_url (Some base) location)
-
--- a location can't be joined, and not for want of room
-abbrev pub IsRefused : List ℕ → List ℕ → Type 0
-IsRefused from location = (e : ParseError) × (joined_url from location ≡ Err e) × ¬ (IsOutOfRoom e)
-
 -- The text of the URL of the model that a location leads to, where it leads to one: the empty location to the model
 -- itself, under its own text, and any other to the URL that it gives when it is joined.
 abbrev pub location_target : List ℕ → List ℕ → Option (List ℕ)
 location_target from [] = Some from
-location_target from (b ∷ bs) = option_map serialize (result_ok (joined_url from (b ∷ bs)))
+location_target from (b ∷ bs) = option_map serialize (result_ok (joined_url (Some from) (b ∷ bs)))
 
 -- The pointer that a fragment writes, where it writes one: decoded from its percent-encoding it is text, and a pointer
 -- (RFC 6901, section 6).

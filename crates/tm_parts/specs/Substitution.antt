@@ -1,10 +1,10 @@
 -- A model with values in place of its placeholders, and the faults that it may have instead
 -- (Thing Description 1.1, section "Thing Model").
-use Rattle.std.specs.Prelude.{◌≡◌, ◌⊎◌, ℕ, ◌+◌, List, [], ◌∷◌, ◌++◌, map, codes, Option, Some, None, unwrap_or}
+use Rattle.std.specs.Prelude.{◌≡◌, ◌⊎◌, ℕ, ◌+◌, List, [], ◌∷◌, ◌++◌, map, Option, Some, None, unwrap_or}
 use Rattle.std.specs.List.{flat_map}
 use Rattle.wot_json.specs.Tree.{Json, null, boolean, integer, string, array, object, Elements, no_elements, element, Members, no_members, member}
 use Rattle.wot_json.specs.Lookup.{member_named}
-use Rattle.wot_json.specs.Places.{step_text, index_text}
+use Rattle.wot_json.specs.Places.{step_text, element_step_text}
 use Rattle.tm_parts.specs.Placeholders.{Piece, plain, placeholder, placeholder_text, sole_placeholder, pieces, placeholders, first_of}
 use Rattle.tm_parts.specs.declared.substitution.PartFault.{PartFault}
 use Rattle.tm_parts.specs.declared.substitution.PartFault.TheVariants.{InName, NotText, NoMemory}
@@ -83,14 +83,10 @@ faults_inside step (InName pointer) = InName (step ++ pointer)
 faults_inside step (NotText name) = NotText name
 faults_inside step NoMemory = NoMemory
 
--- the step to an element of a list: `/` and its index (RFC 6901, section 4)
-abbrev pub element_step : ℕ → List ℕ
-element_step index = codes "/" ++ index_text index
-
 -- a member name that holds a placeholder, bound or not, is a fault at that member
 abbrev pub name_faults_from : List ℕ → List (List ℕ) → List PartFault
 name_faults_from name [] = []
-name_faults_from name (found ∷ more) = InName (step_text name) ∷ []
+name_faults_from name (first ∷ more) = InName (step_text name) ∷ []
 
 -- the faults of the names of an object's members
 abbrev pub name_faults : Members → List PartFault
@@ -109,12 +105,12 @@ abbrev mutual
 
   pub element_faults : ℕ → Elements → Values → List PartFault
   element_faults index no_elements values = []
-  element_faults index (element v es) values = map (faults_inside (element_step index)) (faults_of v values) ++ element_faults (index + 1) es values
+  element_faults index (element v es) values = map (faults_inside (element_step_text index)) (faults_of v values) ++ element_faults (index + 1) es values
 
   pub member_faults : Members → Values → List PartFault
   member_faults no_members values = []
   member_faults (member n v ms) values = map (faults_inside (step_text n)) (faults_of v values) ++ member_faults ms values
 
--- this is the first of these faults, or there was no memory
-abbrev pub IsFirstFault : PartFault → List PartFault → Type 0
-IsFirstFault fault faults = (fault ≡ NoMemory) ⊎ (first_of faults ≡ Some fault)
+-- a substitution with these faults is refused with this one: the first of them, or out of memory
+abbrev pub IsSubstitutionRefusal : PartFault → List PartFault → Type 0
+IsSubstitutionRefusal fault faults = (fault ≡ NoMemory) ⊎ (first_of faults ≡ Some fault)

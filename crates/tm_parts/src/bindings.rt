@@ -46,10 +46,10 @@ impl Bindings {
         Bindings { list }
     }
 
-    /// Binds a value to a name, behind the others.
+    /// Binds a value to a name, after the others.
     pub fn push(&mut self, name: Text, value: Tree) -> Result<(), NoMemory>
         ensures ok { OnOk result (self.new ≡ self.old ++ (name, json_of value) ∷ []) }
-        ensures err { OnErr result (self.new ≡ self.old) }
+        ensures unchanged { OnErr result (self.new ≡ self.old) }
     {
         self.list.push((name, value))?;
         Ok(())
@@ -59,8 +59,8 @@ impl Bindings {
     pub fn get(&self, name: &str) -> Option<&Tree>
         ensures { option_map (λ t. json_of t.now) result ≡ member_named name.now self.now }
     {
-        for (bound, value) in &self.list {
-            if bound.as_str() == name {
+        for (bound_name, value) in &self.list {
+            if bound_name.as_str() == name {
                 return Some(value);
             }
         }

@@ -7,12 +7,11 @@ ghost use Rattle.tm_parts.specs.Placeholders.{first_of};
 ghost use Rattle.tm_parts.specs.Holes.{holes_of, element_holes, member_holes, text_holes};
 
 use crate::placeholder::first_placeholder;
-use crate::steps::{into_element, into_member};
 use servient_base::NoMemory;
 use std::alloc::Global;
-use wot_json::{Items, Members, Text, Tree};
+use wot_json::{Items, Members, Text, Tree, through_element, through_member};
 
-/// The name of the first placeholder that stands in a text of this value, and the pointer to that text (RFC 6901).
+/// The name of the first placeholder in a text of this value, and the pointer to that text (RFC 6901).
 /// The order is preorder, in one text from the left. Names of members aren't looked at. Its time is in proportion
 /// to the value.
 #[cycle(first_hole)]
@@ -43,7 +42,7 @@ fn first_hole_of_items(alloc: Global, items: &Items) -> Result<Option<(Text, Tex
     let list = items.as_slice();
     for (place, item) in list.iter().enumerate() {
         if let Some((name, pointer)) = first_hole(alloc, item)? {
-            return Ok(Some((name, into_element(alloc, place, &pointer)?)));
+            return Ok(Some((name, through_element(alloc, place, pointer.as_str())?)));
         }
     }
     Ok(None)
@@ -56,7 +55,7 @@ fn first_hole_of_members(alloc: Global, members: &Members) -> Result<Option<(Tex
     let list = members.as_slice();
     for (name, member) in list {
         if let Some((hole, pointer)) = first_hole(alloc, member)? {
-            return Ok(Some((hole, into_member(alloc, name.as_str(), &pointer)?)));
+            return Ok(Some((hole, through_member(alloc, name.as_str(), pointer.as_str())?)));
         }
     }
     Ok(None)

@@ -26,15 +26,15 @@ const THING_MODEL: &str = "tm:ThingModel";
 #[derive(Debug, Drop, Error)]
 pub enum AddFault {
     /// The text is no URL, or it has a fragment.
-    #[error("no URL of a model")]
+    #[error("no URL without a fragment")]
     BadUrl,
-    /// A model stands under this very text.
-    #[error("a model stands under this URL")]
+    /// There is a model under this very text.
+    #[error("there is a model under this URL")]
     Twice,
     /// The model's `@type` doesn't contain `tm:ThingModel`.
     #[error("no Thing Model")]
     NotModel,
-    /// There was no memory.
+    /// Out of memory.
     #[error("out of memory")]
     NoMemory,
 }
@@ -86,10 +86,10 @@ impl Library {
     /// proportion to the text, and to the logarithm of the number of models.
     pub fn add(&mut self, url: &str, model: Tree) -> Result<(), AddFault>
         ensures ok { OnOk result (self.new ≡ with_model url.now (json_of model) self.old) }
-        ensures found { OnOk result ((name : List ℕ) → member_named name self.new
+        ensures models { OnOk result ((name : List ℕ) → member_named name self.new
             ≡ (if bytes_eq name url.now then Some (json_of model) else member_named name self.old)) }
-        ensures may { OnOk result (MayAdd url.now (json_of model) self.old) }
-        ensures err { OnErr result (self.new ≡ self.old) }
+        ensures allowed { OnOk result (MayAdd url.now (json_of model) self.old) }
+        ensures unchanged { OnErr result (self.new ≡ self.old) }
         ensures fault { IfErr result (λ e. HasAddFault e url.now (json_of model) self.old) }
     {
         self.judge(url, &model)?;
@@ -98,7 +98,7 @@ impl Library {
 
     /// Judges whether a model may stand under the text of a URL.
     fn judge(&self, url: &str, model: &Tree) -> Result<(), AddFault>
-        ensures may { OnOk result (MayAdd url.now (json_of model.now) self.now) }
+        ensures ok { OnOk result (MayAdd url.now (json_of model.now) self.now) }
         ensures fault { IfErr result (λ e. HasAddFault e url.now (json_of model.now) self.now) }
     {
         judge_url(self.alloc, url)?;
@@ -114,7 +114,7 @@ impl Library {
     /// Puts a model under the text of its URL.
     fn keep(&mut self, url: &str, model: Tree) -> Result<(), AddFault>
         ensures ok { OnOk result (self.new ≡ with_model url.now (json_of model) self.old) }
-        ensures err { OnErr result (self.new ≡ self.old) }
+        ensures unchanged { OnErr result (self.new ≡ self.old) }
         ensures fault { IfErr result (λ e. e ≡ AddFault.NoMemory) }
     {
         let key = String::from_str(self.alloc, url)?;
@@ -133,7 +133,7 @@ impl Library {
 
     /// All models, in the byte order of the texts of their URLs, with values in place of their placeholders. Its
     /// time is that of one `substitute` for each.
-    pub fn substituted(&self, bindings: &Bindings) -> Result<Vec<Source>, NoMemory>
+    pub fn sources(&self, bindings: &Bindings) -> Result<Vec<Source>, NoMemory>
         ensures { IfOk result (λ v. kept_sources v.items ≡ sources_of self.now bindings.now) }
     {
         let mut sources = Vec::with_capacity(self.alloc, self.models.len())?;
@@ -148,7 +148,7 @@ impl Library {
 /// Judges whether a text may name a model.
 fn judge_url(alloc: Global, url: &str) -> Result<(), AddFault>
     ensures ok { OnOk result (IsModelUrl url.now) }
-    ensures bad { IfErr result (λ e. (e ≡ AddFault.NoMemory) ⊎ ((e ≡ AddFault.BadUrl) × ¬ (IsModelUrl url.now))) }
+    ensures fault { IfErr result (λ e. (e ≡ AddFault.NoMemory) ⊎ ((e ≡ AddFault.BadUrl) × ¬ (IsModelUrl url.now))) }
 {
     match Url::parse(alloc, url) {
         Ok(url) if url.fragment().is_none() => Ok(()),

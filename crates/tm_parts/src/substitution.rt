@@ -4,28 +4,27 @@ ghost use Rattle.std.specs.Prelude.{◌≡◌, ◌⊎◌, ℕ, ◌+◌, [], ◌+
 ghost use Rattle.std.specs.List.{flat_map};
 ghost use Rattle.wot_json.specs.Tree.{elements_of, members_of, string};
 ghost use Rattle.wot_json.specs.Meaning.{json_of, json_members};
-ghost use Rattle.wot_json.specs.Places.{step_text};
+ghost use Rattle.wot_json.specs.Places.{step_text, element_step_text};
 ghost use Rattle.tm_parts.specs.Placeholders.{pieces, placeholder as placeholder_piece};
 ghost use Rattle.tm_parts.specs.Pieces.{pieces_of};
-ghost use Rattle.tm_parts.specs.Substitution.{substituted_value, substituted_elements, substituted_members, faults_of, element_faults, member_faults, name_faults, text_value, text_faults, piece_text, piece_faults, faults_inside, element_step, IsFirstFault};
+ghost use Rattle.tm_parts.specs.Substitution.{substituted_value, substituted_elements, substituted_members, faults_of, element_faults, member_faults, name_faults, text_value, text_faults, piece_text, piece_faults, faults_inside, IsSubstitutionRefusal};
 
 use crate::bindings::Bindings;
 use crate::placeholder::{Piece, first_piece, first_placeholder, whole_placeholder};
-use crate::steps::{into_element, into_member};
 use std::alloc::{AllocError, Global};
 use thiserror::Error;
-use wot_json::{Items, Members, Text, Tree, below, copy};
+use wot_json::{Items, Members, Text, Tree, below, copy, through_element, through_member};
 
 /// Why a model has no value with these bindings.
 #[derive(Debug, Drop, Error)]
 pub enum PartFault {
     /// The name of a member holds a placeholder: the pointer to that member (RFC 6901).
-    #[error("a member's name holds a placeholder")]
+    #[error("the name of the member at {0} holds a placeholder")]
     InName(Text),
     /// A placeholder in a longer text is bound to a value that is no text: its name.
-    #[error("a value in a longer text is no text")]
+    #[error("the value of {0} in a longer text is no text")]
     NotText(Text),
-    /// There was no memory.
+    /// Out of memory.
     #[error("out of memory")]
     NoMemory,
 }
@@ -47,7 +46,7 @@ impl PartFault {
         ensures { (result ≡ PartFault.NoMemory) ⊎ (result ≡ faults_inside (step_text name.now) self) }
     {
         match self {
-            PartFault::InName(pointer) => match into_member(alloc, name, &pointer) {
+            PartFault::InName(pointer) => match through_member(alloc, name, pointer.as_str()) {
                 Ok(pointer) => PartFault::InName(pointer),
                 Err(_) => PartFault::NoMemory,
             },
@@ -57,10 +56,10 @@ impl PartFault {
 
     /// The fault as it is seen from the list around the element that has it.
     fn inside_element(self, alloc: Global, index: usize) -> PartFault
-        ensures { (result ≡ PartFault.NoMemory) ⊎ (result ≡ faults_inside (element_step index) self) }
+        ensures { (result ≡ PartFault.NoMemory) ⊎ (result ≡ faults_inside (element_step_text index) self) }
     {
         match self {
-            PartFault::InName(pointer) => match into_element(alloc, index, &pointer) {
+            PartFault::InName(pointer) => match through_element(alloc, index, pointer.as_str()) {
                 Ok(pointer) => PartFault::InName(pointer),
                 Err(_) => PartFault::NoMemory,
             },
@@ -78,9 +77,9 @@ impl PartFault {
 /// values add.
 #[cycle(substitute)]
 pub fn substitute(alloc: Global, tree: &Tree, bindings: &Bindings) -> Result<Tree, PartFault>
-    ensures value { IfOk result (λ t. json_of t ≡ substituted_value (json_of tree.now) bindings.now) }
-    ensures faultless { OnOk result (faults_of (json_of tree.now) bindings.now ≡ []) }
-    ensures fault { IfErr result (λ e. IsFirstFault e (faults_of (json_of tree.now) bindings.now)) }
+    ensures ok { IfOk result (λ t. (json_of t ≡ substituted_value (json_of tree.now) bindings.now)
+        × (faults_of (json_of tree.now) bindings.now ≡ [])) }
+    ensures fault { IfErr result (λ e. IsSubstitutionRefusal e (faults_of (json_of tree.now) bindings.now)) }
 {
     match tree {
         Tree::Null => Ok(Tree::Null),
@@ -97,9 +96,9 @@ pub fn substitute(alloc: Global, tree: &Tree, bindings: &Bindings) -> Result<Tre
 
 #[cycle(substitute)]
 fn substitute_items(alloc: Global, items: &Items, bindings: &Bindings) -> Result<Items, PartFault>
-    ensures value { IfOk result (λ i. elements_of i ≡ substituted_elements (elements_of items.now) bindings.now) }
-    ensures faultless { OnOk result (element_faults 0 (elements_of items.now) bindings.now ≡ []) }
-    ensures fault { IfErr result (λ e. IsFirstFault e (element_faults 0 (elements_of items.now) bindings.now)) }
+    ensures ok { IfOk result (λ i. (elements_of i ≡ substituted_elements (elements_of items.now) bindings.now)
+        × (element_faults 0 (elements_of items.now) bindings.now ≡ [])) }
+    ensures fault { IfErr result (λ e. IsSubstitutionRefusal e (element_faults 0 (elements_of items.now) bindings.now)) }
 {
     let list = items.as_slice();
     let mut values = Items::new(alloc);
@@ -118,9 +117,9 @@ fn substitute_members(
     members: &Members,
     bindings: &Bindings,
 ) -> Result<Members, PartFault>
-    ensures value { IfOk result (λ m. members_of m ≡ substituted_members (members_of members.now) bindings.now) }
-    ensures faultless { OnOk result (member_faults (members_of members.now) bindings.now ≡ []) }
-    ensures fault { IfErr result (λ e. IsFirstFault e (member_faults (members_of members.now) bindings.now)) }
+    ensures ok { IfOk result (λ m. (members_of m ≡ substituted_members (members_of members.now) bindings.now)
+        × (member_faults (members_of members.now) bindings.now ≡ [])) }
+    ensures fault { IfErr result (λ e. IsSubstitutionRefusal e (member_faults (members_of members.now) bindings.now)) }
 {
     let list = members.as_slice();
     let mut values = Members::new(alloc);
@@ -135,8 +134,8 @@ fn substitute_members(
 
 /// Finds the first member whose name holds a placeholder.
 fn judge_names(alloc: Global, members: &[(Text, Tree)]) -> Result<(), PartFault>
-    ensures faultless { OnOk result (name_faults (members_of (json_members members.now)) ≡ []) }
-    ensures fault { IfErr result (λ e. IsFirstFault e (name_faults (members_of (json_members members.now)))) }
+    ensures ok { OnOk result (name_faults (members_of (json_members members.now)) ≡ []) }
+    ensures fault { IfErr result (λ e. IsSubstitutionRefusal e (name_faults (members_of (json_members members.now)))) }
 {
     for (name, _) in members {
         if first_placeholder(name.as_str()).is_some() {
@@ -148,9 +147,9 @@ fn judge_names(alloc: Global, members: &[(Text, Tree)]) -> Result<(), PartFault>
 
 /// What a text becomes.
 fn substitute_text(alloc: Global, text: &str, bindings: &Bindings) -> Result<Tree, PartFault>
-    ensures value { IfOk result (λ t. json_of t ≡ text_value text.now bindings.now) }
-    ensures faultless { OnOk result (text_faults text.now bindings.now ≡ []) }
-    ensures fault { IfErr result (λ e. IsFirstFault e (text_faults text.now bindings.now)) }
+    ensures ok { IfOk result (λ t. (json_of t ≡ text_value text.now bindings.now)
+        × (text_faults text.now bindings.now ≡ [])) }
+    ensures fault { IfErr result (λ e. IsSubstitutionRefusal e (text_faults text.now bindings.now)) }
 {
     match whole_placeholder(text) {
         Some(name) => match bindings.get(name) {
@@ -163,31 +162,30 @@ fn substitute_text(alloc: Global, text: &str, bindings: &Bindings) -> Result<Tre
 
 /// A text with texts in place of its placeholders.
 fn fill(alloc: Global, text: &str, bindings: &Bindings) -> Result<Text, PartFault>
-    ensures value { IfOk result (λ t. t ≡ flat_map (piece_text bindings.now) (pieces text.now)) }
-    ensures faultless { OnOk result (flat_map (piece_faults bindings.now) (pieces text.now) ≡ []) }
-    ensures fault { IfErr result (λ e. IsFirstFault e (flat_map (piece_faults bindings.now) (pieces text.now))) }
+    ensures ok { IfOk result (λ t. (t ≡ flat_map (piece_text bindings.now) (pieces text.now))
+        × (flat_map (piece_faults bindings.now) (pieces text.now) ≡ [])) }
+    ensures fault { IfErr result (λ e. IsSubstitutionRefusal e (flat_map (piece_faults bindings.now) (pieces text.now))) }
 {
     let mut filled = String::new(alloc);
     let mut rest = text;
     while !rest.is_empty() {
-        let (piece, behind) = first_piece(rest);
+        let (piece, after) = first_piece(rest);
         put_piece(alloc, &mut filled, piece, bindings)?;
-        rest = behind;
+        rest = after;
     }
     Ok(Text::from_string(filled))
 }
 
-/// Puts what stands for a piece at the end of a text.
+/// Puts what a piece becomes at the end of a text.
 fn put_piece(
     alloc: Global,
     out: &mut String,
     piece: Piece<'_>,
     bindings: &Bindings,
 ) -> Result<(), PartFault>
-    ensures value { OnOk result
-        (string_bytes out.new ≡ string_bytes out.old ++ flat_map (piece_text bindings.now) (pieces_of piece.entry)) }
-    ensures faultless { OnOk result (flat_map (piece_faults bindings.now) (pieces_of piece.entry) ≡ []) }
-    ensures fault { IfErr result (λ e. IsFirstFault e (flat_map (piece_faults bindings.now) (pieces_of piece.entry))) }
+    ensures ok { OnOk result ((string_bytes out.new ≡ string_bytes out.old ++ flat_map (piece_text bindings.now) (pieces_of piece.entry))
+        × (flat_map (piece_faults bindings.now) (pieces_of piece.entry) ≡ [])) }
+    ensures fault { IfErr result (λ e. IsSubstitutionRefusal e (flat_map (piece_faults bindings.now) (pieces_of piece.entry))) }
 {
     match piece {
         Piece::Plain(text) => {
@@ -205,10 +203,9 @@ fn put_placeholder(
     name: &str,
     bindings: &Bindings,
 ) -> Result<(), PartFault>
-    ensures value { OnOk result
-        (string_bytes out.new ≡ string_bytes out.old ++ piece_text bindings.now (placeholder_piece name.now)) }
-    ensures faultless { OnOk result (piece_faults bindings.now (placeholder_piece name.now) ≡ []) }
-    ensures fault { IfErr result (λ e. IsFirstFault e (piece_faults bindings.now (placeholder_piece name.now))) }
+    ensures ok { OnOk result ((string_bytes out.new ≡ string_bytes out.old ++ piece_text bindings.now (placeholder_piece name.now))
+        × (piece_faults bindings.now (placeholder_piece name.now) ≡ [])) }
+    ensures fault { IfErr result (λ e. IsSubstitutionRefusal e (piece_faults bindings.now (placeholder_piece name.now))) }
 {
     match bindings.get(name) {
         None => {

@@ -3,15 +3,15 @@ use Rattle.std.proofs.lemmas.Result.{err_from_is_err_and}
 use Rattle.tm_parts.proofs.Written.{writes_pointer, writes_other, writes_no_text}
 use Rattle.tm_parts.proofs.reference.written_pointer.Goals as goal
 
-pub returns-in_err-decoded-clause-bad : goal.returns-in_err-decoded-clause-bad
-returns-in_err-decoded-clause-bad c =
+pub returns-in_err-decoded-clause-fault : goal.returns-in_err-decoded-clause-fault
+returns-in_err-decoded-clause-fault c =
     let error = err_from_is_err_and c.from_residual.result c.from_residual.ensures.1 in
-    rw (error.1, error.2) (writes_no_text c.args.fragment.now c.in_err-decoded.field-0.0 c.in_err-decoded.ensures.bad)
+    rw (error.1, error.2) (writes_no_text c.args.fragment.now c.in_err-decoded.field-0.0 c.in_err-decoded.ensures.fault)
 
 pub returns-in-Ok-clause-ok : goal.returns-in-Ok-clause-ok
 returns-in-Ok-clause-ok c =
-    writes_pointer c.args.fragment.now c.in_ok-decoded.decoded c.in_ok-decoded.ensures.ok c.in_ok-decoded.ensures.text (rw c.as_str.ensures at c.in-Ok.ensures.ok)
+    writes_pointer c.args.fragment.now c.in_ok-decoded.decoded c.in_ok-decoded.ensures.0 c.in_ok-decoded.ensures.1 (rw c.as_str.ensures at c.in-Ok.ensures.ok)
 
-pub returns-in-Err-clause-bad : goal.returns-in-Err-clause-bad
-returns-in-Err-clause-bad c =
-    inr (writes_other c.args.fragment.now c.in_ok-decoded.decoded c.in_ok-decoded.ensures.ok c.in_ok-decoded.ensures.text (rw c.as_str.ensures at c.in-Err.ensures.bad))
+pub returns-in-Err-clause-fault : goal.returns-in-Err-clause-fault
+returns-in-Err-clause-fault c =
+    inr (writes_other c.args.fragment.now c.in_ok-decoded.decoded c.in_ok-decoded.ensures.0 c.in_ok-decoded.ensures.1 (rw c.as_str.ensures at c.in-Err.ensures.bad))

@@ -9,11 +9,11 @@ use Rattle.tm_parts.specs.declared.library.AddFault.{AddFault}
 use Rattle.tm_parts.proofs.Models.{found_with_model}
 use Rattle.tm_parts.proofs.library.Library.add.Goals as goal
 
--- what is found after a model was put under a new text
-found_after : (r : Result (Unit {0}) AddFault) (url : List ℕ) (model : Json) (before now : List (List ℕ × Json)) → member_named url before ≡ None → OnOk r (now ≡ with_model url model before) → OnOk r ((name : List ℕ) → member_named name now ≡ cond (bytes_eq name url) (Some model) (member_named name before))
-found_after (Ok u) url model before now none ok = λ name. ap (λ (ms : List (List ℕ × Json)). member_named name ms) ok ∙ found_with_model name url model before none
-found_after (Err e) url model before now none ok = search rules
+-- the models by their names after one was put under a new text
+models_after : (r : Result (Unit {0}) AddFault) (url : List ℕ) (model : Json) (before now : List (List ℕ × Json)) → member_named url before ≡ None → OnOk r (now ≡ with_model url model before) → OnOk r ((name : List ℕ) → member_named name now ≡ cond (bytes_eq name url) (Some model) (member_named name before))
+models_after (Ok u) url model before now none ok = λ name. ap (λ (ms : List (List ℕ × Json)). member_named name ms) ok ∙ found_with_model name url model before none
+models_after (Err e) url model before now none ok = search rules
 
-pub returns-clause-found : goal.returns-clause-found
-returns-clause-found c =
-    found_after c.keep.result c.args.url.now (json_of c.args.model) c.args.self.now c.keep.new.self c.in_ok-judge.ensures.may.new c.keep.ensures.ok
+pub returns-clause-models : goal.returns-clause-models
+returns-clause-models c =
+    models_after c.keep.result c.args.url.now (json_of c.args.model) c.args.self.now c.keep.new.self c.in_ok-judge.ensures.ok.new c.keep.ensures.ok

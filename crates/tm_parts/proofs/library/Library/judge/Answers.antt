@@ -19,8 +19,8 @@ returns-then-not-is_thing_model-clause-fault c =
     ∙ none_kept c.args.url.now c.self.inside.models.entries (sym c.if-contains_key.ensures) in
     (c.in_ok-judge_url.ensures.ok, none, sym c.if-not-is_thing_model.ensures)
 
-pub returns-clause-may : goal.returns-clause-may
-returns-clause-may c = record {
+pub returns-clause-ok : goal.returns-clause-ok
+returns-clause-ok c = record {
   url_is = c.in_ok-judge_url.ensures.ok;
   new = ap (λ (ms : List (List ℕ × Json)). member_named c.args.url.now ms) (sym c.self.view_is)
       ∙ none_kept c.args.url.now c.self.inside.models.entries (sym c.if-contains_key.ensures);

@@ -1,7 +1,7 @@
 use Rattle.std.proofs.Common.{◌≡◌, ◌++◌}
 use Rattle.tm_parts.specs.Kept.{kept_models}
 use Rattle.tm_parts.specs.Sources.{kept_sources, sources_of}
-use Rattle.tm_parts.proofs.library.Library.substituted.Given as goal
+use Rattle.tm_parts.proofs.library.Library.sources.Given as goal
 
 -- what was made, and what the rest will give
 abbrev pub invariant-loop-url : goal.invariant-loop-url

@@ -1,7 +1,7 @@
 use Rattle.std.proofs.Common.{◌≡◌, ◌++◌, ◌∷◌, [], ◌∙◌, arith}
 use Rattle.std.proofs.lemmas.Grind.{common_steps}
 use Rattle.tm_parts.proofs.KeptSources.{sources_more}
-use Rattle.tm_parts.proofs.library.Library.substituted.Goals as goal
+use Rattle.tm_parts.proofs.library.Library.sources.Goals as goal
 
 pub loop-url-preserved : goal.loop-url-preserved
 loop-url-preserved c =

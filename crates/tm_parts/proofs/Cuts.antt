@@ -7,15 +7,15 @@ use Rattle.std.specs.Str.{bytes_eq}
 use Rattle.std.proofs.lemmas.Bool.{and_parts, and_from, cases_Bool, eqb-false}
 use Rattle.std.proofs.lemmas.Option.{cond_some}
 use Rattle.std.proofs.lemmas.Slice.Eq.{bytes_eq-Decides}
-use Rattle.std.proofs.lemmas.List.{take-append-drop, drop_all}
+use Rattle.std.proofs.lemmas.List.{take-append-drop}
 use Rattle.std.proofs.Math.Seq.{take-append_seam, drop-append_seam}
-use Rattle.tm_parts.specs.Placeholders.{is_name_byte, is_name, placeholder_text, placeholder_at, Piece, plain, placeholder, pieces_behind, pieces, piece_name, placeholders, sole_placeholder}
+use Rattle.tm_parts.specs.Placeholders.{is_name_byte, is_name, placeholder_text, placeholder_at, Piece, plain, placeholder, pieces_after, pieces, piece_name, placeholders, sole_placeholder}
 
 -- skipped bytes are dropped
-pub pieces_behind_drop : (n : ℕ) (bs : List ℕ) → pieces_behind n bs ≡ pieces (drop n bs)
-pieces_behind_drop zero bs = refl
-pieces_behind_drop (suc n) [] = refl
-pieces_behind_drop (suc n) (b ∷ bs) = pieces_behind_drop n bs
+pub pieces_after_drop : (n : ℕ) (bs : List ℕ) → pieces_after n bs ≡ pieces (drop n bs)
+pieces_after_drop zero bs = refl
+pieces_after_drop (suc n) [] = refl
+pieces_after_drop (suc n) (b ∷ bs) = pieces_after_drop n bs
 
 -- bytes of a name and then a brace: the name goes as far as those bytes
 pub name_goes_to_brace : (name ys : List ℕ) → list_all is_name_byte name ≡ true → prefix_len is_name_byte (name ++ 125 ∷ ys) ≡ length name
@@ -25,9 +25,9 @@ name_goes_to_brace (b ∷ name) ys h =
     subst (λ (t : Bool). cond t (1 + prefix_len is_name_byte (name ++ 125 ∷ ys)) 0 ≡ length (b ∷ name)) (sym parts.0)
     (omega (arith, name_goes_to_brace name ys parts.1))
 
--- the name is what stands behind the braces, as far as a name may go
-name_behind_braces : (name rest : List ℕ) → list_all is_name_byte name ≡ true → take_while is_name_byte (drop 2 (placeholder_text name ++ rest)) ≡ name
-name_behind_braces name rest h =
+-- the name is what comes after the braces, as far as a name may go
+name_after_braces : (name rest : List ℕ) → list_all is_name_byte name ≡ true → take_while is_name_byte (drop 2 (placeholder_text name ++ rest)) ≡ name
+name_after_braces name rest h =
     let inner : (name ++ 125 ∷ 125 ∷ []) ++ rest ≡ name ++ (125 ∷ 125 ∷ rest) = append_assoc name (125 ∷ 125 ∷ []) rest in
     let whole : take_while is_name_byte (name ++ (125 ∷ 125 ∷ rest)) ≡ name =
     ap (λ (n : ℕ). take n (name ++ (125 ∷ 125 ∷ rest))) (name_goes_to_brace name (125 ∷ rest) h) ∙ take-append_seam name (125 ∷ 125 ∷ rest) in
@@ -40,40 +40,40 @@ length-placeholder_text name = omega (arith, length-append name (125 ∷ 125 ∷
 names : List ℕ → List ℕ → Bool
 names text name = is_name name && bytes_eq (take (length name + 4) text) (placeholder_text name)
 
-names_front : (name rest : List ℕ) → is_name name ≡ true → names (placeholder_text name ++ rest) name ≡ true
+names_prefix : (name rest : List ℕ) → is_name name ≡ true → names (placeholder_text name ++ rest) name ≡ true
 unfolding names
-names_front name rest h =
-    let front : take (length name + 4) (placeholder_text name ++ rest) ≡ placeholder_text name =
+names_prefix name rest h =
+    let prefix : take (length name + 4) (placeholder_text name ++ rest) ≡ placeholder_text name =
     ap (λ (n : ℕ). take n (placeholder_text name ++ rest)) (sym (length-placeholder_text name)) ∙ take-append_seam (placeholder_text name) rest in
     and_from (is_name name) (bytes_eq (take (length name + 4) (placeholder_text name ++ rest)) (placeholder_text name)) h
-    ((bytes_eq-Decides (take (length name + 4) (placeholder_text name ++ rest)) (placeholder_text name)).1 front)
+    ((bytes_eq-Decides (take (length name + 4) (placeholder_text name ++ rest)) (placeholder_text name)).1 prefix)
 
-named_front : (text name : List ℕ) → names text name ≡ true → (is_name name ≡ true) × (text ≡ placeholder_text name ++ drop (length name + 4) text)
+named_prefix : (text name : List ℕ) → names text name ≡ true → (is_name name ≡ true) × (text ≡ placeholder_text name ++ drop (length name + 4) text)
 unfolding names
-named_front text name h =
+named_prefix text name h =
     let parts = and_parts (is_name name) (bytes_eq (take (length name + 4) text) (placeholder_text name)) h in
-    let front : take (length name + 4) text ≡ placeholder_text name = (bytes_eq-Decides (take (length name + 4) text) (placeholder_text name)).0 parts.1 in
-    (parts.0, sym (take-append-drop (length name + 4) text) ∙ ap (λ (xs : List ℕ). xs ++ drop (length name + 4) text) front)
+    let prefix : take (length name + 4) text ≡ placeholder_text name = (bytes_eq-Decides (take (length name + 4) text) (placeholder_text name)).0 parts.1 in
+    (parts.0, sym (take-append-drop (length name + 4) text) ∙ ap (λ (xs : List ℕ). xs ++ drop (length name + 4) text) prefix)
 
 placeholder_at_is : (text : List ℕ) → placeholder_at text ≡ cond (names text (take_while is_name_byte (drop 2 text))) (Some (take_while is_name_byte (drop 2 text))) None
 unfolding placeholder_at names
 placeholder_at_is text = refl
 
 -- a text that begins with a placeholder
-pub placeholder_at_front : (name rest : List ℕ) → is_name name ≡ true → placeholder_at (placeholder_text name ++ rest) ≡ Some name
-placeholder_at_front name rest h =
+pub placeholder_at_prefix : (name rest : List ℕ) → is_name name ≡ true → placeholder_at (placeholder_text name ++ rest) ≡ Some name
+placeholder_at_prefix name rest h =
     let bytes : list_all is_name_byte name ≡ true = (and_parts (list_all is_name_byte name) (nat_lt 0 (length name)) (and_parts (list_all is_name_byte name && nat_lt 0 (length name)) (nat_le (length name) 64) h).0).0 in
     let at_name : cond (names (placeholder_text name ++ rest) name) (Some name) None ≡ Some name =
-    ap (λ (t : Bool). cond t (Some name) None) (names_front name rest h) in
+    ap (λ (t : Bool). cond t (Some name) None) (names_prefix name rest h) in
     placeholder_at_is (placeholder_text name ++ rest)
-    ∙ subst (λ (n : List ℕ). cond (names (placeholder_text name ++ rest) n) (Some n) None ≡ Some name) (sym (name_behind_braces name rest bytes)) at_name
+    ∙ subst (λ (n : List ℕ). cond (names (placeholder_text name ++ rest) n) (Some n) None ≡ Some name) (sym (name_after_braces name rest bytes)) at_name
 
 -- a text that begins with none
-pub placeholder_not_at_front : (text : List ℕ) → ((name rest : List ℕ) → is_name name ≡ true → text ≡ placeholder_text name ++ rest → ⊥) → placeholder_at text ≡ None
-placeholder_not_at_front text h =
+pub placeholder_not_at_prefix : (text : List ℕ) → ((name rest : List ℕ) → is_name name ≡ true → text ≡ placeholder_text name ++ rest → ⊥) → placeholder_at text ≡ None
+placeholder_not_at_prefix text h =
     let name : List ℕ = take_while is_name_byte (drop 2 text) in
     let test : names text name ≡ false = elim (cases_Bool (names text name)) [
-      | inl begins ↦ let parts = named_front text name begins in absurd (h name (drop (length name + 4) text) parts.0 parts.1)
+      | inl begins ↦ let parts = named_prefix text name begins in absurd (h name (drop (length name + 4) text) parts.0 parts.1)
       | inr other ↦ other
     ] in
     placeholder_at_is text ∙ ap (λ (t : Bool). cond t (Some name) None) test
@@ -83,28 +83,28 @@ pub placeholder_at_gives : (text name : List ℕ) → placeholder_at text ≡ So
 placeholder_at_gives text name h =
     let found : List ℕ = take_while is_name_byte (drop 2 text) in
     let parts = cond_some (names text found) found name (sym (placeholder_at_is text) ∙ h) in
-    subst (λ (n : List ℕ). (is_name n ≡ true) × (text ≡ placeholder_text n ++ drop (length n + 4) text)) parts.1 (named_front text found parts.0)
+    subst (λ (n : List ℕ). (is_name n ≡ true) × (text ≡ placeholder_text n ++ drop (length n + 4) text)) parts.1 (named_prefix text found parts.0)
 
 -- a placeholder is one piece
 pub pieces_placeholder : (name rest : List ℕ) → is_name name ≡ true → pieces (placeholder_text name ++ rest) ≡ placeholder name ∷ pieces rest
 pieces_placeholder name rest h =
     let T : List ℕ = 123 ∷ ((name ++ 125 ∷ 125 ∷ []) ++ rest) in
-    let cut : pieces (123 ∷ T) ≡ placeholder name ∷ pieces_behind (length name + 3) T =
-    ap (λ (o : Option (List ℕ)). elim o as (λ _. List Piece) [ None ↦ plain 123 ∷ pieces_behind 0 T | Some n ↦ placeholder n ∷ pieces_behind (length n + 3) T ]) (placeholder_at_front name rest h) in
+    let cut : pieces (123 ∷ T) ≡ placeholder name ∷ pieces_after (length name + 3) T =
+    ap (λ (o : Option (List ℕ)). elim o as (λ _. List Piece) [ None ↦ plain 123 ∷ pieces_after 0 T | Some n ↦ placeholder n ∷ pieces_after (length n + 3) T ]) (placeholder_at_prefix name rest h) in
     let inner : List ℕ = 123 ∷ (name ++ 125 ∷ 125 ∷ []) in
     let count : length name + 3 ≡ length inner = omega (arith, length-append name (125 ∷ 125 ∷ [])) in
     let left : drop (length name + 3) T ≡ rest = ap (λ (n : ℕ). drop n T) count ∙ drop-append_seam inner rest in
-    cut ∙ ap (λ (ps : List Piece). placeholder name ∷ ps) (pieces_behind_drop (length name + 3) T ∙ ap (λ (xs : List ℕ). pieces xs) left)
+    cut ∙ ap (λ (ps : List Piece). placeholder name ∷ ps) (pieces_after_drop (length name + 3) T ∙ ap (λ (xs : List ℕ). pieces xs) left)
 
 -- a byte where none begins is one piece
 pub pieces_plain : (b : ℕ) (bs : List ℕ) → placeholder_at (b ∷ bs) ≡ None → pieces (b ∷ bs) ≡ plain b ∷ pieces bs
 pieces_plain b bs h =
-    ap (λ (o : Option (List ℕ)). elim o as (λ _. List Piece) [ None ↦ plain b ∷ pieces_behind 0 bs | Some n ↦ placeholder n ∷ pieces_behind (length n + 3) bs ]) h
+    ap (λ (o : Option (List ℕ)). elim o as (λ _. List Piece) [ None ↦ plain b ∷ pieces_after 0 bs | Some n ↦ placeholder n ∷ pieces_after (length n + 3) bs ]) h
 
 -- no placeholder begins with another byte than a brace
 pub no_placeholder_here : (b : ℕ) (bs : List ℕ) → (b == 123) ≡ false → placeholder_at (b ∷ bs) ≡ None
 no_placeholder_here b bs h =
-    placeholder_not_at_front (b ∷ bs) (λ name rest named is. eqb-false b 123 h (cc))
+    placeholder_not_at_prefix (b ∷ bs) (λ name rest named is. eqb-false b 123 h (cc))
 
 -- bytes other than an opening brace are plain
 pub pieces_no_brace : (n : ℕ) (bs : List ℕ) → n ≤ position_or_len (λ b. b == 123) bs → pieces bs ≡ map plain (take n bs) ++ pieces (drop n bs)
@@ -124,23 +124,23 @@ names_of_plain : (bytes : List ℕ) → flat_map piece_name (map plain bytes) �
 names_of_plain [] = refl
 names_of_plain (b ∷ bytes) = names_of_plain bytes
 
--- the placeholders behind plain text
-pub placeholders_behind_plain : (text bytes rest : List ℕ) → pieces text ≡ map plain bytes ++ pieces rest → placeholders text ≡ placeholders rest
-placeholders_behind_plain text bytes rest is =
+-- the placeholders after plain text
+pub placeholders_after_plain : (text bytes rest : List ℕ) → pieces text ≡ map plain bytes ++ pieces rest → placeholders text ≡ placeholders rest
+placeholders_after_plain text bytes rest is =
     ap (λ (ps : List Piece). flat_map piece_name ps) is ∙ flat_map-append piece_name (map plain bytes) (pieces rest)
     ∙ ap (λ (ns : List (List ℕ)). ns ++ placeholders rest) (names_of_plain bytes)
 
--- a text that begins with a placeholder is exactly that where nothing stands behind it
+-- a text that begins with a placeholder is exactly that where nothing comes after it
 pub sole_if_alone : (text name rest : List ℕ) → pieces text ≡ placeholder name ∷ pieces rest → length rest ≡ 0 → sole_placeholder (pieces text) ≡ Some name
 sole_if_alone text name [] is empty = ap (λ (ps : List Piece). sole_placeholder ps) is
 sole_if_alone text name (b ∷ bs) is empty = absurd (omega (arith, empty))
 
--- where something stands behind it, it isn't
+-- where something comes after it, it isn't
 pub not_sole_if_more : (text name rest : List ℕ) → pieces text ≡ placeholder name ∷ pieces rest → 0 < length rest → sole_placeholder (pieces text) ≡ None
 not_sole_if_more text name [] is some = absurd (omega (arith, some))
 not_sole_if_more text name (b ∷ bs) is some =
     ap (λ (ps : List Piece). sole_placeholder ps) is
-    ∙ elim (placeholder_at (b ∷ bs)) as (λ o. sole_placeholder (placeholder name ∷ elim o as (λ _. List Piece) [ None ↦ plain b ∷ pieces_behind 0 bs | Some n ↦ placeholder n ∷ pieces_behind (length n + 3) bs ]) ≡ None) [ None ↦ refl | Some n ↦ refl ]
+    ∙ elim (placeholder_at (b ∷ bs)) as (λ o. sole_placeholder (placeholder name ∷ elim o as (λ _. List Piece) [ None ↦ plain b ∷ pieces_after 0 bs | Some n ↦ placeholder n ∷ pieces_after (length n + 3) bs ]) ≡ None) [ None ↦ refl | Some n ↦ refl ]
 
 -- nor where the text begins with none
 pub not_sole_if_none : (text : List ℕ) → placeholder_at text ≡ None → sole_placeholder (pieces text) ≡ None
@@ -153,27 +153,3 @@ pieces_after_placeholder text name rest is rest_is =
     let found = placeholder_at_gives text name is in
     ap (λ (xs : List ℕ). pieces xs) found.1 ∙ pieces_placeholder name (drop (length name + 4) text) found.0
     ∙ ap (λ (xs : List ℕ). placeholder name ∷ pieces xs) (sym rest_is)
-
--- a piece as it is written
-abbrev pub written : Piece → List ℕ
-written (plain b) = b ∷ []
-written (placeholder name) = placeholder_text name
-
--- what a text is where a placeholder begins it, from its second byte on
-behind_first_brace : (b : ℕ) (bs name : List ℕ) → placeholder_at (b ∷ bs) ≡ Some name → placeholder_text name ++ drop (length name + 3) bs ≡ b ∷ bs
-behind_first_brace b bs name is =
-    let count : length name + 4 ≡ suc (length name + 3) = omega arith in
-    sym ((placeholder_at_gives (b ∷ bs) name is).1 ∙ ap (λ (n : ℕ). placeholder_text name ++ drop n (b ∷ bs)) count)
-
-written_behind : (n : ℕ) (bs : List ℕ) → flat_map written (pieces_behind n bs) ≡ drop n bs
-written_behind n [] = sym (drop_all n [] (omega arith))
-written_behind (suc n) (b ∷ bs) = written_behind n bs
-written_behind zero (b ∷ bs) =
-    elim (placeholder_at (b ∷ bs)) as (λ o. placeholder_at (b ∷ bs) ≡ o → flat_map written (elim o as (λ _. List Piece) [ None ↦ plain b ∷ pieces_behind 0 bs | Some n ↦ placeholder n ∷ pieces_behind (length n + 3) bs ]) ≡ b ∷ bs) [
-      | None ↦ λ is. ap (λ (xs : List ℕ). b ∷ xs) (written_behind 0 bs)
-      | Some name ↦ λ is. ap (λ (xs : List ℕ). placeholder_text name ++ xs) (written_behind (length name + 3) bs) ∙ behind_first_brace b bs name is
-    ] refl
-
--- the pieces of a text, written one behind another, are the text
-pub pieces_written : (text : List ℕ) → flat_map written (pieces text) ≡ text
-pieces_written text = written_behind 0 text

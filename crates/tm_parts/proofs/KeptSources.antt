@@ -12,7 +12,7 @@ use Rattle.tm_parts.specs.Sources.{Sources, substitution, sources_of, kept_model
 use Rattle.tm_parts.specs.declared.sources.Source.{Source}
 use Rattle.tm_parts.specs.declared.substitution.PartFault.{PartFault}
 
--- what is made of the first model that is left goes behind what was made
+-- what is made of the first model that is left goes after what was made
 pub sources_more : (made grown : List Source) (s : Source) (left rest : List (String Global × Tree)) (e : String Global × Tree) (values : Values) (whole : Sources) → left ≡ e ∷ rest
     → kept_sources made ++ sources_of (kept_models left) values ≡ whole → grown ≡ made ++ s ∷ []
     → s.url ≡ string_bytes e.0 → kept_model s.model ≡ substitution (json_of e.1) values → kept_sources grown ++ sources_of (kept_models rest) values ≡ whole

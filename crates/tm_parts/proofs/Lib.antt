@@ -1,5 +1,5 @@
 pub mod Cuts
-pub mod Fronts
+pub mod Prefixes
 pub mod Models
 pub mod Texts
 pub mod Walks

@@ -50,10 +50,10 @@ kept_found url (e ∷ es) =
     ∙ ap (λ (b : Bool). cond b (Some (json_of e.1)) (option_map json_of (lookup (is_at (λ k. slice_cmp nat_cmp url (string_bytes k))) es))) (is_eq-slice_cmp url (string_bytes e.0))
     ∙ ap (λ (r : Option Json). cond (bytes_eq url (string_bytes e.0)) (Some (json_of e.1)) r) (kept_found url es)
 
-placed : (o : Ordering) (before here behind : List (String Global × Tree)) → kept_models (match_ordering o before here behind) ≡ match_ordering o (kept_models before) (kept_models here) (kept_models behind)
-placed Less before here behind = refl
-placed Equal before here behind = refl
-placed Greater before here behind = refl
+placed : (o : Ordering) (before here after : List (String Global × Tree)) → kept_models (match_ordering o before here after) ≡ match_ordering o (kept_models before) (kept_models here) (kept_models after)
+placed Less before here after = refl
+placed Equal before here after = refl
+placed Greater before here after = refl
 
 -- an insertion into the map is one into the list
 pub kept_inserted : (entries : List (String Global × Tree)) (k : String Global) (t : Tree) → kept_models (insert_entry string_cmp entries k t) ≡ with_model (string_bytes k) (json_of t) (kept_models entries)
@@ -62,7 +62,7 @@ kept_inserted (e ∷ es) k t =
     placed (slice_cmp nat_cmp (string_bytes k) (string_bytes e.0)) ((k, t) ∷ e ∷ es) ((e.0, t) ∷ es) (e ∷ insert_entry string_cmp es k t)
     ∙ ap (λ (ms : List (List ℕ × Json)). match_ordering (slice_cmp nat_cmp (string_bytes k) (string_bytes e.0)) (kept_models ((k, t) ∷ e ∷ es)) (kept_models ((e.0, t) ∷ es)) ((string_bytes e.0, json_of e.1) ∷ ms)) (kept_inserted es k t)
 
--- an object is a model by what stands under `@type`
+-- an object is a model by what is under `@type`
 pub model_by_type : (t : Tree) (ms : List (List ℕ × Json)) (types : Option Json) → t ≡ tree.Obj ms → types ≡ member_named (codes "@type") ms → is_thing_model (json_of t) ≡ elim types [ None ↦ false | Some v ↦ has_thing_model v ]
 model_by_type t ms types is found =
     ap (λ (u : Tree). is_thing_model (json_of u)) is
@@ -82,7 +82,7 @@ pub listed_types : (list : List Tree) (items : List Json) → json_items list �
 listed_types list items same =
     ap (λ (vs : List Json). list_any is_thing_model_text vs) (same ∙ sym (listed_lem items))
 
--- a name that isn't there is neither the first nor behind it
+-- a name that isn't there is neither the first nor after it
 absent_parts : (url : List ℕ) (m : List ℕ × Json) (ms : List (List ℕ × Json)) → member_named url (m ∷ ms) ≡ None → (bytes_eq url m.0 ≡ false) × (member_named url ms ≡ None)
 absent_parts url m ms none = elim (cases_Bool (bytes_eq url m.0)) [
   | inl same ↦
@@ -97,7 +97,7 @@ either_first true true x y r apart = absurd (apart refl refl)
 either_first true false x y r apart = refl
 either_first false other x y r apart = refl
 
--- what stands under a name once a model was put under a new one
+-- what is under a name once a model was put under a new one
 pub found_with_model : (name url : List ℕ) (model : Json) (ms : List (List ℕ × Json)) → member_named url ms ≡ None → member_named name (with_model url model ms) ≡ cond (bytes_eq name url) (Some model) (member_named name ms)
 found_with_model name url model [] none = refl
 found_with_model name url model (m ∷ ms) none =

@@ -1,4 +1,4 @@
--- What the types of the code stand for.
+-- What contracts see of the types of the code.
 use Rattle.std.specs.Prelude.{ℕ, List, map, String, string_bytes}
 use Rattle.std.specs.declared.alloc.Global.{Global}
 use Rattle.wot_json.specs.Tree.{Json}

@@ -16,31 +16,31 @@ abbrev pub placeholder_text : List ℕ → List ℕ
 placeholder_text name = codes "{{" ++ name ++ codes "}}"
 
 -- The name of the placeholder with which a text begins, where it begins with one. A name has no braces, so it
--- can only be what stands behind the first two bytes, as far as a name may go.
+-- can only be what comes after the first two bytes, as far as a name may go.
 unfoldable pub placeholder_at : List ℕ → Option (List ℕ)
 placeholder_at text =
     let name = take_while is_name_byte (drop 2 text) in
     if is_name name && bytes_eq (take (length name + 4) text) (placeholder_text name) then Some name else None
 
--- a piece of a text: one byte as it stands, or a placeholder with its name
+-- a piece of a text: one byte as it is, or a placeholder with its name
 pub data Piece : Type 0 where
   plain : ℕ → Piece
   placeholder : List ℕ → Piece
 
--- The pieces of a text behind its first bytes, of which so many are skipped: where a placeholder begins it is
+-- The pieces of a text after its first bytes, of which so many are skipped: where a placeholder begins it is
 -- taken whole, and else one byte is plain.
-abbrev pub pieces_behind : ℕ → List ℕ → List Piece
-pieces_behind skipped [] = []
-pieces_behind (suc skipped) (b ∷ bs) = pieces_behind skipped bs
-pieces_behind zero (b ∷ bs) =
+abbrev pub pieces_after : ℕ → List ℕ → List Piece
+pieces_after skipped [] = []
+pieces_after (suc skipped) (b ∷ bs) = pieces_after skipped bs
+pieces_after zero (b ∷ bs) =
     elim (placeholder_at (b ∷ bs)) [
-      | None ↦ plain b ∷ pieces_behind 0 bs
-      | Some name ↦ placeholder name ∷ pieces_behind (length name + 3) bs
+      | None ↦ plain b ∷ pieces_after 0 bs
+      | Some name ↦ placeholder name ∷ pieces_after (length name + 3) bs
     ]
 
 -- the pieces of a text, from the left
 abbrev pub pieces : List ℕ → List Piece
-pieces text = pieces_behind 0 text
+pieces text = pieces_after 0 text
 
 -- the name of a piece that is a placeholder
 abbrev pub piece_name : Piece → List (List ℕ)

@@ -22,16 +22,16 @@ Sources = List (List ℕ × Result Json PartFault)
 abbrev pub sources_of : Models → Values → Sources
 sources_of models values = map (λ m. (m.0, substitution m.1 values)) models
 
--- what stands under this URL first, where anything does
+-- what is under this URL first, where anything does
 abbrev pub source_named : List ℕ → Sources → Option (Result Json PartFault)
 source_named url [] = None
 source_named url (s ∷ ss) = if bytes_eq url s.0 then Some s.1 else source_named url ss
 
--- what a model of the code or its fault stands for
+-- a model of the code or its fault, as contracts see it
 abbrev pub kept_model : Result Tree PartFault → Result Json PartFault
 kept_model (Ok model) = Ok (json_of model)
 kept_model (Err fault) = Err fault
 
--- what a list of the code stands for
+-- a list of the code, as contracts see it
 abbrev pub kept_sources : List Source → Sources
 kept_sources = map (λ s. (s.url, kept_model s.model))

@@ -29,7 +29,7 @@ abbrev pub put_faults : List ℕ → Json → List PartFault
 put_faults name (string s) = []
 put_faults name v = NotText name ∷ []
 
--- what stands for a piece of a text: a plain byte itself, a placeholder's value, and an unbound placeholder as
+-- what a piece of a text becomes: a plain byte itself, a placeholder's value, and an unbound placeholder as
 -- it is written
 abbrev pub piece_text : Values → Piece → List ℕ
 piece_text values (plain b) = b ∷ []

@@ -55,7 +55,10 @@ fn first_hole_of_members(alloc: Global, members: &Members) -> Result<Option<(Tex
     let list = members.as_slice();
     for (name, member) in list {
         if let Some((hole, pointer)) = first_hole(alloc, member)? {
-            return Ok(Some((hole, through_member(alloc, name.as_str(), pointer.as_str())?)));
+            return Ok(Some((
+                hole,
+                through_member(alloc, name.as_str(), pointer.as_str())?,
+            )));
         }
     }
     Ok(None)

@@ -13,8 +13,6 @@ mod placeholder;
 mod reference;
 mod sources;
 mod substitution;
-#[cfg(test)]
-mod tests;
 
 pub use bindings::Bindings;
 pub use holes::first_hole;

@@ -15,7 +15,7 @@ fn is_name_byte(byte: u8) -> bool
     matches!(byte, b' '..=b'~') && byte != b'{' && byte != b'}'
 }
 
-/// How many bytes at the front of a text a name may have.
+/// How many bytes a text begins with that a name may have.
 fn name_length(text: &[u8]) -> usize
     ensures { result ≡ prefix_len may_be_in_name text.now }
 {
@@ -27,14 +27,14 @@ fn name_length(text: &[u8]) -> usize
     text.len()
 }
 
-/// The placeholder with which a text begins: its name, and what stands behind it.
+/// The placeholder with which a text begins: its name, and the rest after it.
 fn placeholder(text: &str) -> Option<(&str, &str)>
     ensures name { option_map (λ p. p.0.now) result ≡ placeholder_at text.now }
     ensures rest { IfSome result (λ p. p.1.now ≡ drop (length p.0.now + 4) text.now) }
 {
     let inner = text.strip_prefix("{{")?;
-    let (name, behind) = inner.split_at(name_length(inner.as_bytes()));
-    let rest = behind.strip_prefix("}}")?;
+    let (name, after) = inner.split_at(name_length(inner.as_bytes()));
+    let rest = after.strip_prefix("}}")?;
     if name.is_empty() || name.len() > LONGEST_NAME {
         return None;
     }
@@ -49,7 +49,7 @@ pub(crate) fn whole_placeholder(text: &str) -> Option<&str>
     if rest.is_empty() { Some(name) } else { None }
 }
 
-/// The front of a text that isn't cut any further.
+/// What a text begins with, cut no further.
 #[derive(Clone, Copy, Debug)]
 pub(crate) enum Piece<'a> {
     /// Text without a placeholder.
@@ -58,7 +58,7 @@ pub(crate) enum Piece<'a> {
     Placeholder(&'a str),
 }
 
-/// The first piece of a text, and what stands behind it. Plain text goes as far as the next opening brace, so
+/// The first piece of a text, and the rest after it. Plain text goes as far as the next opening brace, so
 /// a text is cut in a time in proportion to its length.
 pub(crate) fn first_piece(text: &str) -> (Piece<'_>, &str)
     requires { 0 < length text.now }
@@ -95,7 +95,7 @@ pub(crate) fn first_placeholder(text: &str) -> Option<&str>
     while !rest.is_empty() {
         match first_piece(rest) {
             (Piece::Placeholder(name), _) => return Some(name),
-            (Piece::Plain(_), behind) => rest = behind,
+            (Piece::Plain(_), after) => rest = after,
         }
     }
     None

@@ -16,11 +16,11 @@ use wot_json::{Text, Tree};
 pub struct Source {
     /// The text of the model's URL.
     pub url: Text,
-    /// The model with the values, or the first fault, which is never want of memory.
+    /// The model with the values, or the first fault, which is never out of memory.
     pub model: Result<Tree, PartFault>,
 }
 
-/// What stands under this URL first, found by going through the list.
+/// The first model under this URL, found by going through the list.
 pub fn source_named<'a>(sources: &'a [Source], url: &str) -> Option<&'a Result<Tree, PartFault>>
     ensures { option_map (λ m. kept_model m.now) result ≡ spec.source_named url.now (kept_sources sources.now) }
 {

@@ -4,18 +4,18 @@ use Rattle.std.specs.List.{position_or_len}
 use Rattle.std.proofs.lemmas.List.{take_all, length-take-le}
 use Rattle.std.proofs.lemmas.List.Sums.{prefix_len-le-length}
 use Rattle.tm_parts.proofs.Cuts.{pieces_after_placeholder}
-use Rattle.tm_parts.proofs.Fronts.{cut_before_brace, plain_front}
+use Rattle.tm_parts.proofs.Prefixes.{cut_before_brace, plain_prefix}
 use Rattle.tm_parts.proofs.placeholder.first_piece.Goals as goal
 
--- the bytes behind the first, as the code hands them on
-behind_first : (bytes text : List ℕ) (n : ℕ) → bytes ≡ text → n ≡ position_or_len (λ b. b == 123) (take (length bytes - 1) (drop 1 bytes)) → n ≡ position_or_len (λ b. b == 123) (drop 1 text)
-behind_first bytes text n same is =
+-- the bytes after the first, as the code hands them on
+after_first : (bytes text : List ℕ) (n : ℕ) → bytes ≡ text → n ≡ position_or_len (λ b. b == 123) (take (length bytes - 1) (drop 1 bytes)) → n ≡ position_or_len (λ b. b == 123) (drop 1 text)
+after_first bytes text n same is =
     is ∙ ap (λ (xs : List ℕ). position_or_len (λ b. b == 123) xs) (take_all (length bytes - 1) (drop 1 bytes) (omega (arith, length-drop 1 bytes)))
     ∙ ap (λ (xs : List ℕ). position_or_len (λ b. b == 123) (drop 1 xs)) same
 
--- the length of the plain front
-front_length : (text : List ℕ) (n : ℕ) → n ≡ position_or_len (λ b. b == 123) (drop 1 text) → 1 + n ≡ 1 + position_or_len (λ b. b == 123) (drop 1 text)
-front_length text n is = ap (λ (k : ℕ). 1 + k) is
+-- the length of the plain prefix
+prefix_length : (text : List ℕ) (n : ℕ) → n ≡ position_or_len (λ b. b == 123) (drop 1 text) → 1 + n ≡ 1 + position_or_len (λ b. b == 123) (drop 1 text)
+prefix_length text n is = ap (λ (k : ℕ). 1 + k) is
 
 pub overflow_add-length : goal.overflow_add-length
 overflow_add-length c =
@@ -30,8 +30,8 @@ overflow_add-length c =
 
 pub split_at-requires : goal.split_at-requires
 split_at-requires c =
-    let n = behind_first c.as_bytes.result.now c.args.text.now c.length_before_brace-length.result c.as_bytes.ensures.value c.length_before_brace-length.ensures in
-    cut_before_brace c.args.text.now (1 + c.length_before_brace-length.result) c.requires (front_length c.args.text.now c.length_before_brace-length.result n)
+    let n = after_first c.as_bytes.result.now c.args.text.now c.length_before_brace-length.result c.as_bytes.ensures.value c.length_before_brace-length.ensures in
+    cut_before_brace c.args.text.now (1 + c.length_before_brace-length.result) c.requires (prefix_length c.args.text.now c.length_before_brace-length.result n)
 
 pub returns-in-Some-clause-pieces : goal.returns-in-Some-clause-pieces
 returns-in-Some-clause-pieces c =
@@ -39,6 +39,6 @@ returns-in-Some-clause-pieces c =
 
 pub returns-in-None-clause-pieces : goal.returns-in-None-clause-pieces
 returns-in-None-clause-pieces c =
-    let n = behind_first c.as_bytes.result.now c.args.text.now c.length_before_brace-length.result c.as_bytes.ensures.value c.length_before_brace-length.ensures in
+    let n = after_first c.as_bytes.result.now c.args.text.now c.length_before_brace-length.result c.as_bytes.ensures.value c.length_before_brace-length.ensures in
     rw (c.split_at.ensures.front, c.split_at.ensures.back)
-    (plain_front c.args.text.now (1 + c.length_before_brace-length.result) c.requires (sym c.in-None.ensures.name) (front_length c.args.text.now c.length_before_brace-length.result n))
+    (plain_prefix c.args.text.now (1 + c.length_before_brace-length.result) c.requires (sym c.in-None.ensures.name) (prefix_length c.args.text.now c.length_before_brace-length.result n))

@@ -1,4 +1,4 @@
--- What the code finds at the front of a text, step by step.
+-- What the code finds at the prefix of a text, step by step.
 use Rattle.std.proofs.Common.{◌≡◌, ℕ, suc, ◌+◌, ◌<◌, ◌≤◌, List, [], ◌∷◌, ◌++◌, length, take, drop, refl, sym, ap, subst, ◌∙◌, arith, Bool, true, false, cond, append_assoc, length-append, inl, inr, get_or}
 use Rattle.std.specs.Prelude.{None, map, ◌&&◌, not, ◌==◌, nat_lt, nat_le}
 use Rattle.std.specs.List.{list_all, prefix_len, take_while, position_or_len}
@@ -10,7 +10,7 @@ use Rattle.std.proofs.lemmas.Str.Ascii.{IsAscii-nil, IsAscii-cons}
 use Rattle.std.proofs.lemmas.List.{take-append-drop}
 use Rattle.std.proofs.Math.Seq.{take-append_seam, drop-append_seam}
 use Rattle.tm_parts.specs.Placeholders.{is_name_byte, is_name, placeholder_text, placeholder_at, Piece, plain, pieces}
-use Rattle.tm_parts.proofs.Cuts.{name_goes_to_brace, placeholder_not_at_front, pieces_plain, pieces_no_brace}
+use Rattle.tm_parts.proofs.Cuts.{name_goes_to_brace, placeholder_not_at_prefix, pieces_plain, pieces_no_brace}
 
 -- a name's bytes
 bytes_of_name : (name : List ℕ) → is_name name ≡ true → list_all is_name_byte name ≡ true
@@ -34,7 +34,7 @@ take_while_ends : (x : ℕ) (xs : List ℕ) → is_name_byte x ≡ false → tak
 take_while_ends x xs other =
     ap (λ (t : Bool). take (cond t (1 + prefix_len is_name_byte xs) 0) (x ∷ xs)) other
 
--- the bytes at the front that a name may have
+-- the bytes at the prefix that a name may have
 all_name_bytes : (xs : List ℕ) → list_all is_name_byte (take_while is_name_byte xs) ≡ true
 all_name_bytes [] = refl
 all_name_bytes (x ∷ xs) = elim (cases_Bool (is_name_byte x)) [
@@ -62,18 +62,18 @@ names_are_ascii (x ∷ xs) = elim (cases_Bool (is_name_byte x)) [
   | inr other ↦ subst (λ (ys : List ℕ). IsAscii ys) (sym (take_while_ends x xs other)) IsAscii-nil
 ]
 
--- a text may be cut behind the bytes that a name may have
-pub cut_behind_name : (xs : List ℕ) (n : ℕ) → IsUtf8 xs → n ≡ prefix_len is_name_byte xs → IsCharBoundary xs n
-cut_behind_name xs n text is =
+-- a text may be cut after the bytes that a name may have
+pub cut_after_name : (xs : List ℕ) (n : ℕ) → IsUtf8 xs → n ≡ prefix_len is_name_byte xs → IsCharBoundary xs n
+cut_after_name xs n text is =
     subst (λ (k : ℕ). IsCharBoundary xs k) (sym is)
     (IsCharBoundary-from_take xs (prefix_len is_name_byte xs) text (prefix_len-le-length is_name_byte xs) (IsUtf8-from_ascii (take_while is_name_byte xs) (names_are_ascii xs)))
 
 -- a text that doesn't begin with two braces
 pub none_without_braces : (text : List ℕ) → ((rest : List ℕ) → text ≡ 123 ∷ 123 ∷ rest → ⊥) → placeholder_at text ≡ None
 none_without_braces text h =
-    placeholder_not_at_front text (λ name rest named is. h ((name ++ 125 ∷ 125 ∷ []) ++ rest) is)
+    placeholder_not_at_prefix text (λ name rest named is. h ((name ++ 125 ∷ 125 ∷ []) ++ rest) is)
 
--- the name and what follows it, behind two braces
+-- the name and what follows it, after two braces
 name_parts : (inner name rest : List ℕ) → is_name name ≡ true → inner ≡ (name ++ 125 ∷ 125 ∷ []) ++ rest → (take_while is_name_byte inner ≡ name) × (drop (prefix_len is_name_byte inner) inner ≡ 125 ∷ 125 ∷ rest)
 name_parts inner name rest named is =
     let whole : inner ≡ name ++ (125 ∷ 125 ∷ rest) = is ∙ append_assoc name (125 ∷ 125 ∷ []) rest in
@@ -82,39 +82,39 @@ name_parts inner name rest named is =
     let rest_is : drop (prefix_len is_name_byte inner) inner ≡ 125 ∷ 125 ∷ rest = ap (λ (n : ℕ). drop n inner) count ∙ ap (λ (xs : List ℕ). drop (length name) xs) whole ∙ drop-append_seam name (125 ∷ 125 ∷ rest) in
     (name_is, rest_is)
 
--- two braces, but no two braces behind the name
-pub none_without_end : (text inner behind : List ℕ) → text ≡ 123 ∷ 123 ∷ inner → behind ≡ drop (prefix_len is_name_byte inner) inner → ((rest : List ℕ) → behind ≡ 125 ∷ 125 ∷ rest → ⊥) → placeholder_at text ≡ None
-none_without_end text inner behind is behind_is h =
-    placeholder_not_at_front text (λ name rest named text_is.
+-- two braces, but no two braces after the name
+pub none_without_end : (text inner after : List ℕ) → text ≡ 123 ∷ 123 ∷ inner → after ≡ drop (prefix_len is_name_byte inner) inner → ((rest : List ℕ) → after ≡ 125 ∷ 125 ∷ rest → ⊥) → placeholder_at text ≡ None
+none_without_end text inner after is after_is h =
+    placeholder_not_at_prefix text (λ name rest named text_is.
     let inner_is : inner ≡ (name ++ 125 ∷ 125 ∷ []) ++ rest = cc in
-    h rest (behind_is ∙ (name_parts inner name rest named inner_is).1))
+    h rest (after_is ∙ (name_parts inner name rest named inner_is).1))
 
--- two braces, but no name behind them
+-- two braces, but no name after them
 pub none_without_name : (text inner name : List ℕ) → text ≡ 123 ∷ 123 ∷ inner → name ≡ take_while is_name_byte inner → (is_name name ≡ true → ⊥) → placeholder_at text ≡ None
 none_without_name text inner name is name_is h =
-    placeholder_not_at_front text (λ other rest named text_is.
+    placeholder_not_at_prefix text (λ other rest named text_is.
     let inner_is : inner ≡ (other ++ 125 ∷ 125 ∷ []) ++ rest = cc in
     h (subst (λ (n : List ℕ). is_name n ≡ true) (sym (name_is ∙ (name_parts inner other rest named inner_is).0)) named))
 
 -- a placeholder, found in its parts
-pub placeholder_in_parts : (text inner name behind rest : List ℕ) → text ≡ 123 ∷ 123 ∷ inner → name ≡ take_while is_name_byte inner → behind ≡ drop (prefix_len is_name_byte inner) inner → behind ≡ 125 ∷ 125 ∷ rest → 0 < length name → length name ≤ 64 → (text ≡ placeholder_text name ++ rest) × (is_name name ≡ true)
-placeholder_in_parts text inner name behind rest is name_is behind_is end some few =
+pub placeholder_in_parts : (text inner name after rest : List ℕ) → text ≡ 123 ∷ 123 ∷ inner → name ≡ take_while is_name_byte inner → after ≡ drop (prefix_len is_name_byte inner) inner → after ≡ 125 ∷ 125 ∷ rest → 0 < length name → length name ≤ 64 → (text ≡ placeholder_text name ++ rest) × (is_name name ≡ true)
+placeholder_in_parts text inner name after rest is name_is after_is end some few =
     let named : is_name name ≡ true = subst (λ (n : List ℕ). is_name n ≡ true) (sym name_is)
     (is_name_if inner (subst (λ (n : List ℕ). 0 < length n) name_is some) (subst (λ (n : List ℕ). length n ≤ 64) name_is few)) in
-    let split : inner ≡ name ++ behind = sym (take-append-drop (prefix_len is_name_byte inner) inner) ∙ ap (λ (n : List ℕ). n ++ drop (prefix_len is_name_byte inner) inner) (sym name_is) ∙ ap (λ (b : List ℕ). name ++ b) (sym behind_is) in
+    let split : inner ≡ name ++ after = sym (take-append-drop (prefix_len is_name_byte inner) inner) ∙ ap (λ (n : List ℕ). n ++ drop (prefix_len is_name_byte inner) inner) (sym name_is) ∙ ap (λ (b : List ℕ). name ++ b) (sym after_is) in
     let whole : inner ≡ (name ++ 125 ∷ 125 ∷ []) ++ rest = split ∙ ap (λ (b : List ℕ). name ++ b) end ∙ sym (append_assoc name (125 ∷ 125 ∷ []) rest) in
     (is ∙ ap (λ (xs : List ℕ). 123 ∷ 123 ∷ xs) whole, named)
 
--- what is left behind a placeholder
-pub behind_placeholder : (text name rest : List ℕ) → text ≡ placeholder_text name ++ rest → rest ≡ drop (length name + 4) text
-behind_placeholder text name rest is =
+-- what is left after a placeholder
+pub after_placeholder : (text name rest : List ℕ) → text ≡ placeholder_text name ++ rest → rest ≡ drop (length name + 4) text
+after_placeholder text name rest is =
     let count : length name + 4 ≡ length (placeholder_text name) = omega (arith, length-append name (125 ∷ 125 ∷ [])) in
     sym (ap (λ (xs : List ℕ). drop (length name + 4) xs) is ∙ ap (λ (n : ℕ). drop n (placeholder_text name ++ rest)) count ∙ drop-append_seam (placeholder_text name) rest)
 
--- the run of plain bytes at the front of a text that begins with no placeholder
-pub plain_front : (text : List ℕ) (n : ℕ) → 0 < length text → placeholder_at text ≡ None → n ≡ 1 + position_or_len (λ b. b == 123) (drop 1 text) → pieces text ≡ map plain (take n text) ++ pieces (drop n text)
-plain_front [] n some h is = absurd (omega (arith, some))
-plain_front (b ∷ bs) n some h is =
+-- the run of plain bytes at the prefix of a text that begins with no placeholder
+pub plain_prefix : (text : List ℕ) (n : ℕ) → 0 < length text → placeholder_at text ≡ None → n ≡ 1 + position_or_len (λ b. b == 123) (drop 1 text) → pieces text ≡ map plain (take n text) ++ pieces (drop n text)
+plain_prefix [] n some h is = absurd (omega (arith, some))
+plain_prefix (b ∷ bs) n some h is =
     let count : n ≡ suc (position_or_len (λ b. b == 123) bs) = omega (arith, is) in
     subst (λ (k : ℕ). pieces (b ∷ bs) ≡ map plain (take k (b ∷ bs)) ++ pieces (drop k (b ∷ bs))) (sym count)
     (pieces_plain b bs h ∙ ap (λ (ps : List Piece). plain b ∷ ps) (pieces_no_brace (position_or_len (λ b. b == 123) bs) bs (omega arith)))

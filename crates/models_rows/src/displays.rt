@@ -1,0 +1,18 @@
+//! How faults without a place or a name are displayed. The tests of the others show theirs.
+
+use std::test::Fail;
+use tm_parts::{AddFault, PartFault, RefFault};
+
+#[test]
+fn out_of_memory_is_displayed(rt: HostRuntime) -> Result<(), Fail> {
+    let alloc = rt.alloc();
+    let texts = [
+        format!(in alloc; "{}", AddFault::NoMemory)?,
+        format!(in alloc; "{}", PartFault::NoMemory)?,
+        format!(in alloc; "{}", RefFault::NoMemory)?,
+    ];
+    for text in &texts {
+        assert_eq!(rt; text.as_str(), "out of memory");
+    }
+    Ok(())
+}

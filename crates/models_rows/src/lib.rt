@@ -1,0 +1,13 @@
+//! Tests of the crates of Thing Models. They call what is public.
+#![tactic(auto)]
+
+#[cfg(test)]
+mod displays;
+#[cfg(test)]
+mod inputs;
+#[cfg(test)]
+mod libraries;
+#[cfg(test)]
+mod placeholders;
+#[cfg(test)]
+mod references;

@@ -1,0 +1,133 @@
+//! Libraries of models: what they take, and their models with values.
+
+use crate::inputs::bindings;
+use std::alloc::Global;
+use std::test::Fail;
+use tm_parts::{Library, Source, source_named};
+use wot_json::{read, text_of};
+
+/// URLs and models, handed to one library in this order, and its answers.
+const ADDED: [(&str, &str, &str); 14] = [
+    ("https://m/b", r#"{"@type":"tm:ThingModel"}"#, "added"),
+    ("https://m/a", r#"{"@type":"tm:ThingModel"}"#, "added"),
+    (
+        "https://m/a",
+        r#"{"@type":"tm:ThingModel"}"#,
+        "there is a model under this URL",
+    ),
+    (
+        "https://m/a",
+        r#"{"@type":"Thing"}"#,
+        "there is a model under this URL",
+    ),
+    (
+        "https://M/a",
+        r#"{"@type":["Lamp","tm:ThingModel"]}"#,
+        "added",
+    ),
+    ("https://m/c", r#"{"@type":"Thing"}"#, "no Thing Model"),
+    (
+        "https://m/c",
+        r#"{"@type":["Lamp","Thing"]}"#,
+        "no Thing Model",
+    ),
+    (
+        "https://m/c",
+        r#"{"@types":"tm:ThingModel"}"#,
+        "no Thing Model",
+    ),
+    ("https://m/c", "null", "no Thing Model"),
+    ("https://m/c", r#"{"@type":"tm:ThingModel"}"#, "added"),
+    (
+        "https://m/a#",
+        r#"{"@type":"tm:ThingModel"}"#,
+        "no URL without a fragment",
+    ),
+    (
+        "https://m/d#x",
+        r#"{"@type":"Thing"}"#,
+        "no URL without a fragment",
+    ),
+    (
+        "m/d",
+        r#"{"@type":"tm:ThingModel"}"#,
+        "no URL without a fragment",
+    ),
+    ("https://m/d", r#"{"@type":"tm:ThingModel"}"#, "added"),
+];
+
+/// Texts, and whether that library has a model under them.
+const KEPT: [(&str, bool); 5] = [
+    ("https://m/a", true),
+    ("https://M/a", true),
+    ("https://m/A", false),
+    ("https://m/a#", false),
+    ("https://m/d", true),
+];
+
+/// Models by their URLs, and what they are with values.
+const SOURCES: [(&str, &str, &str); 3] = [
+    (
+        "https://m/c",
+        r#"{"@type":"tm:ThingModel","title":"x"}"#,
+        r#"{"@type":"tm:ThingModel","title":"x"}"#,
+    ),
+    (
+        "https://m/b",
+        r#"{"@type":"tm:ThingModel","title":"{{MAX}}"}"#,
+        r#"{"@type":"tm:ThingModel","title":100}"#,
+    ),
+    (
+        "https://m/a",
+        r#"{"@type":"tm:ThingModel","title":"x{{N}}"}"#,
+        "the value of N in a longer text is no text",
+    ),
+];
+
+/// What the library answers.
+fn added(alloc: Global, library: &mut Library, url: &str, model: &str) -> Result<String, Fail> {
+    match library.add(url, read(alloc, model.as_bytes())?) {
+        Ok(()) => Ok(String::from_str(alloc, "added")?),
+        Err(fault) => Ok(format!(in alloc; "{fault}")?),
+    }
+}
+
+#[test]
+fn models_that_a_library_takes(rt: HostRuntime) -> Result<(), Fail> {
+    let alloc = rt.alloc();
+    let mut library = Library::new(alloc);
+    for (url, model, wanted) in ADDED {
+        let answer = added(alloc, &mut library, url, model)?;
+        assert_eq!(rt; answer.as_str(), wanted, "{url} {model}");
+    }
+    for (url, wanted) in KEPT {
+        assert_eq!(rt; library.get(url).is_some(), wanted, "{url}");
+    }
+    Ok(())
+}
+
+/// The text of the model under a URL with its values, or its fault.
+fn source_text(alloc: Global, sources: &[Source], url: &str) -> Result<String, Fail> {
+    match source_named(sources, url) {
+        None => Ok(String::from_str(alloc, "no model")?),
+        Some(Ok(model)) => Ok(String::from_utf8(text_of(alloc, model)?.into_vec())?),
+        Some(Err(fault)) => Ok(format!(in alloc; "{fault}")?),
+    }
+}
+
+#[test]
+fn models_of_a_library_with_values(rt: HostRuntime) -> Result<(), Fail> {
+    let alloc = rt.alloc();
+    let mut library = Library::new(alloc);
+    for (url, model, _wanted) in SOURCES {
+        library.add(url, read(alloc, model.as_bytes())?)?;
+    }
+    let sources = library.sources(&bindings(alloc)?)?;
+    for (url, _model, wanted) in SOURCES {
+        let text = source_text(alloc, sources.as_slice(), url)?;
+        assert_eq!(rt; text.as_str(), wanted, "{url}");
+    }
+    let text = source_text(alloc, sources.as_slice(), "https://m/d")?;
+    assert_eq!(rt; text.as_str(), "no model");
+    Ok(())
+}

@@ -11,3 +11,4 @@ pub mod Cutting
 pub mod WellFormed
 pub mod Reading
 pub mod Faults
+pub mod Texts

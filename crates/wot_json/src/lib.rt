@@ -17,6 +17,7 @@ mod reading;
 #[cfg(test)]
 mod tests;
 mod text;
+mod texts;
 mod tree;
 mod writing;
 
@@ -29,5 +30,6 @@ pub use places::{below, below_index, through_element, through_member};
 pub use reading::{ReadFault, read};
 pub use servient_base::NoMemory;
 pub use text::Text;
+pub use texts::has_text;
 pub use tree::{Items, Members, Tree, copy};
 pub use writing::{quoted, quoted_length, text_of, write};

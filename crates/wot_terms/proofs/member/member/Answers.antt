@@ -1,6 +1,0 @@
-use Rattle.std.proofs.Common.{sym, ◌∙◌}
-use Rattle.wot_json.proofs.EqualTrees.{found-members_of}
-use Rattle.wot_terms.proofs.member.member.Goals as goal
-
-pub returns : goal.returns
-returns c = c.get.ensures ∙ sym (found-members_of c.args.name.now c.args.members.now)

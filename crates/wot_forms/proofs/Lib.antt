@@ -1,2 +1,2 @@
 pub mod NamedOps
-pub mod ListedForms
+pub mod FormLists

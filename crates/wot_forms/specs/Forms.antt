@@ -11,7 +11,7 @@ use Rattle.wot_terms.specs.declared.op.Op.{Op}
 use Rattle.wot_terms.specs.declared.op.Op.TheVariants as op
 use Rattle.wot_terms.specs.Operations.{op_name}
 use Rattle.wot_terms.specs.Faults.{holder}
-use Rattle.wot_terms.specs.Affordances.{part, is_true}
+use Rattle.wot_terms.specs.Affordances.{part, flag_of}
 use Rattle.wot_forms.specs.declared.form.Form.{Form}
 
 -- The operations of a form that names none (section 5.4): reading unless the property is write-only, writing unless
@@ -42,13 +42,13 @@ ops_named (array es) = []
 ops_named (object ms) = []
 
 -- the operations that a text or a list of texts names
-abbrev pub all_named : Json → List Op
-all_named (array es) = flat_map ops_named (element_list es)
-all_named v = ops_named v
+abbrev pub ops_among : Json → List Op
+ops_among (array es) = flat_map ops_named (element_list es)
+ops_among v = ops_named v
 
 -- the operations of a form: those that `op` names, and else the default ones
 abbrev pub ops_of : List Op → Option Json → List Op
-ops_of defaults named = option_map_or all_named named defaults
+ops_of defaults named = option_map_or ops_among named defaults
 
 -- the text of a member, where it is one
 abbrev pub text_of : Option Json → Option (List ℕ)
@@ -60,7 +60,7 @@ text_of (Some (integer z)) = None
 text_of (Some (array es)) = None
 text_of (Some (object ms)) = None
 
--- A form: its `href`, its operations, its `contentType`, which is `application/json` where none stands (section
+-- A form: its `href`, its operations, its `contentType`, which is `application/json` where there is none (section
 -- 5.4), its `subprotocol` and the HTTP method that it names.
 abbrev pub form_of : List Op → Json → Form
 form_of defaults v = record {
@@ -71,21 +71,21 @@ form_of defaults v = record {
   method = text_of (part (codes "htv:methodName") v);
 }
 
--- the forms that stand in a list
-abbrev pub forms_listed : List Op → Json → List Form
-forms_listed defaults (array es) = map (form_of defaults) (element_list es)
-forms_listed defaults v = []
+-- the forms of a list
+abbrev pub list_forms : List Op → Json → List Form
+list_forms defaults (array es) = map (form_of defaults) (element_list es)
+list_forms defaults v = []
 
--- the forms that stand under `forms`
+-- the forms in the member `forms`
 abbrev pub forms_under : List Op → Json → List Form
-forms_under defaults v = option_map_or (forms_listed defaults) (part (codes "forms") v) []
+forms_under defaults v = option_map_or (list_forms defaults) (part (codes "forms") v) []
 
 -- the forms of an affordance of a kind
 abbrev pub affordance_forms : Kind → Json → List Form
-affordance_forms k v = forms_under (default_ops k (is_true (part (codes "readOnly") v)) (is_true (part (codes "writeOnly") v))) v
+affordance_forms k v = forms_under (default_ops k (flag_of (codes "readOnly") v) (flag_of (codes "writeOnly") v)) v
 
 -- The forms of the affordance of this kind and name, where the description has it; without a kind those of the
--- description as a whole, which has none where no `forms` stands.
+-- description as a whole, which has none where there is no `forms`.
 abbrev pub forms_in : Json → Option Kind → List ℕ → Option (List Form)
 forms_in t (Some k) name = option_map (affordance_forms k) (option_and_then (part name) (part (holder k) t))
 forms_in t None name = Some (forms_under [] t)

@@ -53,7 +53,7 @@ impl Forms {
     /// Puts a form at the end.
     pub fn push(&mut self, form: Form) -> Result<(), NoMemory>
         ensures ok { OnOk result (self.new ≡ self.old ++ form ∷ []) }
-        ensures err { OnErr result (self.new ≡ self.old) }
+        ensures unchanged { OnErr result (self.new ≡ self.old) }
     {
         self.list.push(form)?;
         Ok(())

@@ -6,12 +6,10 @@
 
 mod form;
 mod href;
+mod listing;
 mod ops;
-mod reading;
-#[cfg(test)]
-mod tests;
 
 pub use form::{Form, Forms};
 pub use href::{HrefFault, resolve};
+pub use listing::forms_of;
 pub use ops::{Ops, default_ops};
-pub use reading::forms_of;

@@ -67,14 +67,21 @@ impl Ops {
 pub fn default_ops(kind: Kind, read_only: bool, write_only: bool) -> Ops
     ensures { result ≡ defaults_of kind read_only write_only }
 {
+    Ops::fixed(fixed_ops(kind, read_only, write_only))
+}
+
+/// The same operations as a slice.
+pub(crate) fn fixed_ops(kind: Kind, read_only: bool, write_only: bool) -> &'static [Op]
+    ensures { result.now ≡ defaults_of kind read_only write_only }
+{
     match kind {
         Kind::Property => match (write_only, read_only) {
-            (false, false) => Ops::fixed(&[Op::ReadProperty, Op::WriteProperty]),
-            (false, true) => Ops::fixed(&[Op::ReadProperty]),
-            (true, false) => Ops::fixed(&[Op::WriteProperty]),
-            (true, true) => Ops::fixed(&[]),
+            (false, false) => &[Op::ReadProperty, Op::WriteProperty],
+            (false, true) => &[Op::ReadProperty],
+            (true, false) => &[Op::WriteProperty],
+            (true, true) => &[],
         },
-        Kind::Action => Ops::fixed(&[Op::InvokeAction]),
-        Kind::Event => Ops::fixed(&[Op::SubscribeEvent, Op::UnsubscribeEvent]),
+        Kind::Action => &[Op::InvokeAction],
+        Kind::Event => &[Op::SubscribeEvent, Op::UnsubscribeEvent],
     }
 }

@@ -1,4 +1,4 @@
-pub mod Reported
+pub mod Findings
 pub mod TableRows
-pub mod Listed
+pub mod AffordanceLists
 pub mod ValidParts

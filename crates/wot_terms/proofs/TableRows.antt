@@ -1,13 +1,13 @@
--- The rows of the table, which have consecutive numbers, one behind the other.
+-- The rows of the table, which have consecutive numbers, one after the other.
 use Rattle.std.proofs.Common.{◌≡◌, ◌≤◌, ◌<◌, ◌+◌, ◌++◌, ℕ, List, [], ◌∷◌, length, map, Some, Err, refl, sym, ap, subst, ◌∙◌, ◌⊎◌, inl, inr, arith, if◌then◌else◌}
-use Rattle.std.specs.Prelude.{slice_get}
+use Rattle.std.specs.Prelude.{slice_get, ◌≢◌, ◌==◌, Bool, true, false}
 use Rattle.std.proofs.lemmas.Bool.{eq-eqb, ne_eqb}
 use Rattle.std.specs.List.{flat_map}
 use Rattle.wot_json.specs.Tree.{object, Members}
 use Rattle.wot_terms.specs.declared.fault.RowFault.{RowFault}
 use Rattle.wot_terms.specs.declared.fault.RowFault.TheVariants as row_fault
-use Rattle.wot_terms.specs.Faults.{Places, row_faults, table, faults_of, IsFirstFault}
-use Rattle.wot_terms.specs.Rows.{Reports, places_in, row_places, fault_in}
+use Rattle.wot_terms.specs.Faults.{Places, row_faults, table, faults_of, IsCheckRefusal}
+use Rattle.wot_terms.specs.Rows.{IsFinding, places_in, row_places, fault_in}
 
 abbrev pub AreNumbered : ℕ → List (ℕ × Places) → Type 0
 AreNumbered n [] = Unit {0}
@@ -31,14 +31,14 @@ later_met n k row rows number met j above below =
 first_met : (n k : ℕ) (row : ℕ × Places) (rows : List (ℕ × Places)) → row.0 ≡ n → n < k → AreMet n k (row ∷ rows) → row.1 ≡ []
 first_met n k row rows number below met = sym (places_here n row rows (sym number)) ∙ met n (omega arith) below
 
-none_behind : (row : ℕ × Places) (rest : List (ℕ × List ℕ)) → row.1 ≡ [] → row_faults row ++ rest ≡ rest
-none_behind row rest none = ap (λ (ps : Places). map (λ p. (row.0, p)) ps ++ rest) none
+none_before : (row : ℕ × Places) (rest : List (ℕ × List ℕ)) → row.1 ≡ [] → row_faults row ++ rest ≡ rest
+none_before row rest none = ap (λ (ps : Places). map (λ p. (row.0, p)) ps ++ rest) none
 
 -- rows none of which has a wrong place have no fault
 no_faults : (n : ℕ) (rows : List (ℕ × Places)) → AreNumbered n rows → AreMet n (n + length rows) rows → flat_map row_faults rows ≡ []
 no_faults n [] numbered met = refl
 no_faults n (row ∷ rows) numbered met =
-    none_behind row (flat_map row_faults rows) (first_met n (n + length (row ∷ rows)) row rows numbered.0 (omega arith) met)
+    none_before row (flat_map row_faults rows) (first_met n (n + length (row ∷ rows)) row rows numbered.0 (omega arith) met)
     ∙ no_faults (n + 1) rows numbered.1 (λ j above below. later_met n (n + length (row ∷ rows)) row rows numbered.0 met j above (omega (arith, below)))
 
 first_of_row : (row : ℕ × Places) (rest : List (ℕ × List ℕ)) (p : List ℕ) → slice_get row.1 0 ≡ Some p → slice_get (row_faults row ++ rest) 0 ≡ Some (row.0, p)
@@ -60,12 +60,36 @@ first_fault n k (row ∷ rows) p numbered within met first =
           first_of_row row (flat_map row_faults rows) p of_row ∙ ap (λ m. Some (m, p)) (sym number)
       | inr later ↦
           let other : k ≡ row.0 → ⊥ = λ same. absurd (omega (arith, same, numbered.0, later)) in
-          ap (λ fs. slice_get fs 0) (none_behind row (flat_map row_faults rows) (first_met n k row rows numbered.0 later met))
+          ap (λ fs. slice_get fs 0) (none_before row (flat_map row_faults rows) (first_met n k row rows numbered.0 later met))
           ∙ first_fault (n + 1) k rows p numbered.1 (omega (arith, later)) (later_met n k row rows numbered.0 met) (subst (λ ps. slice_get ps 0 ≡ Some p) (places_later k row rows other) first)
     ]
   where
     cases : (n k : ℕ) → n ≤ k → (n ≡ k) ⊎ (n < k)
     cases n k within = grind arith
+
+row_has_fault : (row : ℕ × Places) (rest : List (ℕ × List ℕ)) → row.1 ≢ [] → row_faults row ++ rest ≢ []
+row_has_fault row rest some = of_places row.0 row.1 rest some
+  where
+    of_places : (n : ℕ) (places : Places) (rest : List (ℕ × List ℕ)) → places ≢ [] → map (λ (q : List ℕ). (n, q)) places ++ rest ≢ []
+    of_places n [] rest some = absurd (some refl)
+    of_places n (q ∷ places) rest some = λ none. absurd cc
+
+right_some : (before rest : List (ℕ × List ℕ)) → rest ≢ [] → before ++ rest ≢ []
+right_some [] rest some = some
+right_some (f ∷ before) rest some = λ none. absurd cc
+
+-- where a row has a wrong place there is a fault
+fault_of_row : (n k : ℕ) (rows : List (ℕ × Places)) → places_in k rows ≢ [] → flat_map row_faults rows ≢ []
+fault_of_row n k [] some = absurd (some refl)
+fault_of_row n k (row ∷ rows) some =
+    elim (cases (k == row.0) refl) [
+      | inl here ↦ row_has_fault row (flat_map row_faults rows) (λ none. some (ap (λ b. if b then row.1 else places_in k rows) here ∙ none))
+      | inr later ↦ right_some (row_faults row) (flat_map row_faults rows) (fault_of_row n k rows (λ none. some (ap (λ b. if b then row.1 else places_in k rows) later ∙ none)))
+    ]
+  where
+    cases : (b : Bool) → k == row.0 ≡ b → (k == row.0 ≡ true) ⊎ (k == row.0 ≡ false)
+    cases true is = inl is
+    cases false is = inr is
 
 numbered : (ms : Members) → AreNumbered 2 (table ms)
 numbered ms = (refl, (refl, (refl, (refl, (refl, (refl, (refl, (refl, (refl, (refl, (refl, (refl, (refl, (refl, (refl, (refl, (refl, tt)))))))))))))))))
@@ -75,7 +99,7 @@ pub all_met : (ms : Members) (k : ℕ) → 19 ≤ k → AreMet 2 k (table ms) �
 all_met ms k whole met = no_faults 2 (table ms) (numbered ms) (λ j above below. met j above (omega (arith, below)))
 
 -- the first fault of a row is that of the description, where the rows before it are met
-pub first_of_all : (ms : Members) (k : ℕ) (e : RowFault) → 2 ≤ k → AreMet 2 k (table ms) → Reports (row_places k ms) (Err e) → IsFirstFault (faults_of (object ms)) (fault_in k e)
+pub first_of_all : (ms : Members) (k : ℕ) (e : RowFault) → 2 ≤ k → AreMet 2 k (table ms) → IsFinding (row_places k ms) (Err e) → IsCheckRefusal (faults_of (object ms)) (fault_in k e)
 first_of_all ms k row_fault.NoMemory within met first = tt
 first_of_all ms k (row_fault.At p) within met first = first_fault 2 k (table ms) p (numbered ms) within met first
 

@@ -11,7 +11,7 @@ use Rattle.wot_schema.specs.Faults.{schema_faults}
 use Rattle.wot_schema.proofs.Steps.{rest_at}
 use Rattle.wot_terms.specs.declared.kind.Kind.{Kind}
 use Rattle.wot_terms.specs.declared.kind.Kind.TheVariants as kind
-use Rattle.wot_terms.specs.Faults.{Places, MembersJudge, in_member, holder, optional, each_member, object_with, if_object, any_object, affordances, affordance_maps, affordances_of, each_affordance, affordance_schemas, schema, pointer_of, row_faults, table, faults_of}
+use Rattle.wot_terms.specs.Faults.{Places, MembersJudge, in_member, holder, optional_member, each_member, object_with, if_object, any_object, affordances, affordance_maps, affordances_of, each_affordance, affordance_schemas, schema, pointer_of, row_faults, table, faults_of}
 use Rattle.wot_terms.specs.Rows.{places_in, row_places}
 use Rattle.wot_terms.specs.Schemas.{IsSchema, HasSchemas, HaveSchemas, HoldsSchemas, HoldSchemas}
 
@@ -63,19 +63,19 @@ part_schema : (name : List ℕ) (o : Option Json) → in_member name (option_map
 part_schema name None none = tt
 part_schema name (Some v) none = is_schema v (none_of _ (schema v) none)
 
-member_schema : (name : List ℕ) (ms : Members) → optional name schema ms ≡ [] → IfSome (value_under name ms) IsSchema
+member_schema : (name : List ℕ) (ms : Members) → optional_member name schema ms ≡ [] → IfSome (value_under name ms) IsSchema
 member_schema name ms none = part_schema name (value_under name ms) none
 
 of_object : (k : Kind) (ms : Members) → affordance_schemas k ms ≡ [] → HasSchemas k (object ms)
 of_object kind.Property ms none = (is_schema (object ms) none, is_schema (object ms) none)
 of_object kind.Action ms none = (
-  member_schema (codes "input") ms (none_left (optional (codes "input") schema ms) (optional (codes "output") schema ms ++ []) none),
-  member_schema (codes "output") ms (none_left (optional (codes "output") schema ms) [] (none_right (optional (codes "input") schema ms) (optional (codes "output") schema ms ++ []) none)),
+  member_schema (codes "input") ms (none_left (optional_member (codes "input") schema ms) (optional_member (codes "output") schema ms ++ []) none),
+  member_schema (codes "output") ms (none_left (optional_member (codes "output") schema ms) [] (none_right (optional_member (codes "input") schema ms) (optional_member (codes "output") schema ms ++ []) none)),
 )
 of_object kind.Event ms none =
-    let later : List (List ℕ) = optional (codes "data") schema ms ++ (optional (codes "subscription") schema ms ++ []) in (
+    let later : List (List ℕ) = optional_member (codes "data") schema ms ++ (optional_member (codes "subscription") schema ms ++ []) in (
       tt,
-      member_schema (codes "data") ms (none_left (optional (codes "data") schema ms) (optional (codes "subscription") schema ms ++ []) (none_right (optional (codes "cancellation") schema ms) later none)),
+      member_schema (codes "data") ms (none_left (optional_member (codes "data") schema ms) (optional_member (codes "subscription") schema ms ++ []) (none_right (optional_member (codes "cancellation") schema ms) later none)),
     )
 
 of_value : (k : Kind) (v : Json) → any_object v ≡ [] → if_object (affordance_schemas k) v ≡ [] → HasSchemas k v

@@ -13,10 +13,13 @@ use Rattle.wot_terms.specs.Faults.{holder}
 abbrev pub part : List ℕ → Json → Option Json
 part name v = member_named name (members_under v)
 
--- a truth value of an affordance, which is false where it is absent
+-- the truth value of a member, and the one that an affordance has under a name; false where it is absent (section 5.4)
 abbrev pub is_true : Option Json → Bool
 is_true (Some (boolean b)) = b
 is_true o = false
+
+abbrev pub flag_of : List ℕ → Json → Bool
+flag_of name v = is_true (part name v)
 
 -- what is handed in: a property its own value (section 5.3.1.3), an action its input (section 5.3.1.4)
 abbrev pub input_of : Kind → Json → Option Json
@@ -36,9 +39,9 @@ affordance_of k name v = record {
   name = name;
   input = input_of k v;
   output = output_of k v;
-  read_only = is_true (part (codes "readOnly") v);
-  write_only = is_true (part (codes "writeOnly") v);
-  observable = is_true (part (codes "observable") v);
+  read_only = flag_of (codes "readOnly") v;
+  write_only = flag_of (codes "writeOnly") v;
+  observable = flag_of (codes "observable") v;
 }
 
 -- the affordances of one kind, in byte order of their names

@@ -1,11 +1,12 @@
 -- What may be wrong with a Thing Description (TD 1.1 section 5.3): a table of 18 conditions, and the list of all faults.
-use Rattle.std.specs.Prelude.{◌≡◌, ℕ, ◌+◌, List, [], ◌∷◌, ◌++◌, Bool, true, false, ◌||◌, Option, Some, None, is_some, ⊤, slice_get, codes, map, if◌then◌else◌}
+use Rattle.std.specs.Prelude.{◌≡◌, ⊤, ℕ, ◌+◌, List, [], ◌∷◌, ◌++◌, Bool, true, false, ◌||◌, Option, Some, None, is_some, slice_get, codes, map, if◌then◌else◌}
 use Rattle.std.specs.List.{flat_map}
 use Rattle.std.specs.Option.{option_map_or}
 use Rattle.std.specs.Str.{bytes_eq}
 use Rattle.wot_json.specs.Tree.{Json, boolean, string, array, object, Elements, no_elements, element, Members, no_members, member}
-use Rattle.wot_json.specs.Places.{step_text, index_text}
+use Rattle.wot_json.specs.Places.{step_text, element_step_text}
 use Rattle.wot_json.specs.Lookup.{value_under}
+use Rattle.wot_json.specs.Texts.{has_text}
 use Rattle.wot_schema.specs.declared.fault.SchemaFault.{SchemaFault}
 use Rattle.wot_schema.specs.declared.fault.SchemaFault.TheVariants as schema_fault
 use Rattle.wot_schema.specs.Faults.{schema_faults}
@@ -37,7 +38,7 @@ abbrev pub in_member : List ℕ → Places → Places
 in_member name places = map (λ p. step_text name ++ p) places
 
 abbrev pub in_element : ℕ → Places → Places
-in_element i places = map (λ p. (codes "/" ++ index_text i) ++ p) places
+in_element i places = map (λ p. element_step_text i ++ p) places
 
 -- the value meets a test
 abbrev pub is : (Json → Bool) → Judge
@@ -53,14 +54,14 @@ each_element judge i no_elements = []
 each_element judge i (element v es) = in_element i (judge v) ++ each_element judge (i + 1) es
 
 -- a member that has to be there, and one that may be absent
-abbrev pub required : List ℕ → Judge → MembersJudge
-required name judge ms = in_member name (option_map_or judge (value_under name ms) here)
+abbrev pub required_member : List ℕ → Judge → MembersJudge
+required_member name judge ms = in_member name (option_map_or judge (value_under name ms) here)
 
-abbrev pub optional : List ℕ → Judge → MembersJudge
-optional name judge ms = in_member name (option_map_or judge (value_under name ms) [])
+abbrev pub optional_member : List ℕ → Judge → MembersJudge
+optional_member name judge ms = in_member name (option_map_or judge (value_under name ms) [])
 
-abbrev pub optional_each : List (List ℕ) → Judge → MembersJudge
-optional_each names judge ms = flat_map (λ name. optional name judge ms) names
+abbrev pub optional_members : List (List ℕ) → Judge → MembersJudge
+optional_members names judge ms = flat_map (λ name. optional_member name judge ms) names
 
 -- an object with such members, and an object, not empty, of such values
 abbrev pub object_with : MembersJudge → Judge
@@ -107,10 +108,6 @@ abbrev pub texts : (List ℕ → Bool) → Judge
 texts test (array es) = list_of_some (is (is_text_with test)) (array es)
 texts test v = is (is_text_with test) v
 
-abbrev pub has_text : List ℕ → Elements → Bool
-has_text t no_elements = false
-has_text t (element v es) = is_text_with (bytes_eq t) v || has_text t es
-
 abbrev pub anything : Judge
 anything v = []
 
@@ -133,15 +130,15 @@ holder kind.Event = codes "events"
 
 -- what is asked of each affordance of a kind, and of those of every kind, in preorder of the description
 abbrev pub affordances_of : (Kind → MembersJudge) → Kind → MembersJudge
-affordances_of asked k ms = optional (holder k) (λ v. if_object (λ named. each_member (λ w. if_object (asked k) w) named) v) ms
+affordances_of asked k ms = optional_member (holder k) (λ v. if_object (λ named. each_member (λ w. if_object (asked k) w) named) v) ms
 
 abbrev pub each_affordance : (Kind → MembersJudge) → MembersJudge
 each_affordance asked ms = affordances_of asked kind.Action ms ++ (affordances_of asked kind.Event ms ++ affordances_of asked kind.Property ms)
 
--- What is asked of each form that stands in an affordance of a kind, or in the root, and of all forms, in preorder of
+-- What is asked of each form of an affordance of a kind, or of the root, and of all forms, in preorder of
 -- the description.
 abbrev pub forms_of : (Option Kind → MembersJudge) → Option Kind → MembersJudge
-forms_of asked place ms = optional (codes "forms") (λ v. if_list (λ w. if_object (asked place) w) v) ms
+forms_of asked place ms = optional_member (codes "forms") (λ v. if_list (λ w. if_object (asked place) w) v) ms
 
 abbrev pub each_form : (Option Kind → MembersJudge) → MembersJudge
 each_form asked ms =
@@ -156,21 +153,17 @@ each_form asked ms =
 abbrev pub td_context : List ℕ
 td_context = codes "https://www.w3.org/2022/wot/td/v1.1"
 
-abbrev pub is_td_context : Json → Bool
-is_td_context (array es) = has_text td_context es
-is_td_context v = is_text_with (bytes_eq td_context) v
-
 abbrev pub context : MembersJudge
-context ms = required (codes "@context") (is is_td_context) ms
+context ms = required_member (codes "@context") (is (has_text td_context)) ms
 
 -- 3: `title` (section 5.3.1.1)
 abbrev pub title : MembersJudge
-title ms = required (codes "title") text ms
+title ms = required_member (codes "title") text ms
 
 -- 4: `securityDefinitions` (sections 5.3.1.1 and 5.3.3.1): the one security scheme is that there is none
 abbrev pub security_definitions : MembersJudge
 security_definitions ms =
-    required (codes "securityDefinitions") (object_of_some (object_with (required (codes "scheme") (is (is_text_with (bytes_eq (codes "nosec"))))))) ms
+    required_member (codes "securityDefinitions") (object_of_some (object_with (required_member (codes "scheme") (is (is_text_with (bytes_eq (codes "nosec"))))))) ms
 
 -- 5: `security` (section 5.3.1.1): names of security definitions
 abbrev pub has_member : Option Json → List ℕ → Bool
@@ -178,7 +171,7 @@ has_member (Some (object ms)) name = is_some (value_under name ms)
 has_member v name = false
 
 abbrev pub security : MembersJudge
-security ms = required (codes "security") (texts (has_member (value_under (codes "securityDefinitions") ms))) ms
+security ms = required_member (codes "security") (texts (has_member (value_under (codes "securityDefinitions") ms))) ms
 
 -- 6: `id` (section 5.3.1.1)
 abbrev pub is_text_not_empty : Json → Bool
@@ -186,60 +179,63 @@ is_text_not_empty (string (b ∷ bs)) = true
 is_text_not_empty v = false
 
 abbrev pub id : MembersJudge
-id ms = optional (codes "id") (is is_text_not_empty) ms
+id ms = optional_member (codes "id") (is is_text_not_empty) ms
 
 -- 7: `base` (section 5.3.1.1)
 abbrev pub base : MembersJudge
-base ms = optional (codes "base") text ms
+base ms = optional_member (codes "base") text ms
 
 -- 8: `@type` (section 5.3.1.1): a description is no Thing Model (section "Thing Model")
 abbrev pub thing_model : List ℕ
 thing_model = codes "tm:ThingModel"
 
+abbrev pub text_or_texts : Judge
+text_or_texts (string t) = []
+text_or_texts (array es) = each_element text 0 es
+text_or_texts v = here
+
 abbrev pub type_of_thing : Judge
-type_of_thing (string t) = if bytes_eq thing_model t then here else []
-type_of_thing (array es) = (if has_text thing_model es then here else []) ++ each_element text 0 es
-type_of_thing v = here
+type_of_thing v = (if has_text thing_model v then here else []) ++ text_or_texts v
 
 abbrev pub types : MembersJudge
-types ms = optional (codes "@type") type_of_thing ms
+types ms = optional_member (codes "@type") type_of_thing ms
 
 -- 9: `properties`, `actions` and `events` (section 5.3.1.1)
 abbrev pub affordances : Kind → MembersJudge
-affordances k ms = optional (holder k) (object_with (each_member any_object)) ms
+affordances k ms = optional_member (holder k) (object_with (each_member any_object)) ms
 
 abbrev pub affordance_maps : MembersJudge
 affordance_maps ms = affordances kind.Action ms ++ (affordances kind.Event ms ++ affordances kind.Property ms)
 
 -- 10: `forms` of an affordance (section 5.3.1.2)
 abbrev pub affordance_forms : Kind → MembersJudge
-affordance_forms k ms = required (codes "forms") (list_of_some any_object) ms
+affordance_forms k ms = required_member (codes "forms") (list_of_some any_object) ms
 
 -- 11: `forms` of the Thing (section 5.3.1.1): each has `op`
 abbrev pub root_forms : MembersJudge
-root_forms ms = optional (codes "forms") (list_of (object_with (required (codes "op") anything))) ms
+root_forms ms = optional_member (codes "forms") (list_of (object_with (required_member (codes "op") anything))) ms
 
 -- 12: `href` of a form (section 5.3.4.2)
 abbrev pub form_href : Option Kind → MembersJudge
-form_href place ms = required (codes "href") text ms
+form_href place ms = required_member (codes "href") text ms
 
 -- 13: `op` of a form (section 5.3.4.2)
 abbrev pub form_operations : Option Kind → MembersJudge
-form_operations place ms = optional (codes "op") (texts (is_operation place)) ms
+form_operations place ms = optional_member (codes "op") (texts (is_operation place)) ms
 
 -- 14: further texts of a form (section 5.3.4.2, and the bindings to HTTP and CoAP)
 abbrev pub form_text_names : List (List ℕ)
 form_text_names = codes "contentType" ∷ codes "cov:method" ∷ codes "htv:methodName" ∷ codes "subprotocol" ∷ []
 
 abbrev pub form_texts : Option Kind → MembersJudge
-form_texts place ms = optional_each form_text_names text ms
+form_texts place ms = optional_members form_text_names text ms
 
 -- 15: truth values of an affordance (sections 5.3.1.3, 5.3.1.4 and 5.3.2.1)
 abbrev pub flag_names : List (List ℕ)
 flag_names = codes "idempotent" ∷ codes "observable" ∷ codes "readOnly" ∷ codes "safe" ∷ codes "writeOnly" ∷ []
 
 abbrev pub affordance_flags : Kind → MembersJudge
-affordance_flags k ms = optional_each flag_names truth_value ms
+affordance_flags k ms = optional_members flag_names truth_value ms
 
 -- 16: data schemas (section 5.3.2): a property is one (section 5.3.1.3), an action has its input and output
 -- (section 5.3.1.4), an event what it carries (section 5.3.1.5)
@@ -258,19 +254,19 @@ schema_names kind.Event = codes "cancellation" ∷ codes "data" ∷ codes "subsc
 
 abbrev pub affordance_schemas : Kind → MembersJudge
 affordance_schemas kind.Property ms = schema (object ms)
-affordance_schemas kind.Action ms = optional_each (schema_names kind.Action) schema ms
-affordance_schemas kind.Event ms = optional_each (schema_names kind.Event) schema ms
+affordance_schemas kind.Action ms = optional_members (schema_names kind.Action) schema ms
+affordance_schemas kind.Event ms = optional_members (schema_names kind.Event) schema ms
 
 -- 17: `links` (sections 5.3.1.1 and 5.3.4.1)
 abbrev pub link : MembersJudge
-link ms = required (codes "href") text ms ++ optional (codes "rel") text ms
+link ms = required_member (codes "href") text ms ++ optional_member (codes "rel") text ms
 
 abbrev pub links : MembersJudge
-links ms = optional (codes "links") (list_of (object_with link)) ms
+links ms = optional_member (codes "links") (list_of (object_with link)) ms
 
 -- 18: `version` (sections 5.3.1.1 and 5.3.1.6)
 abbrev pub version : MembersJudge
-version ms = optional (codes "version") (object_with (required (codes "instance") text)) ms
+version ms = optional_member (codes "version") (object_with (required_member (codes "instance") text)) ms
 
 -- ## The table
 
@@ -310,7 +306,7 @@ faults_of v = (1, []) ∷ []
 abbrev pub IsValid : Json → Type 0
 IsValid v = faults_of v ≡ []
 
--- the fault is the first of these, or memory was wanting
-abbrev pub IsFirstFault : List (ℕ × List ℕ) → CheckFault → Type 0
-IsFirstFault faults check_fault.NoMemory = ⊤
-IsFirstFault faults (check_fault.Td fault) = slice_get faults 0 ≡ Some (fault.number, fault.pointer)
+-- the fault is the first of these, or the call is out of memory
+abbrev pub IsCheckRefusal : List (ℕ × List ℕ) → CheckFault → Type 0
+IsCheckRefusal faults check_fault.NoMemory = ⊤
+IsCheckRefusal faults (check_fault.Td fault) = slice_get faults 0 ≡ Some (fault.number, fault.pointer)

@@ -1,34 +1,34 @@
 -- How the code names what a row asks for, and what it reports.
-use Rattle.std.specs.Prelude.{◌≡◌, ℕ, ◌==◌, List, [], ◌∷◌, Option, Some, Result, Ok, Err, ⊤, slice_get, codes, if◌then◌else◌}
+use Rattle.std.specs.Prelude.{◌≡◌, ⊤, ℕ, ◌==◌, List, [], ◌∷◌, Option, Some, Result, Ok, Err, slice_get, codes, if◌then◌else◌}
 use Rattle.std.specs.Str.{bytes_eq}
 use Rattle.wot_terms.specs.declared.kind.Kind.{Kind}
 use Rattle.wot_terms.specs.declared.fault.RowFault.{RowFault}
 use Rattle.wot_terms.specs.declared.fault.RowFault.TheVariants as row_fault
 use Rattle.wot_terms.specs.declared.fault.CheckFault.{CheckFault}
 use Rattle.wot_terms.specs.declared.fault.CheckFault.TheVariants as check_fault
-use Rattle.wot_terms.specs.declared.asked.Asked.{Asked}
-use Rattle.wot_terms.specs.declared.asked.Asked.TheVariants as asked
+use Rattle.wot_terms.specs.declared.demand.Demand.{Demand}
+use Rattle.wot_terms.specs.declared.demand.Demand.TheVariants as demand
 use Rattle.wot_terms.specs.declared.entries.Entry.{Entry}
 use Rattle.wot_terms.specs.declared.entries.Entry.TheVariants as entry
 use Rattle.wot_terms.specs.declared.forms.FormRow.{FormRow}
 use Rattle.wot_terms.specs.declared.forms.FormRow.TheVariants as form_row
 use Rattle.wot_terms.specs.declared.affordances.AffordanceRow.{AffordanceRow}
 use Rattle.wot_terms.specs.declared.affordances.AffordanceRow.TheVariants as affordance_row
-use Rattle.wot_terms.specs.Faults.{Places, Judge, MembersJudge, is, is_text_with, is_text_not_empty, anything, text, truth_value, any_object, schema, object_with, if_object, required, link, forms_of, form_href, form_operations, form_texts, affordance_forms, affordance_flags, affordance_schemas, table}
+use Rattle.wot_terms.specs.Faults.{Places, Judge, MembersJudge, is, is_text_with, is_text_not_empty, anything, text, truth_value, any_object, schema, object_with, if_object, required_member, link, forms_of, form_href, form_operations, form_texts, affordance_forms, affordance_flags, affordance_schemas, table}
 
--- A part was judged: it has no wrong place; or this is its first; or memory was wanting.
-abbrev pub Reports : Places → Result (Unit {0}) RowFault → Type 0
-Reports places (Ok u) = places ≡ []
-Reports places (Err row_fault.NoMemory) = ⊤
-Reports places (Err (row_fault.At pointer)) = slice_get places 0 ≡ Some pointer
+-- What was found in a part with these wrong places: nothing, where it has none; or the first; or out of memory.
+abbrev pub IsFinding : Places → Result (Unit {0}) RowFault → Type 0
+IsFinding places (Ok u) = places ≡ []
+IsFinding places (Err row_fault.NoMemory) = ⊤
+IsFinding places (Err (row_fault.At pointer)) = slice_get places 0 ≡ Some pointer
 
-abbrev pub judge_of : Asked → Judge
-judge_of asked.Anything v = anything v
-judge_of asked.Text v = text v
-judge_of asked.TextNotEmpty v = is is_text_not_empty v
-judge_of asked.TruthValue v = truth_value v
-judge_of asked.NoSecurity v = is (is_text_with (bytes_eq (codes "nosec"))) v
-judge_of asked.Schema v = schema v
+abbrev pub judge_of : Demand → Judge
+judge_of demand.Anything v = anything v
+judge_of demand.Text v = text v
+judge_of demand.TextNotEmpty v = is is_text_not_empty v
+judge_of demand.TruthValue v = truth_value v
+judge_of demand.NoSecurity v = is (is_text_with (bytes_eq (codes "nosec"))) v
+judge_of demand.Schema v = schema v
 
 abbrev pub form_judge : FormRow → Option Kind → MembersJudge
 form_judge form_row.Href place ms = form_href place ms
@@ -39,8 +39,8 @@ form_judge form_row.Texts place ms = form_texts place ms
 abbrev pub entry_judge : Entry → Judge
 entry_judge entry.Object v = any_object v
 entry_judge entry.Text v = text v
-entry_judge entry.Definition v = object_with (required (codes "scheme") (is (is_text_with (bytes_eq (codes "nosec"))))) v
-entry_judge entry.RootForm v = object_with (required (codes "op") anything) v
+entry_judge entry.Definition v = object_with (required_member (codes "scheme") (is (is_text_with (bytes_eq (codes "nosec"))))) v
+entry_judge entry.RootForm v = object_with (required_member (codes "op") anything) v
 entry_judge entry.Link v = object_with link v
 entry_judge (entry.Form row place) v = if_object (form_judge row place) v
 

@@ -4,18 +4,17 @@ ghost use Rattle.std.specs.Prelude.{◌≡◌, [], map, IfSome, IfNone};
 ghost use Rattle.wot_schema.specs.Faults.{schema_faults, IsFirstFault};
 ghost use Rattle.wot_json.specs.Tree.{members_of};
 ghost use Rattle.wot_json.specs.Meaning.{json_of};
-ghost use Rattle.wot_terms.specs.Faults.{required as required_member, optional as optional_member, optional_each as each_optional_member, schema as schema_judge};
-ghost use Rattle.wot_terms.specs.Rows.{Reports, judge_of};
+ghost use Rattle.wot_terms.specs.Faults.{required_member, optional_member, optional_members, schema as schema_judge};
+ghost use Rattle.wot_terms.specs.Rows.{IsFinding, judge_of};
 
-use crate::fault::{Found, RowFault, in_member, missing, wrong};
-use crate::member::member;
+use crate::fault::{Finding, RowFault, in_member, missing, wrong};
 use std::alloc::Global;
 use wot_json::{Members, Tree};
 use wot_schema::{Schema, SchemaFault};
 
 /// What is asked of a value.
 #[derive(Clone, Copy, Debug)]
-pub(crate) enum Asked {
+pub(crate) enum Demand {
     Anything,
     Text,
     TextNotEmpty,
@@ -26,25 +25,25 @@ pub(crate) enum Asked {
     Schema,
 }
 
-impl Asked {
-    pub(crate) fn check(self, alloc: Global, value: &Tree) -> Found
-        ensures { Reports (judge_of self (json_of value.now)) result }
+impl Demand {
+    pub(crate) fn check(self, alloc: Global, value: &Tree) -> Finding
+        ensures { IsFinding (judge_of self (json_of value.now)) result }
     {
         match (self, value) {
-            (Asked::Anything, _)
-            | (Asked::Text, Tree::Text(_))
-            | (Asked::TruthValue, Tree::Bool(_)) => Ok(()),
-            (Asked::TextNotEmpty, Tree::Text(text)) if !text.as_str().is_empty() => Ok(()),
-            (Asked::NoSecurity, Tree::Text(text)) if text.as_str() == "nosec" => Ok(()),
-            (Asked::Schema, _) => schema(alloc, value),
+            (Demand::Anything, _)
+            | (Demand::Text, Tree::Text(_))
+            | (Demand::TruthValue, Tree::Bool(_)) => Ok(()),
+            (Demand::TextNotEmpty, Tree::Text(text)) if !text.as_str().is_empty() => Ok(()),
+            (Demand::NoSecurity, Tree::Text(text)) if text.as_str() == "nosec" => Ok(()),
+            (Demand::Schema, _) => schema(alloc, value),
             _ => wrong(alloc),
         }
     }
 }
 
 /// The first fault of a data schema.
-pub(crate) fn schema(alloc: Global, value: &Tree) -> Found
-    ensures { Reports (schema_judge (json_of value.now)) result }
+pub(crate) fn schema(alloc: Global, value: &Tree) -> Finding
+    ensures { IsFinding (schema_judge (json_of value.now)) result }
 {
     match schema_fault(alloc, value) {
         None => Ok(()),
@@ -65,22 +64,24 @@ fn schema_fault(alloc: Global, value: &Tree) -> Option<SchemaFault>
 }
 
 /// The member of this name is there and is as asked.
-pub(crate) fn required(alloc: Global, members: &Members, name: &str, asked: Asked) -> Found
-    ensures { Reports (required_member name.now (judge_of asked) (members_of members.now)) result }
+#[tactic(auto, using(crate::proofs::Findings::named_among))]
+pub(crate) fn required(alloc: Global, members: &Members, name: &str, demand: Demand) -> Finding
+    ensures { IsFinding (required_member name.now (judge_of demand) (members_of members.now)) result }
 {
-    match member(members, name) {
+    match members.get(name) {
         None => missing(alloc, name),
-        Some(value) => in_member(alloc, name, asked.check(alloc, value)),
+        Some(value) => in_member(alloc, name, demand.check(alloc, value)),
     }
 }
 
 /// The member of this name, where it is there, is as asked.
-pub(crate) fn optional(alloc: Global, members: &Members, name: &str, asked: Asked) -> Found
-    ensures { Reports (optional_member name.now (judge_of asked) (members_of members.now)) result }
+#[tactic(auto, using(crate::proofs::Findings::named_among))]
+pub(crate) fn optional(alloc: Global, members: &Members, name: &str, demand: Demand) -> Finding
+    ensures { IsFinding (optional_member name.now (judge_of demand) (members_of members.now)) result }
 {
-    match member(members, name) {
+    match members.get(name) {
         None => Ok(()),
-        Some(value) => in_member(alloc, name, asked.check(alloc, value)),
+        Some(value) => in_member(alloc, name, demand.check(alloc, value)),
     }
 }
 
@@ -89,12 +90,12 @@ pub(crate) fn optional_each(
     alloc: Global,
     members: &Members,
     names: &[&'static str],
-    asked: Asked,
-) -> Found
-    ensures { Reports (each_optional_member (map (λ s. s.now) names.now) (judge_of asked) (members_of members.now)) result }
+    demand: Demand,
+) -> Finding
+    ensures { IsFinding (optional_members (map (λ s. s.now) names.now) (judge_of demand) (members_of members.now)) result }
 {
     for name in names {
-        optional(alloc, members, name, asked)?;
+        optional(alloc, members, name, demand)?;
     }
     Ok(())
 }

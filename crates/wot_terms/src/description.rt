@@ -1,6 +1,5 @@
 //! The affordances of a valid description.
 
-use crate::member::member;
 use crate::{Affordance, Kind};
 use servient_base::NoMemory;
 use std::alloc::{AllocError, Global};
@@ -26,14 +25,14 @@ impl Model for Description {
     ghost view = { λ d. d.list.items };
 }
 
-ghost use Rattle.std.specs.Prelude.{◌≡◌, ◌++◌, [], ◌∷◌, codes, IfOk, IfSome, OnOk, option_map};
+ghost use Rattle.std.specs.Prelude.{◌≡◌, ◌++◌, [], ◌∷◌, codes, Some, IfOk, IfSome, OnOk, option_map};
 ghost use Rattle.std.specs.Option.{option_map_or};
 ghost use Rattle.wot_json.specs.Tree.{members_of};
 ghost use Rattle.wot_json.specs.Meaning.{json_of, json_members};
 ghost use Rattle.wot_terms.specs.Faults.{IsValid};
 ghost use Rattle.wot_schema.specs.declared.fault.SchemaFault.{SchemaFault};
-ghost use Rattle.wot_terms.specs.Schemas.{IsSchema, HasSchemas, HaveSchemas, HoldSchemas};
-ghost use Rattle.wot_terms.specs.Affordances.{affordances_of, affordances_in, named_affordances, affordance_of, input_of, output_of, is_true as is_true_value};
+ghost use Rattle.wot_terms.specs.Schemas.{IsSchema, HasSchemas, HaveSchemas, HoldsSchemas, HoldSchemas};
+ghost use Rattle.wot_terms.specs.Affordances.{affordances_of, affordances_in, held_affordances, named_affordances, affordance_of, input_of, output_of, flag_of, is_true as is_true_value};
 
 impl Description {
     /// The affordances of a description that `check` takes: properties, actions and events, each in the byte order of
@@ -60,6 +59,7 @@ impl Description {
 }
 
 /// Puts the affordances of one kind at the end.
+#[tactic(auto, using(crate::proofs::Findings::named_among))]
 fn push_affordances(
     alloc: Global,
     list: &mut Vec<Affordance>,
@@ -69,8 +69,24 @@ fn push_affordances(
     requires { HoldSchemas kind (members_of root.now) }
     ensures { OnOk result (list.new.items ≡ list.old.items ++ affordances_in kind (members_of root.now)) }
 {
-    match member(root, kind.holder()) {
-        Some(Tree::Obj(affordances)) => push_named(alloc, list, affordances.as_slice(), kind),
+    match root.get(kind.holder()) {
+        Some(held) => push_held(alloc, list, held, kind),
+        None => Ok(()),
+    }
+}
+
+/// Puts the affordances at the end that the member of their kind holds.
+fn push_held(
+    alloc: Global,
+    list: &mut Vec<Affordance>,
+    held: &Tree,
+    kind: Kind,
+) -> Result<(), NoMemory>
+    requires { HoldsSchemas kind (json_of held.now) }
+    ensures { OnOk result (list.new.items ≡ list.old.items ++ held_affordances kind (json_of held.now)) }
+{
+    match held {
+        Tree::Obj(affordances) => push_named(alloc, list, affordances.as_slice(), kind),
         _ => Ok(()),
     }
 }
@@ -110,9 +126,9 @@ fn described(alloc: Global, kind: Kind, name: &str, value: &Tree) -> Result<Affo
         name,
         input,
         output,
-        read_only: is_true(value.member("readOnly")),
-        write_only: is_true(value.member("writeOnly")),
-        observable: is_true(value.member("observable")),
+        read_only: flag(value, "readOnly"),
+        write_only: flag(value, "writeOnly"),
+        observable: flag(value, "observable"),
     })
 }
 
@@ -170,11 +186,21 @@ fn no_memory(fault: SchemaFault) -> NoMemory
     }
 }
 
-fn is_true(value: Option<&Tree>) -> bool
-    ensures { result ≡ is_true_value (option_map (λ t. json_of t.now) value.entry) }
+/// The truth value that an affordance has under this name, as `readOnly`; false where it is absent (TD 1.1, section 5.4).
+pub fn flag(affordance: &Tree, name: &str) -> bool
+    ensures { result ≡ flag_of name.now (json_of affordance.now) }
+{
+    match affordance.member(name) {
+        Some(value) => is_true(value),
+        None => false,
+    }
+}
+
+fn is_true(value: &Tree) -> bool
+    ensures { result ≡ is_true_value (Some (json_of value.now)) }
 {
     match value {
-        Some(Tree::Bool(truth)) => *truth,
+        Tree::Bool(truth) => *truth,
         _ => false,
     }
 }

@@ -4,11 +4,11 @@ ghost use Rattle.std.specs.Prelude.{◌≡◌, []};
 ghost use Rattle.wot_json.specs.Tree.{elements_of, members_of};
 ghost use Rattle.wot_json.specs.Meaning.{json_of, json_items, json_members};
 ghost use Rattle.wot_terms.specs.Faults.{each_element as each_of, each_member as each_named, list_of as list_judge, list_of_some as list_of_some_judge, object_with as object_judge, link as link_judge};
-ghost use Rattle.wot_terms.specs.Rows.{Reports, entry_judge};
+ghost use Rattle.wot_terms.specs.Rows.{IsFinding, entry_judge};
 
 use crate::Kind;
-use crate::asked::{Asked, optional, required};
-use crate::fault::{Found, in_element, in_member, wrong};
+use crate::demand::{Demand, optional, required};
+use crate::fault::{Finding, in_element, in_member, wrong};
 use crate::forms::{FormRow, form};
 use std::alloc::Global;
 use wot_json::{Members, Text, Tree};
@@ -24,45 +24,40 @@ pub(crate) enum Entry {
     RootForm,
     /// A link (section 5.3.4.1).
     Link,
-    /// What a row asks of a form that stands in an affordance of a kind, or, with none, in the root.
+    /// What a row asks of a form in an affordance of a kind, or, with none, in the root.
     Form(FormRow, Option<Kind>),
 }
 
 impl Entry {
-    fn check(self, alloc: Global, value: &Tree) -> Found
-        ensures { Reports (entry_judge self (json_of value.now)) result }
+    fn check(self, alloc: Global, value: &Tree) -> Finding
+        ensures { IsFinding (entry_judge self (json_of value.now)) result }
     {
-        match value {
-            Tree::Obj(members) => match self {
-                Entry::Object => Ok(()),
-                Entry::Text => wrong(alloc),
-                Entry::Definition => required(alloc, members, "scheme", Asked::NoSecurity),
-                Entry::RootForm => required(alloc, members, "op", Asked::Anything),
-                Entry::Link => link(alloc, members),
-                Entry::Form(row, place) => form(alloc, members, row, place),
-            },
-            Tree::Text(_) => match self {
-                Entry::Text | Entry::Form(_, _) => Ok(()),
-                _ => wrong(alloc),
-            },
-            _ => match self {
-                Entry::Form(_, _) => Ok(()),
-                _ => wrong(alloc),
-            },
+        match (self, value) {
+            (Entry::Object, Tree::Obj(_)) | (Entry::Text, Tree::Text(_)) => Ok(()),
+            (Entry::Definition, Tree::Obj(members)) => {
+                required(alloc, members, "scheme", Demand::NoSecurity)
+            }
+            (Entry::RootForm, Tree::Obj(members)) => {
+                required(alloc, members, "op", Demand::Anything)
+            }
+            (Entry::Link, Tree::Obj(members)) => link(alloc, members),
+            (Entry::Form(row, place), Tree::Obj(members)) => form(alloc, members, row, place),
+            (Entry::Form(_, _), _) => Ok(()),
+            _ => wrong(alloc),
         }
     }
 }
 
-fn link(alloc: Global, members: &Members) -> Found
-    ensures { Reports (link_judge (members_of members.now)) result }
+fn link(alloc: Global, members: &Members) -> Finding
+    ensures { IsFinding (link_judge (members_of members.now)) result }
 {
-    required(alloc, members, "href", Asked::Text)?;
-    optional(alloc, members, "rel", Asked::Text)
+    required(alloc, members, "href", Demand::Text)?;
+    optional(alloc, members, "rel", Demand::Text)
 }
 
 /// Each element of a list is as asked.
-pub(crate) fn each_element(alloc: Global, items: &[Tree], entry: Entry) -> Found
-    ensures { Reports (each_of (entry_judge entry) 0 (elements_of (json_items items.now))) result }
+pub(crate) fn each_element(alloc: Global, items: &[Tree], entry: Entry) -> Finding
+    ensures { IsFinding (each_of (entry_judge entry) 0 (elements_of (json_items items.now))) result }
 {
     for (index, item) in items.iter().enumerate() {
         in_element(alloc, index, entry.check(alloc, item))?;
@@ -71,8 +66,8 @@ pub(crate) fn each_element(alloc: Global, items: &[Tree], entry: Entry) -> Found
 }
 
 /// Each member of an object is as asked.
-pub(crate) fn each_member(alloc: Global, members: &[(Text, Tree)], entry: Entry) -> Found
-    ensures { Reports (each_named (entry_judge entry) (members_of (json_members members.now))) result }
+pub(crate) fn each_member(alloc: Global, members: &[(Text, Tree)], entry: Entry) -> Finding
+    ensures { IsFinding (each_named (entry_judge entry) (members_of (json_members members.now))) result }
 {
     for (name, member) in members {
         in_member(alloc, name.as_str(), entry.check(alloc, member))?;
@@ -81,8 +76,8 @@ pub(crate) fn each_member(alloc: Global, members: &[(Text, Tree)], entry: Entry)
 }
 
 /// The value is a list of such elements.
-pub(crate) fn list_of(alloc: Global, value: &Tree, entry: Entry) -> Found
-    ensures { Reports (list_judge (entry_judge entry) (json_of value.now)) result }
+pub(crate) fn list_of(alloc: Global, value: &Tree, entry: Entry) -> Finding
+    ensures { IsFinding (list_judge (entry_judge entry) (json_of value.now)) result }
 {
     match value {
         Tree::List(items) => each_element(alloc, items.as_slice(), entry),
@@ -91,8 +86,8 @@ pub(crate) fn list_of(alloc: Global, value: &Tree, entry: Entry) -> Found
 }
 
 /// The value is a list, not empty, of such elements.
-pub(crate) fn list_of_some(alloc: Global, value: &Tree, entry: Entry) -> Found
-    ensures { Reports (list_of_some_judge (entry_judge entry) (json_of value.now)) result }
+pub(crate) fn list_of_some(alloc: Global, value: &Tree, entry: Entry) -> Finding
+    ensures { IsFinding (list_of_some_judge (entry_judge entry) (json_of value.now)) result }
 {
     match value {
         Tree::List(items) if items.len() > 0 => each_element(alloc, items.as_slice(), entry),

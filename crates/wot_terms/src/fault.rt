@@ -1,18 +1,21 @@
-//! What is wrong with a description.
+//! What is wrong with a description, and where.
 
-ghost use Rattle.std.specs.Prelude.{◌≡◌, ◌++◌, ◌∷◌, []};
+ghost use Rattle.std.specs.Prelude.{◌≡◌, ◌≢◌, ◌++◌, ◌∷◌, [], if◌then◌else◌};
 ghost use Rattle.wot_terms.specs.Faults.{here, in_member, in_element, Places};
-ghost use Rattle.wot_terms.specs.Rows.{Reports};
+ghost use Rattle.wot_terms.specs.Rows.{IsFinding};
 
 use servient_base::NoMemory;
 use std::alloc::Global;
 use thiserror::Error;
-use wot_json::{Text, below, below_index};
+use wot_json::{Text, through_element, through_member};
 
-/// The number of the condition that isn't met, and the JSON Pointer (RFC 6901) of the place.
-#[derive(Debug, Drop)]
+/// The first fault of a description.
+#[derive(Debug, Drop, Error)]
+#[error("the description does not meet row {number} at `{pointer}`")]
 pub struct TdFault {
+    /// The number of the row of conditions that is not met.
     pub number: u8,
+    /// The JSON Pointer (RFC 6901) to the place.
     pub pointer: Text,
 }
 
@@ -20,10 +23,10 @@ pub struct TdFault {
 #[derive(Debug, Drop, Error)]
 pub enum CheckFault {
     /// The first fault.
-    #[error("a condition that the description does not meet")]
+    #[error("{0}")]
     Td(TdFault),
-    /// There was no memory.
-    #[error("no memory")]
+    /// Out of memory.
+    #[error("out of memory")]
     NoMemory,
 }
 
@@ -46,54 +49,58 @@ impl From<NoMemory> for RowFault {
     }
 }
 
-/// What is found in a part, which is empty where it meets the row.
-pub(crate) type Found = Result<(), RowFault>;
+/// What is found in a part: nothing where it meets the row.
+pub(crate) type Finding = Result<(), RowFault>;
 
 /// That the part itself does not meet the row.
-pub(crate) fn wrong(alloc: Global) -> Found
-    ensures { Reports here result }
+pub(crate) fn wrong(alloc: Global) -> Finding
+    ensures ok { IsFinding here result }
+    ensures takes_no_memory { result ≢ Err RowFault.NoMemory }
 {
     Err(RowFault::At(Text::from_string(String::new(alloc))))
 }
 
+/// That the part itself does not meet the row, unless it passes a test.
+pub(crate) fn wrong_unless(alloc: Global, passes: bool) -> Finding
+    ensures ok { IsFinding (if passes then [] else here) result }
+    ensures takes_no_memory { result ≢ Err RowFault.NoMemory }
+{
+    if passes { Ok(()) } else { wrong(alloc) }
+}
+
 /// That the member of this name is missing.
-pub(crate) fn missing(alloc: Global, name: &str) -> Found
-    ensures { Reports (in_member name.now here) result }
+pub(crate) fn missing(alloc: Global, name: &str) -> Finding
+    ensures { IsFinding (in_member name.now here) result }
 {
     in_member(alloc, name, wrong(alloc))
 }
 
 /// What was found in a member, seen from its object.
-pub(crate) fn in_member(alloc: Global, name: &str, found: Found) -> Found
-    ensures { (places : Places) → Reports places found → Reports (in_member name.now places) result }
+#[tactic(auto, using(crate::proofs::Findings::some_places))]
+pub(crate) fn in_member(alloc: Global, name: &str, finding: Finding) -> Finding
+    ensures { (places : Places) → IsFinding places finding → IsFinding (in_member name.now places) result }
 {
-    match found {
-        Err(RowFault::At(pointer)) => {
-            let step = below(alloc, "", name)?;
-            further(step, pointer.as_str())
+    match finding {
+        Err(RowFault::At(place)) => {
+            let place = through_member(alloc, name, place.as_str())?;
+            Err(RowFault::At(place))
         }
-        found => found,
+        Err(RowFault::NoMemory) => Err(RowFault::NoMemory),
+        Ok(()) => Ok(()),
     }
 }
 
 /// What was found in an element, seen from its list.
-pub(crate) fn in_element(alloc: Global, index: usize, found: Found) -> Found
-    ensures { (places : Places) → Reports places found → Reports (in_element index places) result }
+#[tactic(auto, using(crate::proofs::Findings::some_places))]
+pub(crate) fn in_element(alloc: Global, index: usize, finding: Finding) -> Finding
+    ensures { (places : Places) → IsFinding places finding → IsFinding (in_element index places) result }
 {
-    match found {
-        Err(RowFault::At(pointer)) => {
-            let step = below_index(alloc, "", index)?;
-            further(step, pointer.as_str())
+    match finding {
+        Err(RowFault::At(place)) => {
+            let place = through_element(alloc, index, place.as_str())?;
+            Err(RowFault::At(place))
         }
-        found => found,
+        Err(RowFault::NoMemory) => Err(RowFault::NoMemory),
+        Ok(()) => Ok(()),
     }
-}
-
-/// That the place behind a step does not meet the row.
-fn further(step: Text, pointer: &str) -> Found
-    ensures { Reports ((step ++ pointer.now) ∷ []) result }
-{
-    let mut place = step.into_string();
-    place.push_str(pointer)?;
-    Err(RowFault::At(Text::from_string(place)))
 }

@@ -32,8 +32,8 @@ pub enum Op {
 impl Op {
     /// The operation of this name, where there is one.
     pub fn named(text: &str) -> Option<Op>
-        ensures some { IfSome result (λ op. text.now ≡ op_name op) }
-        ensures none { IfNone result ((op : Op) → ¬ (text.now ≡ op_name op)) }
+        ensures ok { IfSome result (λ op. text.now ≡ op_name op) }
+        ensures complete { IfNone result ((op : Op) → ¬ (text.now ≡ op_name op)) }
     {
         match text {
             "readproperty" => Some(Op::ReadProperty),
@@ -85,7 +85,7 @@ impl Op {
     }
 }
 
-/// The operations of forms that stand in affordances of a kind, or, with none, in the root.
+/// The operations of forms in affordances of a kind, or, with none, in the root.
 fn operations(place: Option<Kind>) -> &'static [Op]
     ensures { result.now ≡ operations_of place }
 {

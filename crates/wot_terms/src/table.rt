@@ -3,12 +3,12 @@
 ghost use Rattle.std.specs.Prelude.{◌≡◌, IfErr, OnOk, IsTrue};
 ghost use Rattle.wot_json.specs.Tree.{members_of, object};
 ghost use Rattle.wot_json.specs.Meaning.{json_of};
-ghost use Rattle.wot_terms.specs.Faults.{IsValid, faults_of, IsFirstFault};
-ghost use Rattle.wot_terms.specs.Rows.{Reports, row_places, fault_in};
+ghost use Rattle.wot_terms.specs.Faults.{IsValid, faults_of, IsCheckRefusal};
+ghost use Rattle.wot_terms.specs.Rows.{IsFinding, row_places, fault_in};
 
 use crate::affordances::{AffordanceRow, each_affordance, each_form};
-use crate::asked::{Asked, optional, required};
-use crate::fault::{CheckFault, Found, RowFault, TdFault};
+use crate::demand::{Demand, optional, required};
+use crate::fault::{CheckFault, Finding, RowFault, TdFault};
 use crate::forms::FormRow;
 use crate::rows::{
     affordance_maps, context, links, root_forms, security, security_definitions, types, version,
@@ -16,12 +16,15 @@ use crate::rows::{
 use std::alloc::Global;
 use wot_json::{Members, Text, Tree};
 
+/// How many rows the table has.
+const ROWS: u8 = 18;
+
 /// The description meets all conditions of the table in docs/PROFILE.md, or the first fault: of the rows in their
-/// order, and in a row of the places in preorder, an object in the byte order of its names. The time is in proportion
-/// to the size of the tree; a pointer is written only for the fault that is answered.
+/// order, and in a row of the places in preorder, an object in the byte order of its names. A valid description takes
+/// no memory; else a pointer is written for the fault that is answered.
 pub fn check(alloc: Global, tree: &Tree) -> Result<(), CheckFault>
-    ensures valid { OnOk result (IsValid (json_of tree.now)) }
-    ensures fault { IfErr result (IsFirstFault (faults_of (json_of tree.now))) }
+    ensures ok { OnOk result (IsValid (json_of tree.now)) }
+    ensures fault { IfErr result (IsCheckRefusal (faults_of (json_of tree.now))) }
 {
     match tree {
         Tree::Obj(root) => check_rows(alloc, root),
@@ -32,12 +35,12 @@ pub fn check(alloc: Global, tree: &Tree) -> Result<(), CheckFault>
     }
 }
 
-/// The first fault of the rows behind the first.
+/// The first fault of the rows after the first.
 fn check_rows(alloc: Global, root: &Members) -> Result<(), CheckFault>
-    ensures valid { OnOk result (IsValid (object (members_of root.now))) }
-    ensures fault { IfErr result (IsFirstFault (faults_of (object (members_of root.now)))) }
+    ensures ok { OnOk result (IsValid (object (members_of root.now))) }
+    ensures fault { IfErr result (IsCheckRefusal (faults_of (object (members_of root.now)))) }
 {
-    for number in 2..19 {
+    for number in 2..ROWS + 1 {
         match row(alloc, number, root) {
             Ok(()) => {}
             Err(fault) => return Err(in_row(number, fault)),
@@ -56,17 +59,17 @@ fn in_row(number: u8, fault: RowFault) -> CheckFault
     }
 }
 
-/// What the row of this number finds. Beside each stand the sections of TD 1.1 that it is from.
-fn row(alloc: Global, number: u8, root: &Members) -> Found
-    ensures { Reports (row_places number (members_of root.now)) result }
+/// What the row of this number finds. Beside each are the sections of TD 1.1 that it is from.
+fn row(alloc: Global, number: u8, root: &Members) -> Finding
+    ensures { IsFinding (row_places number (members_of root.now)) result }
 {
     match number {
         2 => context(alloc, root), // section 5.3.1.1
-        3 => required(alloc, root, "title", Asked::Text), // section 5.3.1.1
+        3 => required(alloc, root, "title", Demand::Text), // section 5.3.1.1
         4 => security_definitions(alloc, root), // sections 5.3.1.1 and 5.3.3.1
         5 => security(alloc, root), // section 5.3.1.1
-        6 => optional(alloc, root, "id", Asked::TextNotEmpty), // section 5.3.1.1
-        7 => optional(alloc, root, "base", Asked::Text), // section 5.3.1.1
+        6 => optional(alloc, root, "id", Demand::TextNotEmpty), // section 5.3.1.1
+        7 => optional(alloc, root, "base", Demand::Text), // section 5.3.1.1
         8 => types(alloc, root), // section 5.3.1.1
         9 => affordance_maps(alloc, root), // section 5.3.1.1
         10 => each_affordance(alloc, root, AffordanceRow::Forms), // section 5.3.1.2

@@ -48,7 +48,7 @@ returns-in-Err-NotInteger c =
 
 pub returns-in-Ok-check : goal.returns-in-Ok-check
 returns-in-Ok-check c =
-    IfOk-weaker c.valid.result _ _ (λ e made. is_valid (json_of c.in-Ok.tree) c.in-Ok.ensures.ok c.in-Ok-check.ensures.valid made.0 made.1) c.valid.ensures
+    IfOk-weaker c.valid.result _ _ (λ e made. is_valid (json_of c.in-Ok.tree) c.in-Ok.ensures.ok c.in-Ok-check.ensures.ok made.0 made.1) c.valid.ensures
 
 pub returns-in-Err-Td : goal.returns-in-Err-Td
 returns-in-Err-Td c =

@@ -1,8 +1,8 @@
 use Rattle.std.proofs.Common.{◌≡◌, drop, map}
 use Rattle.wot_json.specs.Tree.{members_of}
-use Rattle.wot_terms.specs.Faults.{optional_each}
+use Rattle.wot_terms.specs.Faults.{optional_members}
 use Rattle.wot_terms.specs.Rows.{judge_of}
-use Rattle.wot_terms.proofs.asked.optional_each.Given as goal
+use Rattle.wot_terms.proofs.demand.optional_each.Given as goal
 
 abbrev pub invariant-loop-name : goal.invariant-loop-name
-invariant-loop-name l = optional_each (map (λ s. s.now) l.names) (judge_of l.asked) (members_of l.members) ≡ optional_each (map (λ s. s.now) (drop l.name-index l.names)) (judge_of l.asked) (members_of l.members)
+invariant-loop-name l = optional_members (map (λ s. s.now) l.names) (judge_of l.demand) (members_of l.members) ≡ optional_members (map (λ s. s.now) (drop l.name-index l.names)) (judge_of l.demand) (members_of l.members)

@@ -1,7 +1,7 @@
 use Rattle.std.proofs.Common.{ap, ◌∙◌}
 use Rattle.wot_json.specs.Meaning.{json_of}
 use Rattle.wot_terms.specs.Affordances.{affordance_of}
-use Rattle.wot_terms.proofs.Listed.{named_more}
+use Rattle.wot_terms.proofs.AffordanceLists.{named_more}
 use Rattle.wot_terms.proofs.ValidParts.{schemas_left}
 use Rattle.wot_terms.proofs.description.push_named.Goals as goal
 

@@ -3,7 +3,7 @@ use Rattle.wot_json.specs.Tree.{elements_of}
 use Rattle.wot_json.specs.Meaning.{json_of, json_items}
 use Rattle.wot_terms.specs.Faults.{each_element}
 use Rattle.wot_terms.specs.Rows.{entry_judge}
-use Rattle.wot_terms.proofs.Reported.{element_stops}
+use Rattle.wot_terms.proofs.Findings.{element_stops}
 use Rattle.wot_terms.proofs.entries.each_element.Goals as goal
 
 pub returns-in_err-in_element : goal.returns-in_err-in_element

@@ -3,7 +3,7 @@ use Rattle.wot_json.specs.Tree.{members_of}
 use Rattle.wot_json.specs.Meaning.{json_of, json_members}
 use Rattle.wot_terms.specs.Faults.{each_member}
 use Rattle.wot_terms.specs.Rows.{entry_judge}
-use Rattle.wot_terms.proofs.Reported.{member_stops}
+use Rattle.wot_terms.proofs.Findings.{member_stops}
 use Rattle.wot_terms.proofs.entries.each_member.Goals as goal
 
 pub returns-in_err-in_member : goal.returns-in_err-in_member

@@ -1,6 +1,6 @@
 use Rattle.std.proofs.Common.{arith}
 use Rattle.wot_terms.specs.Rows.{entry_judge}
-use Rattle.wot_terms.proofs.Reported.{some_list}
+use Rattle.wot_terms.proofs.Findings.{some_list}
 use Rattle.wot_terms.proofs.entries.list_of_some.Goals as goal
 
 pub returns-in-List : goal.returns-in-List

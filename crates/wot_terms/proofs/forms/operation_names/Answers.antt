@@ -1,7 +1,7 @@
 use Rattle.std.proofs.Common.{arith}
 use Rattle.wot_terms.specs.Faults.{is, is_text_with}
 use Rattle.wot_terms.specs.Operations.{is_operation}
-use Rattle.wot_terms.proofs.Reported.{some_list}
+use Rattle.wot_terms.proofs.Findings.{some_list}
 use Rattle.wot_terms.proofs.forms.operation_names.Goals as goal
 
 pub returns-in-List : goal.returns-in-List

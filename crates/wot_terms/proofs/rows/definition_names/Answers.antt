@@ -2,7 +2,7 @@ use Rattle.std.proofs.Common.{codes, arith}
 use Rattle.wot_json.specs.Tree.{members_of}
 use Rattle.wot_json.specs.Lookup.{value_under}
 use Rattle.wot_terms.specs.Faults.{is, is_text_with, has_member}
-use Rattle.wot_terms.proofs.Reported.{some_list}
+use Rattle.wot_terms.proofs.Findings.{some_list}
 use Rattle.wot_terms.proofs.rows.definition_names.Goals as goal
 
 pub returns-in-List : goal.returns-in-List

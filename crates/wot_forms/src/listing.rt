@@ -3,22 +3,22 @@
 ghost use Rattle.std.specs.Prelude.{◌≡◌, ◌++◌, IfOk, OnOk, map, option_map, option_and_then, unwrap_or};
 ghost use Rattle.std.specs.List.{flat_map};
 ghost use Rattle.wot_json.specs.Meaning.{json_of, json_items};
-ghost use Rattle.wot_terms.specs.Affordances.{part, is_true};
+ghost use Rattle.wot_terms.specs.Affordances.{part};
 ghost use Rattle.wot_terms.specs.Faults.{IsValid, holder as holder_of};
-ghost use Rattle.wot_forms.specs.Forms.{affordance_forms, form_of, all_named, forms_in, forms_under as forms_under_of, ops_named, ops_of, text_of};
-ghost use Rattle.wot_forms.specs.Places.{default_ops_at};
+ghost use Rattle.wot_forms.specs.Forms.{affordance_forms, form_of, ops_among, forms_in, forms_under as forms_under_of, ops_named, ops_of, text_of};
 
-use crate::{Form, Forms, Ops, default_ops};
+use crate::ops::fixed_ops;
+use crate::{Form, Forms, Ops};
 use std::alloc::Global;
 use wot_json::{NoMemory, Text, Tree};
-use wot_terms::{Kind, Op};
+use wot_terms::{Kind, Op, flag};
 
 /// The media type of a form that names none (TD 1.1, section 5.4).
 const DEFAULT_CONTENT_TYPE: &str = "application/json";
 
 /// The forms of the affordance of this kind and name in a valid description, where it has that; without a kind those
-/// of the description as a whole, and then the name says nothing. Its time is in proportion to what stands there, but
-/// for the names of members, which are found by halving.
+/// of the description as a whole, and then the name says nothing. Its time is in proportion to the size of the forms;
+/// members are found by halving.
 pub fn forms_of(
     alloc: Global,
     tree: &Tree,
@@ -29,38 +29,11 @@ pub fn forms_of(
     ensures { IfOk result (λ forms. forms ≡ forms_in (json_of tree.now) kind name.now) }
 {
     match kind {
-        None => {
-            let place = Place {
-                kind: None,
-                read_only: false,
-                write_only: false,
-            };
-            Ok(Some(forms_under(alloc, tree, place)?))
-        }
+        None => Ok(Some(forms_under(alloc, tree, &[])?)),
         Some(kind) => match affordance(tree, kind, name) {
             None => Ok(None),
             Some(affordance) => Ok(Some(forms_of_affordance(alloc, affordance, kind)?)),
         },
-    }
-}
-
-/// What forms leave to defaults where they stand.
-#[derive(Clone, Copy, Debug)]
-struct Place {
-    kind: Option<Kind>,
-    read_only: bool,
-    write_only: bool,
-}
-
-impl Place {
-    /// The operations of a form that names none. Forms of the description as a whole name theirs.
-    fn default_ops(self) -> Ops
-        ensures { result ≡ default_ops_at self }
-    {
-        match self.kind {
-            None => Ops::fixed(&[]),
-            Some(kind) => default_ops(kind, self.read_only, self.write_only),
-        }
     }
 }
 
@@ -79,43 +52,40 @@ fn affordance<'a>(tree: &'a Tree, kind: Kind, name: &str) -> Option<&'a Tree>
 fn forms_of_affordance(alloc: Global, affordance: &Tree, kind: Kind) -> Result<Forms, NoMemory>
     ensures { IfOk result (λ forms. forms ≡ affordance_forms kind (json_of affordance.now)) }
 {
-    let place = Place {
-        kind: Some(kind),
-        read_only: flag(affordance.member("readOnly")),
-        write_only: flag(affordance.member("writeOnly")),
-    };
-    forms_under(alloc, affordance, place)
+    let read_only = flag(affordance, "readOnly");
+    let write_only = flag(affordance, "writeOnly");
+    forms_under(alloc, affordance, fixed_ops(kind, read_only, write_only))
 }
 
-/// The forms that stand under `forms`.
-#[tactic(auto, using(crate::proofs::ListedForms::forms_in_list))]
-fn forms_under(alloc: Global, tree: &Tree, place: Place) -> Result<Forms, NoMemory>
-    ensures { IfOk result (λ list. list ≡ forms_under_of (default_ops_at place) (json_of tree.now)) }
+/// The forms in the member `forms`; one that names no operations has the default ones.
+#[tactic(auto, using(crate::proofs::FormLists::forms_in_list))]
+fn forms_under(alloc: Global, tree: &Tree, defaults: &'static [Op]) -> Result<Forms, NoMemory>
+    ensures { IfOk result (λ list. list ≡ forms_under_of defaults.now (json_of tree.now)) }
 {
     match tree.member("forms") {
-        Some(Tree::List(items)) => listed_forms(alloc, items.as_slice(), place),
+        Some(Tree::List(items)) => listed_forms(alloc, items.as_slice(), defaults),
         _ => Ok(Forms::new(alloc)),
     }
 }
 
 /// The forms of a list.
-fn listed_forms(alloc: Global, items: &[Tree], place: Place) -> Result<Forms, NoMemory>
-    ensures { IfOk result (λ list. list ≡ map (form_of (default_ops_at place)) (json_items items.now)) }
+fn listed_forms(alloc: Global, items: &[Tree], defaults: &'static [Op]) -> Result<Forms, NoMemory>
+    ensures { IfOk result (λ list. list ≡ map (form_of defaults.now) (json_items items.now)) }
 {
     let mut list = Forms::new(alloc);
     for item in items {
-        list.push(form(alloc, item, place)?)?;
+        list.push(form(alloc, item, defaults)?)?;
     }
     Ok(list)
 }
 
 /// One form.
-fn form(alloc: Global, tree: &Tree, place: Place) -> Result<Form, NoMemory>
-    ensures { IfOk result (λ form. form ≡ form_of (default_ops_at place) (json_of tree.now)) }
+fn form(alloc: Global, tree: &Tree, defaults: &'static [Op]) -> Result<Form, NoMemory>
+    ensures { IfOk result (λ form. form ≡ form_of defaults.now (json_of tree.now)) }
 {
     Ok(Form {
         href: text_or(alloc, tree.member("href"), "")?,
-        ops: operations(alloc, tree.member("op"), place)?,
+        ops: operations(alloc, tree.member("op"), defaults)?,
         content_type: text_or(alloc, tree.member("contentType"), DEFAULT_CONTENT_TYPE)?,
         subprotocol: text(alloc, tree.member("subprotocol"))?,
         method: text(alloc, tree.member("htv:methodName"))?,
@@ -123,20 +93,20 @@ fn form(alloc: Global, tree: &Tree, place: Place) -> Result<Form, NoMemory>
 }
 
 /// The operations that `op` names, and else the default ones.
-fn operations(alloc: Global, named: Option<&Tree>, place: Place) -> Result<Ops, NoMemory>
+fn operations(alloc: Global, named: Option<&Tree>, defaults: &'static [Op]) -> Result<Ops, NoMemory>
     ensures { IfOk result (λ ops. ops
-        ≡ ops_of (default_ops_at place) (option_map (λ t. json_of t.now) named.entry)) }
+        ≡ ops_of defaults.now (option_map (λ t. json_of t.now) named.entry)) }
 {
     match named {
-        None => Ok(place.default_ops()),
+        None => Ok(Ops::fixed(defaults)),
         Some(named) => named_operations(alloc, named),
     }
 }
 
 /// The operations that a text or a list of texts names.
-#[tactic(auto, using(crate::proofs::ListedForms::ops_in_list))]
+#[tactic(auto, using(crate::proofs::FormLists::ops_in_list))]
 fn named_operations(alloc: Global, named: &Tree) -> Result<Ops, NoMemory>
-    ensures { IfOk result (λ ops. ops ≡ all_named (json_of named.now)) }
+    ensures { IfOk result (λ ops. ops ≡ ops_among (json_of named.now)) }
 {
     if let Tree::List(items) = named {
         return listed_operations(alloc, items.as_slice());
@@ -188,11 +158,4 @@ fn text_or(alloc: Global, value: Option<&Tree>, other: &str) -> Result<Text, NoM
         Some(Tree::Text(text)) => Text::copy_of(alloc, text.as_str()),
         _ => Text::copy_of(alloc, other),
     }
-}
-
-/// The truth value of a member, which is false where it is absent.
-fn flag(value: Option<&Tree>) -> bool
-    ensures { result ≡ is_true (option_map (λ t. json_of t.now) value.entry) }
-{
-    matches!(value, Some(Tree::Bool(true)))
 }

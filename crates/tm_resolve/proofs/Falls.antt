@@ -10,8 +10,8 @@ use Rattle.wot_json.specs.Pointer.{is_pointer, tokens_in, element_at, part_at, v
 use Rattle.tm_parts.specs.Sources.{Sources, source_named}
 use Rattle.tm_parts.specs.declared.reference.Reference.{Reference}
 use Rattle.tm_parts.specs.declared.substitution.PartFault.{PartFault}
-use Rattle.tm_resolve.specs.Chain.{stands_in, model_entered}
-use Rattle.tm_resolve.specs.Weight.{entered}
+use Rattle.tm_resolve.specs.Chain.{is_in_chain, entered_model}
+use Rattle.tm_resolve.specs.Weight.{entered_part}
 
 -- how deep the models nest that may be entered
 abbrev pub source_nesting : Result Json PartFault → ℕ
@@ -91,25 +91,30 @@ without_fault (Some (Ok model)) whole is = let same : model ≡ whole = cc in ap
 without_fault (Some (Err fault)) whole is = absurd (cc)
 
 -- a model that is entered stands under its URL, and its target isn't in the chain
-pub model_parts : (sources : Sources) (chain : List Reference) (target : Reference) (whole : Json) → model_entered sources chain target ≡ Some whole
-    → (source_named target.url sources ≡ Some (Ok whole)) × (stands_in target chain ≡ false)
+pub model_parts : (sources : Sources) (chain : List Reference) (target : Reference) (whole : Json) → entered_model sources chain target ≡ Some whole
+    → (source_named target.url sources ≡ Some (Ok whole)) × (is_in_chain target chain ≡ false)
 model_parts sources chain target whole is =
-    let inside = hidden (stands_in target chain) (option_and_then result_ok (source_named target.url sources)) whole is in
+    let inside = hidden (is_in_chain target chain) (option_and_then result_ok (source_named target.url sources)) whole is in
     (without_fault (source_named target.url sources) whole inside.0, inside.1)
 
 -- and the other way round
-pub model_is : (sources : Sources) (chain : List Reference) (target : Reference) (whole : Json) → source_named target.url sources ≡ Some (Ok whole) → stands_in target chain ≡ false → model_entered sources chain target ≡ Some whole
+pub model_is : (sources : Sources) (chain : List Reference) (target : Reference) (whole : Json) → source_named target.url sources ≡ Some (Ok whole) → is_in_chain target chain ≡ false → entered_model sources chain target ≡ Some whole
 model_is sources chain target whole found new =
     ap (λ (b : Bool). cond b None (option_and_then result_ok (source_named target.url sources))) new
     ∙ ap (λ (r : Option (Result Json PartFault)). option_and_then result_ok r) found
 
+-- what is looked up in such a model
+pub entered_model_is : (sources : Sources) (chain : List Reference) (target : Reference) (whole : Json) → source_named target.url sources ≡ Some (Ok whole) → is_in_chain target chain ≡ false
+    → (f : Json → Option Json) → option_and_then f (entered_model sources chain target) ≡ f whole
+entered_model_is sources chain target whole found new f = ap (λ (m : Option Json). option_and_then f m) (model_is sources chain target whole found new)
+
 -- a part that is entered stands in a model that is
-pub entered_parts : (sources : Sources) (chain : List Reference) (target : Reference) (part : Json) → entered sources chain target ≡ Some part
-    → (whole : Json) × (model_entered sources chain target ≡ Some whole) × (part_of target.pointer whole ≡ Some part)
-entered_parts sources chain target part found = stepped (part_of target.pointer) (model_entered sources chain target) part found
+pub entered_parts : (sources : Sources) (chain : List Reference) (target : Reference) (part : Json) → entered_part sources chain target ≡ Some part
+    → (whole : Json) × (entered_model sources chain target ≡ Some whole) × (part_of target.pointer whole ≡ Some part)
+entered_parts sources chain target part found = stepped (part_of target.pointer) (entered_model sources chain target) part found
 
 -- a part that is entered nests no deeper than the models
-pub entered_nests : (sources : Sources) (chain : List Reference) (target : Reference) (part : Json) → entered sources chain target ≡ Some part → nesting part ≤ deepest sources
+pub entered_nests : (sources : Sources) (chain : List Reference) (target : Reference) (part : Json) → entered_part sources chain target ≡ Some part → nesting part ≤ deepest sources
 entered_nests sources chain target part found =
     let inside = entered_parts sources chain target part found in
     omega (arith, part_nests target.pointer inside.0 part inside.2, source_nests sources target.url inside.0 (model_parts sources chain target inside.0 inside.1).0)

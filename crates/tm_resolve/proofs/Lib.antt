@@ -1,9 +1,8 @@
 pub mod Falls
-pub mod Progress
-pub mod Rules
+pub mod Loops
 pub mod ModelLinks
-pub mod Visits
-pub mod Once
-pub mod Whole
 pub mod NeverLarge
-pub mod Total
+pub mod Outcomes
+pub mod StepsInto
+pub mod Visits
+pub mod Whole

@@ -9,7 +9,7 @@ use Rattle.wot_json.specs.declared.tree.Tree.{Tree}
 use Rattle.wot_json.specs.declared.tree.Tree.TheVariants as tree
 use Rattle.wot_json.proofs.EqualTrees.{listed_lem, listed_members_lem}
 use Rattle.tm_resolve.specs.Links.{reference_name, has_relation, is_link, elements_under, links_under, extensions_from}
-use Rattle.tm_resolve.proofs.Progress.{left_at}
+use Rattle.tm_resolve.proofs.Loops.{left_at}
 
 -- something is lent where something is there
 none_alike : (r : Option (Bor Tree)) → is_none (option_map (λ t. json_of t.now) r) ≡ not (is_some r)

@@ -16,13 +16,13 @@ use Rattle.wot_json.proofs.EqualTrees.{listed_lem, listed_members_lem}
 use Rattle.tm_parts.specs.Sources.{Sources}
 use Rattle.tm_parts.specs.declared.reference.Reference.{Reference}
 use Rattle.tm_resolve.specs.Links.{reference_name, links_under, extensions}
-use Rattle.tm_resolve.specs.Weight.{Visit, Step, name_weight, own_weight, most_weight, most_entries, own_visit, reference_visits, part_visits, element_visits, member_visits, extension_visits, submodel_visits, links_visits, is_too_far, weight_of, is_too_large, entered, target_visits, visits_within}
+use Rattle.tm_resolve.specs.Weight.{Visit, Step, name_weight, own_weight, most_weight, most_entries, own_visit, reference_visits, part_visits, element_visits, member_visits, extension_visits, submodel_visits, links_visits, is_too_far, weight_of, is_too_large, entered_part, target_visits, visits_within}
 use Rattle.tm_resolve.specs.Counting.{step_from, Spends, Weighs}
 use Rattle.tm_resolve.specs.declared.weight.Role.{Role}
 use Rattle.tm_resolve.specs.declared.weight.Role.TheVariants.{Thing}
 use Rattle.tm_resolve.specs.declared.weight.Stop.{Stop}
 use Rattle.tm_resolve.specs.declared.weight.Stop.TheVariants.{TooLarge, NoMemory}
-use Rattle.tm_resolve.proofs.Progress.{left_at}
+use Rattle.tm_resolve.proofs.Loops.{left_at}
 
 weight_both : (vs ws : List Visit) → weight_of (vs ++ ws) ≡ weight_of vs + weight_of ws
 weight_both vs ws = sum_by-append (λ (v : Visit). v.weight) vs ws
@@ -160,11 +160,11 @@ beyond_limits visits (inr far) = or_right (nat_lt most_weight (weight_of visits)
 -- ---- a step
 
 -- what is seen of an option that is there, or isn't
-seen_none : (room : ℕ) (sources : Sources) (role : Role) (depth : ℕ) (chain : List Reference) (target : Reference) → entered sources chain target ≡ None → visits_within room sources role depth chain target ≡ []
+seen_none : (room : ℕ) (sources : Sources) (role : Role) (depth : ℕ) (chain : List Reference) (target : Reference) → entered_part sources chain target ≡ None → visits_within room sources role depth chain target ≡ []
 seen_none zero sources role depth chain target none = ap (λ (o : Option Json). elim o as (λ _. List Visit) [ None ↦ [] | Some part ↦ own_visit (chain ++ target ∷ []) depth part ∷ [] ]) none
 seen_none (suc room) sources role depth chain target none = ap (λ (o : Option Json). elim o as (λ _. List Visit) [ None ↦ [] | Some part ↦ target_visits (visits_within room sources) role depth (chain ++ target ∷ []) target part ]) none
 
-pub step_nowhere : (sources : Sources) (role : Role) (depth : ℕ) (chain : List Reference) (target : Reference) (left : ℕ) → entered sources chain target ≡ None → Weighs (step_from sources chain role depth chain target) left (Ok left)
+pub step_nowhere : (sources : Sources) (role : Role) (depth : ℕ) (chain : List Reference) (target : Reference) (left : ℕ) → entered_part sources chain target ≡ None → Weighs (step_from sources chain role depth chain target) left (Ok left)
 step_nowhere sources role depth chain target left none =
     subst (λ (us : List Visit). Weighs us left (Ok left)) (sym (seen_none (most_entries - length chain) sources role depth chain target none)) (weighs_none left)
 
@@ -172,7 +172,7 @@ room_is : (room : ℕ) (n : ℕ) (sources : Sources) (role : Role) (depth : ℕ)
 room_is room n sources role depth chain target is = ap (λ (k : ℕ). visits_within k sources role depth chain target) is
 
 -- a step beyond the room of a chain
-pub step_past : (sources : Sources) (role : Role) (depth : ℕ) (chain : List Reference) (target : Reference) (part : Json) (left : ℕ) → entered sources chain target ≡ Some part → most_entries ≤ length chain
+pub step_past : (sources : Sources) (role : Role) (depth : ℕ) (chain : List Reference) (target : Reference) (part : Json) (left : ℕ) → entered_part sources chain target ≡ Some part → most_entries ≤ length chain
     → Weighs (step_from sources chain role depth chain target) left (Err TooLarge)
 step_past sources role depth chain target part left found past =
     let none_left : most_entries - length chain ≡ 0 = omega (arith, past) in
@@ -184,7 +184,7 @@ step_past sources role depth chain target part left found past =
     inr (ap (λ (us : List Visit). list_any is_too_far us) visits ∙ or_left (is_too_far (own_visit (chain ++ target ∷ []) depth part)) false (or_right _ _ far))
 
 -- a step within it
-pub step_into : (sources : Sources) (role : Role) (depth : ℕ) (chain longer : List Reference) (target : Reference) (part : Json) (left : ℕ) (r : Result ℕ Stop) → entered sources chain target ≡ Some part → length chain < most_entries
+pub step_into : (sources : Sources) (role : Role) (depth : ℕ) (chain longer : List Reference) (target : Reference) (part : Json) (left : ℕ) (r : Result ℕ Stop) → entered_part sources chain target ≡ Some part → length chain < most_entries
     → longer ≡ chain ++ target ∷ [] → Weighs (target_visits (step_from sources longer) role depth longer target part) left r → Weighs (step_from sources chain role depth chain target) left r
 step_into sources role depth chain longer target part left r found within is weighs =
     let one_more : length (chain ++ target ∷ []) ≡ length chain + 1 = length-append chain (target ∷ []) in

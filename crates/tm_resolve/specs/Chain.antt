@@ -16,8 +16,8 @@ abbrev pub is_target : Reference → Reference → Bool
 is_target target entry = bytes_eq entry.url target.url && bytes_eq entry.pointer target.pointer
 
 -- the target stands in the chain
-abbrev pub stands_in : Reference → List Reference → Bool
-stands_in target chain = list_any (is_target target) chain
+abbrev pub is_in_chain : Reference → List Reference → Bool
+is_in_chain target chain = list_any (is_target target) chain
 
 -- the pointer that these pieces make, one behind another
 abbrev pub pointer_of : List (List ℕ) → List ℕ
@@ -25,5 +25,5 @@ pointer_of pieces = flat_map (λ piece. piece) pieces
 
 -- The model that a step to the target enters, where one can be made: it stands under the target's URL, the substitution
 -- in it has no fault, and the chain hasn't got the target.
-abbrev pub model_entered : Sources → List Reference → Reference → Option Json
-model_entered sources chain target = if stands_in target chain then None else option_and_then result_ok (source_named target.url sources)
+abbrev pub entered_model : Sources → List Reference → Reference → Option Json
+entered_model sources chain target = if is_in_chain target chain then None else option_and_then result_ok (source_named target.url sources)

@@ -1,6 +1,9 @@
 pub mod Chain
 pub mod Links
-pub mod Found
+pub mod ExtensionLinks
 pub mod Weight
 pub mod Counting
 pub mod Value
+pub mod Faults
+pub mod Resolution
+pub mod Walking

@@ -8,7 +8,8 @@ use Rattle.wot_json.specs.Tree.{Json, string, array, object, members_of}
 use Rattle.wot_json.specs.Lookup.{element_list, member_list, member_named}
 use Rattle.wot_json.specs.Merge.{members_under, without_member}
 use Rattle.wot_json.specs.Places.{index_text}
-use Rattle.tm_parts.specs.References.{joined_url, reference_target}
+use Rattle.servient_base.specs.Location.{joined_url}
+use Rattle.tm_parts.specs.References.{reference_target}
 use Rattle.tm_parts.specs.declared.reference.Reference.{Reference}
 use Rattle.tm_resolve.specs.Chain.{whole_of}
 
@@ -66,12 +67,12 @@ text_under (string s) = Some s
 text_under v = None
 
 -- the text, joined to the model's URL, without the fragment of the result (URL Standard, sections 4.4 and 6.1)
-abbrev pub located : List ℕ → List ℕ → Option (List ℕ)
-located from text = elim (joined_url from text) [ Ok parts ↦ Some (serialize (set_fragment parts None)) | Err fault ↦ None ]
+abbrev pub located_url : List ℕ → List ℕ → Option (List ℕ)
+located_url from text = elim (joined_url (Some from) text) [ Ok parts ↦ Some (serialize (set_fragment parts None)) | Err fault ↦ None ]
 
 -- the whole model that a link of the model `from` leads to, where its `href` is a text that can be joined
 abbrev pub linked_model : List ℕ → Json → Option Reference
-linked_model from link = option_map whole_of (option_and_then (located from) (option_and_then text_under (member_named (codes "href") (members_under link))))
+linked_model from link = option_map whole_of (option_and_then (located_url from) (option_and_then text_under (member_named (codes "href") (members_under link))))
 
 -- a model as it is extended: its members but for its links
 abbrev pub without_links : Json → Json

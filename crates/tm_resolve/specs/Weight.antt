@@ -9,7 +9,7 @@ use Rattle.wot_json.specs.Lookup.{element_list, member_list, member_named}
 use Rattle.wot_json.specs.Pointer.{part_of}
 use Rattle.tm_parts.specs.Sources.{Sources}
 use Rattle.tm_parts.specs.declared.reference.Reference.{Reference}
-use Rattle.tm_resolve.specs.Chain.{whole_of, model_entered}
+use Rattle.tm_resolve.specs.Chain.{whole_of, entered_model}
 use Rattle.tm_resolve.specs.declared.weight.Role.{Role}
 use Rattle.tm_resolve.specs.declared.weight.Role.TheVariants.{Thing, Part}
 use Rattle.tm_resolve.specs.Links.{reference_name, reference_of, is_link, links_under, extensions, linked_model}
@@ -108,16 +108,16 @@ target_visits step role depth chain target part =
     ++ (if is_whole target then links_visits step role target.url chain part else [])
 
 -- the part that a step leads to, where one can be made and something stands at the pointer
-abbrev pub entered : Sources → List Reference → Reference → Option Json
-entered sources chain target = option_and_then (part_of target.pointer) (model_entered sources chain target)
+abbrev pub entered_part : Sources → List Reference → Reference → Option Json
+entered_part sources chain target = option_and_then (part_of target.pointer) (entered_model sources chain target)
 
 -- The visits of a step, where the chain has room for so many more targets. A step beyond that room visits its part
 -- alone, which is enough to make the expansion too large.
 abbrev pub visits_within : ℕ → Sources → Step
 visits_within zero sources role depth chain target =
-    elim (entered sources chain target) [ None ↦ [] | Some part ↦ own_visit (chain ++ target ∷ []) depth part ∷ [] ]
+    elim (entered_part sources chain target) [ None ↦ [] | Some part ↦ own_visit (chain ++ target ∷ []) depth part ∷ [] ]
 visits_within (suc room) sources role depth chain target =
-    elim (entered sources chain target) [
+    elim (entered_part sources chain target) [
       | None ↦ []
       | Some part ↦ target_visits (visits_within room sources) role depth (chain ++ target ∷ []) target part
     ]

@@ -1,8 +1,7 @@
 //! The way to a part: the targets that were stepped into, and the pieces of the pointer to it.
 
 ghost use Rattle.std.specs.Prelude.{◌≡◌, ◌++◌, [], ◌∷◌, ◌<◌, ◌^◌, length, OnOk, IfOk};
-ghost use Rattle.wot_json.specs.Places.{step_text};
-ghost use Rattle.tm_parts.specs.Substitution.{element_step};
+ghost use Rattle.wot_json.specs.Places.{step_text, element_step_text};
 ghost use Rattle.tm_resolve.specs.Chain as spec;
 ghost use Rattle.tm_resolve.specs.Links.{link_place};
 
@@ -11,9 +10,12 @@ use std::alloc::Global;
 use tm_parts::Reference;
 use wot_json::{Text, below, below_index};
 
-/// The target stands in the chain.
-pub(crate) fn stands_in(target: &Reference, chain: &[Reference]) -> bool
-    ensures { result ≡ spec.stands_in target.now chain.now }
+/// The most targets of a chain.
+pub(crate) const MOST_ENTRIES: usize = 16;
+
+/// The target is in the chain.
+pub(crate) fn is_in_chain(target: &Reference, chain: &[Reference]) -> bool
+    ensures { result ≡ spec.is_in_chain target.now chain.now }
 {
     for entry in chain {
         if is_target(target, entry) {
@@ -52,7 +54,7 @@ pub(crate) fn push_element(
     place: &mut Vec<Text>,
     index: usize,
 ) -> Result<(), NoMemory>
-    ensures { OnOk result (place.new.items ≡ place.old.items ++ element_step index ∷ []) }
+    ensures { OnOk result (place.new.items ≡ place.old.items ++ element_step_text index ∷ []) }
 {
     let step = below_index(alloc, "", index)?;
     place.push(step)?;

@@ -2,7 +2,7 @@
 
 ghost use Rattle.std.specs.Prelude.{◌≡◌, ◌⊎◌};
 ghost use Rattle.tm_resolve.specs.Chain.{pointer_of};
-ghost use Rattle.tm_resolve.specs.Value.{fault_in};
+ghost use Rattle.tm_resolve.specs.Faults.{fault_in};
 
 use crate::chain::pointer_text;
 use std::alloc::{AllocError, Global};

@@ -18,6 +18,6 @@ mod walk;
 mod weight;
 
 pub use fault::{ResolveFault, ResolveKind};
-pub use laws::{each_model_has_an_outcome, outcome_is_one, too_large_is_exact};
+pub use laws::too_large_is_exact;
 pub use resolving::resolve;
 pub use servient_base::NoMemory;

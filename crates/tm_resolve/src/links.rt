@@ -6,13 +6,13 @@ ghost use Rattle.url.specs.Setters.{set_fragment};
 ghost use Rattle.wot_json.specs.Meaning.{json_of, json_items};
 ghost use Rattle.wot_json.specs.Lookup.{member_named};
 ghost use Rattle.wot_json.specs.Merge.{members_under};
-ghost use Rattle.tm_resolve.specs.Links.{extensions_from, extensions, located as located_url, linked_model, text_under, reference_of};
+ghost use Rattle.tm_resolve.specs.Links.{extensions_from, extensions, located_url, linked_model, text_under, reference_of};
 ghost use Rattle.tm_resolve.specs.Links as spec;
-ghost use Rattle.tm_resolve.specs.Found.{ShowsExtensions};
+ghost use Rattle.tm_resolve.specs.ExtensionLinks.{ShowsExtensions};
 
-use servient_base::NoMemory;
+use servient_base::{NoMemory, join};
 use std::alloc::{AllocError, Global};
-use tm_parts::{RefFault, Reference, joined, target};
+use tm_parts::{RefFault, Reference, target};
 use url::Url;
 use wot_json::{Members, Text, Tree, merge_patch};
 
@@ -123,7 +123,7 @@ pub(crate) fn link_target(
     let Some(href) = href_of(link) else {
         return Ok(None);
     };
-    match located(alloc, from, href)? {
+    match located_url(alloc, from, href)? {
         None => Ok(None),
         Some(url) => Ok(Some(Reference {
             url,
@@ -154,10 +154,10 @@ fn as_text(value: &Tree) -> Option<&str>
 }
 
 /// The URL of the model that a text locates from the model `from`, where it can be joined.
-fn located(alloc: Global, from: &str, text: &str) -> Result<Option<Text>, NoMemory>
+fn located_url(alloc: Global, from: &str, text: &str) -> Result<Option<Text>, NoMemory>
     ensures { IfOk result (λ found. found ≡ located_url from.now text.now) }
 {
-    match joined(alloc, from, text)? {
+    match join(alloc, Some(from), text)? {
         None => Ok(None),
         Some(url) => Ok(Some(without_fragment(alloc, url)?)),
     }

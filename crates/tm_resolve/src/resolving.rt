@@ -2,7 +2,7 @@
 
 ghost use Rattle.std.specs.Prelude.{◌≡◌, ◌⊎◌, Ok, Err, IfOk, IfErr};
 ghost use Rattle.wot_json.specs.Meaning.{json_of};
-ghost use Rattle.tm_resolve.specs.Value.{Resolves};
+ghost use Rattle.tm_resolve.specs.Resolution.{resolved_model};
 
 use crate::fault::{ResolveFault, ResolveKind};
 use crate::sources::Sources;
@@ -36,12 +36,12 @@ pub fn resolve(
     root: &str,
     bindings: &Bindings,
 ) -> Result<Tree, ResolveFault>
-    ensures value { IfOk result (λ t. Resolves library.now bindings.now root.now (Ok (json_of t))) }
-    ensures fault { IfErr result (λ e. (e ≡ ResolveFault.NoMemory) ⊎ Resolves library.now bindings.now root.now (Err e)) }
+    ensures ok { IfOk result (λ t. resolved_model library.now bindings.now root.now ≡ Ok (json_of t)) }
+    ensures fault { IfErr result (λ e. (e ≡ ResolveFault.NoMemory) ⊎ (resolved_model library.now bindings.now root.now ≡ Err e)) }
 {
     let sources = Sources {
         alloc,
-        models: library.substituted(bindings)?,
+        models: library.sources(bindings)?,
     };
     let target = Reference {
         url: Text::copy_of(alloc, root)?,

@@ -6,7 +6,7 @@ ghost use Rattle.wot_json.specs.Pointer.{part_of as part_of_value};
 ghost use Rattle.tm_parts.specs.Sources.{kept_sources};
 ghost use Rattle.tm_resolve.specs.Weight as spec;
 
-use crate::chain::stands_in;
+use crate::chain::is_in_chain;
 use std::alloc::Global;
 use tm_parts::{Reference, Source, source_named};
 use wot_json::{Tree, pointer};
@@ -19,15 +19,15 @@ pub(crate) struct Sources {
 }
 
 /// The part that a step to the target leads to, where one can be made.
-pub(crate) fn entered<'a>(
+pub(crate) fn entered_part<'a>(
     sources: &'a Sources,
     target: &Reference,
     chain: &[Reference],
 ) -> Option<&'a Tree>
     ensures { option_map (λ part. json_of part.now) result
-        ≡ spec.entered (kept_sources sources.now.models.items) chain.now target.now }
+        ≡ spec.entered_part (kept_sources sources.now.models.items) chain.now target.now }
 {
-    if stands_in(target, chain) {
+    if is_in_chain(target, chain) {
         return None;
     }
     match source_named(sources.models.as_slice(), target.url.as_str()) {

@@ -1,22 +1,26 @@
-//! The walk through the parts of models: one function for each judgement of `specs/Value.antt`.
+//! The walk through the parts of models that makes values, or finds the first fault.
 //!
 //! Each function goes on with the chain that it was given, and with the pieces of the pointer to its part, and leaves
 //! both as they were. Where it finds a fault the whole walk ends, so the first fault that is met is the first in order,
 //! and only then is the text of a pointer made.
 
-ghost use Rattle.std.specs.Prelude.{◌≡◌, ◌≢◌, ◌⊎◌, [], ◌∷◌, ◌++◌, Ok, Err, Some, IfOk, IfErr, OnOk, MatchOption};
+ghost use Rattle.std.specs.Prelude.{◌≡◌, ◌≤◌, ◌++◌, [], ◌∷◌, List, Some, IfOk, IfErr, OnOk, length};
 ghost use Rattle.wot_json.specs.Meaning.{json_of};
-ghost use Rattle.wot_json.specs.Lookup.{member_named};
-ghost use Rattle.wot_json.specs.Tree.{Json, object, members_of};
-ghost use Rattle.tm_parts.specs.Sources.{kept_sources};
-ghost use Rattle.wot_json.specs.Places.{step_text};
-ghost use Rattle.tm_parts.specs.Substitution.{element_step};
-ghost use Rattle.tm_resolve.specs.Chain.{pointer_of, model_entered};
-ghost use Rattle.tm_resolve.specs.Links.{reference_name, reference_of, extensions};
-ghost use Rattle.tm_resolve.specs.Value.{TargetGives, ModelGives, PartGives, ElementsGive, MembersGive};
-ghost use Rattle.tm_resolve.specs.Value as spec;
+ghost use Rattle.wot_json.specs.Tree.{Json, object, elements_of, members_of};
+ghost use Rattle.tm_parts.specs.References.{reference as part_at};
+ghost use Rattle.tm_parts.specs.Sources.{kept_sources, source_named as source_under};
+ghost use Rattle.tm_resolve.specs.Chain.{pointer_of};
+ghost use Rattle.tm_resolve.specs.Links.{extensions};
+ghost use Rattle.tm_resolve.specs.Weight.{most_entries, entered_part};
+ghost use Rattle.tm_resolve.specs.Value as value;
+ghost use Rattle.tm_resolve.specs.Faults as faults;
+ghost use Rattle.tm_resolve.specs.declared.fault.ResolveFault.{ResolveFault as FaultValue};
+ghost use Rattle.tm_resolve.specs.Faults.{part_faults, element_faults, member_faults, reference_faults, extension_faults, target_faults, step_faults};
+ghost use Rattle.tm_resolve.specs.Walking.{next_steps, Gives, GivesElements, GivesMembers, IsRefusal};
 
-use crate::chain::{link_pieces, push_element, push_member, push_target, sole_piece, stands_in};
+use crate::chain::{
+    MOST_ENTRIES, is_in_chain, link_pieces, push_element, push_member, push_target, sole_piece,
+};
 use crate::fault::{ResolveFault, ResolveKind};
 use crate::links::{
     Extensions, REFERENCE, extensions_of, link_target, reference_target, without_links,
@@ -25,7 +29,7 @@ use crate::sources::{Sources, part_of};
 use tm_parts::{Reference, source_named};
 use wot_json::{Items, Members, Text, Tree, copy, merge_patch};
 
-/// What the target is worth to the part of a model that leads to it.
+/// The value of the target to which the part at a place of the model `url` leads.
 #[cycle(walk)]
 pub(crate) fn target_value(
     sources: &Sources,
@@ -34,60 +38,60 @@ pub(crate) fn target_value(
     target: &Reference,
     chain: &mut Vec<Reference>,
 ) -> Result<Tree, ResolveFault>
-    ensures value { IfOk result (λ t. TargetGives (kept_sources sources.now.models.items) url.now (pointer_of place.now)
-        chain.old.items target.now (Ok (json_of t))) }
-    ensures fault { IfErr result (λ e. (e ≡ ResolveFault.NoMemory) ⊎ TargetGives (kept_sources
-        sources.now.models.items) url.now (pointer_of place.now) chain.old.items target.now (Err e)) }
+    requires { length chain.old.items ≤ most_entries }
+    ensures outcome { Gives ((next_steps sources.now chain.old.items).value chain.old.items target.now)
+        ((next_steps sources.now chain.old.items).faults (part_at url.now (pointer_of place.now)) chain.old.items target.now) result }
     ensures chain { OnOk result (chain.new.items ≡ chain.old.items) }
 {
-    let alloc = sources.alloc;
-    let model = match source_named(sources.models.as_slice(), target.url.as_str()) {
-        Some(model) => model,
-        None => return Err(ResolveFault::at_place(alloc, ResolveKind::MissingModel, url, place)),
+    let part = match target_part(sources, url, place, target, chain) {
+        Ok(part) => part,
+        Err(fault) => return Err(fault),
     };
-    if stands_in(target, chain) {
-        return Err(ResolveFault::at_place(alloc, ResolveKind::Circular, url, place));
+    if chain.len() >= MOST_ENTRIES {
+        // Such a model is too large, and refused before the walk begins.
+        return Ok(Tree::Null);
     }
-    match model {
-        Ok(whole) => entered_value(sources, url, place, target, whole, chain),
-        Err(fault) => Err(ResolveFault::of_part(alloc, target.url.as_str(), fault)),
-    }
-}
-
-/// What a target is worth whose model may be entered.
-#[cycle(walk)]
-fn entered_value(
-    sources: &Sources,
-    url: &str,
-    place: &[Text],
-    target: &Reference,
-    whole: &Tree,
-    chain: &mut Vec<Reference>,
-) -> Result<Tree, ResolveFault>
-    requires { model_entered (kept_sources sources.now.models.items) chain.old.items target.now ≡ Some (json_of
-        whole.now) }
-    ensures value { IfOk result (λ t. TargetGives (kept_sources sources.now.models.items) url.now (pointer_of place.now)
-        chain.old.items target.now (Ok (json_of t))) }
-    ensures fault { IfErr result (λ e. (e ≡ ResolveFault.NoMemory) ⊎ TargetGives (kept_sources
-        sources.now.models.items) url.now (pointer_of place.now) chain.old.items target.now (Err e)) }
-    ensures chain { OnOk result (chain.new.items ≡ chain.old.items) }
-{
-    let part = match part_of(whole, target.pointer.as_str()) {
-        Some(part) => part,
-        None => return Err(ResolveFault::at_place(
-            sources.alloc,
-            ResolveKind::MissingNode,
-            url,
-            place,
-        )),
-    };
     push_target(sources.alloc, chain, target)?;
     let value = stepped_value(sources, target, part, chain)?;
     let _target = chain.pop();
     Ok(value)
 }
 
-/// What the part of the last target of the chain becomes, which is a whole model or a part of one.
+/// The part that a step to the target enters, or why it can't be entered.
+fn target_part<'a>(
+    sources: &'a Sources,
+    url: &str,
+    place: &[Text],
+    target: &Reference,
+    chain: &[Reference],
+) -> Result<&'a Tree, ResolveFault>
+    ensures part { IfOk result (λ part. entered_part (kept_sources sources.now.models.items) chain.now target.now
+        ≡ Some (json_of part.now)) }
+    ensures ok { IfOk result (λ part. (inside : Json → List FaultValue)
+        → step_faults inside (part_at url.now (pointer_of place.now)) chain.now target.now
+        (source_under target.now.url (kept_sources sources.now.models.items)) ≡ inside (json_of part.now)) }
+    ensures fault { IfErr result (λ e. (inside : Json → List FaultValue)
+        → IsRefusal e (step_faults inside (part_at url.now (pointer_of place.now)) chain.now target.now
+        (source_under target.now.url (kept_sources sources.now.models.items)))) }
+{
+    let alloc = sources.alloc;
+    let model = match source_named(sources.models.as_slice(), target.url.as_str()) {
+        Some(model) => model,
+        None => return Err(ResolveFault::at_place(alloc, ResolveKind::MissingModel, url, place)),
+    };
+    if is_in_chain(target, chain) {
+        return Err(ResolveFault::at_place(alloc, ResolveKind::Circular, url, place));
+    }
+    match model {
+        Ok(whole) => match part_of(whole, target.pointer.as_str()) {
+            Some(part) => Ok(part),
+            None => Err(ResolveFault::at_place(alloc, ResolveKind::MissingNode, url, place)),
+        },
+        Err(fault) => Err(ResolveFault::of_part(alloc, target.url.as_str(), fault)),
+    }
+}
+
+/// The value of the part of the last target of the chain, which is a whole model or a part of one.
 #[cycle(walk)]
 fn stepped_value(
     sources: &Sources,
@@ -95,16 +99,9 @@ fn stepped_value(
     part: &Tree,
     chain: &mut Vec<Reference>,
 ) -> Result<Tree, ResolveFault>
-    ensures whole { IfOk result (λ t. target.now.pointer ≡ [] → ModelGives (kept_sources
-        sources.now.models.items) target.now.url chain.old.items (json_of part.now) (Ok (json_of t))) }
-    ensures part { IfOk result (λ t. target.now.pointer ≢ [] → PartGives (kept_sources
-        sources.now.models.items) target.now.url target.now.pointer chain.old.items (json_of part.now) (Ok
-        (json_of t))) }
-    ensures whole_fault { IfErr result (λ e. target.now.pointer ≡ [] → (e ≡ ResolveFault.NoMemory) ⊎ ModelGives
-        (kept_sources sources.now.models.items) target.now.url chain.old.items (json_of part.now) (Err e)) }
-    ensures part_fault { IfErr result (λ e. target.now.pointer ≢ [] → (e ≡ ResolveFault.NoMemory) ⊎ PartGives
-        (kept_sources sources.now.models.items) target.now.url target.now.pointer chain.old.items (json_of
-        part.now) (Err e)) }
+    requires { length chain.old.items ≤ most_entries }
+    ensures outcome { Gives (value.target_value (next_steps sources.now chain.old.items).value chain.old.items target.now (json_of part.now))
+        (target_faults (next_steps sources.now chain.old.items) chain.old.items target.now (json_of part.now)) result }
     ensures chain { OnOk result (chain.new.items ≡ chain.old.items) }
 {
     if target.pointer.as_str().is_empty() {
@@ -114,7 +111,7 @@ fn stepped_value(
     part_value(sources, target.url.as_str(), &mut place, part, chain)
 }
 
-/// What a whole model becomes.
+/// The value of a whole model, with the model that it extends.
 #[cycle(walk)]
 fn model_value(
     sources: &Sources,
@@ -122,54 +119,49 @@ fn model_value(
     whole: &Tree,
     chain: &mut Vec<Reference>,
 ) -> Result<Tree, ResolveFault>
-    ensures value { IfOk result (λ t. ModelGives (kept_sources sources.now.models.items) url.now
-        chain.old.items (json_of whole.now) (Ok (json_of t))) }
-    ensures fault { IfErr result (λ e. (e ≡ ResolveFault.NoMemory) ⊎ ModelGives (kept_sources
-        sources.now.models.items) url.now chain.old.items (json_of whole.now) (Err e)) }
+    requires { length chain.old.items ≤ most_entries }
+    ensures outcome { Gives (value.extended_value (next_steps sources.now chain.old.items).value url.now chain.old.items
+        (extensions (json_of whole.now)) (value.part_value (next_steps sources.now chain.old.items).value url.now chain.old.items (json_of whole.now)))
+        (extension_faults (next_steps sources.now chain.old.items) chain.old.items url.now (extensions (json_of whole.now))
+        ++ part_faults (next_steps sources.now chain.old.items) chain.old.items (part_at url.now []) (json_of whole.now)) result }
     ensures chain { OnOk result (chain.new.items ≡ chain.old.items) }
 {
+    let alloc = sources.alloc;
     match extensions_of(whole) {
         Extensions::None => root_value(sources, url, whole, chain),
-        Extensions::One(index, link) => extended_value(sources, url, whole, index, link, chain),
-        Extensions::Several => Err(ResolveFault::at(
-            sources.alloc,
-            ResolveKind::TwoExtends,
-            url,
-            "/links",
-        )),
+        Extensions::One(index, link) => {
+            let extended = base_value(sources, url, index, link, chain)?;
+            let changes = root_value(sources, url, whole, chain)?;
+            let extended = without_links(alloc, &extended)?;
+            Ok(merge_patch(alloc, &extended, &changes)?)
+        }
+        Extensions::Several => Err(ResolveFault::at(alloc, ResolveKind::TwoExtends, url, "/links")),
     }
 }
 
-/// What a model becomes that extends one.
+/// The value of the model to which this link of a model leads, the only one to a model that it extends.
 #[cycle(walk)]
-fn extended_value(
+fn base_value(
     sources: &Sources,
     url: &str,
-    whole: &Tree,
     index: usize,
     link: &Tree,
     chain: &mut Vec<Reference>,
 ) -> Result<Tree, ResolveFault>
-    requires { extensions (json_of whole.now) ≡ (index, json_of link.now) ∷ [] }
-    ensures value { IfOk result (λ t. ModelGives (kept_sources sources.now.models.items) url.now
-        chain.old.items (json_of whole.now) (Ok (json_of t))) }
-    ensures fault { IfErr result (λ e. (e ≡ ResolveFault.NoMemory) ⊎ ModelGives (kept_sources
-        sources.now.models.items) url.now chain.old.items (json_of whole.now) (Err e)) }
+    requires { length chain.old.items ≤ most_entries }
+    ensures outcome { Gives (value.link_value (next_steps sources.now chain.old.items).value url.now chain.old.items (json_of link.now))
+        (extension_faults (next_steps sources.now chain.old.items) chain.old.items url.now ((index, json_of link.now) ∷ [])) result }
     ensures chain { OnOk result (chain.new.items ≡ chain.old.items) }
 {
     let alloc = sources.alloc;
     let place = link_pieces(alloc, index)?;
-    let base = match link_target(alloc, url, link)? {
-        Some(base) => base,
-        None => return Err(ResolveFault::at_place(alloc, ResolveKind::BadHref, url, &place)),
-    };
-    let extended = target_value(sources, url, &place, &base, chain)?;
-    let changes = root_value(sources, url, whole, chain)?;
-    let extended = without_links(alloc, &extended)?;
-    Ok(merge_patch(alloc, &extended, &changes)?)
+    match link_target(alloc, url, link)? {
+        Some(base) => target_value(sources, url, &place, &base, chain),
+        None => Err(ResolveFault::at_place(alloc, ResolveKind::BadHref, url, &place)),
+    }
 }
 
-/// What a whole model becomes without the model that it extends.
+/// The value of a whole model without the model that it extends.
 #[cycle(walk)]
 fn root_value(
     sources: &Sources,
@@ -177,17 +169,16 @@ fn root_value(
     whole: &Tree,
     chain: &mut Vec<Reference>,
 ) -> Result<Tree, ResolveFault>
-    ensures value { IfOk result (λ t. PartGives (kept_sources sources.now.models.items) url.now [] chain.old.items
-        (json_of whole.now) (Ok (json_of t))) }
-    ensures fault { IfErr result (λ e. (e ≡ ResolveFault.NoMemory) ⊎ PartGives (kept_sources
-        sources.now.models.items) url.now [] chain.old.items (json_of whole.now) (Err e)) }
+    requires { length chain.old.items ≤ most_entries }
+    ensures outcome { Gives (value.part_value (next_steps sources.now chain.old.items).value url.now chain.old.items (json_of whole.now))
+        (part_faults (next_steps sources.now chain.old.items) chain.old.items (part_at url.now []) (json_of whole.now)) result }
     ensures chain { OnOk result (chain.new.items ≡ chain.old.items) }
 {
     let mut place = Vec::new(sources.alloc);
     part_value(sources, url, &mut place, whole, chain)
 }
 
-/// What a part becomes.
+/// The value of a part.
 #[cycle(walk)]
 fn part_value(
     sources: &Sources,
@@ -196,10 +187,9 @@ fn part_value(
     part: &Tree,
     chain: &mut Vec<Reference>,
 ) -> Result<Tree, ResolveFault>
-    ensures value { IfOk result (λ t. PartGives (kept_sources sources.now.models.items) url.now (pointer_of place.old.items)
-        chain.old.items (json_of part.now) (Ok (json_of t))) }
-    ensures fault { IfErr result (λ e. (e ≡ ResolveFault.NoMemory) ⊎ PartGives (kept_sources
-        sources.now.models.items) url.now (pointer_of place.old.items) chain.old.items (json_of part.now) (Err e)) }
+    requires { length chain.old.items ≤ most_entries }
+    ensures outcome { Gives (value.part_value (next_steps sources.now chain.old.items).value url.now chain.old.items (json_of part.now))
+        (part_faults (next_steps sources.now chain.old.items) chain.old.items (part_at url.now (pointer_of place.old.items)) (json_of part.now)) result }
     ensures chain { OnOk result (chain.new.items ≡ chain.old.items) }
     ensures place { OnOk result (place.new.items ≡ place.old.items) }
 {
@@ -210,7 +200,7 @@ fn part_value(
     }
 }
 
-/// What the elements of a list become.
+/// The values of the elements of a list.
 #[cycle(walk)]
 fn items_value(
     sources: &Sources,
@@ -219,47 +209,24 @@ fn items_value(
     items: &Items,
     chain: &mut Vec<Reference>,
 ) -> Result<Items, ResolveFault>
-    ensures value { IfOk result (λ i. ElementsGive (kept_sources sources.now.models.items) url.now (pointer_of place.old.items)
-        chain.old.items 0 items.now (Ok i)) }
-    ensures fault { IfErr result (λ e. (e ≡ ResolveFault.NoMemory) ⊎ ElementsGive (kept_sources
-        sources.now.models.items) url.now (pointer_of place.old.items) chain.old.items 0 items.now (Err e)) }
+    requires { length chain.old.items ≤ most_entries }
+    ensures outcome { GivesElements (value.elements_value (next_steps sources.now chain.old.items).value url.now chain.old.items (elements_of items.now))
+        (element_faults (next_steps sources.now chain.old.items) chain.old.items (part_at url.now (pointer_of place.old.items)) 0 (elements_of items.now)) result }
     ensures chain { OnOk result (chain.new.items ≡ chain.old.items) }
     ensures place { OnOk result (place.new.items ≡ place.old.items) }
 {
     let list = items.as_slice();
     let mut values = Items::new(sources.alloc);
     for (index, item) in list.iter().enumerate() {
-        let value = element_value(sources, url, place, index, item, chain)?;
+        push_element(sources.alloc, place, index)?;
+        let value = part_value(sources, url, place, item, chain)?;
+        let _step = place.pop();
         values.push(value)?;
     }
     Ok(values)
 }
 
-/// What an element of the list at this place becomes.
-#[cycle(walk)]
-fn element_value(
-    sources: &Sources,
-    url: &str,
-    place: &mut Vec<Text>,
-    index: usize,
-    item: &Tree,
-    chain: &mut Vec<Reference>,
-) -> Result<Tree, ResolveFault>
-    ensures value { IfOk result (λ t. PartGives (kept_sources sources.now.models.items) url.now (pointer_of
-        place.old.items ++ element_step index) chain.old.items (json_of item.now) (Ok (json_of t))) }
-    ensures fault { IfErr result (λ e. (e ≡ ResolveFault.NoMemory) ⊎ PartGives (kept_sources
-        sources.now.models.items) url.now (pointer_of place.old.items ++ element_step index) chain.old.items
-        (json_of item.now) (Err e)) }
-    ensures chain { OnOk result (chain.new.items ≡ chain.old.items) }
-    ensures place { OnOk result (place.new.items ≡ place.old.items) }
-{
-    push_element(sources.alloc, place, index)?;
-    let value = part_value(sources, url, place, item, chain)?;
-    let _step = place.pop();
-    Ok(value)
-}
-
-/// What an object becomes.
+/// The value of an object: with `tm:ref` its other members are a merge patch on what that leads to.
 #[cycle(walk)]
 fn object_value(
     sources: &Sources,
@@ -268,36 +235,34 @@ fn object_value(
     members: &Members,
     chain: &mut Vec<Reference>,
 ) -> Result<Tree, ResolveFault>
-    ensures value { IfOk result (λ t. PartGives (kept_sources sources.now.models.items) url.now (pointer_of place.old.items)
-        chain.old.items (object (members_of members.now)) (Ok (json_of t))) }
-    ensures fault { IfErr result (λ e. (e ≡ ResolveFault.NoMemory) ⊎ PartGives (kept_sources
-        sources.now.models.items) url.now (pointer_of place.old.items) chain.old.items (object (members_of members.now)) (Err e)) }
+    requires { length chain.old.items ≤ most_entries }
+    ensures outcome { Gives (value.part_value (next_steps sources.now chain.old.items).value url.now chain.old.items (object (members_of members.now)))
+        (part_faults (next_steps sources.now chain.old.items) chain.old.items (part_at url.now (pointer_of place.old.items)) (object (members_of members.now))) result }
     ensures chain { OnOk result (chain.new.items ≡ chain.old.items) }
     ensures place { OnOk result (place.new.items ≡ place.old.items) }
 {
-    match members.get(REFERENCE) {
-        None => Ok(Tree::Obj(members_value(sources, url, place, members, chain)?)),
-        Some(reference) => imported_value(sources, url, place, members, reference, chain),
-    }
+    let reference = match members.get(REFERENCE) {
+        Some(reference) => reference,
+        None => return Ok(Tree::Obj(members_value(sources, url, place, members, chain)?)),
+    };
+    let imported = imported_value(sources, url, place, reference, chain)?;
+    let changes = Tree::Obj(members_value(sources, url, place, members, chain)?);
+    Ok(merge_patch(sources.alloc, &imported, &changes)?)
 }
 
-/// What an object with `tm:ref` becomes.
+/// The value of what the value of a `tm:ref` leads to, which is to be an object.
 #[cycle(walk)]
 fn imported_value(
     sources: &Sources,
     url: &str,
-    place: &mut Vec<Text>,
-    members: &Members,
+    place: &[Text],
     reference: &Tree,
     chain: &mut Vec<Reference>,
 ) -> Result<Tree, ResolveFault>
-    requires { member_named reference_name members.now ≡ Some (json_of reference.now) }
-    ensures value { IfOk result (λ t. PartGives (kept_sources sources.now.models.items) url.now (pointer_of place.old.items)
-        chain.old.items (object (members_of members.now)) (Ok (json_of t))) }
-    ensures fault { IfErr result (λ e. (e ≡ ResolveFault.NoMemory) ⊎ PartGives (kept_sources
-        sources.now.models.items) url.now (pointer_of place.old.items) chain.old.items (object (members_of members.now)) (Err e)) }
+    requires { length chain.old.items ≤ most_entries }
+    ensures outcome { Gives (value.reference_value (next_steps sources.now chain.old.items).value url.now chain.old.items (json_of reference.now))
+        (reference_faults (next_steps sources.now chain.old.items) chain.old.items (part_at url.now (pointer_of place.now)) (Some (json_of reference.now))) result }
     ensures chain { OnOk result (chain.new.items ≡ chain.old.items) }
-    ensures place { OnOk result (place.new.items ≡ place.old.items) }
 {
     let alloc = sources.alloc;
     let target = match reference_target(alloc, url, reference)? {
@@ -308,18 +273,17 @@ fn imported_value(
     if !is_object(&imported) {
         return Err(ResolveFault::at_place(alloc, ResolveKind::NotObject, url, place));
     }
-    let changes = Tree::Obj(members_value(sources, url, place, members, chain)?);
-    Ok(merge_patch(alloc, &imported, &changes)?)
+    Ok(imported)
 }
 
 /// The tree is an object.
 fn is_object(tree: &Tree) -> bool
-    ensures { result ≡ spec.is_object (json_of tree.now) }
+    ensures { result ≡ faults.is_object (json_of tree.now) }
 {
     matches!(tree, Tree::Obj(_))
 }
 
-/// What the members of an object become, but for `tm:ref`.
+/// The values of the members of an object, but for `tm:ref`.
 #[cycle(walk)]
 fn members_value(
     sources: &Sources,
@@ -328,10 +292,9 @@ fn members_value(
     members: &Members,
     chain: &mut Vec<Reference>,
 ) -> Result<Members, ResolveFault>
-    ensures value { IfOk result (λ m. MembersGive (kept_sources sources.now.models.items) url.now (pointer_of place.old.items)
-        chain.old.items members.now (Ok m)) }
-    ensures fault { IfErr result (λ e. (e ≡ ResolveFault.NoMemory) ⊎ MembersGive (kept_sources
-        sources.now.models.items) url.now (pointer_of place.old.items) chain.old.items members.now (Err e)) }
+    requires { length chain.old.items ≤ most_entries }
+    ensures outcome { GivesMembers (value.members_value (next_steps sources.now chain.old.items).value url.now chain.old.items (members_of members.now))
+        (member_faults (next_steps sources.now chain.old.items) chain.old.items (part_at url.now (pointer_of place.old.items)) (members_of members.now)) result }
     ensures chain { OnOk result (chain.new.items ≡ chain.old.items) }
     ensures place { OnOk result (place.new.items ≡ place.old.items) }
 {
@@ -341,32 +304,10 @@ fn members_value(
         if name.as_str() == REFERENCE {
             continue;
         }
-        let value = member_value(sources, url, place, name.as_str(), member, chain)?;
+        push_member(sources.alloc, place, name.as_str())?;
+        let value = part_value(sources, url, place, member, chain)?;
+        let _step = place.pop();
         values.push(Text::copy_of(sources.alloc, name.as_str())?, value)?;
     }
     Ok(values)
-}
-
-/// What a member of the object at this place becomes.
-#[cycle(walk)]
-fn member_value(
-    sources: &Sources,
-    url: &str,
-    place: &mut Vec<Text>,
-    name: &str,
-    member: &Tree,
-    chain: &mut Vec<Reference>,
-) -> Result<Tree, ResolveFault>
-    ensures value { IfOk result (λ t. PartGives (kept_sources sources.now.models.items) url.now (pointer_of
-        place.old.items ++ step_text name.now) chain.old.items (json_of member.now) (Ok (json_of t))) }
-    ensures fault { IfErr result (λ e. (e ≡ ResolveFault.NoMemory) ⊎ PartGives (kept_sources
-        sources.now.models.items) url.now (pointer_of place.old.items ++ step_text name.now) chain.old.items
-        (json_of member.now) (Err e)) }
-    ensures chain { OnOk result (chain.new.items ≡ chain.old.items) }
-    ensures place { OnOk result (place.new.items ≡ place.old.items) }
-{
-    push_member(sources.alloc, place, name)?;
-    let value = part_value(sources, url, place, member, chain)?;
-    let _step = place.pop();
-    Ok(value)
 }

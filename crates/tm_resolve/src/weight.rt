@@ -21,12 +21,12 @@ ghost use Rattle.tm_resolve.specs.Counting.{next_step, Spends, Weighs};
 #[cfg(test)]
 mod tests;
 
-use crate::chain::push_target;
+use crate::chain::{MOST_ENTRIES, push_target};
 use crate::links::{
     Extensions, REFERENCE, SUBMODEL, extensions_of, is_link, link_target, links_under,
     reference_target,
 };
-use crate::sources::{Sources, entered};
+use crate::sources::{Sources, entered_part};
 use servient_base::NoMemory;
 use std::alloc::{AllocError, Global};
 use tm_parts::Reference;
@@ -37,9 +37,6 @@ const MOST_WEIGHT: usize = 262_144;
 
 /// The greatest depth of a node.
 const MOST_DEPTH: usize = 64;
-
-/// The most targets of a chain.
-const MOST_ENTRIES: usize = 16;
 
 /// What a step leads to.
 #[derive(Debug, Clone, Copy)]
@@ -97,7 +94,7 @@ fn weigh_step(
         left result }
     ensures chain { OnOk result (chain.new.items ≡ chain.old.items) }
 {
-    let Some(part) = entered(sources, target, chain) else {
+    let Some(part) = entered_part(sources, target, chain) else {
         return Ok(left);
     };
     if chain.len() >= MOST_ENTRIES {

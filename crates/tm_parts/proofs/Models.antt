@@ -15,13 +15,13 @@ use Rattle.std.proofs.lemmas.Bool.{true≢false, cases_Bool}
 use Rattle.std.proofs.lemmas.Slice.Eq.{bytes_eq-Decides}
 use Rattle.std.proofs.lemmas.Map.Text.{is_eq-slice_cmp}
 use Rattle.wot_json.specs.Tree.{Json}
-use Rattle.wot_json.proofs.EqualTrees.{listed_lem, listed_members_lem}
-use Rattle.wot_json.specs.Meaning.{json_of, json_items}
+use Rattle.wot_json.proofs.EqualTrees.{listed_members_lem}
+use Rattle.wot_json.specs.Meaning.{json_of}
 use Rattle.wot_json.specs.Lookup.{member_named}
+use Rattle.wot_json.specs.Texts.{has_text}
 use Rattle.wot_json.specs.declared.tree.Tree.{Tree}
 use Rattle.tm_parts.specs.Kept.{kept_models}
-use Rattle.tm_parts.specs.Library.{with_model, is_thing_model, is_thing_model_text, has_thing_model}
-use Rattle.std.specs.List.{list_any}
+use Rattle.tm_parts.specs.Library.{with_model, thing_model, is_thing_model}
 use Rattle.wot_json.specs.declared.tree.Tree.TheVariants as tree
 
 -- what a lookup lends, by value
@@ -63,10 +63,10 @@ kept_inserted (e ∷ es) k t =
     ∙ ap (λ (ms : List (List ℕ × Json)). match_ordering (slice_cmp nat_cmp (string_bytes k) (string_bytes e.0)) (kept_models ((k, t) ∷ e ∷ es)) (kept_models ((e.0, t) ∷ es)) ((string_bytes e.0, json_of e.1) ∷ ms)) (kept_inserted es k t)
 
 -- an object is a model by what is under `@type`
-pub model_by_type : (t : Tree) (ms : List (List ℕ × Json)) (types : Option Json) → t ≡ tree.Obj ms → types ≡ member_named (codes "@type") ms → is_thing_model (json_of t) ≡ elim types [ None ↦ false | Some v ↦ has_thing_model v ]
+pub model_by_type : (t : Tree) (ms : List (List ℕ × Json)) (types : Option Json) → t ≡ tree.Obj ms → types ≡ member_named (codes "@type") ms → is_thing_model (json_of t) ≡ elim types [ None ↦ false | Some v ↦ has_text thing_model v ]
 model_by_type t ms types is found =
     ap (λ (u : Tree). is_thing_model (json_of u)) is
-    ∙ ap (λ (o : Option Json). elim o as (λ _. Bool) [ None ↦ false | Some v ↦ has_thing_model v ]) (ap (λ (members : List (List ℕ × Json)). member_named (codes "@type") members) (listed_members_lem ms) ∙ sym found)
+    ∙ ap (λ (o : Option Json). elim o as (λ _. Bool) [ None ↦ false | Some v ↦ has_text thing_model v ]) (ap (λ (members : List (List ℕ × Json)). member_named (codes "@type") members) (listed_members_lem ms) ∙ sym found)
 
 -- a map without an entry has no model there
 pub none_kept : (url : List ℕ) (entries : List (String Global × Tree)) → is_some (lookup (is_at (λ k. slice_cmp nat_cmp url (string_bytes k))) entries) ≡ false → member_named url (kept_models entries) ≡ None
@@ -76,11 +76,6 @@ none_kept url entries none = sym (kept_found url entries) ∙ ap (λ (r : Option
 pub some_kept : (url : List ℕ) (entries : List (String Global × Tree)) → is_some (lookup (is_at (λ k. slice_cmp nat_cmp url (string_bytes k))) entries) ≡ true → IsSome (member_named url (kept_models entries))
 some_kept url entries some =
     subst (λ (o : Option Json). IsSome o) (kept_found url entries) (has_value (lookup (is_at (λ k. slice_cmp nat_cmp url (string_bytes k))) entries) some)
-
--- a list of types, in the two forms of a list
-pub listed_types : (list : List Tree) (items : List Json) → json_items list ≡ items → list_any is_thing_model_text (json_items list) ≡ has_thing_model (json_of (tree.List items))
-listed_types list items same =
-    ap (λ (vs : List Json). list_any is_thing_model_text vs) (same ∙ sym (listed_lem items))
 
 -- a name that isn't there is neither the first nor after it
 absent_parts : (url : List ℕ) (m : List ℕ × Json) (ms : List (List ℕ × Json)) → member_named url (m ∷ ms) ≡ None → (bytes_eq url m.0 ≡ false) × (member_named url ms ≡ None)

@@ -1,11 +1,10 @@
 -- A library of Thing Models.
 use Rattle.std.specs.Prelude.{◌≡◌, ℕ, Bool, true, false, List, [], ◌∷◌, codes, Some, None, IsSome, MatchResult}
-use Rattle.std.specs.List.{list_any}
-use Rattle.std.specs.Str.{bytes_eq}
 use Rattle.std.specs.Ordering.{nat_cmp, match_ordering}
 use Rattle.std.specs.Cmp.Lexicographic.{slice_cmp}
-use Rattle.wot_json.specs.Tree.{Json, string, array, object}
-use Rattle.wot_json.specs.Lookup.{element_list, member_list, member_named}
+use Rattle.wot_json.specs.Tree.{Json, object}
+use Rattle.wot_json.specs.Lookup.{member_list, member_named}
+use Rattle.wot_json.specs.Texts.{has_text}
 use Rattle.url.specs.Parser.{parse_url}
 use Rattle.tm_parts.specs.declared.library.AddFault.{AddFault}
 use Rattle.tm_parts.specs.declared.library.AddFault.TheVariants.{BadUrl, Twice, NotModel, NoMemory}
@@ -27,19 +26,9 @@ IsModelUrl url = MatchResult (parse_url None url) (λ parts. parts.fragment ≡ 
 abbrev pub thing_model : List ℕ
 thing_model = codes "tm:ThingModel"
 
--- this value is the text `tm:ThingModel`
-abbrev pub is_thing_model_text : Json → Bool
-is_thing_model_text (string s) = bytes_eq s thing_model
-is_thing_model_text v = false
-
--- types that contain `tm:ThingModel`: that text, or a list that has it
-abbrev pub has_thing_model : Json → Bool
-has_thing_model (array es) = list_any is_thing_model_text (element_list es)
-has_thing_model v = is_thing_model_text v
-
--- an object whose `@type` contains `tm:ThingModel`
+-- an object whose `@type` is or has `tm:ThingModel`
 abbrev pub is_thing_model : Json → Bool
-is_thing_model (object ms) = elim (member_named (codes "@type") (member_list ms)) [ None ↦ false | Some types ↦ has_thing_model types ]
+is_thing_model (object ms) = elim (member_named (codes "@type") (member_list ms)) [ None ↦ false | Some types ↦ has_text thing_model types ]
 is_thing_model v = false
 
 -- why a library takes no model: the first of these that holds

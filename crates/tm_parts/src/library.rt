@@ -1,9 +1,8 @@
 //! The library of Thing Models.
 
 ghost use Rattle.std.specs.Prelude.{◌≡◌, ◌⊎◌, ℕ, List, [], if◌then◌else◌, IfOk, IfErr, OnOk, OnErr, option_map};
-ghost use Rattle.std.specs.List.{list_any};
 ghost use Rattle.std.specs.Str.{bytes_eq};
-ghost use Rattle.wot_json.specs.Meaning.{json_of, json_items};
+ghost use Rattle.wot_json.specs.Meaning.{json_of};
 ghost use Rattle.wot_json.specs.Lookup.{member_named};
 ghost use Rattle.tm_parts.specs.Library.{with_model, IsModelUrl, HasAddFault, MayAdd};
 ghost use Rattle.tm_parts.specs.Library as spec;
@@ -17,7 +16,7 @@ use std::collections::BTreeMap;
 use std::marker::Model;
 use thiserror::Error;
 use url::{ParseError, Url};
-use wot_json::Tree;
+use wot_json::{Tree, has_text};
 
 /// The type that says that an object is a Thing Model.
 const THING_MODEL: &str = "tm:ThingModel";
@@ -157,47 +156,15 @@ fn judge_url(alloc: Global, url: &str) -> Result<(), AddFault>
     }
 }
 
-/// The tree is an object whose `@type` contains `tm:ThingModel`.
+/// The tree is an object whose `@type` has `tm:ThingModel`.
 fn is_thing_model(tree: &Tree) -> bool
     ensures { result ≡ spec.is_thing_model (json_of tree.now) }
 {
     match tree {
         Tree::Obj(members) => match members.get("@type") {
-            Some(types) => has_thing_model(types),
+            Some(types) => has_text(types, THING_MODEL),
             None => false,
         },
-        _ => false,
-    }
-}
-
-/// The value is `tm:ThingModel`, or a list that has it.
-fn has_thing_model(types: &Tree) -> bool
-    ensures { result ≡ spec.has_thing_model (json_of types.now) }
-{
-    match types {
-        Tree::List(items) => names_thing_model(items.as_slice()),
-        other => is_thing_model_text(other),
-    }
-}
-
-/// One of the values is `tm:ThingModel`.
-fn names_thing_model(items: &[Tree]) -> bool
-    ensures { result ≡ list_any spec.is_thing_model_text (json_items items.now) }
-{
-    for item in items {
-        if is_thing_model_text(item) {
-            return true;
-        }
-    }
-    false
-}
-
-/// The value is `tm:ThingModel`.
-fn is_thing_model_text(value: &Tree) -> bool
-    ensures { result ≡ spec.is_thing_model_text (json_of value.now) }
-{
-    match value {
-        Tree::Text(text) => text.as_str() == THING_MODEL,
         _ => false,
     }
 }

@@ -6,7 +6,7 @@ use Rattle.tm_parts.proofs.library.is_thing_model.Goals as goal
 
 pub returns-in-Some : goal.returns-in-Some
 returns-in-Some c =
-    c.has_thing_model.ensures ∙ sym (model_by_type c.args.tree.now c.in-Obj.members (Some (json_of c.in-Some.types.now)) c.in-Obj.is c.in-Some.ensures)
+    c.has_text.ensures ∙ sym (model_by_type c.args.tree.now c.in-Obj.members (Some (json_of c.in-Some.types.now)) c.in-Obj.is c.in-Some.ensures)
 
 pub returns-in-None : goal.returns-in-None
 returns-in-None c =

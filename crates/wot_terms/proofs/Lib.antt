@@ -2,3 +2,5 @@ pub mod Findings
 pub mod TableRows
 pub mod AffordanceLists
 pub mod ValidParts
+pub mod PlaceOrder
+pub mod RowOrder

@@ -4,3 +4,4 @@ pub mod Rows
 pub mod Affordances
 pub mod AffordanceCodes
 pub mod Schemas
+pub mod Order

@@ -1,4 +1,3 @@
-use Rattle.wot_json.specs.Tree.{members_of}
 use Rattle.wot_json.specs.Meaning.{json_of}
 use Rattle.wot_terms.proofs.Findings.{there}
 use Rattle.wot_terms.specs.Rows.{judge_of}

@@ -1,5 +1,4 @@
 use Rattle.std.proofs.Common.{[], codes}
-use Rattle.wot_json.specs.Tree.{members_of}
 use Rattle.wot_json.specs.Meaning.{json_of}
 use Rattle.wot_terms.proofs.Findings.{there}
 use Rattle.wot_terms.specs.Faults.{list_of}

@@ -38,7 +38,7 @@ pub(crate) fn push_target(
     chain: &mut Vec<Reference>,
     target: &Reference,
 ) -> Result<(), NoMemory>
-    ensures pushed { OnOk result (chain.new.items ≡ chain.old.items ++ target.now ∷ []) }
+    ensures ok { OnOk result (chain.new.items ≡ chain.old.items ++ target.now ∷ []) }
     ensures room { OnOk result (length chain.old.items < 2 ^ 64) }
 {
     let _before = chain.len();

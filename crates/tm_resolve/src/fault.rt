@@ -11,28 +11,38 @@ use tm_parts::PartFault;
 use wot_json::Text;
 
 /// The kind of a fault in a model.
-#[derive(Debug, Clone, Copy, PartialEq, Eq)]
+#[derive(Debug, Clone, Copy, PartialEq, Eq, Error)]
 pub enum ResolveKind {
     /// The model with all that it brings in, and its submodels, is too much, too deep, or has too long a chain of models
     /// and parts.
+    #[error("too large")]
     TooLarge,
     /// The value of `tm:ref` is no text, or refers to no part of a model.
+    #[error("no reference to a part of a model")]
     BadRef,
     /// The `href` of a link is no text, or can't be joined to the URL of the model.
+    #[error("no link to a model")]
     BadHref,
-    /// The library hasn't got the model.
+    /// The library doesn't have the model.
+    #[error("no such model")]
     MissingModel,
-    /// Nothing stands in the model at the pointer of a `tm:ref`.
+    /// The model has no part at the pointer of a `tm:ref`.
+    #[error("no such part of a model")]
     MissingNode,
     /// What a `tm:ref` refers to is no object.
+    #[error("a reference to no object")]
     NotObject,
     /// What is referred to, or extended, is being resolved already.
+    #[error("circular")]
     Circular,
     /// The model extends more than one.
+    #[error("more than one model that is extended")]
     TwoExtends,
     /// A placeholder in a longer text is bound to a value that is no text.
+    #[error("a value that is no text in a longer text")]
     NotText,
     /// The name of a member holds a placeholder.
+    #[error("a placeholder in a name")]
     InName,
 }
 
@@ -42,9 +52,9 @@ pub enum ResolveFault {
     /// The kind, the text of the URL of the model that has the fault, and the pointer to its place there
     /// (RFC 6901): that of the object with `tm:ref`, of the link, or of the member. For `NotText` it is the name of
     /// the placeholder.
-    #[error("a model has no value")]
+    #[error("{0} in {1}: {2}")]
     At(ResolveKind, Text, Text),
-    /// There was no memory.
+    /// Out of memory.
     #[error("out of memory")]
     NoMemory,
 }

@@ -58,7 +58,7 @@ pub(crate) fn links_under(model: &Tree) -> &[Tree]
     }
 }
 
-/// The first link to a model that is extended at this place or behind it, and its place.
+/// The first link to a model that is extended at this place or after it, and its place.
 fn next_extension(links: &[Tree], from: usize) -> Option<(usize, &Tree)>
     ensures next { MatchOption result (extensions_from from (json_items (drop from links.now)) ≡ [])
         (λ x. extensions_from from (json_items (drop from links.now))

@@ -16,14 +16,14 @@ use wot_json::{Text, Tree};
 ///
 /// Each model has values in the places of its placeholders before anything in it is looked at; a fault of that comes
 /// alone. A model with one link `tm:extends` is a merge patch (RFC 7396) on the model that the link leads to, which
-/// comes with its own extension and without its links. An object with `tm:ref` is one on what stands at the part
-/// that `tm:ref` refers to, with its own references brought in first. What leads back to a part on the way to which
-/// it stands is circular; what is brought in twice side by side is not.
+/// comes with its own extension and without its links. An object with `tm:ref` is one on the part that `tm:ref`
+/// refers to, with its own references brought in first. What leads back to a part on the way to it
+/// is circular; what is brought in twice side by side is not.
 ///
-/// `TooLarge` stands before all other faults, at the root and with the empty pointer: the model with all that it brings
+/// `TooLarge` comes before all other faults, at the root and with the empty pointer: the model with all that it brings
 /// in, and its submodels, weighs more than 262,144, is deeper than 64, or has a chain of more than 16 models and parts.
 /// The order of the others is preorder: those of an extension before those of the model, those of a `tm:ref` before
-/// those of the members beside it, and members in the byte order of their names. Of what comes behind the first fault
+/// those of the members beside it, and members in the byte order of their names. Of what comes after the first fault
 /// nothing is looked at.
 ///
 /// First the values are put into each model of the library, once; no limit holds for that. Then counting takes a time in

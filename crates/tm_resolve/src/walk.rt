@@ -65,11 +65,8 @@ fn target_part<'a>(
     target: &Reference,
     chain: &[Reference],
 ) -> Result<&'a Tree, ResolveFault>
-    ensures part { IfOk result (λ part. entered_part (kept_sources sources.now.models.items) chain.now target.now
+    ensures ok { IfOk result (λ part. entered_part (kept_sources sources.now.models.items) chain.now target.now
         ≡ Some (json_of part.now)) }
-    ensures ok { IfOk result (λ part. (inside : Json → List FaultValue)
-        → step_faults inside (part_at url.now (pointer_of place.now)) chain.now target.now
-        (source_under target.now.url (kept_sources sources.now.models.items)) ≡ inside (json_of part.now)) }
     ensures fault { IfErr result (λ e. (inside : Json → List FaultValue)
         → IsRefusal e (step_faults inside (part_at url.now (pointer_of place.now)) chain.now target.now
         (source_under target.now.url (kept_sources sources.now.models.items)))) }

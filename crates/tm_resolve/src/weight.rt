@@ -1,7 +1,7 @@
 //! How large a model grows, counted without building anything.
 //!
 //! The nodes of the expansion are visited one by one, and what each weighs is taken from what is left of the limit:
-//! each function is handed what is left before its visits, and answers what is left behind them. Counting stops at the
+//! each function is handed what is left before its visits, and answers what is left after them. Counting stops at the
 //! first visit that passes a limit. A node weighs at least 2, so no more than 131,072 are counted and one more is begun,
 //! whatever the size of the expansion.
 
@@ -17,9 +17,6 @@ ghost use Rattle.tm_resolve.specs.Links.{reference_name, extensions};
 ghost use Rattle.tm_resolve.specs.Weight.{most_depth, most_entries, name_weight, own_weight, own_visit, reference_visits, part_visits, element_visits, member_visits, link_visits, extension_visits, submodel_visits, links_visits, target_visits, visits_within};
 ghost use Rattle.tm_resolve.specs.Weight as spec;
 ghost use Rattle.tm_resolve.specs.Counting.{next_step, Spends, Weighs};
-
-#[cfg(test)]
-mod tests;
 
 use crate::chain::{MOST_ENTRIES, push_target};
 use crate::links::{
@@ -52,7 +49,7 @@ pub(crate) enum Role {
 pub(crate) enum Stop {
     /// The weight, a depth or a chain passed its limit.
     TooLarge,
-    /// There was no memory.
+    /// Out of memory.
     NoMemory,
 }
 
@@ -237,7 +234,7 @@ fn weigh_link(
     }
 }
 
-/// Visits a part at this depth, what it refers to, and what stands in it.
+/// Visits a part at this depth, what it refers to, and what is in it.
 #[cycle(weigh)]
 fn weigh_part(
     sources: &Sources,
@@ -284,7 +281,7 @@ fn weigh_object(
     weigh_members(sources, url, depth + 1, members, chain, left)
 }
 
-/// Visits what the value of a `tm:ref` refers to, which stands at the depth of the object that has it.
+/// Visits what the value of a `tm:ref` refers to, at the depth of the object that has it.
 #[cycle(weigh)]
 fn weigh_reference(
     sources: &Sources,

@@ -27,22 +27,22 @@ use Rattle.tm_resolve.proofs.walk.+walk.Goals as goal
 pub target_value-stepped_value-requires : goal.target_value-stepped_value-requires
 target_value-stepped_value-requires t c =
     let s = kept_sources c.args.sources.now.models.items in
-    let deep = entered_nests s c.args.chain.now.items c.args.target.now (json_of c.in-Ok.part.now) (rw c.deref.ensures.value at c.in-Ok.ensures.part) in
+    let deep = entered_nests s c.args.chain.now.items c.args.target.now (json_of c.in-Ok.part.now) (rw c.deref.ensures.value at c.in-Ok.ensures.ok) in
     let falls = budget_falls c.args.chain.now.items c.args.target.now s (nesting (json_of c.in-Ok.part.now)) c.in_ok-push_target.ensures.room deep in
-    let longer = ap (λ (es : List Reference). length es) c.in_ok-push_target.ensures.pushed ∙ length-append c.args.chain.now.items (c.args.target.now ∷ []) in
-    (omega (arith, falls, ap (λ (es : List Reference). budget es s) c.in_ok-push_target.ensures.pushed), omega (arith, longer, c.len.ensures, c.if-len-ge-MOST_ENTRIES.false))
+    let longer = ap (λ (es : List Reference). length es) c.in_ok-push_target.ensures.ok ∙ length-append c.args.chain.now.items (c.args.target.now ∷ []) in
+    (omega (arith, falls, ap (λ (es : List Reference). budget es s) c.in_ok-push_target.ensures.ok), omega (arith, longer, c.len.ensures, c.if-len-ge-MOST_ENTRIES.false))
 
 pub target_value-returns-in_err-value-clause-outcome : goal.target_value-returns-in_err-value-clause-outcome
 target_value-returns-in_err-value-clause-outcome t c =
     let p = err_from_is_err_and c.from_residual-in_err-value.result c.from_residual-in_err-value.ensures.1 in
     rw (p.1, p.2)
     (step_into (kept_sources c.args.sources.now.models.items) (reference c.args.url.now (pointer_of c.args.place.now)) c.args.chain.now.items c.push_target.new.chain.items c.args.target.now (json_of c.in-Ok.part.now) (Err c.in_err-value.field-0.0)
-    (rw c.deref.ensures.value at c.in-Ok.ensures.part) (omega (arith, c.len.ensures, c.if-len-ge-MOST_ENTRIES.false)) c.in_ok-push_target.ensures.pushed c.in_err-value.ensures.outcome)
+    (rw c.deref.ensures.value at c.in-Ok.ensures.ok) (omega (arith, c.len.ensures, c.if-len-ge-MOST_ENTRIES.false)) c.in_ok-push_target.ensures.ok c.in_err-value.ensures.outcome)
 
 pub target_value-returns-clause-outcome : goal.target_value-returns-clause-outcome
 target_value-returns-clause-outcome t c =
     step_into (kept_sources c.args.sources.now.models.items) (reference c.args.url.now (pointer_of c.args.place.now)) c.args.chain.now.items c.push_target.new.chain.items c.args.target.now (json_of c.in-Ok.part.now) (Ok c.in_ok-value.value)
-    (rw c.deref.ensures.value at c.in-Ok.ensures.part) (omega (arith, c.len.ensures, c.if-len-ge-MOST_ENTRIES.false)) c.in_ok-push_target.ensures.pushed c.in_ok-value.ensures.outcome
+    (rw c.deref.ensures.value at c.in-Ok.ensures.ok) (omega (arith, c.len.ensures, c.if-len-ge-MOST_ENTRIES.false)) c.in_ok-push_target.ensures.ok c.in_ok-value.ensures.outcome
 
 pub model_value-returns-in_err-extended-in-One-clause-outcome : goal.model_value-returns-in_err-extended-in-One-clause-outcome
 model_value-returns-in_err-extended-in-One-clause-outcome t c =

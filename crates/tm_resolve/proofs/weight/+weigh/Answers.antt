@@ -55,20 +55,20 @@ weigh_step-weigh_target-requires t c =
     let s = kept_sources c.args.sources.now.models.items in
     let deep = entered_nests s c.args.chain.now.items c.args.target.now (json_of c.in-Some.part.now) (rw c.deref.ensures.value at (sym c.in-Some.ensures)) in
     let falls = budget_falls c.args.chain.now.items c.args.target.now s (nesting (json_of c.in-Some.part.now)) c.in_ok-push_target.ensures.room deep in
-    let longer = ap (λ (es : List Reference). length es) c.in_ok-push_target.ensures.pushed ∙ length-append c.args.chain.now.items (c.args.target.now ∷ []) in
-    (omega (arith, falls, ap (λ (es : List Reference). budget es s) c.in_ok-push_target.ensures.pushed), omega (arith, longer, c.len.ensures, c.if-len-ge-MOST_ENTRIES.false))
+    let longer = ap (λ (es : List Reference). length es) c.in_ok-push_target.ensures.ok ∙ length-append c.args.chain.now.items (c.args.target.now ∷ []) in
+    (omega (arith, falls, ap (λ (es : List Reference). budget es s) c.in_ok-push_target.ensures.ok), omega (arith, longer, c.len.ensures, c.if-len-ge-MOST_ENTRIES.false))
 
 pub weigh_step-returns-in_err-left-clause-weight : goal.weigh_step-returns-in_err-left-clause-weight
 weigh_step-returns-in_err-left-clause-weight t c =
     let p = err_from_is_err_and c.from_residual-in_err-left.result c.from_residual-in_err-left.ensures.1 in
     rw (p.1, p.2)
     (step_into (kept_sources c.args.sources.now.models.items) c.args.role c.args.depth c.args.chain.now.items c.push_target.new.chain.items c.args.target.now (json_of c.in-Some.part.now) c.args.left (Err c.in_err-left.field-0.0)
-    (rw c.deref.ensures.value at (sym c.in-Some.ensures)) (omega (arith, c.len.ensures, c.if-len-ge-MOST_ENTRIES.false)) c.in_ok-push_target.ensures.pushed c.in_err-left.ensures.weight)
+    (rw c.deref.ensures.value at (sym c.in-Some.ensures)) (omega (arith, c.len.ensures, c.if-len-ge-MOST_ENTRIES.false)) c.in_ok-push_target.ensures.ok c.in_err-left.ensures.weight)
 
 pub weigh_step-returns-clause-weight : goal.weigh_step-returns-clause-weight
 weigh_step-returns-clause-weight t c =
     step_into (kept_sources c.args.sources.now.models.items) c.args.role c.args.depth c.args.chain.now.items c.push_target.new.chain.items c.args.target.now (json_of c.in-Some.part.now) c.args.left (Ok c.in_ok-left.left)
-    (rw c.deref.ensures.value at (sym c.in-Some.ensures)) (omega (arith, c.len.ensures, c.if-len-ge-MOST_ENTRIES.false)) c.in_ok-push_target.ensures.pushed c.in_ok-left.ensures.weight
+    (rw c.deref.ensures.value at (sym c.in-Some.ensures)) (omega (arith, c.len.ensures, c.if-len-ge-MOST_ENTRIES.false)) c.in_ok-push_target.ensures.ok c.in_ok-left.ensures.weight
 
 pub weigh_submodels-returns-in_err-left-clause-weight : goal.weigh_submodels-returns-in_err-left-clause-weight
 weigh_submodels-returns-in_err-left-clause-weight t c =

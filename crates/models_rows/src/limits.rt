@@ -1,6 +1,6 @@
 //! Models at the limits and beyond them: whether they have a value.
 
-use crate::tests::{add, outcome};
+use crate::resolving::{add, outcome};
 use std::alloc::Global;
 use std::test::Fail;
 use tm_parts::Library;
@@ -70,45 +70,49 @@ fn multiplied(alloc: Global, last: usize, references: usize) -> Result<Library, 
 
 /// That the model has a value, or its fault.
 fn judged(alloc: Global, library: &Library, name: &str) -> Result<String, Fail> {
-    let found = outcome(alloc, library, name)?;
-    if found.as_str().starts_with('{') {
+    let text = outcome(alloc, library, name)?;
+    if text.as_str().starts_with('{') {
         return Ok(String::from_str(alloc, "value")?);
     }
-    Ok(found)
+    Ok(text)
 }
+
+/// How many models the first is linked to, one after another, by which relation, and its outcome.
+const CHAINS: [(usize, &str, &str); 5] = [
+    (15, "tm:extends", "value"),
+    (16, "tm:extends", "too large in https://m.example/m0: "),
+    (15, "tm:submodel", "value"),
+    (16, "tm:submodel", "too large in https://m.example/m0: "),
+    (16, "item", "value"),
+];
 
 #[test]
 fn a_chain_has_at_most_16_models(rt: HostRuntime) -> Result<(), Fail> {
     let alloc = rt.alloc();
-    let table = [
-        (15, "tm:extends", "value"),
-        (16, "tm:extends", "TooLarge https://m.example/m0 "),
-        (15, "tm:submodel", "value"),
-        (16, "tm:submodel", "TooLarge https://m.example/m0 "),
-        (16, "item", "value"),
-    ];
-    for (last, relation, wanted) in table {
+    for (last, relation, wanted) in CHAINS {
         let library = linked(alloc, last, relation)?;
-        let found = judged(alloc, &library, "m0")?;
-        assert_eq!(rt; found.as_str(), wanted, "{last} {relation}");
+        let text = judged(alloc, &library, "m0")?;
+        assert_eq!(rt; text.as_str(), wanted, "{last} {relation}");
     }
     Ok(())
 }
 
+/// How many models the first refers to, one after another, how often each refers to the next, and its outcome.
+const MULTIPLIED: [(usize, usize, &str); 5] = [
+    (4, 2, "value"),
+    (14, 1, "value"),
+    (15, 1, "too large in https://m.example/b0: "),
+    (14, 2, "too large in https://m.example/b0: "),
+    (14, 20, "too large in https://m.example/b0: "),
+];
+
 #[test]
 fn references_that_multiply_are_too_large(rt: HostRuntime) -> Result<(), Fail> {
     let alloc = rt.alloc();
-    let table = [
-        (4, 2, "value"),
-        (14, 1, "value"),
-        (15, 1, "TooLarge https://m.example/b0 "),
-        (14, 2, "TooLarge https://m.example/b0 "),
-        (14, 20, "TooLarge https://m.example/b0 "),
-    ];
-    for (last, references, wanted) in table {
+    for (last, references, wanted) in MULTIPLIED {
         let library = multiplied(alloc, last, references)?;
-        let found = judged(alloc, &library, "b0")?;
-        assert_eq!(rt; found.as_str(), wanted, "{last} {references}");
+        let text = judged(alloc, &library, "b0")?;
+        assert_eq!(rt; text.as_str(), wanted, "{last} {references}");
     }
     Ok(())
 }
@@ -149,7 +153,7 @@ const LIGHT: [(&str, &str); 10] = [
 ];
 
 /// Models whose weight and depth are at the limits. `exact` weighs 2 for the object, 9, 5 and 5 for its names, 15 for its
-/// type, 6 for the list, 4, 5, 20 and 5 for what stands in that, and 2 for the quotation marks of the text: 78 and its
+/// type, 6 for the list, 4, 5, 20 and 5 for what is in that, and 2 for the quotation marks of the text: 78 and its
 /// letters.
 fn at_the_limits(alloc: Global) -> Result<Library, Fail> {
     let mut library = Library::new(alloc);
@@ -176,35 +180,37 @@ fn at_the_limits(alloc: Global) -> Result<Library, Fail> {
     Ok(library)
 }
 
+/// Models at the limits and beyond them, and their outcomes.
+const OUTCOMES: [(&str, &str); 14] = [
+    ("exact", "value"),
+    ("more", "too large in https://m.example/more: "),
+    ("name", "a placeholder in a name in https://m.example/name: /{{A}}"),
+    ("fault", "too large in https://m.example/fault: "),
+    ("twice", "too large in https://m.example/twice: "),
+    ("extends_twice", "value"),
+    (
+        "extends_two",
+        "more than one model that is extended in https://m.example/extends_two: /links",
+    ),
+    ("extends_name", "a placeholder in a name in https://m.example/name: /{{A}}"),
+    ("of_itself", "value"),
+    ("deep", "value"),
+    ("extends_deep", "value"),
+    ("refers", "value"),
+    ("refers_deeper", "too large in https://m.example/refers_deeper: "),
+    (
+        "refers_in_list",
+        "too large in https://m.example/refers_in_list: ",
+    ),
+];
+
 #[test]
 fn weight_and_depth_have_limits(rt: HostRuntime) -> Result<(), Fail> {
     let alloc = rt.alloc();
     let library = at_the_limits(alloc)?;
-    let table = [
-        ("exact", "value"),
-        ("more", "TooLarge https://m.example/more "),
-        ("name", "InName https://m.example/name /{{A}}"),
-        ("fault", "TooLarge https://m.example/fault "),
-        ("twice", "TooLarge https://m.example/twice "),
-        ("extends_twice", "value"),
-        (
-            "extends_two",
-            "TwoExtends https://m.example/extends_two /links",
-        ),
-        ("extends_name", "InName https://m.example/name /{{A}}"),
-        ("of_itself", "value"),
-        ("deep", "value"),
-        ("extends_deep", "value"),
-        ("refers", "value"),
-        ("refers_deeper", "TooLarge https://m.example/refers_deeper "),
-        (
-            "refers_in_list",
-            "TooLarge https://m.example/refers_in_list ",
-        ),
-    ];
-    for (name, wanted) in table {
-        let found = judged(alloc, &library, name)?;
-        assert_eq!(rt; found.as_str(), wanted, "{name}");
+    for (name, wanted) in OUTCOMES {
+        let text = judged(alloc, &library, name)?;
+        assert_eq!(rt; text.as_str(), wanted, "{name}");
     }
     Ok(())
 }

@@ -1,7 +1,8 @@
-//! How faults without a place or a name are displayed. The tests of the others show theirs.
+//! How faults are displayed that no other test brings about.
 
 use std::test::Fail;
 use tm_parts::{AddFault, PartFault, RefFault};
+use tm_resolve::ResolveFault;
 
 #[test]
 fn out_of_memory_is_displayed(rt: HostRuntime) -> Result<(), Fail> {
@@ -10,6 +11,7 @@ fn out_of_memory_is_displayed(rt: HostRuntime) -> Result<(), Fail> {
         format!(in alloc; "{}", AddFault::NoMemory)?,
         format!(in alloc; "{}", PartFault::NoMemory)?,
         format!(in alloc; "{}", RefFault::NoMemory)?,
+        format!(in alloc; "{}", ResolveFault::NoMemory)?,
     ];
     for text in &texts {
         assert_eq!(rt; text.as_str(), "out of memory");

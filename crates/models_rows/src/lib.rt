@@ -8,6 +8,10 @@ mod inputs;
 #[cfg(test)]
 mod libraries;
 #[cfg(test)]
+mod limits;
+#[cfg(test)]
 mod placeholders;
 #[cfg(test)]
 mod references;
+#[cfg(test)]
+mod resolving;

@@ -184,7 +184,10 @@ fn at_the_limits(alloc: Global) -> Result<Library, Fail> {
 const OUTCOMES: [(&str, &str); 14] = [
     ("exact", "value"),
     ("more", "too large in https://m.example/more: "),
-    ("name", "a placeholder in a name in https://m.example/name: /{{A}}"),
+    (
+        "name",
+        "a placeholder in a name in https://m.example/name: /{{A}}",
+    ),
     ("fault", "too large in https://m.example/fault: "),
     ("twice", "too large in https://m.example/twice: "),
     ("extends_twice", "value"),
@@ -192,12 +195,18 @@ const OUTCOMES: [(&str, &str); 14] = [
         "extends_two",
         "more than one model that is extended in https://m.example/extends_two: /links",
     ),
-    ("extends_name", "a placeholder in a name in https://m.example/name: /{{A}}"),
+    (
+        "extends_name",
+        "a placeholder in a name in https://m.example/name: /{{A}}",
+    ),
     ("of_itself", "value"),
     ("deep", "value"),
     ("extends_deep", "value"),
     ("refers", "value"),
-    ("refers_deeper", "too large in https://m.example/refers_deeper: "),
+    (
+        "refers_deeper",
+        "too large in https://m.example/refers_deeper: ",
+    ),
     (
         "refers_in_list",
         "too large in https://m.example/refers_in_list: ",

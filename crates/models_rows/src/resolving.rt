@@ -9,14 +9,25 @@ use wot_json::{Text, read, text_of};
 /// Names of placeholders, and the JSON texts of the values that they are bound to.
 const BOUND: [(&str, &str); 2] = [
     ("A", "5"),
-    ("P", r#"{"q":{"tm:ref":"parts#/properties/p"},"r":{"title":"R"}}"#),
+    (
+        "P",
+        r#"{"q":{"tm:ref":"parts#/properties/p"},"r":{"title":"R"}}"#,
+    ),
 ];
 
 /// Models by the last step of their URL, the members that they have beside `@type`, and the value that they become, or the
 /// fault as it is displayed.
 const MODELS: [(&str, &str, &str); 27] = [
-    ("name", r#""properties":{"{{A}}":1}"#, "a placeholder in a name in https://m.example/name: /properties/{{A}}"),
-    ("text", r#""title":"x{{A}}""#, "a value that is no text in a longer text in https://m.example/text: A"),
+    (
+        "name",
+        r#""properties":{"{{A}}":1}"#,
+        "a placeholder in a name in https://m.example/name: /properties/{{A}}",
+    ),
+    (
+        "text",
+        r#""title":"x{{A}}""#,
+        "a value that is no text in a longer text in https://m.example/text: A",
+    ),
     (
         "parts",
         r#""l":{"href":"x","rel":"tm:extends"},"properties":{"p":{"maximum":"{{A}}","title":"P","type":"integer"}}"#,
@@ -42,12 +53,36 @@ const MODELS: [(&str, &str, &str); 27] = [
         r##""x":"{{P}}","y":{"tm:ref":"#/x/r"},"z":{"tm:ref":"#/x/q"}"##,
         r#"{"@type":"tm:ThingModel","x":{"q":{"maximum":5,"title":"P","type":"integer"},"r":{"title":"R"}},"y":{"title":"R"},"z":{"maximum":5,"title":"P","type":"integer"}}"#,
     ),
-    ("self", r##""properties":{"a":{"tm:ref":"#/properties"}}"##, "circular in https://m.example/self: /properties/a"),
-    ("gone", r#""properties":{"a":{"tm:ref":"absent#/x"}}"#, "no such model in https://m.example/gone: /properties/a"),
-    ("nowhere", r#""actions":{"a~/b":{"tm:ref":"parts#/actions/a"}}"#, "no such part of a model in https://m.example/nowhere: /actions/a~0~1b"),
-    ("scalar", r#""properties":{"a":{"tm:ref":"parts#/@type"}}"#, "a reference to no object in https://m.example/scalar: /properties/a"),
-    ("no_mark", r#""properties":{"a":{"tm:ref":"parts"}}"#, "no reference to a part of a model in https://m.example/no_mark: /properties/a"),
-    ("no_text", r#""security":["x",{"tm:ref":7}]"#, "no reference to a part of a model in https://m.example/no_text: /security/1"),
+    (
+        "self",
+        r##""properties":{"a":{"tm:ref":"#/properties"}}"##,
+        "circular in https://m.example/self: /properties/a",
+    ),
+    (
+        "gone",
+        r#""properties":{"a":{"tm:ref":"absent#/x"}}"#,
+        "no such model in https://m.example/gone: /properties/a",
+    ),
+    (
+        "nowhere",
+        r#""actions":{"a~/b":{"tm:ref":"parts#/actions/a"}}"#,
+        "no such part of a model in https://m.example/nowhere: /actions/a~0~1b",
+    ),
+    (
+        "scalar",
+        r#""properties":{"a":{"tm:ref":"parts#/@type"}}"#,
+        "a reference to no object in https://m.example/scalar: /properties/a",
+    ),
+    (
+        "no_mark",
+        r#""properties":{"a":{"tm:ref":"parts"}}"#,
+        "no reference to a part of a model in https://m.example/no_mark: /properties/a",
+    ),
+    (
+        "no_text",
+        r#""security":["x",{"tm:ref":7}]"#,
+        "no reference to a part of a model in https://m.example/no_text: /security/1",
+    ),
     (
         "two",
         r#""links":[{"href":"parts","rel":"tm:extends"},{"href":"parts","rel":"tm:extends"}]"#,
@@ -58,9 +93,21 @@ const MODELS: [(&str, &str, &str); 27] = [
         r#""links":[{"href":"x","rel":"item"},{"href":"http://[","rel":"tm:extends"}]"#,
         "no link to a model in https://m.example/bad_href: /links/1",
     ),
-    ("no_href", r#""links":[{"href":3,"rel":"tm:extends"}]"#, "no link to a model in https://m.example/no_href: /links/0"),
-    ("a", r#""links":[{"href":"b","rel":"tm:extends"}]"#, "circular in https://m.example/b: /links/0"),
-    ("b", r#""links":[{"href":"a","rel":"tm:extends"}]"#, "circular in https://m.example/a: /links/0"),
+    (
+        "no_href",
+        r#""links":[{"href":3,"rel":"tm:extends"}]"#,
+        "no link to a model in https://m.example/no_href: /links/0",
+    ),
+    (
+        "a",
+        r#""links":[{"href":"b","rel":"tm:extends"}]"#,
+        "circular in https://m.example/b: /links/0",
+    ),
+    (
+        "b",
+        r#""links":[{"href":"a","rel":"tm:extends"}]"#,
+        "circular in https://m.example/a: /links/0",
+    ),
     (
         "steps_into_name",
         r#""a":{"tm:ref":"name#/absent"},"b":{"tm:ref":7}"#,
@@ -71,7 +118,11 @@ const MODELS: [(&str, &str, &str); 27] = [
         r#""a":{"tm:ref":7},"links":[{"href":"absent#x","rel":"tm:extends"}]"#,
         "no such model in https://m.example/extension_first: /links/0",
     ),
-    ("reference_first", r#""a":{"a":{"tm:ref":7},"tm:ref":"absent#/x"}"#, "no such model in https://m.example/reference_first: /a"),
+    (
+        "reference_first",
+        r#""a":{"a":{"tm:ref":7},"tm:ref":"absent#/x"}"#,
+        "no such model in https://m.example/reference_first: /a",
+    ),
     (
         "members_in_order",
         r#""b":{"tm:ref":7},"a":{"tm:ref":"gone#/properties"}"#,
@@ -121,7 +172,10 @@ pub(crate) fn add(
 pub(crate) fn outcome(alloc: Global, library: &Library, name: &str) -> Result<String, Fail> {
     let mut bindings = Bindings::new(alloc);
     for (placeholder, value) in BOUND {
-        bindings.push(Text::copy_of(alloc, placeholder)?, read(alloc, value.as_bytes())?)?;
+        bindings.push(
+            Text::copy_of(alloc, placeholder)?,
+            read(alloc, value.as_bytes())?,
+        )?;
     }
     let root = format!(in alloc; "https://m.example/{name}")?;
     match resolve(alloc, library, root.as_str(), &bindings) {
@@ -142,6 +196,9 @@ fn models_are_resolved(rt: HostRuntime) -> Result<(), Fail> {
         assert_eq!(rt; text.as_str(), wanted, "{name}");
     }
     let text = outcome(alloc, &library, "absent")?;
-    assert_eq!(rt; text.as_str(), "no such model in https://m.example/absent: ");
+    assert_eq!(rt;
+        text.as_str(),
+        "no such model in https://m.example/absent: "
+    );
     Ok(())
 }

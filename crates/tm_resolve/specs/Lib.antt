@@ -7,3 +7,4 @@ pub mod Value
 pub mod Faults
 pub mod Resolution
 pub mod Walking
+pub mod Resolver

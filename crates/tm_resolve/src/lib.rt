@@ -29,12 +29,12 @@ mod chain;
 mod fault;
 mod laws;
 mod links;
-mod resolving;
+mod resolver;
 mod sources;
 mod walk;
 mod weight;
 
 pub use fault::{ResolveFault, ResolveKind};
 pub use laws::too_large_is_exact;
-pub use resolving::resolve;
+pub use resolver::{Resolver, resolve};
 pub use servient_base::NoMemory;

@@ -1,0 +1,86 @@
+//! The values of whole Thing Models.
+
+ghost use Rattle.std.specs.Prelude.{◌≡◌, ◌⊎◌, Ok, Err, IfOk, IfErr};
+ghost use Rattle.wot_json.specs.Meaning.{json_of};
+ghost use Rattle.tm_parts.specs.Sources.{sources_of};
+ghost use Rattle.tm_resolve.specs.Resolution.{resolved_from, resolved_model};
+
+use crate::fault::{ResolveFault, ResolveKind};
+use crate::sources::Sources;
+use crate::walk::target_value;
+use crate::weight::is_too_large;
+use servient_base::NoMemory;
+use std::alloc::Global;
+use tm_parts::{Bindings, Library, Reference};
+use wot_json::{Text, Tree};
+
+/// The models of a library with values in the places of their placeholders, prepared once for all that is asked of
+/// them. Contracts see the models by their URLs, each with its values or with the first fault of the substitution.
+#[derive(Drop)]
+pub struct Resolver {
+    sources: Sources,
+}
+
+impl Resolver {
+    ghost use Rattle.tm_resolve.specs.Resolver.{resolver_models};
+
+    /// Puts the values into each model of the library, once. No limit holds for that.
+    pub fn new(alloc: Global, library: &Library, bindings: &Bindings) -> Result<Self, NoMemory>
+        ensures { IfOk result (λ r. resolver_models r ≡ sources_of library.now bindings.now) }
+    {
+        Ok(Resolver {
+            sources: Sources {
+                alloc,
+                models: library.sources(bindings)?,
+            },
+        })
+    }
+
+    /// The value of the model under the URL `root`, or the first fault.
+    ///
+    /// Each model has values in the places of its placeholders before anything in it is looked at; a fault of that comes
+    /// alone. A model with one link `tm:extends` is a merge patch (RFC 7396) on the model that the link leads to, which
+    /// comes with its own extension and without its links. An object with `tm:ref` is one on the part that `tm:ref`
+    /// refers to, with its own references brought in first. What leads back to a part on the way to it
+    /// is circular; what is brought in twice side by side is not.
+    ///
+    /// `TooLarge` comes before all other faults, at the root and with the empty pointer: the model with all that it brings
+    /// in, and its submodels, weighs more than 262,144, is deeper than 64, or has a chain of more than 16 models and parts.
+    /// The order of the others is preorder: those of an extension before those of the model, those of a `tm:ref` before
+    /// those of the members beside it, and members in the byte order of their names. Of what comes after the first fault
+    /// nothing is looked at.
+    ///
+    /// Counting takes a time in proportion to the weight, and at most to the limit, however large the expansion is. Each
+    /// step parses and joins a URL and goes through the list of the models. What is brought in twice is made twice, so
+    /// making the value is in proportion to the weight, times the length of chains.
+    pub fn resolve(&self, root: &str) -> Result<Tree, ResolveFault>
+        ensures ok { IfOk result (λ t. resolved_from (resolver_models self.now) root.now ≡ Ok (json_of t)) }
+        ensures fault { IfErr result (λ e. (e ≡ ResolveFault.NoMemory)
+            ⊎ (resolved_from (resolver_models self.now) root.now ≡ Err e)) }
+    {
+        let sources = &self.sources;
+        let target = Reference {
+            url: Text::copy_of(sources.alloc, root)?,
+            pointer: Text::copy_of(sources.alloc, "")?,
+        };
+        if is_too_large(sources, &target)? {
+            return Err(ResolveFault::at(sources.alloc, ResolveKind::TooLarge, root, ""));
+        }
+        let mut chain = Vec::new(sources.alloc);
+        target_value(sources, root, &[], &target, &mut chain)
+    }
+}
+
+/// The value of one model of a library, or the first fault: a `Resolver` is made, and asked for it.
+pub fn resolve(
+    alloc: Global,
+    library: &Library,
+    root: &str,
+    bindings: &Bindings,
+) -> Result<Tree, ResolveFault>
+    ensures ok { IfOk result (λ t. resolved_model library.now bindings.now root.now ≡ Ok (json_of t)) }
+    ensures fault { IfErr result (λ e. (e ≡ ResolveFault.NoMemory) ⊎ (resolved_model library.now bindings.now root.now ≡ Err e)) }
+{
+    let resolver = Resolver::new(alloc, library, bindings)?;
+    resolver.resolve(root)
+}

@@ -1,5 +1,5 @@
 -- Taking over a value, element by element and member by member.
-use Rattle.std.proofs.Common.{◌≡◌, ℕ, ◌+◌, ◌<◌, List, [], ◌∷◌, ◌++◌, length, get_or, drop, map, Option, Some, None, option_map, option_and_then, refl, sym, ap, ◌∙◌, subst, append-nil, string_bytes, string_cmp, String, Global, max}
+use Rattle.std.proofs.Common.{arith, ◌≡◌, ℕ, ◌+◌, ◌<◌, List, [], ◌∷◌, ◌++◌, length, get_or, drop, map, Option, Some, None, option_map, option_and_then, refl, sym, ap, ◌∙◌, subst, append-nil, string_bytes, string_cmp, String, Global, max}
 use Rattle.std.specs.Prelude.{◌≤◌, cond, ℤ, is_some}
 use Rattle.std.specs.Ordering.{nat_cmp}
 use Rattle.std.specs.Cmp.Lexicographic.{slice_cmp}
@@ -17,7 +17,7 @@ use Rattle.serde_json.specs.declared.value.Value.{Value}
 use Rattle.serde_json.proofs.Views.{Entry}
 use Rattle.wot_json.specs.Tree.{Json, integer, array, object, Elements, no_elements, element, Members, no_members, member, elements_of, members_of, AreOrdered}
 use Rattle.wot_json.specs.Meaning.{json_of, json_members}
-use Rattle.wot_json.specs.Places.{index_text}
+use Rattle.wot_json.specs.Places.{index_text, step_text, place_text}
 use Rattle.wot_json.specs.Reading.{tree_of_value, tree_of_items, tree_of_members, places_below, wrong_numbers, wrong_in_items, wrong_in_members, first_pointer}
 use Rattle.wot_json.specs.Faults.{NamesFirst}
 use Rattle.wot_json.specs.declared.tree.Tree.{Tree}
@@ -49,21 +49,23 @@ elements_map-push vs v None = refl
 elements_map-push vs v (Some rest) = ap Some (sym (elements_before-push vs v rest))
 
 -- one more element was taken over
-pub items_more : (all : Option Elements) (done now : List Json) (vs : List Value) (i : ℕ) (x : Value) (v : Json) → i < length vs → x ≡ get_or vs i x
-    → all ≡ option_map (elements_before done) (tree_of_items (items_view (drop i vs)))
+pub items_more : (all : Option Elements) (done now : List Json) (x : Value) (left : List Value) (v : Json)
+    → all ≡ option_map (elements_before done) (tree_of_items (items_view (x ∷ left)))
     → tree_of_value (view x) ≡ Some v → now ≡ done ++ v ∷ []
-    → all ≡ option_map (elements_before now) (tree_of_items (items_view (drop (i + 1) vs)))
-items_more all done now vs i x v within is so_far one grown =
-    let here : tree_of_value (view (get_or vs i x)) ≡ Some v = ap (λ (y : Value). tree_of_value (view y)) (sym is) ∙ one in
-    so_far ∙ ap (option_map (elements_before done)) (at_drop_more (λ rest. tree_of_items (items_view rest)) vs i x within)
-    ∙ rw here (elements_map-push done v (tree_of_items (items_view (drop (i + 1) vs))))
-    ∙ ap (λ (es : List Json). option_map (elements_before es) (tree_of_items (items_view (drop (i + 1) vs)))) (sym grown)
+    → all ≡ option_map (elements_before now) (tree_of_items (items_view left))
+items_more all done now x left v so_far one grown =
+    so_far ∙ rw one (elements_map-push done v (tree_of_items (items_view left)))
+    ∙ ap (λ (es : List Json). option_map (elements_before es) (tree_of_items (items_view left))) (sym grown)
+
+-- a list of length 0 is empty
+pub none_left : {A : Type 0} (xs : List A) → length xs ≡ 0 → xs ≡ []
+none_left [] none = refl
+none_left (x ∷ xs) none = absurd (omega arith)
 
 -- all elements were
-pub items_all : (all : Option Elements) (done : List Json) (vs : List Value) (i : ℕ) → length vs ≤ i
-    → all ≡ option_map (elements_before done) (tree_of_items (items_view (drop i vs))) → all ≡ Some (elements_of done)
-items_all all done vs i over so_far =
-    so_far ∙ ap (option_map (elements_before done)) (at_drop_all (λ rest. tree_of_items (items_view rest)) vs i over) ∙ ap Some (elements_before-none done)
+pub items_all : (all : Option Elements) (done : List Json) (left : List Value) → left ≡ []
+    → all ≡ option_map (elements_before done) (tree_of_items (items_view left)) → all ≡ Some (elements_of done)
+items_all all done left over so_far = so_far ∙ rw over (ap Some (elements_before-none done))
 
 -- ---- wrong numbers
 
@@ -121,23 +123,28 @@ NamesFirst-append [] more (NotInteger pointer) h = absurd (none-some pointer h)
 NamesFirst-append (place ∷ places) more (NotInteger pointer) h = h
 NamesFirst-append places more NoMemory h = tt
 
--- no wrong number stands before those that are left
-pub items_places_more : (all : List (List (List ℕ))) (vs : List Value) (i : ℕ) (x : Value) (v : Json) → i < length vs → x ≡ get_or vs i x
-    → all ≡ wrong_in_items i (items_view (drop i vs)) → tree_of_value (view x) ≡ Some v → all ≡ wrong_in_items (i + 1) (items_view (drop (i + 1) vs))
-items_places_more all vs i x v within is so_far one =
-    so_far ∙ at_drop_more (λ rest. wrong_in_items i (items_view rest)) vs i x within
-    ∙ ap (λ (here : List (List (List ℕ))). places_below (index_text i) here ++ wrong_in_items (i + 1) (items_view (drop (i + 1) vs))) (ap (λ (y : Value). wrong_numbers (view y)) (sym is) ∙ none_wrong (view x) v one)
+-- the pointer to the first place below a token
+pub named_below : (token place pointer : List ℕ) (places : List (List (List ℕ))) → first_pointer places ≡ Some place → pointer ≡ step_text token ++ place → first_pointer (places_below token places) ≡ Some pointer
+named_below token place pointer [] first whole = absurd (none-some place first)
+named_below token place pointer (steps ∷ places) first whole =
+    let inside : place_text steps ≡ place = cc in
+    ap (λ (rest : List ℕ). Some (step_text token ++ rest)) inside ∙ ap Some (sym whole)
 
-pub item_fault : (all : List (List (List ℕ))) (vs : List Value) (i n : ℕ) (x : Value) (f g : ReadFault) → i < length vs → x ≡ get_or vs i x → n ≡ i
-    → all ≡ wrong_in_items i (items_view (drop i vs)) → NamesFirst (wrong_numbers (view x)) f
+-- no wrong number comes before those that are left
+pub items_places_more : (all : List (List (List ℕ))) (i n : ℕ) (x : Value) (left : List Value) (v : Json) → n ≡ i + 1
+    → all ≡ wrong_in_items i (items_view (x ∷ left)) → tree_of_value (view x) ≡ Some v → all ≡ wrong_in_items n (items_view left)
+items_places_more all i n x left v next so_far one =
+    so_far ∙ ap (λ (here : List (List (List ℕ))). places_below (index_text i) here ++ wrong_in_items (i + 1) (items_view left)) (none_wrong (view x) v one)
+    ∙ ap (λ (k : ℕ). wrong_in_items k (items_view left)) (sym next)
+
+pub item_fault : (all : List (List (List ℕ))) (i n : ℕ) (x : Value) (left : List Value) (f g : ReadFault) → n ≡ i
+    → all ≡ wrong_in_items i (items_view (x ∷ left)) → NamesFirst (wrong_numbers (view x)) f
     → ((places : List (List (List ℕ))) → NamesFirst places f → NamesFirst (places_below (index_text n) places) g) → NamesFirst all g
-item_fault all vs i n x f g within is count so_far here out =
-    let whole : all ≡ places_below (index_text n) (wrong_numbers (view x)) ++ wrong_in_items (i + 1) (items_view (drop (i + 1) vs)) =
-    so_far ∙ at_drop_more (λ rest. wrong_in_items i (items_view rest)) vs i x within
-    ∙ ap (λ (y : Value). places_below (index_text i) (wrong_numbers (view y)) ++ wrong_in_items (i + 1) (items_view (drop (i + 1) vs))) (sym is)
-    ∙ ap (λ (k : ℕ). places_below (index_text k) (wrong_numbers (view x)) ++ wrong_in_items (i + 1) (items_view (drop (i + 1) vs))) (sym count) in
+item_fault all i n x left f g count so_far here out =
+    let whole : all ≡ places_below (index_text n) (wrong_numbers (view x)) ++ wrong_in_items (i + 1) (items_view left) =
+    so_far ∙ ap (λ (k : ℕ). places_below (index_text k) (wrong_numbers (view x)) ++ wrong_in_items (i + 1) (items_view left)) (sym count) in
     subst (λ (places : List (List (List ℕ))). NamesFirst places g) (sym whole)
-    (NamesFirst-append _ (wrong_in_items (i + 1) (items_view (drop (i + 1) vs))) g (out (wrong_numbers (view x)) here))
+    (NamesFirst-append _ (wrong_in_items (i + 1) (items_view left)) g (out (wrong_numbers (view x)) here))
 
 -- ---- objects
 
@@ -177,7 +184,7 @@ pub members_all : (all : Option Members) (done : List (List ℕ × Tree)) (left 
     → all ≡ option_map (members_before (json_members done)) (tree_of_members (members_view left)) → all ≡ Some (members_of (json_members done))
 members_all all done left over so_far = so_far ∙ rw over (ap Some (members_before-none (json_members done)))
 
--- no wrong number stands before those that are left
+-- no wrong number comes before those that are left
 pub members_places_more : (all : List (List (List ℕ))) (e : Entry) (left : List Entry) (v : Json)
     → all ≡ wrong_in_members (members_view (e ∷ left)) → tree_of_value (view e.1) ≡ Some v → all ≡ wrong_in_members (members_view left)
 members_places_more all e left v so_far one =

@@ -6,7 +6,7 @@ use Rattle.std.proofs.lemmas.List.{length-map}
 use Rattle.std.specs.Cmp.Lexicographic.{slice_cmp}
 use Rattle.std.specs.Ordering.{nat_cmp, ordering_then}
 use Rattle.std.specs.declared.cmp.Ordering.TheVariants.{Greater}
-use Rattle.std.specs.Prelude.{slice_get, decimal, Bool, true, false, option_map, MatchOption, Option, Some, None, ◌-◌, ◌^◌}
+use Rattle.std.specs.Prelude.{slice_get, codes, decimal, Bool, true, false, option_map, MatchOption, Option, Some, None, ◌-◌, ◌^◌}
 use Rattle.std.specs.Str.{bytes_eq}
 use mathlib.Core.Bool.{false≢true}
 use Rattle.std.proofs.lemmas.Bool.{cases_eq}
@@ -19,7 +19,7 @@ use Rattle.wot_json.specs.declared.tree.Tree.{Tree}
 use Rattle.std.proofs.lemmas.Str.Pattern.{IsSplitOnceResult, split_after, split_parts}
 use Rattle.std.proofs.lemmas.Option.{slice_get-map, slice_get_read, slice_get_past}
 use Rattle.std.proofs.lemmas.Bool.Decides.{nat_tests}
-use Rattle.wot_json.specs.Places.{token_byte, token_text, place_text}
+use Rattle.wot_json.specs.Places.{token_byte, token_text, place_text, index_text, step_text, element_step_text}
 use Rattle.wot_json.proofs.Tokens.{token_byte-plain, token_text-plain}
 
 -- what is left at a place begins with what stands there
@@ -314,3 +314,7 @@ pub pointer_escaped : (at rest : List ℕ) → at ≡ 47 ∷ rest → escapes re
 pointer_escaped at rest begins escaped =
     let tokens = tokens_of rest escaped in
     (tokens.0 ∷ tokens.1, begins ∙ ap (λ (bs : List ℕ). 47 ∷ bs) tokens.2)
+
+-- a step into a list is the step that the index writes as a token
+pub element_step : (n : ℕ) → n < 2 ^ 64 → element_step_text n ≡ step_text (index_text n)
+element_step n fits = ap (λ (token : List ℕ). codes "/" ++ token) (sym (number_token n fits))

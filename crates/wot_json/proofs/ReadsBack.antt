@@ -28,11 +28,12 @@ use Rattle.serde_json.proofs.Numbers.{number_of-decimal, number_of-negative}
 use Rattle.serde_json.proofs.Texts.{print-outline}
 use Rattle.wot_json.specs.Tree.{Json, null, boolean, integer, string, array, object, Elements, no_elements, element, Members, no_members, member, AreOrdered}
 use Rattle.wot_json.specs.Json.{text_of, elements_text, more_elements_text, members_text, more_members_text, json_string}
-use Rattle.wot_json.specs.Reading.{value_of, tree_of, tree_of_value, tree_of_items, tree_of_members, max_depth}
+use Rattle.wot_json.specs.Reading.{value_of, tree_of, tree_of_value, tree_of_items, tree_of_members}
 use Rattle.wot_json.specs.Lookup.{member_list}
 use Rattle.wot_json.specs.WellFormed.{depth, elements_depth, members_depth, IsWellFormed, ElementsAreWellFormed, MembersAreWellFormed}
 use Rattle.wot_json.proofs.CompactTexts.{data_of, items_of, fields_of, same_string, text_of-compact}
 use Rattle.wot_json.proofs.TreeOf.{value_of-some}
+use Rattle.wot_json.specs.declared.reading.TheConstants.{MAX_DEPTH}
 
 -- ---- numbers
 
@@ -265,9 +266,9 @@ read-text_of v h shallow =
     ∙ ap (λ o. option_and_then of_json (option_and_then (λ p. grammar.if_last p.0 p.1) o)) (value-json_tokens (outline (data_of v)) 127 [] (omega (arith, depth-outline v)))
     ∙ reads_value v h
 
-pub tree_of-text_of : (v : Json) → IsWellFormed v → depth v ≤ max_depth → tree_of (text_of v) ≡ Some v
+pub tree_of-text_of : (v : Json) → IsWellFormed v → depth v ≤ MAX_DEPTH → tree_of (text_of v) ≡ Some v
 tree_of-text_of v h shallow =
     let value : value_of (text_of v) ≡ Some (data_of v) = value_of-some (text_of v) (data_of v) (IsUtf8-text_of v h) (read-text_of v h (omega arith)) in
-    let within : json.depth (data_of v) ≤ max_depth = omega (arith, depth-data_of v) in
-    ap (option_and_then (λ d. cond (nat_le (json.depth d) max_depth) (tree_of_value d) None)) value
-    ∙ rw (le-leb (json.depth (data_of v)) max_depth within) (tree_of_value-data_of v h)
+    let within : json.depth (data_of v) ≤ MAX_DEPTH = omega (arith, depth-data_of v) in
+    ap (option_and_then (λ d. cond (nat_le (json.depth d) MAX_DEPTH) (tree_of_value d) None)) value
+    ∙ rw (le-leb (json.depth (data_of v)) MAX_DEPTH within) (tree_of_value-data_of v h)

@@ -1,20 +1,20 @@
--- What a fault says of the text or the value that it comes from; for private clauses.
+-- What a fault of `read` says of the bytes.
 use Rattle.std.specs.Prelude.{◌≡◌, ℕ, List, Option, Some, None, ⊤}
-use Rattle.serde_json.specs.Data.{Data}
-use Rattle.wot_json.specs.Reading.{first_pointer}
+use Rattle.wot_json.specs.Reading.{value_of, first_pointer, IsTooDeep, IsFirstWrong}
 use Rattle.wot_json.specs.declared.reading.ReadFault.{ReadFault}
 use Rattle.wot_json.specs.declared.reading.ReadFault.TheVariants.{NotJson, TooDeep, NotInteger, NoMemory}
 
--- These are the places of the wrong numbers, and the fault names the first; or there was no memory.
+-- The fault says what is wrong with the bytes: they have no value, or one that nests too deep, or one whose first wrong
+-- number is at the pointer. Out of memory says nothing of them.
+abbrev pub HasReadFault : List ℕ → ReadFault → Type 0
+HasReadFault bytes NotJson = value_of bytes ≡ None
+HasReadFault bytes TooDeep = IsTooDeep bytes
+HasReadFault bytes (NotInteger pointer) = IsFirstWrong bytes pointer
+HasReadFault bytes NoMemory = ⊤
+
+-- These are the places of the wrong numbers, and the fault names the first; or it is out of memory.
 abbrev pub NamesFirst : List (List (List ℕ)) → ReadFault → Type 0
 NamesFirst places NotJson = ⊥
 NamesFirst places TooDeep = ⊥
 NamesFirst places (NotInteger pointer) = first_pointer places ≡ Some pointer
 NamesFirst places NoMemory = ⊤
-
--- There is no value, and the fault says so; or there was no memory.
-abbrev pub IsNotJson : Option Data → ReadFault → Type 0
-IsNotJson value NotJson = value ≡ None
-IsNotJson value TooDeep = ⊥
-IsNotJson value (NotInteger pointer) = ⊥
-IsNotJson value NoMemory = ⊤

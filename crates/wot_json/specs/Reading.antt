@@ -8,14 +8,11 @@ use Rattle.serde_json.specs.Find.{as_i64}
 use Rattle.serde_json.specs.Read.{read}
 use Rattle.wot_json.specs.Tree.{Json, null, boolean, integer, string, array, object, Elements, no_elements, element, Members, no_members, member}
 use Rattle.wot_json.specs.Places.{index_text, place_text}
+use Rattle.wot_json.specs.declared.reading.TheConstants.{MAX_DEPTH}
 
 -- The value of bytes, where they are UTF-8 and one JSON text (RFC 8259 sections 2 and 8.1).
 abbrev pub value_of : List ℕ → Option Data
 value_of bytes = if is_utf8 bytes then read bytes else None
-
--- how deep lists and objects may nest, one that is empty counting 1
-abbrev pub max_depth : ℕ
-max_depth = 64
 
 -- The tree of a value: the same, where each number in it is whole and has 64 bits with sign.
 abbrev mutual
@@ -37,9 +34,9 @@ abbrev mutual
 
 -- The tree of bytes: that of their value, which nests no deeper than is allowed.
 abbrev pub tree_of : List ℕ → Option Json
-tree_of bytes = option_and_then (λ d. if nat_le (depth d) max_depth then tree_of_value d else None) (value_of bytes)
+tree_of bytes = option_and_then (λ d. if nat_le (depth d) MAX_DEPTH then tree_of_value d else None) (value_of bytes)
 
--- these places behind one step more, which this token names
+-- these places one step further in, below this token
 abbrev pub places_below : List ℕ → List (List (List ℕ)) → List (List (List ℕ))
 places_below token places = map (λ place. token ∷ place) places
 
@@ -69,8 +66,8 @@ first_pointer places = option_map place_text (slice_get places 0)
 
 -- the value of the bytes nests too deep
 abbrev pub IsTooDeep : List ℕ → Type 0
-IsTooDeep bytes = (d : Data) × (value_of bytes ≡ Some d) × (max_depth < depth d)
+IsTooDeep bytes = (d : Data) × (value_of bytes ≡ Some d) × (MAX_DEPTH < depth d)
 
 -- The value of the bytes nests no deeper than is allowed, and its first wrong number is at this pointer.
 abbrev pub IsFirstWrong : List ℕ → List ℕ → Type 0
-IsFirstWrong bytes pointer = (d : Data) × (value_of bytes ≡ Some d) × (depth d ≤ max_depth) × (first_pointer (wrong_numbers d) ≡ Some pointer)
+IsFirstWrong bytes pointer = (d : Data) × (value_of bytes ≡ Some d) × (depth d ≤ MAX_DEPTH) × (first_pointer (wrong_numbers d) ≡ Some pointer)

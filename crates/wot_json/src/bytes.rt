@@ -35,7 +35,7 @@ impl Bytes {
         Bytes { items }
     }
 
-    /// The vector that these bytes stand in.
+    /// The vector that holds these bytes.
     pub fn into_vec(self) -> Vec<u8>
         ensures { result.items ≡ self }
     {
@@ -75,7 +75,7 @@ impl Bytes {
     /// Puts a byte at the end.
     pub fn push(&mut self, byte: u8) -> Result<(), NoMemory>
         ensures ok { OnOk result (self.new ≡ self.old ++ byte ∷ []) }
-        ensures err { OnErr result (self.new ≡ self.old) }
+        ensures unchanged { OnErr result (self.new ≡ self.old) }
     {
         self.items.push(byte)?;
         Ok(())
@@ -84,7 +84,7 @@ impl Bytes {
     /// Puts bytes at the end.
     pub fn extend(&mut self, bytes: &[u8]) -> Result<(), NoMemory>
         ensures ok { OnOk result (self.new ≡ self.old ++ bytes.now) }
-        ensures err { OnErr result (self.new ≡ self.old) }
+        ensures unchanged { OnErr result (self.new ≡ self.old) }
     {
         self.items.extend_from_slice(bytes)?;
         Ok(())

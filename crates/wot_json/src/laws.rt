@@ -4,15 +4,15 @@ ghost use Rattle.std.specs.Prelude.{◌≡◌, ◌≤◌, Some};
 ghost use Rattle.wot_json.specs.Json.{text_of};
 ghost use Rattle.wot_json.specs.Meaning.{json_of};
 ghost use Rattle.wot_json.specs.Merge.{merge};
-ghost use Rattle.wot_json.specs.Reading.{tree_of, max_depth};
+ghost use Rattle.wot_json.specs.Reading.{tree_of};
 ghost use Rattle.wot_json.specs.Tree.{Json, elements_of, members_of, AreOrdered};
 ghost use Rattle.wot_json.specs.WellFormed.{depth, IsWellFormed, ElementsAreWellFormed, MembersAreWellFormed};
 
-use crate::{Items, Members, Tree};
+use crate::{Items, MAX_DEPTH, Members, Tree};
 
 /// The text of a value that nests no deeper than is allowed is read as that value.
 pub fn text_is_read_back()
-    ensures { (v : Json) → IsWellFormed v → depth v ≤ max_depth → tree_of (text_of v) ≡ Some v }
+    ensures { (v : Json) → IsWellFormed v → depth v ≤ MAX_DEPTH → tree_of (text_of v) ≡ Some v }
 {}
 
 /// Merging a patch twice is merging it once.

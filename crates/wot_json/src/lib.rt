@@ -27,7 +27,7 @@ pub use laws::{merging_twice_is_merging_once, text_is_read_back, tree_is_well_fo
 pub use lookup::{BadPointer, pointer};
 pub use merging::merge_patch;
 pub use places::{below, below_index, through_element, through_member};
-pub use reading::{ReadFault, read};
+pub use reading::{MAX_DEPTH, ReadFault, read};
 pub use servient_base::NoMemory;
 pub use text::Text;
 pub use texts::has_text;

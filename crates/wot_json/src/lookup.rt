@@ -1,4 +1,4 @@
-//! What stands at a place of a tree: JSON Pointer (RFC 6901).
+//! The value at a place of a tree: JSON Pointer (RFC 6901).
 
 ghost use Rattle.std.specs.Prelude.{◌≡◌, ◌∷◌, [], ◌++◌, List, ℕ, ◌↔◌, option_map, IsTrue, IfOk, IfErr, IfSome, MatchOption, None, ◌<◌, length};
 ghost use Rattle.std.specs.Cmp.Lexicographic.{slice_cmp};
@@ -16,24 +16,21 @@ use servient_base::parse_decimal;
 use std::cmp::Ordering;
 use thiserror::Error;
 
-/// The text is no JSON Pointer: it isn't empty and doesn't begin with `/`, or has a `~` with neither `0` nor `1`
-/// behind it (RFC 6901, section 3).
+/// The text is no JSON Pointer: it isn't empty and doesn't begin with `/`, or neither `0` nor `1` comes after a `~`
+/// (RFC 6901, section 3).
 #[derive(Debug, Drop, Error)]
 #[error("no JSON pointer")]
 pub struct BadPointer;
 
-/// What stands at a place, where anything does. The whole text is judged before anything is looked up.
+/// The value at a place, if there is one. The whole text is judged before anything is looked up.
 ///
 /// An index of a list is decimal digits with no zero before others; `-` and an index past the end lead nowhere
 /// (RFC 6901, section 4). It takes no memory. The name of a member is found by halving, so the time is in
 /// proportion to the length of the text, times the logarithm of the number of members on the way.
 pub fn pointer<'a>(tree: &'a Tree, at: &str) -> Result<Option<&'a Tree>, BadPointer>
-    ensures ok { IfOk result (λ part. IsPointer at.now) }
-    ensures part { IfOk result (λ part. (tokens : List (List ℕ)) → at.now ≡ place_text tokens
-        → option_map (λ t. json_of t.now) part ≡ value_at tokens (json_of tree.now)) }
-    ensures found { IfOk result (λ part. option_map (λ t. json_of t.now) part ≡ part_of at.now (json_of tree.now)) }
-    ensures bad { IfErr result (λ _. ¬ IsPointer at.now) }
-    ensures none { IfErr result (λ _. part_of at.now (json_of tree.now) ≡ None) }
+    ensures ok { IfOk result (λ part. IsPointer at.now
+        × (option_map (λ t. json_of t.now) part ≡ part_of at.now (json_of tree.now))) }
+    ensures fault { IfErr result (λ _. ¬ IsPointer at.now) }
 {
     if at.is_empty() {
         return Ok(Some(tree));
@@ -47,7 +44,7 @@ pub fn pointer<'a>(tree: &'a Tree, at: &str) -> Result<Option<&'a Tree>, BadPoin
     Ok(value_at_tokens(tree, tokens))
 }
 
-/// Each `~` has a `0` or a `1` behind it.
+/// After each `~` comes a `0` or a `1`.
 fn is_escaped(text: &[u8]) -> bool
     ensures { result ≡ escapes text.now }
 {
@@ -59,7 +56,7 @@ fn is_escaped(text: &[u8]) -> bool
     true
 }
 
-/// What stands where one token or more lead, with a `/` between them.
+/// The value where one token or more lead, with a `/` between them.
 fn value_at_tokens<'a>(tree: &'a Tree, tokens: &str) -> Option<&'a Tree>
     ensures { (token : List ℕ) → (further : List (List ℕ)) → tokens.now ≡ token_text token ++ place_text further
         → option_map (λ t. json_of t.now) result ≡ value_at (token ∷ further) (json_of tree.now) }
@@ -72,7 +69,7 @@ fn value_at_tokens<'a>(tree: &'a Tree, tokens: &str) -> Option<&'a Tree>
     }
 }
 
-/// The first token, and those behind it where there are any.
+/// The first token, and the others if there are any.
 fn first_token(tokens: &str) -> (&str, Option<&str>)
     ensures cut { (token : List ℕ) → (further : List (List ℕ)) → tokens.now ≡ token_text token ++ place_text further
         → (result.0.now ≡ token_text token) × MatchOption result.1 (further ≡ [])
@@ -144,7 +141,7 @@ fn compare(name: &[u8], token: &[u8]) -> Ordering
     }
 }
 
-/// The first byte of the name that a token writes, and what is written behind it.
+/// The first byte of the name that a token writes, and what is written after it.
 fn first_byte(token: &[u8]) -> Option<(u8, &[u8])>
     ensures { (name : List ℕ) → token.now ≡ token_text name
         → MatchOption result (name ≡ []) (λ x. (behind : List ℕ) × (name ≡ x.0 ∷ behind) × (x.1.now ≡ token_text behind)) }

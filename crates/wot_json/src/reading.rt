@@ -1,12 +1,12 @@
 //! Reading a JSON text (RFC 8259) as a tree.
 //!
-//! The text is read by `serde_json`; what it gives is taken over where it nests at most 64 deep and its numbers
-//! are whole and have 64 bits with sign.
+//! `serde_json` reads the text. Its value becomes the tree where it nests at most `MAX_DEPTH` deep and its numbers
+//! are whole and have 64 bits with sign. Texts and names move from the one into the other.
 
 ghost use Rattle.std.specs.Prelude.{◌≡◌, ◌≢◌, ◌≤◌, ◌↔◌, ◌++◌, List, ℕ, Some, None, Err, IfOk, IfErr, IsTrue, string_bytes};
 ghost use Rattle.serde_json.specs.Data.{depth, items_depth, members_depth};
 ghost use Rattle.serde_json.specs.View.{view, items_view, members_view};
-ghost use Rattle.wot_json.specs.Faults.{IsNotJson, NamesFirst};
+ghost use Rattle.wot_json.specs.Faults.{HasReadFault, NamesFirst};
 ghost use Rattle.wot_json.specs.Meaning.{json_of};
 ghost use Rattle.wot_json.specs.Places.{index_text, step_text};
 ghost use Rattle.wot_json.specs.Reading.{value_of, tree_of, tree_of_value, tree_of_items, tree_of_members, places_below, wrong_numbers, wrong_in_items, wrong_in_members, IsTooDeep, IsFirstWrong};
@@ -15,16 +15,13 @@ ghost use Rattle.wot_json.specs.Tree.{elements_of, members_of};
 #[cfg(test)]
 mod tests;
 
-use crate::places::push_step;
-use crate::{Items, Members, Text, Tree};
-use itoa::Buffer;
+use crate::{Items, Members, Text, Tree, through_element, through_member};
 use serde_json::{Map, Value};
-use servient_base::NoMemory;
 use std::alloc::{AllocError, Global};
 use thiserror::Error;
 
-/// How deep lists and objects may nest.
-const MAX_DEPTH: u8 = 64;
+/// How deep lists and objects may nest. One that is empty counts 1.
+pub const MAX_DEPTH: u8 = 64;
 
 /// Why bytes are no tree.
 #[derive(Debug, Drop, Error)]
@@ -32,7 +29,7 @@ pub enum ReadFault {
     /// The bytes are not one JSON text in UTF-8 (RFC 8259, sections 2 and 8.1).
     #[error("the bytes are no JSON text")]
     NotJson,
-    /// Lists and objects nest more than 64 deep.
+    /// Lists and objects nest more than `MAX_DEPTH` deep.
     #[error("lists and objects nest more than {MAX_DEPTH} deep")]
     TooDeep,
     /// A number isn't whole or needs more than 64 bits with sign; the pointer (RFC 6901) to the first one.
@@ -61,26 +58,23 @@ impl From<AllocError> for ReadFault {
 /// member that a later one of its name replaces doesn't count.
 ///
 /// Its time is in proportion to the length of the text, but for ordering the n members of an object, which takes
-/// n log n comparisons of names. While it reads, the value stands in memory twice.
+/// n log n comparisons of names.
 pub fn read(alloc: Global, bytes: &[u8]) -> Result<Tree, ReadFault>
     ensures ok { IfOk result (λ t. tree_of bytes.now ≡ Some (json_of t)) }
-    ensures not_json { result ≡ Err ReadFault.NotJson → value_of bytes.now ≡ None }
-    ensures too_deep { result ≡ Err ReadFault.TooDeep → IsTooDeep bytes.now }
-    ensures not_integer { (pointer : List ℕ) → result ≡ Err (ReadFault.NotInteger pointer)
-        → IsFirstWrong bytes.now pointer }
-    ensures no_tree { IfErr result (λ f. f ≢ ReadFault.NoMemory → tree_of bytes.now ≡ None) }
+    ensures complete { IfErr result (λ f. f ≢ ReadFault.NoMemory → tree_of bytes.now ≡ None) }
+    ensures fault { IfErr result (HasReadFault bytes.now) }
 {
-    let value = parsed(alloc, bytes)?;
+    let value = parse(alloc, bytes)?;
     if !nests_within(&value, MAX_DEPTH) {
         return Err(ReadFault::TooDeep);
     }
-    convert(alloc, &value)
+    convert(alloc, value)
 }
 
 /// The value of a JSON text.
-fn parsed(alloc: Global, bytes: &[u8]) -> Result<Value, ReadFault>
+fn parse(alloc: Global, bytes: &[u8]) -> Result<Value, ReadFault>
     ensures ok { IfOk result (λ v. value_of bytes.now ≡ Some (view v)) }
-    ensures err { IfErr result (λ f. IsNotJson (value_of bytes.now) f) }
+    ensures fault { IfErr result (HasReadFault bytes.now) }
 {
     match Value::from_slice(alloc, bytes) {
         Ok(value) => Ok(value),
@@ -127,27 +121,27 @@ fn members_nest_within(members: &Map<String, Value>, levels: u8) -> bool
 
 /// The tree of a value.
 #[cycle(convert)]
-fn convert(alloc: Global, value: &Value) -> Result<Tree, ReadFault>
-    ensures ok { IfOk result (λ t. tree_of_value (view value.now) ≡ Some (json_of t)) }
-    ensures err { IfErr result (NamesFirst (wrong_numbers (view value.now))) }
+fn convert(alloc: Global, value: Value) -> Result<Tree, ReadFault>
+    ensures ok { IfOk result (λ t. tree_of_value (view value) ≡ Some (json_of t)) }
+    ensures fault { IfErr result (NamesFirst (wrong_numbers (view value))) }
 {
     match value {
         Value::Null => Ok(Tree::Null),
-        Value::Bool(truth) => Ok(Tree::Bool(*truth)),
+        Value::Bool(truth) => Ok(Tree::Bool(truth)),
         Value::Number(number) => match number.as_i64() {
             Some(number) => Ok(Tree::Int(number)),
             None => Err(ReadFault::NotInteger(Text::from_string(String::new(alloc)))),
         },
-        Value::String(text) => Ok(Tree::Text(Text::copy_of(alloc, text.as_str())?)),
+        Value::String(text) => Ok(Tree::Text(Text::from_string(text))),
         Value::Array(items) => Ok(Tree::List(convert_items(alloc, items)?)),
         Value::Object(members) => Ok(Tree::Obj(convert_members(alloc, members)?)),
     }
 }
 
 #[cycle(convert)]
-fn convert_items(alloc: Global, items: &[Value]) -> Result<Items, ReadFault>
-    ensures ok { IfOk result (λ i. tree_of_items (items_view items.now) ≡ Some (elements_of i)) }
-    ensures err { IfErr result (NamesFirst (wrong_in_items 0 (items_view items.now))) }
+fn convert_items(alloc: Global, items: Vec<Value>) -> Result<Items, ReadFault>
+    ensures ok { IfOk result (λ i. tree_of_items (items_view items.items) ≡ Some (elements_of i)) }
+    ensures fault { IfErr result (NamesFirst (wrong_in_items 0 (items_view items.items))) }
 {
     let mut elements = Items {
         list: Vec::with_capacity(alloc, items.len())?,
@@ -155,45 +149,36 @@ fn convert_items(alloc: Global, items: &[Value]) -> Result<Items, ReadFault>
     for item in items {
         match convert(alloc, item) {
             Ok(tree) => elements.push(tree)?,
-            Err(fault) => return Err(in_element(alloc, elements.len(), fault)),
+            Err(fault) => return Err(below_element(alloc, elements.len(), fault)),
         }
     }
     Ok(elements)
 }
 
 #[cycle(convert)]
-fn convert_members(alloc: Global, members: &Map<String, Value>) -> Result<Members, ReadFault>
-    ensures ok { IfOk result (λ m. tree_of_members (members_view members.now.entries) ≡ Some (members_of m)) }
-    ensures err { IfErr result (NamesFirst (wrong_in_members (members_view members.now.entries))) }
+fn convert_members(alloc: Global, members: Map<String, Value>) -> Result<Members, ReadFault>
+    ensures ok { IfOk result (λ m. tree_of_members (members_view members.entries) ≡ Some (members_of m)) }
+    ensures fault { IfErr result (NamesFirst (wrong_in_members (members_view members.entries))) }
 {
     let mut list = Vec::with_capacity(alloc, members.len())?;
-    for (name, member) in members.iter() {
+    for (name, member) in members {
         match convert(alloc, member) {
             Ok(tree) => list
-                .push((Text::copy_of(alloc, name.as_str())?, tree))
+                .push((Text::from_string(name), tree))
                 .map_err(AllocError::from)?,
-            Err(fault) => return Err(further_out(alloc, name.as_str(), fault)),
+            Err(fault) => return Err(below_member(alloc, name.as_str(), fault)),
         }
     }
     Ok(Members { list })
 }
 
-/// The fault of an element, seen from its list.
-fn in_element(alloc: Global, index: usize, fault: ReadFault) -> ReadFault
+/// The fault of an element, with its place in the list.
+fn below_element(alloc: Global, index: usize, fault: ReadFault) -> ReadFault
     ensures { (places : List (List (List ℕ))) → NamesFirst places fault
         → NamesFirst (places_below (index_text index) places) result }
 {
-    let mut buffer = Buffer::new();
-    further_out(alloc, buffer.format(index), fault)
-}
-
-/// A fault, seen from one step further out.
-fn further_out(alloc: Global, token: &str, fault: ReadFault) -> ReadFault
-    ensures { (places : List (List (List ℕ))) → NamesFirst places fault
-        → NamesFirst (places_below token.now places) result }
-{
     match fault {
-        ReadFault::NotInteger(place) => match pointer_through(alloc, token, place.as_str()) {
+        ReadFault::NotInteger(place) => match through_element(alloc, index, place.as_str()) {
             Ok(pointer) => ReadFault::NotInteger(pointer),
             Err(_) => ReadFault::NoMemory,
         },
@@ -201,12 +186,16 @@ fn further_out(alloc: Global, token: &str, fault: ReadFault) -> ReadFault
     }
 }
 
-/// The pointer that takes one step and goes on as another.
-fn pointer_through(alloc: Global, token: &str, place: &str) -> Result<Text, NoMemory>
-    ensures { IfOk result (λ t. t ≡ step_text token.now ++ place.now) }
+/// The fault of a member, with its place in the object.
+fn below_member(alloc: Global, name: &str, fault: ReadFault) -> ReadFault
+    ensures { (places : List (List (List ℕ))) → NamesFirst places fault
+        → NamesFirst (places_below name.now places) result }
 {
-    let mut pointer = String::new(alloc);
-    push_step(&mut pointer, token)?;
-    pointer.push_str(place)?;
-    Ok(Text::from_string(pointer))
+    match fault {
+        ReadFault::NotInteger(place) => match through_member(alloc, name, place.as_str()) {
+            Ok(pointer) => ReadFault::NotInteger(pointer),
+            Err(_) => ReadFault::NoMemory,
+        },
+        other => other,
+    }
 }

@@ -28,7 +28,7 @@ impl Text {
         Text { text }
     }
 
-    /// The string that this text stands in.
+    /// The string that holds this text.
     pub fn into_string(self) -> String
         ensures { string_bytes result ≡ self }
     {
@@ -53,6 +53,13 @@ impl Text {
 }
 
 impl fmt::Display for Text {
+    ghost use Rattle.std.specs.Fmt.{styled_text};
+    ghost use Rattle.std.specs.declared.option.Option.TheVariants.{Some};
+
+    ghost output = { λ t. Some t };
+
+    ghost styled_output = { λ t s. Some (styled_text s t) };
+
     fn fmt<W: fmt::Write>(&self, f: &mut fmt::Formatter<W>) -> fmt::Result {
         f.pad(self.as_str())
     }

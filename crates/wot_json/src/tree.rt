@@ -120,6 +120,14 @@ impl Items {
         Items { list }
     }
 
+    /// The vector that holds the elements.
+    pub fn into_vec(self) -> Vec<Tree>
+        ensures { json_items result.items ≡ self }
+    {
+        let Items { list } = self;
+        list
+    }
+
     /// The elements as a slice.
     pub fn as_slice(&self) -> &[Tree]
         ensures { json_items result.now ≡ self.now }
@@ -130,7 +138,7 @@ impl Items {
     /// Puts an element at the end.
     pub fn push(&mut self, item: Tree) -> Result<(), NoMemory>
         ensures ok { OnOk result (self.new ≡ self.old ++ json_of item ∷ []) }
-        ensures err { OnErr result (self.new ≡ self.old) }
+        ensures unchanged { OnErr result (self.new ≡ self.old) }
     {
         self.list.push(item)?;
         Ok(())
@@ -154,6 +162,23 @@ impl Members {
         self.list.len()
     }
 
+    /// The members of a vector, which is taken over as it is. Their names are in byte order, each once.
+    pub fn from_vec(list: Vec<(Text, Tree)>) -> Self
+        requires { AreOrdered (json_members list.items) }
+        ensures { result ≡ json_members list.items }
+    {
+        Members { list }
+    }
+
+    /// The vector that holds the members, in the byte order of the names.
+    pub fn into_vec(self) -> Vec<(Text, Tree)>
+        ensures members { json_members result.items ≡ self }
+        ensures ordered { AreOrdered self }
+    {
+        let Members { list } = self;
+        list
+    }
+
     /// The members as a slice of names and values, in the byte order of the names.
     pub fn as_slice(&self) -> &[(Text, Tree)]
         ensures members { json_members result.now ≡ self.now }
@@ -175,11 +200,11 @@ impl Members {
         }
     }
 
-    /// Puts a member at the end; its name stands behind all others in byte order.
+    /// Puts a member at the end. Its name is after all others in byte order.
     pub fn push(&mut self, name: Text, value: Tree) -> Result<(), NoMemory>
         requires { AreOrdered (self.old ++ (name, json_of value) ∷ []) }
         ensures ok { OnOk result (self.new ≡ self.old ++ (name, json_of value) ∷ []) }
-        ensures err { OnErr result (self.new ≡ self.old) }
+        ensures unchanged { OnErr result (self.new ≡ self.old) }
     {
         self.list.push((name, value))?;
         Ok(())

@@ -1,6 +1,6 @@
 //! The text of a tree: into a caller's slice, or as bytes of its own.
 
-ghost use Rattle.std.specs.Prelude.{◌≡◌, ◌≤◌, ◌<◌, length, take, drop, IfSome, IfNone, IfOk};
+ghost use Rattle.std.specs.Prelude.{◌≡◌, ◌≤◌, ◌<◌, length, drop, ◌++◌, ◌↔◌, IfSome, IsNone, IfOk};
 ghost use Rattle.std.specs.List.{flat_map};
 ghost use Rattle.wot_json.specs.Json.{json_text, json_string, escaped_byte, hex_digit as digit_of, text_of as text_of_value, field_text, further_element, further_field};
 ghost use Rattle.wot_json.specs.Tree.{array, object, elements_of, members_of};
@@ -14,15 +14,13 @@ use std::alloc::{AllocError, Global};
 /// For how many bytes there is room at first.
 const FIRST_ROOM: usize = 64;
 
-/// Writes the text of a tree to the front of `out`, and returns its length. It takes no memory, and its time
-/// is in proportion to that length. There is none where the text is longer than `out`, whose contents are then
-/// open.
+/// Writes the text of a tree to the beginning of `out`, and returns its length. It takes no memory, and its time
+/// is in proportion to that length. There is no answer where the text is longer than `out`; part of it may then have
+/// been written.
 pub fn write(tree: &Tree, out: &mut [u8]) -> Option<usize>
-    ensures length { IfSome result (λ n. n ≡ length (json_text tree.now)) }
-    ensures within { IfSome result (λ n. n ≤ length out.old) }
-    ensures text { IfSome result (λ n. take n out.new ≡ json_text tree.now) }
-    ensures rest { IfSome result (λ n. drop n out.new ≡ drop n out.old) }
-    ensures none { IfNone result (length out.old < length (json_text tree.now)) }
+    ensures ok { IfSome result (λ n. (n ≡ length (json_text tree.now))
+        × (out.new ≡ json_text tree.now ++ drop n out.old)) }
+    ensures no_room { IsNone result ↔ (length out.old < length (json_text tree.now)) }
 {
     put_tree(tree, out, 0)
 }
@@ -56,9 +54,8 @@ pub fn quoted(alloc: Global, text: &str) -> Result<Bytes, NoMemory>
 /// The length of the JSON text of a text (RFC 8259, section 7), where it is at most `most`. It takes no memory,
 /// and stops as soon as `most` is passed.
 pub fn quoted_length(text: &str, most: usize) -> Option<usize>
-    ensures length { IfSome result (λ n. n ≡ length (json_string text.now)) }
-    ensures within { IfSome result (λ n. n ≤ most) }
-    ensures none { IfNone result (most < length (json_string text.now)) }
+    ensures ok { IfSome result (λ n. n ≡ length (json_string text.now)) }
+    ensures no_room { IsNone result ↔ (most < length (json_string text.now)) }
 {
     if most < 2 {
         return None;
@@ -85,7 +82,7 @@ fn escaped_length(byte: u8) -> usize
     }
 }
 
-/// Writes bytes at a place where there is room for them, and returns the place behind.
+/// Writes bytes at a place where there is room for them, and returns the place after them.
 fn put_piece(out: &mut [u8], at: usize, bytes: &[u8]) -> Option<usize>
     requires { at ≤ length out.old }
     ensures { PutsIfRoom bytes.now at out.old out.new result }
@@ -162,7 +159,7 @@ fn put_tree(tree: &Tree, out: &mut [u8], at: usize) -> Option<usize>
     }
 }
 
-/// Writes the text of a list: the first element, and each further one behind a comma.
+/// Writes the text of a list: the first element, and each further one after a comma.
 #[cycle(put)]
 fn put_items(items: &Items, out: &mut [u8], at: usize) -> Option<usize>
     requires { at ≤ length out.old }
@@ -179,7 +176,7 @@ fn put_items(items: &Items, out: &mut [u8], at: usize) -> Option<usize>
     }
 }
 
-/// Writes each element behind a comma.
+/// Writes a comma and an element, for each.
 #[cycle(put)]
 fn put_further_elements(items: &[Tree], out: &mut [u8], at: usize) -> Option<usize>
     requires { at ≤ length out.old }
@@ -195,7 +192,7 @@ fn put_further_elements(items: &[Tree], out: &mut [u8], at: usize) -> Option<usi
     Some(end)
 }
 
-/// Writes an element behind a comma.
+/// Writes a comma and an element.
 #[cycle(put)]
 fn put_further_element(item: &Tree, out: &mut [u8], at: usize) -> Option<usize>
     requires { at ≤ length out.old }
@@ -205,7 +202,7 @@ fn put_further_element(item: &Tree, out: &mut [u8], at: usize) -> Option<usize>
     put_tree(item, out, at)
 }
 
-/// Writes the text of an object: the first member, and each further one behind a comma.
+/// Writes the text of an object: the first member, and each further one after a comma.
 #[cycle(put)]
 fn put_members(members: &Members, out: &mut [u8], at: usize) -> Option<usize>
     requires { at ≤ length out.old }
@@ -222,7 +219,7 @@ fn put_members(members: &Members, out: &mut [u8], at: usize) -> Option<usize>
     }
 }
 
-/// Writes each member behind a comma.
+/// Writes a comma and a member, for each.
 #[cycle(put)]
 fn put_further_fields(fields: &[(Text, Tree)], out: &mut [u8], at: usize) -> Option<usize>
     requires { at ≤ length out.old }
@@ -238,7 +235,7 @@ fn put_further_fields(fields: &[(Text, Tree)], out: &mut [u8], at: usize) -> Opt
     Some(end)
 }
 
-/// Writes a member behind a comma.
+/// Writes a comma and a member.
 #[cycle(put)]
 fn put_further_field(name: &Text, value: &Tree, out: &mut [u8], at: usize) -> Option<usize>
     requires { at ≤ length out.old }

@@ -10,6 +10,7 @@ pub mod PointerTexts
 pub mod PointerTokens
 pub mod MergeLaws
 pub mod MergeTwice
+pub mod MergeMembers
 pub mod Converting
 pub mod TreeOf
 pub mod CompactTexts

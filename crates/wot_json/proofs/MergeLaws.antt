@@ -57,7 +57,7 @@ merged_fronts (m ∷ before) ms name changes behind changes_behind =
 
 -- ---- a change at a cut
 
-named_behind : (name : List ℕ) (ms : List Field) → IsBeforeAll name ms → member_named name ms ≡ None
+pub named_behind : (name : List ℕ) (ms : List Field) → IsBeforeAll name ms → member_named name ms ≡ None
 named_behind name [] before = refl
 named_behind name (m ∷ ms) before = rw (before_other name m.0 before.0) (named_behind name ms before.1)
 

@@ -26,11 +26,11 @@ use Rattle.serde_json.specs.Read.{read, of_json, of_items, of_members, number_of
 use Rattle.serde_json.specs.Written.{number_text, outline, items_outline, members_outline}
 use Rattle.serde_json.proofs.Numbers.{number_of-decimal, number_of-negative}
 use Rattle.serde_json.proofs.Texts.{print-outline}
-use Rattle.wot_json.specs.Tree.{Json, null, boolean, integer, string, array, object, Elements, no_elements, element, Members, no_members, member, AreOrdered}
+use Rattle.wot_json.specs.Tree.{Json, null, boolean, integer, string, array, object, Elements, no_elements, element, Members, no_members, member, AreOrdered, nesting, elements_nesting, members_nesting}
 use Rattle.wot_json.specs.Json.{text_of, elements_text, more_elements_text, members_text, more_members_text, json_string}
 use Rattle.wot_json.specs.Reading.{value_of, tree_of, tree_of_value, tree_of_items, tree_of_members}
 use Rattle.wot_json.specs.Lookup.{member_list}
-use Rattle.wot_json.specs.WellFormed.{depth, elements_depth, members_depth, IsWellFormed, ElementsAreWellFormed, MembersAreWellFormed}
+use Rattle.wot_json.specs.WellFormed.{IsWellFormed, ElementsAreWellFormed, MembersAreWellFormed}
 use Rattle.wot_json.proofs.CompactTexts.{data_of, items_of, fields_of, same_string, text_of-compact}
 use Rattle.wot_json.proofs.TreeOf.{value_of-some}
 use Rattle.wot_json.specs.declared.reading.TheConstants.{MAX_DEPTH}
@@ -147,7 +147,7 @@ mutual
 -- ---- depths
 
 mutual
-  depth-outline : (v : Json) → grammar_tree.depth (outline (data_of v)) ≡ depth v
+  depth-outline : (v : Json) → grammar_tree.depth (outline (data_of v)) ≡ nesting v
   depth-outline null = refl
   depth-outline (boolean b) = refl
   depth-outline (integer z) = refl
@@ -155,16 +155,16 @@ mutual
   depth-outline (array es) = omega (arith, depth-items_outline es)
   depth-outline (object ms) = omega (arith, depth-members_outline ms)
 
-  depth-items_outline : (es : Elements) → grammar_tree.items_depth (items_outline (items_of es)) ≡ elements_depth es
+  depth-items_outline : (es : Elements) → grammar_tree.items_depth (items_outline (items_of es)) ≡ elements_nesting es
   depth-items_outline no_elements = refl
   depth-items_outline (element v es) = ap₂ (λ (a b : ℕ). max a b) (depth-outline v) (depth-items_outline es)
 
-  depth-members_outline : (ms : Members) → grammar_tree.members_depth (members_outline (fields_of ms)) ≡ members_depth ms
+  depth-members_outline : (ms : Members) → grammar_tree.members_depth (members_outline (fields_of ms)) ≡ members_nesting ms
   depth-members_outline no_members = refl
   depth-members_outline (member name v ms) = ap₂ (λ (a b : ℕ). max a b) (depth-outline v) (depth-members_outline ms)
 
 mutual
-  depth-data_of : (v : Json) → json.depth (data_of v) ≡ depth v
+  depth-data_of : (v : Json) → json.depth (data_of v) ≡ nesting v
   depth-data_of null = refl
   depth-data_of (boolean b) = refl
   depth-data_of (integer z) = refl
@@ -172,11 +172,11 @@ mutual
   depth-data_of (array es) = omega (arith, depth-items_of es)
   depth-data_of (object ms) = omega (arith, depth-fields_of ms)
 
-  depth-items_of : (es : Elements) → json.items_depth (items_of es) ≡ elements_depth es
+  depth-items_of : (es : Elements) → json.items_depth (items_of es) ≡ elements_nesting es
   depth-items_of no_elements = refl
   depth-items_of (element v es) = ap₂ (λ (a b : ℕ). max a b) (depth-data_of v) (depth-items_of es)
 
-  depth-fields_of : (ms : Members) → json.members_depth (fields_of ms) ≡ members_depth ms
+  depth-fields_of : (ms : Members) → json.members_depth (fields_of ms) ≡ members_nesting ms
   depth-fields_of no_members = refl
   depth-fields_of (member name v ms) = ap₂ (λ (a b : ℕ). max a b) (depth-data_of v) (depth-fields_of ms)
 
@@ -258,7 +258,7 @@ mutual
 text_is_printed : (v : Json) → text_of v ≡ print (json_tokens (outline (data_of v)))
 text_is_printed v = text_of-compact v ∙ sym (print-outline (data_of v))
 
-read-text_of : (v : Json) → IsWellFormed v → depth v ≤ 127 → read (text_of v) ≡ Some (data_of v)
+read-text_of : (v : Json) → IsWellFormed v → nesting v ≤ 127 → read (text_of v) ≡ Some (data_of v)
 read-text_of v h shallow =
     let ts = json_tokens (outline (data_of v)) in
     let lexed : tokens (text_of v) ≡ ts ++ [] = ap tokens (text_is_printed v) ∙ tokens-print ts (ArePrintable-json_tokens (outline (data_of v)) (has_numbers v h)) ∙ sym (append-nil ts) in
@@ -266,7 +266,7 @@ read-text_of v h shallow =
     ∙ ap (λ o. option_and_then of_json (option_and_then (λ p. grammar.if_last p.0 p.1) o)) (value-json_tokens (outline (data_of v)) 127 [] (omega (arith, depth-outline v)))
     ∙ reads_value v h
 
-pub tree_of-text_of : (v : Json) → IsWellFormed v → depth v ≤ MAX_DEPTH → tree_of (text_of v) ≡ Some v
+pub tree_of-text_of : (v : Json) → IsWellFormed v → nesting v ≤ MAX_DEPTH → tree_of (text_of v) ≡ Some v
 tree_of-text_of v h shallow =
     let value : value_of (text_of v) ≡ Some (data_of v) = value_of-some (text_of v) (data_of v) (IsUtf8-text_of v h) (read-text_of v h (omega arith)) in
     let within : json.depth (data_of v) ≤ MAX_DEPTH = omega (arith, depth-data_of v) in

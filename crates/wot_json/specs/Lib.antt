@@ -1,6 +1,7 @@
 pub mod Tree
+pub mod JsonCodes
 pub mod Meaning
-pub mod Falls
+pub mod JsonSizes
 pub mod Json
 pub mod Writing
 pub mod Lookup

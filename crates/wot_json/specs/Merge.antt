@@ -1,5 +1,5 @@
 -- Merge patch (RFC 7396).
-use Rattle.std.specs.Prelude.{ℕ, List, [], ◌∷◌, unwrap_or, if◌then◌else◌}
+use Rattle.std.specs.Prelude.{ℕ, List, [], ◌∷◌, Option, Some, None, unwrap_or, if◌then◌else◌}
 use Rattle.std.specs.Ordering.{nat_cmp, match_ordering}
 use Rattle.std.specs.Cmp.Lexicographic.{slice_cmp}
 use Rattle.std.specs.Str.{bytes_eq}
@@ -58,3 +58,15 @@ abbrev mutual
   pub merged_members : List (List ℕ × Json) → Members → List (List ℕ × Json)
   merged_members ms no_members = ms
   merged_members ms (member name v changes) = merged_members (changed_members name v (merge (unwrap_or (member_named name ms) null) v) ms) changes
+
+-- The member of a name once an object has patched a value (section 2), from the member of the target and that of the
+-- patch: the target's where the patch doesn't name it, none where the patch has null, and else the merge of the patch's
+-- member on the target's, or on null where the target has none.
+abbrev pub patched_member : Option Json → Option Json → Option Json
+patched_member target None = target
+patched_member target (Some null) = None
+patched_member target (Some (boolean b)) = Some (merge (unwrap_or target null) (boolean b))
+patched_member target (Some (integer z)) = Some (merge (unwrap_or target null) (integer z))
+patched_member target (Some (string s)) = Some (merge (unwrap_or target null) (string s))
+patched_member target (Some (array es)) = Some (merge (unwrap_or target null) (array es))
+patched_member target (Some (object ms)) = Some (merge (unwrap_or target null) (object ms))

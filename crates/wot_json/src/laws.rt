@@ -1,23 +1,44 @@
 //! Laws of trees and their texts, as contracts of functions that no code needs to call.
 
-ghost use Rattle.std.specs.Prelude.{◌≡◌, ◌≤◌, Some};
+ghost use Rattle.std.specs.Prelude.{◌≡◌, ◌≤◌, ◌↔◌, List, ℕ, Some, IsTrue};
 ghost use Rattle.wot_json.specs.Json.{text_of};
 ghost use Rattle.wot_json.specs.Meaning.{json_of};
-ghost use Rattle.wot_json.specs.Merge.{merge};
+ghost use Rattle.wot_json.specs.Lookup.{member_named, value_under};
+ghost use Rattle.wot_json.specs.Merge.{merge, members_under, patched_member};
+ghost use Rattle.wot_json.specs.Places.{place_text};
+ghost use Rattle.wot_json.specs.Pointer.{IsPointer, is_pointer, tokens_in};
 ghost use Rattle.wot_json.specs.Reading.{tree_of};
-ghost use Rattle.wot_json.specs.Tree.{Json, elements_of, members_of, AreOrdered};
-ghost use Rattle.wot_json.specs.WellFormed.{depth, IsWellFormed, ElementsAreWellFormed, MembersAreWellFormed};
+ghost use Rattle.wot_json.specs.Tree.{Json, Members as JsonMembers, object, nesting, elements_of, members_of, AreOrdered};
+ghost use Rattle.wot_json.specs.WellFormed.{IsWellFormed, ElementsAreWellFormed, MembersAreWellFormed};
 
 use crate::{Items, MAX_DEPTH, Members, Tree};
 
 /// The text of a value that nests no deeper than is allowed is read as that value.
 pub fn text_is_read_back()
-    ensures { (v : Json) → IsWellFormed v → depth v ≤ MAX_DEPTH → tree_of (text_of v) ≡ Some v }
+    ensures { (v : Json) → IsWellFormed v → nesting v ≤ MAX_DEPTH → tree_of (text_of v) ≡ Some v }
+{}
+
+/// What a merge patch does, member by member (RFC 7396, section 2), and that its result is well formed.
+///
+/// A member of the result is the target's where the patch doesn't name it, there is none where the patch has null, and
+/// else it is the merge of the patch's member on the target's, or on null where the target has none.
+pub fn merge_goes_by_members()
+    ensures members { (target : Json) → (changes : JsonMembers) → (name : List ℕ) → IsWellFormed (object changes)
+        → member_named name (members_under (merge target (object changes)))
+        ≡ patched_member (member_named name (members_under target)) (value_under name changes) }
+    ensures formed { (target patch : Json) → IsWellFormed target → IsWellFormed patch
+        → IsWellFormed (merge target patch) }
 {}
 
 /// Merging a patch twice is merging it once.
 pub fn merging_twice_is_merging_once()
     ensures { (target patch : Json) → IsWellFormed patch → merge (merge target patch) patch ≡ merge target patch }
+{}
+
+/// A text is a JSON Pointer exactly where it passes the test, and its tokens are those that it was written from.
+pub fn pointers_are_their_tokens()
+    ensures test { (text : List ℕ) → IsTrue (is_pointer text) ↔ IsPointer text }
+    ensures tokens { (tokens : List (List ℕ)) → tokens_in (place_text tokens) ≡ tokens }
 {}
 
 /// Each tree is well formed, so that the laws above hold of it. It goes through the whole tree.

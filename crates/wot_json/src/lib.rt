@@ -23,7 +23,10 @@ mod writing;
 
 pub use bytes::Bytes;
 pub use equality::is_equal;
-pub use laws::{merging_twice_is_merging_once, text_is_read_back, tree_is_well_formed};
+pub use laws::{
+    merge_goes_by_members, merging_twice_is_merging_once, pointers_are_their_tokens, text_is_read_back,
+    tree_is_well_formed,
+};
 pub use lookup::{BadPointer, pointer};
 pub use merging::merge_patch;
 pub use places::{below, below_index, through_element, through_member};

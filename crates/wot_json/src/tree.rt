@@ -28,7 +28,8 @@ pub struct Items {
 
 impl Model for Items {
     ghost use Rattle.std.specs.Prelude.{List};
-    ghost use Rattle.wot_json.specs.Tree.{Json, most_nesting, elements_code};
+    ghost use Rattle.wot_json.specs.JsonCodes.{elements_code};
+    ghost use Rattle.wot_json.specs.Tree.{Json, most_nesting};
 
     ghost Value = { List Json };
 
@@ -41,7 +42,7 @@ impl Model for Items {
     ghost size = { most_nesting };
 
     ghost use Rattle.std.proofs.Common.{arith};
-    ghost use Rattle.wot_json.specs.Falls.{most_le};
+    ghost use Rattle.wot_json.specs.JsonSizes.{most_le};
 
     ghost size_decreases = { λ a h. omega (arith, most_le a.list.items) };
 }
@@ -56,7 +57,8 @@ pub struct Members {
 
 impl Model for Members {
     ghost use Rattle.std.specs.Prelude.{List, ℕ};
-    ghost use Rattle.wot_json.specs.Tree.{Json, most_member_nesting, members_code, AreOrdered};
+    ghost use Rattle.wot_json.specs.JsonCodes.{members_code};
+    ghost use Rattle.wot_json.specs.Tree.{Json, most_member_nesting, AreOrdered};
 
     ghost Value = { List (List ℕ × Json) };
 
@@ -71,7 +73,7 @@ impl Model for Members {
     ghost size = { most_member_nesting };
 
     ghost use Rattle.std.proofs.Common.{arith};
-    ghost use Rattle.wot_json.specs.Falls.{most_member_le};
+    ghost use Rattle.wot_json.specs.JsonSizes.{most_member_le};
 
     ghost size_decreases = { λ a h. omega (arith, most_member_le a.list.items) };
 }

@@ -1,4 +1,5 @@
--- That a tree of the code nests no deeper than the value that it stands for.
+-- A tree of the code nests no deeper than its value: what the kit asks of a `Model` of a type that contains itself. No
+-- contract names this.
 use Rattle.std.specs.Prelude.{ℕ, ◌≤◌, List, [], ◌∷◌, map}
 use Rattle.std.proofs.Common.{arith}
 use denote.Param.Weighed.{most}

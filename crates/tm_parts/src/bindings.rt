@@ -18,7 +18,8 @@ pub struct Bindings {
 
 impl Model for Bindings {
     ghost use Rattle.std.specs.Prelude.{List, ℕ};
-    ghost use Rattle.wot_json.specs.Tree.{Json, members_code};
+    ghost use Rattle.wot_json.specs.JsonCodes.{members_code};
+    ghost use Rattle.wot_json.specs.Tree.{Json};
 
     ghost Value = { List (List ℕ × Json) };
 

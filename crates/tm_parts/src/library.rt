@@ -59,7 +59,8 @@ pub struct Library {
 
 impl Model for Library {
     ghost use Rattle.std.specs.Prelude.{List, ℕ};
-    ghost use Rattle.wot_json.specs.Tree.{Json, members_code};
+    ghost use Rattle.wot_json.specs.JsonCodes.{members_code};
+    ghost use Rattle.wot_json.specs.Tree.{Json};
 
     ghost Value = { List (List ℕ × Json) };
 

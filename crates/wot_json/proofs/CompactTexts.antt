@@ -1,6 +1,5 @@
 -- The text of a value is the compact text that `serde_json` has for it.
 use Rattle.std.proofs.Common.{◌≡◌, ℕ, zero, suc, ◌<◌, ◌≤◌, ℤ, pos, negsuc, List, [], ◌∷◌, ◌++◌, Bool, true, false, refl, sym, ap, ap₂, ◌∙◌, arith, append_assoc, inl, inr, bytes_eq, ◌&&◌}
-use Rattle.std.specs.Char.{digit_char}
 use Rattle.std.specs.List.{flat_map}
 use Rattle.std.proofs.lemmas.Bool.{cases_lt, cases_eq, and_parts}
 use Rattle.std.proofs.lemmas.Bool.Decides.{nat_tests}
@@ -12,7 +11,7 @@ use Rattle.serde_json.specs.Data.{Data}
 use Rattle.serde_json.specs.Find.{of_integer}
 use Rattle.serde_json.specs.Written.{number_text, compact_text, items_text, members_text as fields_text}
 use Rattle.wot_json.specs.Tree.{Json, null, boolean, integer, string, array, object, Elements, no_elements, element, Members, no_members, member}
-use Rattle.wot_json.specs.Json.{hex_digit, escaped_byte, json_string, text_of, elements_text, more_elements_text, members_text, more_members_text}
+use Rattle.wot_json.specs.Json.{escaped_byte, json_string, text_of, elements_text, more_elements_text, members_text, more_members_text}
 
 -- the value as `serde_json` has it
 abbrev mutual
@@ -31,9 +30,6 @@ abbrev mutual
   pub fields_of : Members → json.Members
   fields_of no_members = json.no_members
   fields_of (member name v ms) = json.member name (data_of v) (fields_of ms)
-
-same_digit : (d : ℕ) → hex_digit d ≡ digit_char d
-same_digit d = grind (arith, nat_tests)
 
 -- all bytes below n are written alike
 abbrev alike_below : ℕ → Bool

@@ -1,6 +1,6 @@
 -- Taking over a value, element by element and member by member.
-use Rattle.std.proofs.Common.{arith, ◌≡◌, ℕ, ◌+◌, ◌<◌, List, [], ◌∷◌, ◌++◌, length, get_or, drop, map, Option, Some, None, option_map, option_and_then, refl, sym, ap, ◌∙◌, subst, append-nil, string_bytes, string_cmp, String, Global, max}
-use Rattle.std.specs.Prelude.{◌≤◌, cond, ℤ, is_some}
+use Rattle.std.proofs.Common.{arith, ◌≡◌, ℕ, ◌+◌, List, [], ◌∷◌, ◌++◌, length, map, Option, Some, None, option_map, option_and_then, refl, sym, ap, ◌∙◌, subst, append-nil, string_bytes, string_cmp, String, Global}
+use Rattle.std.specs.Prelude.{cond, ℤ, is_some}
 use Rattle.std.specs.Ordering.{nat_cmp}
 use Rattle.std.specs.Cmp.Lexicographic.{slice_cmp}
 use Rattle.std.proofs.lemmas.Option.{none-some}
@@ -9,7 +9,6 @@ use Rattle.std.specs.List.{AllByRecursion}
 use Rattle.std.specs.List.Sorted.{IsStrictlySortedBy}
 use Rattle.std.specs.declared.cmp.Ordering.TheVariants.{Less}
 use Rattle.std.specs.Map.{keys_of}
-use Rattle.std.proofs.lemmas.List.{at_drop_more, at_drop_all}
 use Rattle.serde_json.specs.Data as json
 use Rattle.serde_json.specs.Data.{Data, depth, items_depth, members_depth}
 use Rattle.serde_json.specs.View.{view, items_view, members_view}
@@ -25,9 +24,6 @@ use Rattle.wot_json.specs.declared.reading.ReadFault.{ReadFault}
 use Rattle.wot_json.specs.declared.reading.ReadFault.TheVariants.{NotJson, TooDeep, NotInteger, NoMemory}
 
 -- ---- nesting
-
-pub items_depth-drop : (vs : List Value) (i : ℕ) (d : Value) → i < length vs → items_depth (items_view (drop i vs)) ≡ max (depth (view (get_or vs i d))) (items_depth (items_view (drop (i + 1) vs)))
-items_depth-drop vs i d within = at_drop_more (λ rest. items_depth (items_view rest)) vs i d within
 
 -- ---- lists
 

@@ -1,7 +1,7 @@
 -- When two arrays and two objects are the same value.
-use Rattle.std.proofs.Common.{◌≡◌, ℕ, ◌+◌, ◌<◌, List, [], ◌∷◌, ◌↔◌, IsTrue, Bool, ◌++◌, map, length, get_or, take, false, refl, sym, ap, subst, ◌∙◌}
+use Rattle.std.proofs.Common.{◌≡◌, ℕ, ◌<◌, List, [], ◌∷◌, ◌↔◌, IsTrue, Bool, map, length, get_or, false, refl, sym, ap, subst, ◌∙◌}
 use mathlib.Core.Bool.{false≢true}
-use Rattle.std.proofs.lemmas.List.{map_more, get_or-map}
+use Rattle.std.proofs.lemmas.List.{get_or-map}
 use Rattle.wot_json.specs.Tree.{Json, array, object, elements_of, members_of}
 use Rattle.wot_json.specs.Lookup.{element_list, member_list, member_named, value_under}
 
@@ -32,11 +32,6 @@ objects_equal xs ys r e = (
   λ yes'. ap (λ (ms : List (List ℕ × Json)). object (members_of ms)) (e.0 yes'),
   λ same. let inside : members_of xs ≡ members_of ys = cc in e.1 (sym (listed_members_lem xs) ∙ ap member_list inside ∙ listed_members_lem ys),
 )
-
--- two lists that stand for the same so far, and at the next place
-pub same_more : {X Y : Type 0} (f : X → Y) (xs ys : List X) (i : ℕ) (d : X) → i < length xs → i < length ys → map f (take i xs) ≡ map f (take i ys) → f (get_or xs i d) ≡ f (get_or ys i d) → map f (take (i + 1) xs) ≡ map f (take (i + 1) ys)
-same_more {X} {Y} f xs ys i d in_xs in_ys before here =
-    map_more f xs i d in_xs ∙ (λ k. before k ++ here k ∷ []) ∙ sym (map_more f ys i d in_ys)
 
 -- two lists that stand for different things at a place aren't the same
 pub differ_at : {X Y : Type 0} (f : X → Y) (xs ys : List X) (i : ℕ) (x y : X) (vs ws : List Y) (r : Bool) → i < length xs → i < length ys → x ≡ get_or xs i x → y ≡ get_or ys i y → map f xs ≡ vs → map f ys ≡ ws → r ≡ false → (f x ≡ f y → IsTrue r) → IsTrue false ↔ (vs ≡ ws)

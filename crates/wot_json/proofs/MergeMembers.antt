@@ -1,5 +1,5 @@
 -- What each member is after a merge, and that the result of a merge is well formed.
-use Rattle.std.proofs.Common.{◌≡◌, ℕ, List, [], ◌∷◌, Option, Some, None, unwrap_or, true, false, refl, sym, ap, subst, ◌∙◌}
+use Rattle.std.proofs.Common.{◌≡◌, ℕ, List, [], ◌∷◌, Option, Some, None, unwrap_or, false, refl, sym, ap, ◌∙◌}
 use Rattle.std.specs.Prelude.{IsUtf8, ⊤}
 use Rattle.std.specs.Str.{bytes_eq}
 use Rattle.wot_json.specs.Tree.{Json, null, boolean, integer, string, array, object, Members, no_members, member, members_of, AreOrdered}

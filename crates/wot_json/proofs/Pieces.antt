@@ -1,5 +1,5 @@
 -- Laws of writing one piece behind another.
-use Rattle.std.proofs.Common.{◌≡◌, ℕ, ◌+◌, ◌≤◌, ◌<◌, List, [], ◌∷◌, ◌++◌, length, take, refl, sym, ap, subst, ◌∙◌, arith, append_assoc, length-append, get_or}
+use Rattle.std.proofs.Common.{◌≡◌, ℕ, ◌+◌, ◌<◌, List, [], ◌∷◌, ◌++◌, length, take, sym, ap, subst, ◌∙◌, arith, append_assoc, length-append, get_or}
 use Rattle.std.specs.Prelude.{Option, Some, None}
 use Rattle.std.specs.List.{flat_map}
 use Rattle.std.proofs.lemmas.List.{append-nil, take_more}
@@ -7,10 +7,6 @@ use Rattle.std.proofs.lemmas.List.Folds.{length-flat_map-take}
 use Rattle.std.proofs.lemmas.Grind.{flat_map-append}
 use Rattle.servient_base.proofs.Lists.{drop-further}
 use Rattle.wot_json.specs.Writing.{Puts, PutsIfRoom}
-
--- nothing was written
-pub puts_none : (at : ℕ) (before : List ℕ) → at ≤ length before → Puts [] at at before before
-puts_none at before within = record { end_is = omega arith; within = within; front = sym (append-nil (take at before)); rest = refl }
 
 -- one text was written, and then another behind it
 pub puts_then : (s t : List ℕ) (at mid end : ℕ) (before between now : List ℕ) → Puts s at mid before between → Puts t mid end between now → Puts (s ++ t) at end before now

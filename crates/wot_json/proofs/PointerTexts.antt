@@ -4,7 +4,7 @@ use Rattle.std.proofs.Math.Seq.{get_or-append_seam}
 use Rattle.std.specs.List.{HoldsAt}
 use Rattle.std.proofs.lemmas.List.{length-map}
 use Rattle.std.specs.Cmp.Lexicographic.{slice_cmp}
-use Rattle.std.specs.Ordering.{nat_cmp, ordering_then}
+use Rattle.std.specs.Ordering.{nat_cmp}
 use Rattle.std.specs.declared.cmp.Ordering.TheVariants.{Greater}
 use Rattle.std.specs.Prelude.{slice_get, codes, decimal, Bool, true, false, option_map, MatchOption, Option, Some, None, ◌-◌, ◌^◌}
 use Rattle.std.specs.Str.{bytes_eq}
@@ -13,7 +13,7 @@ use Rattle.std.proofs.lemmas.Bool.{cases_eq}
 use Rattle.std.proofs.lemmas.Slice.Eq.{bytes_eq-Decides}
 use Rattle.servient_base.proofs.DecimalTexts.{decimal_digit_at}
 use Rattle.wot_json.specs.Tree.{Json}
-use Rattle.wot_json.specs.Pointer.{IsPointer, element_at, value_at, escapes, is_escape}
+use Rattle.wot_json.specs.Pointer.{IsPointer, element_at, escapes, is_escape}
 use Rattle.wot_json.specs.Meaning.{json_of, json_items}
 use Rattle.wot_json.specs.declared.tree.Tree.{Tree}
 use Rattle.std.proofs.lemmas.Str.Pattern.{IsSplitOnceResult, split_after, split_parts}
@@ -104,12 +104,6 @@ pub tilde_is_no_token : (token behind name : List ℕ) (first : ℕ) → token �
 tilde_is_no_token token [] name first token_is first_is none is = no_tilde_alone name (cc)
 tilde_is_no_token token (b ∷ behind) name first token_is first_is none is = omega arith
 
--- what is left of a name at a place, and what is left of another, decide by their first bytes
-pub compare_rest : (name other left behind : List ℕ) (i b : ℕ) → i < length name → slice_cmp nat_cmp name other ≡ slice_cmp nat_cmp (drop i name) left → left ≡ b ∷ behind
-    → slice_cmp nat_cmp name other ≡ ordering_then (nat_cmp (get_or name i 0) b) (slice_cmp nat_cmp (drop (i + 1) name) behind)
-compare_rest name other left behind i b within same left_is =
-    same ∙ ap (slice_cmp nat_cmp (drop i name)) left_is ∙ ap (λ (xs : List ℕ). slice_cmp nat_cmp xs (b ∷ behind)) (drop_next name i within)
-
 -- a name of which something is left stands behind one of which nothing is
 pub compare_longer : (name other left : List ℕ) (i : ℕ) → i < length name → slice_cmp nat_cmp name other ≡ slice_cmp nat_cmp (drop i name) left → left ≡ [] → Greater ≡ slice_cmp nat_cmp name other
 compare_longer name other left i within same left_is =
@@ -194,10 +188,6 @@ no_slash (b ∷ token) = elim (is_written b) [
   | slash b_is text ↦ subst HasNoSlash (sym (ap (λ (t : List ℕ). t ++ token_text token) text)) (no_slash_more 126 (49 ∷ token_text token) (λ is. omega arith) (no_slash_more 49 (token_text token) (λ is. omega arith) (no_slash token)))
   | plain b_tilde b_slash text ↦ subst HasNoSlash (sym (ap (λ (t : List ℕ). t ++ token_text token) text)) (no_slash_more b (token_text token) b_slash (no_slash token))
 ]
-
--- the first token of a text, and what is behind it
-abbrev pub IsCut : List (List ℕ) → List ℕ → Option (Bor (List ℕ)) → Type 0
-IsCut further text rest = MatchOption rest (further ≡ []) (λ r. (next : List ℕ) × (more : List (List ℕ)) × (further ≡ next ∷ more) × (r.now ≡ token_text next ++ place_text more))
 
 -- where a text has no `/`, one token is all
 pub cut_nowhere : (tokens token : List ℕ) (further : List (List ℕ)) → IsSplitOnceResult 47 tokens None → tokens ≡ token_text token ++ place_text further → (tokens ≡ token_text token) × (further ≡ [])
@@ -284,11 +274,6 @@ tokens_of (b ∷ c ∷ bs) escaped = elim (cases_eq b 126) [
       rw tilde_is (tokens_escaped c bs (both_left (is_escape (c ∷ bs)) (escapes (c ∷ bs)) at_tilde) (tokens_of bs behind))
   | inr no_tilde ↦ tokens_more b (c ∷ bs) no_tilde (tokens_of (c ∷ bs) (both_right _ (escapes (c ∷ bs)) escaped))
 ]
-
--- the empty pointer leads to the whole value
-pub whole_value : (at : List ℕ) (tokens : List (List ℕ)) (v : Json) → length at ≡ 0 → at ≡ place_text tokens → Some v ≡ value_at tokens v
-whole_value at [] v empty is = refl
-whole_value at (token ∷ further) v empty is = absurd (omega (arith, empty, ap length is))
 
 -- a text that is neither empty nor begins with a `/` is no pointer
 pub no_pointer : (at : List ℕ) → (length at ≡ 0 → ⊥) → ((rest : List ℕ) → at ≡ 47 ∷ rest → ⊥) → IsPointer at → ⊥

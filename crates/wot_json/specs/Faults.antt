@@ -1,5 +1,5 @@
 -- What a fault of `read` says of the bytes.
-use Rattle.std.specs.Prelude.{◌≡◌, ℕ, List, Option, Some, None, ⊤}
+use Rattle.std.specs.Prelude.{◌≡◌, ℕ, List, Some, None, ⊤}
 use Rattle.wot_json.specs.Reading.{value_of, first_pointer, IsTooDeep, IsFirstWrong}
 use Rattle.wot_json.specs.declared.reading.ReadFault.{ReadFault}
 use Rattle.wot_json.specs.declared.reading.ReadFault.TheVariants.{NotJson, TooDeep, NotInteger, NoMemory}

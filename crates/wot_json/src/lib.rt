@@ -9,9 +9,10 @@
 
 mod bytes;
 mod equality;
+mod json_text;
 mod laws;
 mod lookup;
-mod merging;
+mod patch;
 mod places;
 mod reading;
 #[cfg(test)]
@@ -19,20 +20,19 @@ mod tests;
 mod text;
 mod texts;
 mod tree;
-mod writing;
 
 pub use bytes::Bytes;
 pub use equality::is_equal;
+pub use json_text::{quoted, quoted_length, text_of, write};
 pub use laws::{
-    merge_goes_by_members, merging_twice_is_merging_once, pointers_are_their_tokens, text_is_read_back,
-    tree_is_well_formed,
+    merge_goes_by_members, merging_twice_is_merging_once, pointers_are_their_tokens,
+    text_is_read_back, tree_is_well_formed,
 };
 pub use lookup::{BadPointer, pointer};
-pub use merging::merge_patch;
+pub use patch::merge_patch;
 pub use places::{below, below_index, through_element, through_member};
 pub use reading::{MAX_DEPTH, ReadFault, read};
 pub use servient_base::NoMemory;
 pub use text::Text;
 pub use texts::has_text;
 pub use tree::{Items, Members, Tree, copy};
-pub use writing::{quoted, quoted_length, text_of, write};

@@ -26,7 +26,8 @@ pub(crate) enum ItemRule {
 
 impl Model for Node {
     ghost use Rattle.std.specs.Prelude.{List, ℕ};
-    ghost use Rattle.wot_json.specs.Tree.{Json, members_code, most_member_nesting};
+    ghost use Rattle.wot_json.specs.JsonCodes.{members_code};
+    ghost use Rattle.wot_json.specs.Tree.{Json, most_member_nesting};
 
     ghost Value = { List (List ℕ × Json) };
 

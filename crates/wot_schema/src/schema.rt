@@ -23,7 +23,8 @@ pub struct Schema {
 
 impl Model for Schema {
     ghost use Rattle.std.specs.Prelude.{List};
-    ghost use Rattle.wot_json.specs.Tree.{Json, json_code};
+    ghost use Rattle.wot_json.specs.JsonCodes.{json_code};
+    ghost use Rattle.wot_json.specs.Tree.{Json};
     ghost use Rattle.wot_json.specs.Meaning.{json_of};
     ghost use Rattle.wot_schema.specs.Nodes.{schema_of};
     ghost use Rattle.wot_schema.specs.Alike.{AcceptAlike};

@@ -9,10 +9,6 @@ use Rattle.wot_json.specs.Meaning.{json_of}
 use Rattle.servient_cli.specs.Command.{has_no_tree, is_refused, is_valid, is_no_json, is_too_deep, is_wrong_number, input_line, invalid_line}
 use Rattle.servient_cli.proofs.checking.check_file.Goals as goal
 
--- the result of a read that was refused so
-abbrev refused : ReadFault → Result Tree ReadFault
-refused f = Err f
-
 -- a fault that isn't want of memory
 no_json_is_no_want : fault.NotJson ≢ fault.NoMemory
 no_json_is_no_want same = cc
@@ -26,22 +22,22 @@ wrong_number_is_no_want pointer same = cc
 pub returns-in-Err-NotJson : goal.returns-in-Err-NotJson
 returns-in-Err-NotJson c =
     let arm = c.in-Err-NotJson in
-    let none = arm.ensures.no_tree (λ want. no_json_is_no_want (sym arm.field-0-is ∙ want)) in
-    let no_json = arm.ensures.not_json (ap refused arm.field-0-is) in
+    let none = arm.ensures.complete (λ want. no_json_is_no_want (sym arm.field-0-is ∙ want)) in
+    let no_json = rw arm.field-0-is at arm.ensures.fault in
     IfOk-weaker c.input.result _ _ (λ e made. has_no_tree (codes "json") none (is_no_json no_json refl) made.0 made.1) c.input.ensures
 
 pub returns-in-Err-TooDeep : goal.returns-in-Err-TooDeep
 returns-in-Err-TooDeep c =
     let arm = c.in-Err-TooDeep in
-    let none = arm.ensures.no_tree (λ want. too_deep_is_no_want (sym arm.field-0-is ∙ want)) in
-    let deep = arm.ensures.too_deep (ap refused arm.field-0-is) in
+    let none = arm.ensures.complete (λ want. too_deep_is_no_want (sym arm.field-0-is ∙ want)) in
+    let deep = rw arm.field-0-is at arm.ensures.fault in
     IfOk-weaker c.input-in-Err-TooDeep.result _ _ (λ e made. has_no_tree (codes "deep") none (is_too_deep deep refl) made.0 made.1) c.input-in-Err-TooDeep.ensures
 
 pub returns-in-Err-NotInteger : goal.returns-in-Err-NotInteger
 returns-in-Err-NotInteger c =
     let arm = c.in-Err-NotInteger in
-    let none = arm.ensures.no_tree (λ want. wrong_number_is_no_want arm.place (sym arm.field-0-is ∙ want)) in
-    let wrong = arm.ensures.not_integer arm.place (ap refused arm.field-0-is) in
+    let none = arm.ensures.complete (λ want. wrong_number_is_no_want arm.place (sym arm.field-0-is ∙ want)) in
+    let wrong = rw arm.field-0-is at arm.ensures.fault in
     IfOk-weaker c.number.result _ _ (λ e made.
     has_no_tree (codes "number " ++ json_string arm.place) none (is_wrong_number arm.place wrong refl) made.0
     (made.1 ∙ ap (λ (place : List ℕ). input_line c.args.name.now (codes "number " ++ json_string place)) c.as_str.ensures)) c.number.ensures

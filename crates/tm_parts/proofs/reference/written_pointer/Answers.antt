@@ -10,8 +10,8 @@ returns-in_err-decoded-clause-fault c =
 
 pub returns-in-Ok-clause-ok : goal.returns-in-Ok-clause-ok
 returns-in-Ok-clause-ok c =
-    writes_pointer c.args.fragment.now c.in_ok-decoded.decoded c.in_ok-decoded.ensures.ok.0 c.in_ok-decoded.ensures.ok.1 (rw c.as_str.ensures at c.in-Ok.ensures.ok)
+    writes_pointer c.args.fragment.now c.in_ok-decoded.decoded c.in_ok-decoded.ensures.ok.0 c.in_ok-decoded.ensures.ok.1 (rw c.as_str.ensures at c.in-Ok.ensures.ok.0)
 
 pub returns-in-Err-clause-fault : goal.returns-in-Err-clause-fault
 returns-in-Err-clause-fault c =
-    inr (writes_other c.args.fragment.now c.in_ok-decoded.decoded c.in_ok-decoded.ensures.ok.0 c.in_ok-decoded.ensures.ok.1 (rw c.as_str.ensures at c.in-Err.ensures.bad))
+    inr (writes_other c.args.fragment.now c.in_ok-decoded.decoded c.in_ok-decoded.ensures.ok.0 c.in_ok-decoded.ensures.ok.1 (rw c.as_str.ensures at c.in-Err.ensures.fault))

@@ -24,8 +24,10 @@ returns-clause-ok c =
     let begins = strip_prefix_char 47 c.args.at.now c.strip_prefix.result c.strip_prefix.ensures.cases (omega arith) in
     let begins_so : c.args.at.now ≡ 47 ∷ c.in-Some.tokens.now = rw c.in-Some.is at begins in
     let escaped = ap escapes (sym c.as_bytes.ensures.value) ∙ sym c.is_escaped.ensures ∙ c.if-not-is_escaped.false in
-    let is_pointer = pointer_escaped c.args.at.now c.in-Some.tokens.now begins_so escaped in
-    (is_pointer, part_found c.args.at.now (json_of c.args.tree.now) (option_map (λ t. json_of t.now) c.value_at_tokens.result) is_pointer
-    (λ tokens is.
-      let first = first_of_pointer c.args.at.now c.in-Some.tokens.now tokens begins_so is in
-      c.value_at_tokens.ensures first.0 first.1 first.3 ∙ ap (λ (ts : List (List ℕ)). value_at ts (json_of c.args.tree.now)) (sym first.2)))
+    let is_pointer = pointer_escaped c.args.at.now c.in-Some.tokens.now begins_so escaped in (
+      is_pointer,
+      part_found c.args.at.now (json_of c.args.tree.now) (option_map (λ t. json_of t.now) c.value_at_tokens.result) is_pointer
+          (λ tokens is.
+          let first = first_of_pointer c.args.at.now c.in-Some.tokens.now tokens begins_so is in
+          c.value_at_tokens.ensures first.0 first.1 first.3 ∙ ap (λ (ts : List (List ℕ)). value_at ts (json_of c.args.tree.now)) (sym first.2)),
+    )

@@ -1,5 +1,4 @@
-use Rattle.std.proofs.Common.{◌≡◌, ◌∙◌, ◌++◌, List, ℕ, ap, sym}
-use Rattle.wot_json.specs.Faults.{NamesFirst}
+use Rattle.std.proofs.Common.{◌≡◌, ◌∙◌, ◌++◌, List, ℕ, ap}
 use Rattle.wot_json.specs.Places.{index_text, element_step_text, step_text}
 use Rattle.wot_json.proofs.Converting.{named_below}
 use Rattle.wot_json.proofs.PointerTexts.{element_step}

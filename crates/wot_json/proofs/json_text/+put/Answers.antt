@@ -6,7 +6,7 @@ use Rattle.wot_json.specs.Writing.{PutsIfRoom}
 use Rattle.wot_json.specs.Tree.{array, elements_of, object, members_of}
 use Rattle.wot_json.proofs.Pieces.{puts_then, puts_then_if_room, puts_more, no_room_more, puts_fourth_if_room, no_room_for_third}
 use Rattle.wot_json.proofs.TreeTexts.{list_text_is, object_text_is}
-use Rattle.wot_json.proofs.writing.+put.Goals as goal
+use Rattle.wot_json.proofs.json_text.+put.Goals as goal
 
 pub put_further_element-returns : goal.put_further_element-returns
 put_further_element-returns t c =

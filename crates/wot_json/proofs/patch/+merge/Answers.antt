@@ -8,7 +8,7 @@ use Rattle.wot_json.proofs.MergeLaws.{merge_step, merged_ordered}
 use Rattle.wot_json.proofs.MemberCuts.{ordered_drop}
 use Rattle.wot_json.proofs.MemberOrder.{before_others}
 use Rattle.wot_json.proofs.Nesting.{read_member_nests}
-use Rattle.wot_json.proofs.merging.+merge.Goals as goal
+use Rattle.wot_json.proofs.patch.+merge.Goals as goal
 
 -- the changes at a place are the one there and those behind
 changes_at : (ms : List (List ℕ × Tree)) (i : ℕ) (m : List ℕ × Tree) → i < length ms → m ≡ get_or ms i m → drop i ms ≡ m ∷ drop (i + 1) ms

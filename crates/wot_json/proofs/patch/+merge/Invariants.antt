@@ -2,7 +2,7 @@ use Rattle.std.proofs.Common.{◌≡◌, ◌++◌, ◌+◌, ◌*◌, drop}
 use Rattle.wot_json.specs.Tree.{nesting, most_member_nesting, members_of, AreOrdered}
 use Rattle.wot_json.specs.Meaning.{json_of, json_members}
 use Rattle.wot_json.specs.Merge.{merged_members}
-use Rattle.wot_json.proofs.merging.+merge.Given as goal
+use Rattle.wot_json.proofs.patch.+merge.Given as goal
 
 abbrev pub decreases-merge_patch : goal.decreases-merge_patch
 decreases-merge_patch l = 3 * nesting (json_of l.patch.now)

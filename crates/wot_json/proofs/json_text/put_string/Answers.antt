@@ -3,7 +3,7 @@ use Rattle.std.specs.List.{flat_map}
 use Rattle.wot_json.specs.Json.{escaped_byte}
 use Rattle.wot_json.specs.Writing.{Puts}
 use Rattle.wot_json.proofs.Pieces.{puts_then_if_room}
-use Rattle.wot_json.proofs.writing.put_string.Goals as goal
+use Rattle.wot_json.proofs.json_text.put_string.Goals as goal
 
 pub returns : goal.returns
 returns c =

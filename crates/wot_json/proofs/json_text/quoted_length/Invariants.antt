@@ -1,7 +1,7 @@
 use Rattle.std.proofs.Common.{◌≡◌, ◌≤◌, ◌+◌, drop, length}
 use Rattle.std.specs.List.{flat_map}
 use Rattle.wot_json.specs.Json.{json_string, escaped_byte}
-use Rattle.wot_json.proofs.writing.quoted_length.Given as goal
+use Rattle.wot_json.proofs.json_text.quoted_length.Given as goal
 
 -- what may still be written, and what is still to be
 abbrev pub invariant-loop-byte : goal.invariant-loop-byte

@@ -2,7 +2,7 @@ use Rattle.std.proofs.Common.{◌∙◌, sym}
 use mathlib.Core.Bool.{false≢true}
 use Rattle.std.proofs.lemmas.Slice.Eq.{bytes_eq-Decides}
 use Rattle.wot_json.proofs.MemberCuts.{cut_found, cut_between, cut_end, rest_in_order, behind_in_order}
-use Rattle.wot_json.proofs.merging.cut_at.Goals as goal
+use Rattle.wot_json.proofs.patch.cut_at.Goals as goal
 
 pub returns-then-eq-clause-cut : goal.returns-then-eq-clause-cut
 returns-then-eq-clause-cut c =

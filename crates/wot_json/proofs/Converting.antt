@@ -27,7 +27,7 @@ use Rattle.wot_json.specs.declared.reading.ReadFault.TheVariants.{NotJson, TooDe
 
 -- ---- lists
 
--- the elements, with these in front
+-- the elements; these come first
 abbrev pub elements_before : List Json → Elements → Elements
 elements_before [] rest = rest
 elements_before (v ∷ vs) rest = element v (elements_before vs rest)
@@ -144,7 +144,7 @@ item_fault all i n x left f g count so_far here out =
 
 -- ---- objects
 
--- the members, with these in front
+-- the members; these come first
 abbrev pub members_before : List (List ℕ × Json) → Members → Members
 members_before [] rest = rest
 members_before (m ∷ ms) rest = member m.0 m.1 (members_before ms rest)

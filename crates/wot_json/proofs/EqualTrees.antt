@@ -15,7 +15,7 @@ pub listed_members_lem : (ms : List (List ℕ × Json)) → member_list (members
 listed_members_lem [] = refl
 listed_members_lem (m ∷ ms) = ap (λ (ns : List (List ℕ × Json)). m ∷ ns) (listed_members_lem ms)
 
--- what stands under a name in a list of members, the object of them has there
+-- the value under a name in a list of members, the object of them has there
 pub found-members_of : (name : List ℕ) (ms : List (List ℕ × Json)) → value_under name (members_of ms) ≡ member_named name ms
 found-members_of name ms = ap (member_named name) (listed_members_lem ms)
 
@@ -33,7 +33,7 @@ objects_equal xs ys r e = (
   λ same. let inside : members_of xs ≡ members_of ys = cc in e.1 (sym (listed_members_lem xs) ∙ ap member_list inside ∙ listed_members_lem ys),
 )
 
--- two lists that stand for different things at a place aren't the same
+-- two lists that have different things at a place aren't the same
 pub differ_at : {X Y : Type 0} (f : X → Y) (xs ys : List X) (i : ℕ) (x y : X) (vs ws : List Y) (r : Bool) → i < length xs → i < length ys → x ≡ get_or xs i x → y ≡ get_or ys i y → map f xs ≡ vs → map f ys ≡ ws → r ≡ false → (f x ≡ f y → IsTrue r) → IsTrue false ↔ (vs ≡ ws)
 differ_at {X} {Y} f xs ys i x y vs ws r in_xs in_ys x_is y_is vs_is ws_is differs tested = (
   λ never. absurd (false≢true never),

@@ -17,7 +17,7 @@ use Rattle.wot_json.proofs.NameLookup.{rest_ordered}
 abbrev Named : Type 0
 Named = List ℕ × Tree
 
--- members behind a place are in order
+-- members after a place are in order
 pub ordered_drop : (ms : List Named) (n : ℕ) → AreOrdered (json_members ms) → AreOrdered (json_members (drop n ms))
 ordered_drop ms zero ordered = ordered
 ordered_drop [] (suc n) ordered = tt
@@ -34,13 +34,13 @@ before_others : (m : Named) (ms : List Named) → AreOrdered (json_members (m �
 before_others m [] ordered = tt
 before_others m (n ∷ ms) ordered = before_all m.0 n ms ordered.1 ordered.0
 
--- a name behind each member in front of a place
+-- a name after each member before a place
 behind_all : (name : List ℕ) (ms : List Named) (n : ℕ) (d : Named) → n ≤ length ms → ((k : ℕ) → k < n → IsBefore (get_or ms k d).0 name) → IsAfterAll name (json_members (take n ms))
 behind_all name ms zero d bound before = tt
 behind_all name [] (suc n) d bound before = tt
 behind_all name (m ∷ ms) (suc n) d bound before = (before 0 (omega arith), behind_all name ms n d (omega arith) (λ k below. before (suc k) (omega arith)))
 
--- a name that is neither before nor equal to another is behind it
+-- a name that is neither before nor equal to another is after it
 stands_behind : (m name : List ℕ) (o : Ordering) → slice_cmp nat_cmp m name ≡ o → (IsBefore m name → ⊥) → (m ≡ name → ⊥) → IsBefore name m
 stands_behind m name Less is no_less other = absurd (no_less is)
 stands_behind m name Equal is no_less other = absurd (other ((bytes_eq-Decides m name).0 (sym (is_eq-slice_cmp m name) ∙ ap is_eq is)))
@@ -64,11 +64,11 @@ module _ (name : List ℕ) (members before from : List Named) (n : ℕ) (ordered
   from_ordered : (m : Named) (behind : List Named) → from ≡ m ∷ behind → AreOrdered (json_members (m ∷ behind))
   from_ordered m behind split = subst (λ (xs : List Named). AreOrdered (json_members xs)) (sym from_is ∙ split) (ordered_drop members n ordered)
 
-  -- the members behind the place are in order
+  -- the members after the place are in order
   pub rest_in_order : AreOrdered (json_members from)
   rest_in_order = subst (λ (xs : List Named). AreOrdered (json_members xs)) (sym from_is) (ordered_drop members n ordered)
 
-  -- so are those behind the first of them
+  -- so are those after the first of them
   pub behind_in_order : (m : Named) (behind : List Named) → from ≡ m ∷ behind → AreOrdered (json_members behind)
   behind_in_order m behind split = rest_ordered m behind (from_ordered m behind split)
 
@@ -80,7 +80,7 @@ module _ (name : List ℕ) (members before from : List Named) (n : ℕ) (ordered
     greater = subst (λ (x : List ℕ). IsBeforeAll x (json_members behind)) same (before_others m behind (from_ordered m behind split));
   }
 
-  -- the member at the place is behind the name
+  -- the member at the place is after the name
   pub cut_between : (m : Named) (behind : List Named) → from ≡ m ∷ behind → (m.0 ≡ name → ⊥) → ((d : Named) → n < length members → IsBefore (get_or members n d).0 name → ⊥) → IsCutAt name (json_members members) (json_members before) None (json_members from)
   cut_between m behind split other next =
       let within : n < length members = omega (arith, length-drop n members, ap length from_is, ap length split) in

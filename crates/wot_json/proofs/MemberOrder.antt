@@ -29,7 +29,7 @@ compares_by m n Greater is = greater is (nat_list_cmp_total.antisymm n m ∙ ap 
 pub compares : (m n : List ℕ) → Compares m n
 compares m n = compares_by m n (slice_cmp nat_cmp m n) refl
 
--- a name behind another compares as greater, and tests as another
+-- a name after another compares as greater, and tests as another
 pub behind_Greater : (m n : List ℕ) → IsBefore m n → slice_cmp nat_cmp n m ≡ Greater
 behind_Greater m n before = nat_list_cmp_total.antisymm n m ∙ ap ordering_reverse before
 
@@ -39,7 +39,7 @@ behind_other m n before = sym (is_eq-slice_cmp n m) ∙ ap is_eq (behind_Greater
 pub before_other : (m n : List ℕ) → IsBefore m n → bytes_eq m n ≡ false
 before_other m n before = sym (is_eq-slice_cmp m n) ∙ ap is_eq before
 
--- the members behind the first are in order
+-- the members after the first are in order
 pub rest_ordered : (m : Field) (ms : List Field) → AreOrdered (m ∷ ms) → AreOrdered ms
 rest_ordered m [] ordered = tt
 rest_ordered m (n ∷ ms) ordered = ordered.1

@@ -13,12 +13,12 @@ use Rattle.wot_json.proofs.MemberOrder.{less, equal, greater, compares, behind_G
 abbrev Field : Type 0
 Field = List ℕ × Json
 
--- the name stands before that of each change
-abbrev pub StandsBeforeChanges : List ℕ → Members → Type 0
-StandsBeforeChanges name no_members = Unit {0}
-StandsBeforeChanges name (member n v changes) = IsBefore name n × StandsBeforeChanges name changes
+-- the name is before that of each change
+abbrev pub PrecedesChanges : List ℕ → Members → Type 0
+PrecedesChanges name no_members = Unit {0}
+PrecedesChanges name (member n v changes) = IsBefore name n × PrecedesChanges name changes
 
-pub before_changes : (name : List ℕ) (ms : List Field) → IsBeforeAll name ms → StandsBeforeChanges name (members_of ms)
+pub before_changes : (name : List ℕ) (ms : List Field) → IsBeforeAll name ms → PrecedesChanges name (members_of ms)
 before_changes name [] before = tt
 before_changes name (m ∷ ms) before = (before.0, before_changes name ms before.1)
 
@@ -36,7 +36,7 @@ named_front : (name : List ℕ) (m : Field) (ms : List Field) → IsBefore m.0 n
 named_front name m ms before = rw (behind_other m.0 name before)
 
 -- a member before all changes stays
-pub merged_front : (m : Field) (ms : List Field) (changes : Members) → StandsBeforeChanges m.0 changes → merged_members (m ∷ ms) changes ≡ m ∷ merged_members ms changes
+pub merged_front : (m : Field) (ms : List Field) (changes : Members) → PrecedesChanges m.0 changes → merged_members (m ∷ ms) changes ≡ m ∷ merged_members ms changes
 merged_front m ms no_members before = refl
 merged_front m ms (member n v changes) before =
     let value : member_named n (m ∷ ms) ≡ member_named n ms = named_front n m ms before.0 in
@@ -46,12 +46,12 @@ merged_front m ms (member n v changes) before =
     ∙ merged_front m (changed_members n v w ms) changes before.1
 
 -- members before all changes stay
-pub merged_fronts : (before ms : List Field) (name : List ℕ) (changes : Members) → IsAfterAll name before → StandsBeforeChanges name changes → merged_members (before ++ ms) changes ≡ before ++ merged_members ms changes
+pub merged_fronts : (before ms : List Field) (name : List ℕ) (changes : Members) → IsAfterAll name before → PrecedesChanges name changes → merged_members (before ++ ms) changes ≡ before ++ merged_members ms changes
 merged_fronts [] ms name changes behind changes_behind = refl
 merged_fronts (m ∷ before) ms name changes behind changes_behind =
     merged_front m (before ++ ms) changes (through m.0 name changes behind.0 changes_behind) ∙ ap (λ (xs : List Field). m ∷ xs) (merged_fronts before ms name changes behind.1 changes_behind)
   where
-    through : (first second : List ℕ) (cs : Members) → IsBefore first second → StandsBeforeChanges second cs → StandsBeforeChanges first cs
+    through : (first second : List ℕ) (cs : Members) → IsBefore first second → PrecedesChanges second cs → PrecedesChanges first cs
     through first second no_members before' behind' = tt
     through first second (member n v cs) before' behind' = (nat_list_cmp_total.trans first second n before' behind'.0, through first second cs before' behind'.1)
 
@@ -108,7 +108,7 @@ changed_fronts name v w (m ∷ before) ms behind =
     changed_front name v w m (before ++ ms) behind.0 ∙ ap (λ (xs : List Field). m ∷ xs) (changed_fronts name v w before ms behind.1)
 
 -- what is added for a change stays before all later changes
-merged_added : (name : List ℕ) (v w : Json) (ms : List Field) (changes : Members) → StandsBeforeChanges name changes → merged_members (added_members name v w ++ ms) changes ≡ added_members name v w ++ merged_members ms changes
+merged_added : (name : List ℕ) (v w : Json) (ms : List Field) (changes : Members) → PrecedesChanges name changes → merged_members (added_members name v w ++ ms) changes ≡ added_members name v w ++ merged_members ms changes
 merged_added name null w ms changes before = refl
 merged_added name (boolean b) w ms changes before = merged_front (name, w) ms changes before
 merged_added name (integer z) w ms changes before = merged_front (name, w) ms changes before
@@ -117,7 +117,7 @@ merged_added name (array es) w ms changes before = merged_front (name, w) ms cha
 merged_added name (object os) w ms changes before = merged_front (name, w) ms changes before
 
 -- what a member of the patch makes of the members that are cut at its name
-pub merged_at_cut : (name : List ℕ) (ms before : List Field) (value : Option Json) (behind : List Field) (v : Json) (changes : Members) → IsCutAt name ms before value behind → StandsBeforeChanges name changes
+pub merged_at_cut : (name : List ℕ) (ms before : List Field) (value : Option Json) (behind : List Field) (v : Json) (changes : Members) → IsCutAt name ms before value behind → PrecedesChanges name changes
     → merged_members ms (member name v changes) ≡ (before ++ added_members name v (merge (unwrap_or value null) v)) ++ merged_members behind changes
 merged_at_cut name ms before value behind v changes cut later =
     let found : member_named name ms ≡ value = ap (member_named name) cut.parts ∙ named_fronts name before (with_first name value behind) cut.smaller ∙ named_first name value behind cut.greater in
@@ -129,7 +129,7 @@ merged_at_cut name ms before value behind v changes cut later =
     ∙ ap (λ (xs : List Field). before ++ xs) (merged_added name v w behind changes later)
     ∙ sym (append_assoc before (added_members name v w) (merged_members behind changes))
 
--- one member of the patch is done, and the others go on with what is behind its name
+-- one member of the patch is done, and the others go on with what is after its name
 pub merge_step : (out copied next rest before behind cs whole : List Field) (value : Option Json) (name : List ℕ) (v : Json) → IsCutAt name rest before value behind → IsBeforeAll name cs
     → copied ≡ out ++ before → next ≡ copied ++ added_members name v (merge (unwrap_or value null) v) → out ++ merged_members rest (member name v (members_of cs)) ≡ whole → next ++ merged_members behind (members_of cs) ≡ whole
 merge_step out copied next rest before behind cs whole value name v cut later copied_is next_is is =

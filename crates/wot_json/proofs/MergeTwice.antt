@@ -20,7 +20,7 @@ abbrev IsAbsent : List ℕ → List Field → Type 0
 IsAbsent name [] = Unit {0}
 IsAbsent name (m ∷ ms) = (bytes_eq name m.0 ≡ false) × IsAbsent name ms
 
--- a member of this name and value stands behind those of smaller names
+-- a member of this name and value is after those of smaller names
 abbrev Holds : List ℕ → Json → List Field → Type 0
 Holds name w ms = (front : List Field) × (back : List Field) × (ms ≡ front ++ (name, w) ∷ back) × IsAfterAll name front
 

@@ -1,4 +1,4 @@
--- Which member a search by halving finds among names in order.
+-- Which member a search by binary search finds among names in order.
 use Rattle.std.proofs.Common.{◌≡◌, ℕ, zero, suc, ◌+◌, ◌<◌, List, [], ◌∷◌, length, get_or, Some, None, false, refl, sym, ap, inl, inr, ◌∙◌, arith}
 use Rattle.std.specs.Str.{bytes_eq}
 use Rattle.std.specs.Ordering.{nat_cmp, ordering_index, ordering_reverse, is_eq, is_lt}
@@ -13,6 +13,7 @@ use Rattle.std.proofs.lemmas.Cmp.{alike_right}
 use Rattle.std.proofs.lemmas.Map.Text.{is_eq-slice_cmp}
 use Rattle.wot_json.specs.Tree.{Json, AreOrdered}
 use Rattle.wot_json.specs.Meaning.{json_of, json_members}
+use Rattle.wot_json.specs.Cutting.{IsBefore}
 use Rattle.wot_json.specs.Lookup.{member_named}
 use Rattle.wot_json.specs.declared.tree.Tree.{Tree}
 use Rattle.wot_json.specs.declared.tree.Tree.TheVariants as tree
@@ -20,30 +21,26 @@ use Rattle.wot_json.specs.declared.tree.Tree.TheVariants as tree
 abbrev Named : Type 0
 Named = List ℕ × Tree
 
--- a name that stands before another
-abbrev pub Before : List ℕ → List ℕ → Type 0
-Before m n = slice_cmp nat_cmp m n ≡ Less
-
--- the first name stands before that of each later member
-pub first_before : (m : Named) (ms : List Named) → AreOrdered (json_members (m ∷ ms)) → (k : ℕ) (d : Named) → k < length ms → Before m.0 (get_or ms k d).0
+-- the first name is before that of each later member
+pub first_before : (m : Named) (ms : List Named) → AreOrdered (json_members (m ∷ ms)) → (k : ℕ) (d : Named) → k < length ms → IsBefore m.0 (get_or ms k d).0
 first_before m [] ordered k d within = absurd (omega arith)
 first_before m (n ∷ ms) ordered zero d within = ordered.0
 first_before m (n ∷ ms) ordered (suc k) d within =
     nat_list_cmp_total.trans m.0 n.0 (get_or ms k d).0 ordered.0 (first_before n ms ordered.1 k d (omega arith))
 
--- the members behind the first are in order
+-- the members after the first are in order
 pub rest_ordered : (m : Named) (ms : List Named) → AreOrdered (json_members (m ∷ ms)) → AreOrdered (json_members ms)
 rest_ordered m [] ordered = tt
 rest_ordered m (n ∷ ms) ordered = ordered.1
 
--- each name stands before those of later members
-pub earlier_before : (ms : List Named) → AreOrdered (json_members ms) → (i j : ℕ) (d : Named) → i < j → j < length ms → Before (get_or ms i d).0 (get_or ms j d).0
+-- each name is before those of later members
+pub earlier_before : (ms : List Named) → AreOrdered (json_members ms) → (i j : ℕ) (d : Named) → i < j → j < length ms → IsBefore (get_or ms i d).0 (get_or ms j d).0
 earlier_before [] ordered i j d below within = absurd (omega arith)
 earlier_before (m ∷ ms) ordered i zero d below within = absurd (omega arith)
 earlier_before (m ∷ ms) ordered zero (suc j) d below within = first_before m ms ordered j d (omega arith)
 earlier_before (m ∷ ms) ordered (suc i) (suc j) d below within = earlier_before ms (rest_ordered m ms ordered) i j d (omega arith) (omega arith)
 
--- the comparisons of the names with a name rise along the members, as a search by halving asks
+-- the comparisons of the names with a name rise along the members, as a search by binary search asks
 pub comparisons_rise : (ms : List Named) (name : List ℕ) → AreOrdered (json_members ms) → IsNonDecreasingBy (λ m. ordering_index (slice_cmp nat_cmp m.0 name)) ms
 comparisons_rise ms name ordered = searchable_from_sorted nat_list_cmp_total (λ (m : Named). m.0) ms name
     (λ k d low within. ap is_lt (nat_list_cmp_total.antisymm (get_or ms (k + 1) d).0 (get_or ms k d).0 ∙ ap ordering_reverse (earlier_before ms ordered k (k + 1) d (omega arith) within)))
@@ -71,7 +68,7 @@ none_found (m ∷ ms) name d others =
 abbrev pub order_of : List ℕ → Named → Ordering
 order_of name m = slice_cmp nat_cmp m.0 name
 
--- a search by halving that ends at a member, found the member of this name
+-- a search by binary search that ends at a member, found the member of this name
 pub found_by_halving : (ms slice : List Named) (vs : List (List ℕ × Json)) (name : List ℕ) (k : ℕ) (m : Named) → slice ≡ ms → json_members ms ≡ vs → AreOrdered (json_members ms)
     → k < length slice → HoldsAt (λ n. order_of name n ≡ Equal) slice k → m ≡ get_or ms k m → Some (json_of m.1) ≡ member_named name vs
 found_by_halving ms slice vs name k m slice_is vs_is ordered within equal m_is =

@@ -22,7 +22,7 @@ use Rattle.std.proofs.lemmas.Bool.Decides.{nat_tests}
 use Rattle.wot_json.specs.Places.{token_byte, token_text, place_text, index_text, step_text, element_step_text}
 use Rattle.wot_json.proofs.Tokens.{token_byte-plain, token_text-plain}
 
--- what is left at a place begins with what stands there
+-- what is left at a place begins with what is there
 pub drop_next : (xs : List ℕ) (i : ℕ) → i < length xs → drop i xs ≡ get_or xs i 0 ∷ drop (i + 1) xs
 drop_next xs i within = rw (add-one, drop-cons xs i 0)
 
@@ -58,7 +58,7 @@ token_none (b ∷ token) name none is = absurd (omega arith)
 abbrev pub BeginsWith : ℕ → List ℕ → List ℕ → Type 0
 BeginsWith b rest name = (behind : List ℕ) × (name ≡ b ∷ behind) × (rest ≡ token_text behind)
 
--- a byte that is no `~` stands for itself
+-- a byte that is no `~` is itself
 pub begins_plain : (b : ℕ) (rest name : List ℕ) → b ≢ 126 → b ∷ rest ≡ token_text name → BeginsWith b rest name
 begins_plain b rest [] no_tilde is = absurd (cc (is))
 begins_plain b rest (n ∷ name) no_tilde is = elim (is_written n) [
@@ -69,7 +69,7 @@ begins_plain b rest (n ∷ name) no_tilde is = elim (is_written n) [
       (name, ap (λ (m : ℕ). m ∷ name) (cc (all)), cc (all))
 ]
 
--- `~0` stands for `~`, and `~` with anything else for `/`
+-- `~0` writes `~`, and `~` with anything else for `/`
 pub begins_escaped : (mark : ℕ) (rest name : List ℕ) → 126 ∷ mark ∷ rest ≡ token_text name → ((mark ≡ 48) × BeginsWith 126 rest name) ⊎ ((mark ≢ 48) × BeginsWith 47 rest name)
 begins_escaped mark rest [] is = absurd (cc (is))
 begins_escaped mark rest (n ∷ name) is = elim (is_written n) [
@@ -96,7 +96,7 @@ no_tilde_alone (n ∷ name) is = elim (is_written n) [
       n_tilde (cc (all))
 ]
 
--- a token of a `~` and what is behind that
+-- a token of a `~` and what is after that
 pub escaped_token : (token behind rest name : List ℕ) (first mark : ℕ) → token ≡ first ∷ behind → first ≡ 126 → behind ≡ mark ∷ rest → token ≡ token_text name → 126 ∷ mark ∷ rest ≡ token_text name
 escaped_token token behind rest name first mark token_is first_is behind_is is = cc
 
@@ -104,7 +104,7 @@ pub tilde_is_no_token : (token behind name : List ℕ) (first : ℕ) → token �
 tilde_is_no_token token [] name first token_is first_is none is = no_tilde_alone name (cc)
 tilde_is_no_token token (b ∷ behind) name first token_is first_is none is = omega arith
 
--- a name of which something is left stands behind one of which nothing is
+-- a name of which something is left is after one of which nothing is
 pub compare_longer : (name other left : List ℕ) (i : ℕ) → i < length name → slice_cmp nat_cmp name other ≡ slice_cmp nat_cmp (drop i name) left → left ≡ [] → Greater ≡ slice_cmp nat_cmp name other
 compare_longer name other left i within same left_is =
     sym (same ∙ ap (slice_cmp nat_cmp (drop i name)) left_is ∙ ap (λ (xs : List ℕ). slice_cmp nat_cmp xs []) (drop_next name i within))
@@ -195,7 +195,7 @@ cut_nowhere tokens token [] split is = (is ∙ append-nil (token_text token), re
 cut_nowhere tokens token (next ∷ more) split is =
     absurd (split_after 47 tokens (token_text token) (token_text next ++ place_text more) None split (omega arith) is (no_slash token))
 
--- where it has one, the first is behind the first token
+-- where it has one, the first is after the first token
 pub cut_first : (tokens token : List ℕ) (further : List (List ℕ)) (x : Bor (List ℕ) × Bor (List ℕ)) → IsSplitOnceResult 47 tokens (Some x) → tokens ≡ token_text token ++ place_text further
     → (x.0.now ≡ token_text token) × ((next : List ℕ) × (more : List (List ℕ)) × (further ≡ next ∷ more) × (x.1.now ≡ token_text next ++ place_text more))
 cut_first tokens token [] x split is =
@@ -208,7 +208,7 @@ cut_first tokens token (next ∷ more) x split is =
     let parts = split_after 47 tokens (token_text token) (token_text next ++ place_text more) (Some x) split (omega arith) is (no_slash token) in
     (parts.0, (next, more, refl, parts.1))
 
--- what is behind a `/` is shorter than the whole
+-- what is after a `/` is shorter than the whole
 pub cut_shorter : (tokens : List ℕ) (x : Bor (List ℕ) × Bor (List ℕ)) → IsSplitOnceResult 47 tokens (Some x) → length x.1.now < length tokens
 cut_shorter tokens x split =
     let parts = split_parts 47 tokens (Some x) split (omega arith) in
@@ -235,7 +235,7 @@ escapes_place (token ∷ tokens) = escapes_token token (place_text tokens) ∙ e
 pub escapes_tokens : (token : List ℕ) (further : List (List ℕ)) → escapes (token_text token ++ place_text further) ≡ true
 escapes_tokens token further = escapes_token token (place_text further) ∙ escapes_place further
 
--- the first token of an escaped text, and the tokens behind it
+-- the first token of an escaped text, and the tokens after it
 abbrev IsTokens : List ℕ → Type 0
 IsTokens text = (token : List ℕ) × (further : List (List ℕ)) × (text ≡ token_text token ++ place_text further)
 
@@ -280,7 +280,7 @@ pub no_pointer : (at : List ℕ) → (length at ≡ 0 → ⊥) → ((rest : List
 no_pointer at some no_begin ([], is) = some (ap length is)
 no_pointer at some no_begin (token ∷ further, is) = no_begin (token_text token ++ place_text further) is
 
--- the tokens that a pointer writes behind its first `/`
+-- the tokens that a pointer writes after its first `/`
 pub first_of_pointer : (at rest : List ℕ) (tokens : List (List ℕ)) → at ≡ 47 ∷ rest → at ≡ place_text tokens
     → (token : List ℕ) × (further : List (List ℕ)) × (tokens ≡ token ∷ further) × (rest ≡ token_text token ++ place_text further)
 first_of_pointer at rest [] begins is = absurd (cc (begins, is))
@@ -294,7 +294,7 @@ no_pointer_unescaped at rest begins unescaped (tokens, is) =
     let first = first_of_pointer at rest tokens begins is in
     false≢true (sym unescaped ∙ ap escapes first.3 ∙ escapes_tokens first.0 first.1)
 
--- an escaped text behind a `/` is a pointer
+-- an escaped text after a `/` is a pointer
 pub pointer_escaped : (at rest : List ℕ) → at ≡ 47 ∷ rest → escapes rest ≡ true → IsPointer at
 pointer_escaped at rest begins escaped =
     let tokens = tokens_of rest escaped in

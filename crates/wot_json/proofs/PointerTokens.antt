@@ -70,12 +70,12 @@ tokens_in-place (token ∷ further) =
 pub place_of_tokens : (at : List ℕ) → IsPointer at → at ≡ place_text (tokens_in at)
 place_of_tokens at (tokens, is) = is ∙ sym (ap place_text (ap tokens_in is ∙ tokens_in-place tokens))
 
--- what stands where the tokens of a pointer lead stands at that pointer
+-- the value where the tokens of a pointer lead is the one at that pointer
 pub part_found : (at : List ℕ) (whole : Json) (part : Option Json) → IsPointer at
     → ((tokens : List (List ℕ)) → at ≡ place_text tokens → part ≡ value_at tokens whole) → part ≡ part_of at whole
 part_found at whole part is found =
     found (tokens_in at) (place_of_tokens at is) ∙ sym (ap (λ (b : Bool). cond b (value_at (tokens_in at) whole) None) (is_pointer-pointer at is))
 
--- at a text that is no pointer stands nothing
+-- at a text that is no pointer there is nothing
 pub no_part : (at : List ℕ) (whole : Json) → ¬ IsPointer at → part_of at whole ≡ None
 no_part at whole other = ap (λ (b : Bool). cond b (value_at (tokens_in at) whole) None) (is_pointer-other at other)

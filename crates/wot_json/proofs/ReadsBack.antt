@@ -57,7 +57,7 @@ AllBelow-trans : (name next : List ℕ) (ms : json.Members) → slice_cmp nat_cm
 AllBelow-trans name next json.no_members less h = tt
 AllBelow-trans name next (json.member n d ms) less h = (nat_list_cmp_total.trans n name next h.0 less, AllBelow-trans name next ms less h.1)
 
--- the members, and one more behind them
+-- the members, and one more after them
 abbrev then_member : json.Members → List ℕ → Data → json.Members
 then_member json.no_members name d = json.member name d json.no_members
 then_member (json.member n e ms) name d = json.member n e (then_member ms name d)
@@ -72,7 +72,7 @@ put_last (json.member n e ms) name d h =
     let above : slice_cmp nat_cmp name n ≡ Greater = nat_list_cmp_total.antisymm name n ∙ ap ordering_reverse h.0 in
     rw above (ap (json.member n e) (put_last ms name d h.1))
 
--- the members, and these behind them
+-- the members, and these after them
 abbrev joined : json.Members → json.Members → json.Members
 joined json.no_members more = more
 joined (json.member n d ms) more = json.member n d (joined ms more)

@@ -40,7 +40,7 @@ abbrev mutual
   text_of (array es) = codes "[" ++ elements_text es ++ codes "]"
   text_of (object ms) = codes "{" ++ members_text ms ++ codes "}"
 
-  -- the first element, and each further one behind a comma
+  -- the first element, and each further one after a comma
   pub elements_text : Elements → List ℕ
   elements_text no_elements = []
   elements_text (element v es) = text_of v ++ more_elements_text es
@@ -49,7 +49,7 @@ abbrev mutual
   more_elements_text no_elements = []
   more_elements_text (element v es) = codes "," ++ text_of v ++ more_elements_text es
 
-  -- the first member, and each further one behind a comma
+  -- the first member, and each further one after a comma
   pub members_text : Members → List ℕ
   members_text no_members = []
   members_text (member n v ms) = json_string n ++ codes ":" ++ text_of v ++ more_members_text ms

@@ -1,4 +1,4 @@
--- The parts of a value as lists, and what stands under a name of an object.
+-- The parts of a value as lists, and the value under a name of an object.
 use Rattle.std.specs.Prelude.{ℕ, List, [], ◌∷◌, Option, Some, None, if◌then◌else◌}
 use Rattle.std.specs.Str.{bytes_eq}
 use Rattle.wot_json.specs.Tree.{Json, Elements, no_elements, element, Members, no_members, member}

@@ -1,4 +1,4 @@
--- The value that a tree of the code stands for.
+-- The value of a tree of the code.
 use Rattle.std.specs.Prelude.{ℕ, List, map}
 use Rattle.wot_json.specs.Tree.{Json, null, boolean, integer, string, array, object, elements_of, members_of}
 use Rattle.wot_json.specs.declared.tree.Tree.{Tree}
@@ -12,6 +12,7 @@ json_of (tree.Text s) = string s
 json_of (tree.List vs) = array (elements_of vs)
 json_of (tree.Obj ms) = object (members_of ms)
 
+-- the values of elements, of a member and of members
 abbrev pub json_items : List Tree → List Json
 json_items = map json_of
 

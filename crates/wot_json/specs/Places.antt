@@ -14,7 +14,7 @@ token_text token = flat_map token_byte token
 abbrev pub index_text : ℕ → List ℕ
 index_text index = decimal index
 
--- one step inwards: `/` and a token
+-- one step into a value: `/` and a token
 abbrev pub step_text : List ℕ → List ℕ
 step_text token = codes "/" ++ token_text token
 
@@ -22,6 +22,6 @@ step_text token = codes "/" ++ token_text token
 abbrev pub element_step_text : ℕ → List ℕ
 element_step_text index = codes "/" ++ index_text index
 
--- the pointer to the place that these tokens lead to, from the whole value inwards (section 3)
+-- the pointer to the place that these tokens lead to, from the whole value on (section 3)
 abbrev pub place_text : List (List ℕ) → List ℕ
 place_text tokens = flat_map step_text tokens

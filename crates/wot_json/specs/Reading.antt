@@ -1,4 +1,4 @@
--- The tree that bytes stand for. What text is JSON, and what value it has, is what the kit's `serde_json` says: there
+-- The tree of bytes. What text is JSON, and what value it has, is what the kit's `serde_json` says: there
 -- an object has each name once, in byte order, with the value of the last member of that name.
 use Rattle.std.specs.Prelude.{◌≡◌, ℕ, ◌+◌, ◌<◌, ◌≤◌, List, [], ◌∷◌, ◌++◌, map, slice_get, Option, Some, None, option_map, option_and_then, is_some, nat_le, if◌then◌else◌}
 use Rattle.std.specs.Str.{is_utf8}

@@ -1,12 +1,12 @@
 -- Writing at a place of a slice.
 use Rattle.std.specs.Prelude.{◌≡◌, ◌≤◌, ◌<◌, ◌+◌, ℕ, List, ◌++◌, length, take, drop, Option, Some, None}
 
--- A text was written at a place, and end is the place behind it. What stood before the place and behind the
--- end is as it was.
+-- A text was written at a place, and end is the place after it. What is before the place and after the end is as it
+-- was.
 pub record Puts (text : List ℕ) (at end : ℕ) (before now : List ℕ) : Type 0 where
   pub end_is : end ≡ at + length text
   pub within : end ≤ length now
-  pub front : take end now ≡ take at before ++ text
+  pub prefix : take end now ≡ take at before ++ text
   pub rest : drop end now ≡ drop end before
 
 -- The text was written at the place; or there was no room for it.

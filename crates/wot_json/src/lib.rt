@@ -1,10 +1,18 @@
-//! JSON trees: their values, their text, and the texts and byte lists that the crates above keep.
+//! JSON trees: their values, their text, pointers into them, and patches of them.
 //!
-//! A `Tree` is a JSON value (RFC 8259) whose numbers are whole and have 64 bits with sign; the members of an
-//! object have distinct names and stand in their byte order. `read` gives the tree of a JSON text; `write` and
+//! A `Tree` is a JSON value (RFC 8259) whose numbers are whole and have 64 bits with sign. The members of an
+//! object have distinct names, in their byte order. `read` gives the tree of a JSON text; `write` and
 //! `text_of` give the one text of a tree, `json_text` of `specs/Json.antt`, `quoted` that of a text, and
-//! `quoted_length` its length. `pointer` finds what stands at a place (RFC 6901), and `merge_patch` changes one
+//! `quoted_length` its length. `pointer` gives the value at a place (RFC 6901), and `merge_patch` changes one
 //! tree by another (RFC 7396).
+//!
+//! ```text
+//! let lamp = read(alloc, br#"{"on":false,"levels":[1,2]}"#)?;
+//! let patch = read(alloc, br#"{"on":true,"levels":null}"#)?;
+//! let changed = merge_patch(alloc, &lamp, &patch)?;
+//! assert_eq!(text_of(alloc, &changed)?.as_slice(), br#"{"on":true}"#);
+//! assert!(matches!(pointer(&lamp, "/levels/1")?, Some(Tree::Int(2))));
+//! ```
 #![tactic(auto)]
 
 mod bytes;
@@ -15,8 +23,6 @@ mod lookup;
 mod patch;
 mod places;
 mod reading;
-#[cfg(test)]
-mod tests;
 mod text;
 mod texts;
 mod tree;

@@ -8,9 +8,6 @@ ghost use Rattle.wot_json.specs.Meaning.{json_of};
 ghost use Rattle.wot_json.specs.Places.{token_text, place_text};
 ghost use Rattle.wot_json.specs.Pointer.{IsPointer, escapes, element_at, part_at, value_at, part_of};
 
-#[cfg(test)]
-mod tests;
-
 use crate::{Items, Members, Text, Tree};
 use servient_base::parse_decimal;
 use std::cmp::Ordering;
@@ -25,7 +22,7 @@ pub struct BadPointer;
 /// The value at a place, if there is one. The whole text is judged before anything is looked up.
 ///
 /// An index of a list is decimal digits with no zero before others; `-` and an index past the end lead nowhere
-/// (RFC 6901, section 4). It takes no memory. The name of a member is found by halving, so the time is in
+/// (RFC 6901, section 4). It takes no memory. The name of a member is found by binary search, so the time is in
 /// proportion to the length of the text, times the logarithm of the number of members on the way.
 pub fn pointer<'a>(tree: &'a Tree, at: &str) -> Result<Option<&'a Tree>, BadPointer>
     ensures ok { IfOk result (λ part. IsPointer at.now
@@ -128,8 +125,8 @@ fn compare(name: &[u8], token: &[u8]) -> Ordering
     for byte in name {
         match first_byte(rest) {
             None => return Ordering::Greater,
-            Some((first, behind)) => match byte.cmp(&first) {
-                Ordering::Equal => rest = behind,
+            Some((first, after)) => match byte.cmp(&first) {
+                Ordering::Equal => rest = after,
                 order => return order,
             },
         }
@@ -144,15 +141,15 @@ fn compare(name: &[u8], token: &[u8]) -> Ordering
 /// The first byte of the name that a token writes, and what is written after it.
 fn first_byte(token: &[u8]) -> Option<(u8, &[u8])>
     ensures { (name : List ℕ) → token.now ≡ token_text name
-        → MatchOption result (name ≡ []) (λ x. (behind : List ℕ) × (name ≡ x.0 ∷ behind) × (x.1.now ≡ token_text behind)) }
+        → MatchOption result (name ≡ []) (λ x. (after : List ℕ) × (name ≡ x.0 ∷ after) × (x.1.now ≡ token_text after)) }
 {
-    let (first, behind) = token.split_first()?;
+    let (first, after) = token.split_first()?;
     if *first != b'~' {
-        return Some((*first, behind));
+        return Some((*first, after));
     }
-    match behind.split_first() {
-        Some((b'0', behind)) => Some((b'~', behind)),
-        Some((_, behind)) => Some((b'/', behind)),
+    match after.split_first() {
+        Some((b'0', after)) => Some((b'~', after)),
+        Some((_, after)) => Some((b'/', after)),
         None => None,
     }
 }

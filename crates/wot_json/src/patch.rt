@@ -7,9 +7,6 @@ ghost use Rattle.wot_json.specs.Meaning.{json_of, json_members};
 ghost use Rattle.wot_json.specs.Merge.{merge, merged_members, members_under, added_members};
 ghost use Rattle.wot_json.specs.Tree.{AreOrdered, members_of, null};
 
-#[cfg(test)]
-mod tests;
-
 use crate::{Members, Text, Tree, copy};
 use servient_base::NoMemory;
 use std::alloc::Global;
@@ -57,10 +54,10 @@ fn merge_members(
     let mut merged = Vec::new(alloc);
     let mut rest = members;
     for member in &changes.list {
-        let (before, value, behind) = cut_at(rest, member.0.as_str());
+        let (before, value, after) = cut_at(rest, member.0.as_str());
         push_copies(alloc, before, &mut merged)?;
         push_change(alloc, &member.0, value, &member.1, &mut merged)?;
-        rest = behind;
+        rest = after;
     }
     push_copies(alloc, rest, &mut merged)?;
     Ok(Members { list: merged })
@@ -106,7 +103,7 @@ fn push_copies(
     Ok(())
 }
 
-/// The members before a name, the value of that of the name, and the members behind it.
+/// The members before a name, the value of that of the name, and the members after it.
 fn cut_at<'a>(
     members: &'a [(Text, Tree)],
     name: &str,
@@ -118,9 +115,9 @@ fn cut_at<'a>(
 {
     let (before, from) = members.split_at(count_before(members, name));
     match from.split_first() {
-        Some((member, behind)) => {
+        Some((member, after)) => {
             if member.0.as_str() == name {
-                (before, Some(&member.1), behind)
+                (before, Some(&member.1), after)
             } else {
                 (before, None, from)
             }
@@ -129,7 +126,7 @@ fn cut_at<'a>(
     }
 }
 
-/// How many members in front have names before this one.
+/// How many members have names before this one.
 fn count_before(members: &[(Text, Tree)], name: &str) -> usize
     ensures bound { result ≤ length members.now }
     ensures before { (k : ℕ) → (d : List ℕ × Tree) → k < result → IsBefore (slice_index_or members.now k d).0 name.now }

@@ -11,7 +11,7 @@ use itoa::Buffer;
 use servient_base::NoMemory;
 use std::alloc::Global;
 
-/// The place of a member of an object that stands at `place`: `/` and its name go behind that, `~` written
+/// The place of a member of the object at `place`: `/` and its name go after that, `~` written
 /// as `~0` and `/` as `~1` (RFC 6901, section 3). Its time is in proportion to the length of the result.
 pub fn below(alloc: Global, place: &str, name: &str) -> Result<Text, NoMemory>
     ensures { IfOk result (λ t. t ≡ place.now ++ codes "/" ++ token_text name.now) }
@@ -21,7 +21,7 @@ pub fn below(alloc: Global, place: &str, name: &str) -> Result<Text, NoMemory>
     Ok(Text::from_string(text))
 }
 
-/// The place of an element of a list that stands at `place`: `/` and its index, counted from 0, go behind
+/// The place of an element of the list at `place`: `/` and its index, counted from 0, go after
 /// that (RFC 6901, section 4).
 pub fn below_index(alloc: Global, place: &str, index: usize) -> Result<Text, NoMemory>
     ensures { IfOk result (λ t. t ≡ place.now ++ codes "/" ++ index_text index) }

@@ -12,9 +12,6 @@ ghost use Rattle.wot_json.specs.Places.{index_text, step_text};
 ghost use Rattle.wot_json.specs.Reading.{value_of, tree_of, tree_of_value, tree_of_items, tree_of_members, places_below, wrong_numbers, wrong_in_items, wrong_in_members, IsTooDeep, IsFirstWrong};
 ghost use Rattle.wot_json.specs.Tree.{elements_of, members_of};
 
-#[cfg(test)]
-mod tests;
-
 use crate::{Items, Members, Text, Tree, through_element, through_member};
 use serde_json::{Map, Value};
 use std::alloc::{AllocError, Global};

@@ -189,7 +189,7 @@ impl Members {
         self.list.as_slice()
     }
 
-    /// The value of the member of this name, found by halving.
+    /// The value of the member of this name, found by binary search.
     pub fn get(&self, name: &str) -> Option<&Tree>
         ensures { option_map (λ t. json_of t.now) result ≡ member_named name.now self.now }
     {

@@ -10,7 +10,7 @@ use Rattle.wot_json.proofs.MemberOrder.{before_others}
 use Rattle.wot_json.proofs.Nesting.{read_member_nests}
 use Rattle.wot_json.proofs.patch.+merge.Goals as goal
 
--- the changes at a place are the one there and those behind
+-- the changes at a place are the one there and those after
 changes_at : (ms : List (List ℕ × Tree)) (i : ℕ) (m : List ℕ × Tree) → i < length ms → m ≡ get_or ms i m → drop i ms ≡ m ∷ drop (i + 1) ms
 changes_at ms i m within is = (rw (add-one, drop-cons ms i m)) ∙ ap (λ (x : List ℕ × Tree). x ∷ drop (i + 1) ms) (sym is)
 

@@ -16,9 +16,15 @@ const READINGS: [(&[u8], &str); 35] = [
     (b"9223372036854775807", "9223372036854775807"),
     (b"-9223372036854775808", "-9223372036854775808"),
     (b"{\"b\":1,\"a\":2,\"b\":3}", "{\"a\":2,\"b\":3}"),
-    (b"{\"b\":1,\"ba\":2,\"B\":3,\"\":4,\"\\u00e9\":5}", "{\"\":4,\"B\":3,\"b\":1,\"ba\":2,\"é\":5}"),
+    (
+        b"{\"b\":1,\"ba\":2,\"B\":3,\"\":4,\"\\u00e9\":5}",
+        "{\"\":4,\"B\":3,\"b\":1,\"ba\":2,\"é\":5}",
+    ),
     (b"{\"a\":1.5,\"a\":[]}", "{\"a\":[]}"),
-    (b"\"\\\"\\\\\\/\\b\\f\\n\\r\\t\"", "\"\\\"\\\\/\\b\\f\\n\\r\\t\""),
+    (
+        b"\"\\\"\\\\\\/\\b\\f\\n\\r\\t\"",
+        "\"\\\"\\\\/\\b\\f\\n\\r\\t\"",
+    ),
     (b"\"\\u0000\\u001F\\u007f\"", "\"\\u0000\\u001f\u{7f}\""),
     (b"\"\\ud83d\\ude00\"", "\"😀\""),
     (b"", "the bytes are no JSON text"),
@@ -79,9 +85,15 @@ fn texts_are_read_or_refused(rt: HostRuntime) -> Result<(), Fail> {
         assert_eq!(rt; outcome(alloc, bytes)?.as_str(), expected, "{bytes:?}");
     }
     let deepest = nested(alloc, 64)?;
-    assert_eq!(rt; outcome(alloc, deepest.as_slice())?.as_bytes(), deepest.as_slice());
+    assert_eq!(rt;
+        outcome(alloc, deepest.as_slice())?.as_bytes(),
+        deepest.as_slice()
+    );
     let too_deep = nested(alloc, 65)?;
-    assert_eq!(rt; outcome(alloc, too_deep.as_slice())?.as_str(), "lists and objects nest more than 64 deep");
+    assert_eq!(rt;
+        outcome(alloc, too_deep.as_slice())?.as_str(),
+        "lists and objects nest more than 64 deep"
+    );
     Ok(())
 }
 
@@ -121,7 +133,8 @@ const PLACES: [(&str, &str); 31] = [
 ];
 
 /// The document of RFC 6901, section 5, with two members more.
-const DOCUMENT: &[u8] = br#"{"foo":["bar","baz"],"":0,"a/b":1,"c%d":2,"e^f":3,"g|h":4,"i\\j":5,"k\"l":6," ":7,"m~n":8,"~1":9,"o":{"0":{"p":null}}}"#;
+const DOCUMENT: &[u8] =
+    br#"{"foo":["bar","baz"],"":0,"a/b":1,"c%d":2,"e^f":3,"g|h":4,"i\\j":5,"k\"l":6," ":7,"m~n":8,"~1":9,"o":{"0":{"p":null}}}"#;
 
 /// The text of what is at a place, `nothing`, or what the error says.
 fn part_text(alloc: Global, tree: &Tree, at: &str) -> Result<String, Fail> {
@@ -154,12 +167,20 @@ fn pointers_lead_to_parts(rt: HostRuntime) -> Result<(), Fail> {
 /// A target, a patch and the result: RFC 7396, appendix A, and members that are far apart.
 const PATCHES: [(&str, &str, &str); 17] = [
     ("{\"a\":\"b\"}", "{\"a\":\"c\"}", "{\"a\":\"c\"}"),
-    ("{\"a\":\"b\"}", "{\"b\":\"c\"}", "{\"a\":\"b\",\"b\":\"c\"}"),
+    (
+        "{\"a\":\"b\"}",
+        "{\"b\":\"c\"}",
+        "{\"a\":\"b\",\"b\":\"c\"}",
+    ),
     ("{\"a\":\"b\"}", "{\"a\":null}", "{}"),
     ("{\"a\":\"b\",\"b\":\"c\"}", "{\"a\":null}", "{\"b\":\"c\"}"),
     ("{\"a\":[\"b\"]}", "{\"a\":\"c\"}", "{\"a\":\"c\"}"),
     ("{\"a\":\"c\"}", "{\"a\":[\"b\"]}", "{\"a\":[\"b\"]}"),
-    ("{\"a\":{\"b\":\"c\"}}", "{\"a\":{\"b\":\"d\",\"c\":null}}", "{\"a\":{\"b\":\"d\"}}"),
+    (
+        "{\"a\":{\"b\":\"c\"}}",
+        "{\"a\":{\"b\":\"d\",\"c\":null}}",
+        "{\"a\":{\"b\":\"d\"}}",
+    ),
     ("{\"a\":[{\"b\":\"c\"}]}", "{\"a\":[1]}", "{\"a\":[1]}"),
     ("[\"a\",\"b\"]", "[\"c\",\"d\"]", "[\"c\",\"d\"]"),
     ("{\"a\":\"b\"}", "[\"c\"]", "[\"c\"]"),
@@ -167,9 +188,21 @@ const PATCHES: [(&str, &str, &str); 17] = [
     ("{\"a\":\"foo\"}", "\"bar\"", "\"bar\""),
     ("{\"e\":null}", "{\"a\":1}", "{\"a\":1,\"e\":null}"),
     ("[1,2]", "{\"a\":\"b\",\"c\":null}", "{\"a\":\"b\"}"),
-    ("{}", "{\"a\":{\"bb\":{\"ccc\":null}}}", "{\"a\":{\"bb\":{}}}"),
-    ("{\"a\":1,\"b\":{\"c\":2}}", "{\"a\":null,\"b\":{\"d\":3}}", "{\"b\":{\"c\":2,\"d\":3}}"),
-    ("{\"b\":1,\"d\":2,\"f\":3}", "{\"a\":0,\"c\":null,\"d\":null,\"e\":5,\"g\":{\"h\":null}}", "{\"a\":0,\"b\":1,\"e\":5,\"f\":3,\"g\":{}}"),
+    (
+        "{}",
+        "{\"a\":{\"bb\":{\"ccc\":null}}}",
+        "{\"a\":{\"bb\":{}}}",
+    ),
+    (
+        "{\"a\":1,\"b\":{\"c\":2}}",
+        "{\"a\":null,\"b\":{\"d\":3}}",
+        "{\"b\":{\"c\":2,\"d\":3}}",
+    ),
+    (
+        "{\"b\":1,\"d\":2,\"f\":3}",
+        "{\"a\":0,\"c\":null,\"d\":null,\"e\":5,\"g\":{\"h\":null}}",
+        "{\"a\":0,\"b\":1,\"e\":5,\"f\":3,\"g\":{}}",
+    ),
 ];
 
 #[test]
@@ -179,7 +212,11 @@ fn patches_change_targets(rt: HostRuntime) -> Result<(), Fail> {
         let target = read(alloc, target.as_bytes())?;
         let patch = read(alloc, patch.as_bytes())?;
         let merged = merge_patch(alloc, &target, &patch)?;
-        assert_eq!(rt; text_of(alloc, &merged)?.as_slice(), expected.as_bytes(), "{expected}");
+        assert_eq!(rt;
+            text_of(alloc, &merged)?.as_slice(),
+            expected.as_bytes(),
+            "{expected}"
+        );
     }
     Ok(())
 }
@@ -223,7 +260,11 @@ fn texts_are_quoted(rt: HostRuntime) -> Result<(), Fail> {
     for (text, quotation) in QUOTATIONS {
         let bytes = Bytes::copy_of(alloc, quotation.as_bytes())?;
         assert_eq!(rt; quoted(alloc, text)?.as_slice(), bytes.as_slice(), "{text}");
-        assert_eq!(rt; quoted_length(text, bytes.len()), Some(bytes.len()), "{text}");
+        assert_eq!(rt;
+            quoted_length(text, bytes.len()),
+            Some(bytes.len()),
+            "{text}"
+        );
         assert_eq!(rt; quoted_length(text, bytes.len() - 1), None, "{text}");
     }
     Ok(())
@@ -235,13 +276,22 @@ fn errors_say_what_they_carry(rt: HostRuntime) -> Result<(), Fail> {
     let place = Text::copy_of(alloc, "/a/0")?;
     let faults = [
         (ReadFault::NotJson, "the bytes are no JSON text"),
-        (ReadFault::TooDeep, "lists and objects nest more than 64 deep"),
-        (ReadFault::NotInteger(place), "the number at `/a/0` is not whole or needs more than 64 bits with sign"),
+        (
+            ReadFault::TooDeep,
+            "lists and objects nest more than 64 deep",
+        ),
+        (
+            ReadFault::NotInteger(place),
+            "the number at `/a/0` is not whole or needs more than 64 bits with sign",
+        ),
         (ReadFault::NoMemory, "out of memory"),
     ];
     for (fault, text) in faults {
         assert_eq!(rt; format!(in alloc; "{fault}")?.as_str(), text);
     }
-    assert_eq!(rt; format!(in alloc; "{}", BadPointer)?.as_str(), "no JSON pointer");
+    assert_eq!(rt;
+        format!(in alloc; "{}", BadPointer)?.as_str(),
+        "no JSON pointer"
+    );
     Ok(())
 }

@@ -81,9 +81,9 @@ impl Model for Members {
 ghost use Rattle.std.specs.Prelude.{◌≡◌, ◌++◌, [], ◌∷◌, length, option_map, IfOk, OnErr, OnOk};
 ghost use Rattle.std.specs.Cmp.Lexicographic.{slice_cmp};
 ghost use Rattle.std.specs.Ordering.{nat_cmp};
-ghost use Rattle.wot_json.specs.Tree.{AreOrdered};
+ghost use Rattle.wot_json.specs.Tree.{AreOrdered, members_of};
 ghost use Rattle.wot_json.specs.Meaning.{json_of, json_items, json_members};
-ghost use Rattle.wot_json.specs.Lookup.{member_named};
+ghost use Rattle.wot_json.specs.Lookup.{member_named, value_under};
 ghost use Rattle.wot_json.specs.Merge.{members_under};
 
 impl Tree {
@@ -191,7 +191,8 @@ impl Members {
 
     /// The value of the member of this name, found by binary search.
     pub fn get(&self, name: &str) -> Option<&Tree>
-        ensures { option_map (λ t. json_of t.now) result ≡ member_named name.now self.now }
+        ensures ok { option_map (λ t. json_of t.now) result ≡ member_named name.now self.now }
+        ensures object { option_map (λ t. json_of t.now) result ≡ value_under name.now (members_of self.now) }
     {
         let order = |member: &(Text, Tree)| -> Ordering
             ensures { result ≡ slice_cmp nat_cmp member.now.0 name.entry.now }

@@ -191,8 +191,7 @@ impl Members {
 
     /// The value of the member of this name, found by binary search.
     pub fn get(&self, name: &str) -> Option<&Tree>
-        ensures ok { option_map (λ t. json_of t.now) result ≡ member_named name.now self.now }
-        ensures object { option_map (λ t. json_of t.now) result ≡ value_under name.now (members_of self.now) }
+        ensures { option_map (λ t. json_of t.now) result ≡ member_named name.now self.now }
     {
         let order = |member: &(Text, Tree)| -> Ordering
             ensures { result ≡ slice_cmp nat_cmp member.now.0 name.entry.now }
@@ -201,6 +200,13 @@ impl Members {
             Ok(place) => Some(&self.list[place].1),
             Err(_) => None,
         }
+    }
+
+    /// What `get` gives, for contracts that speak of the object of these members.
+    pub fn value_under(&self, name: &str) -> Option<&Tree>
+        ensures { option_map (λ t. json_of t.now) result ≡ value_under name.now (members_of self.now) }
+    {
+        self.get(name)
     }
 
     /// Puts a member at the end. Its name is after all others in byte order.

@@ -2,4 +2,10 @@
 #![tactic(auto)]
 
 #[cfg(test)]
+mod descriptions;
+#[cfg(test)]
+mod forms;
+#[cfg(test)]
 mod json;
+#[cfg(test)]
+mod messages;

@@ -1,7 +1,8 @@
--- The steps in which the tree of a schema is compiled.
-use Rattle.std.proofs.Common.{◌≡◌, ◌↔◌, ◌≤◌, ◌<◌, ◌+◌, ◌++◌, ℕ, List, [], ◌∷◌, length, get_or, take, drop, Option, Some, None, IfSome, IfOk, OnOk, IfErr, Ok, Err, Result, true, false, map, codes, refl, sym, ap, subst, ◌∙◌, inl, inr, arith, if◌then◌else◌}
+-- The steps in which the tree of a schema is checked and compiled.
+use Rattle.std.proofs.Common.{◌≡◌, ◌↔◌, ◌≤◌, ◌<◌, ◌+◌, ◌++◌, ℕ, List, [], ◌∷◌, length, get_or, take, drop, Option, Some, None, IfSome, IfOk, Ok, Err, Result, true, false, map, codes, refl, sym, ap, subst, ◌∙◌, inl, inr, arith, if◌then◌else◌}
 use Rattle.std.specs.Prelude.{Vec}
 use Rattle.std.specs.declared.alloc.Global.{Global}
+use Rattle.std.specs.declared.alloc.AllocError.{AllocError}
 use Rattle.std.specs.Option.{option_map, option_map_or}
 use Rattle.std.specs.Str.{bytes_eq}
 use Rattle.std.proofs.lemmas.List.{take_more, map-append}
@@ -9,10 +10,12 @@ use Rattle.wot_json.specs.Tree.{Json, null, boolean, integer, string, array, obj
 use Rattle.wot_json.specs.Meaning.{json_of, json_items, json_members}
 use Rattle.wot_json.specs.declared.tree.Tree.{Tree}
 use Rattle.wot_json.specs.Lookup.{value_under}
+use Rattle.wot_json.specs.Places.{step_text, element_step_text}
 use Rattle.wot_schema.specs.declared.fault.SchemaFault.{SchemaFault}
 use Rattle.wot_schema.specs.Values.{EachElement, IfArray, IfObject}
 use Rattle.wot_schema.specs.Acceptance.{Accepts, Holder, one_of, items, properties, name_of, Within, Asks, ExactlyOne, AcceptNone, InOrder, AcceptMembers}
-use Rattle.wot_schema.specs.Faults.{faults_at, faults_within, faults_below, faults_of_list, faults_of_members, place_of_member, place_of_element, IsFirstFault}
+use Rattle.wot_schema.specs.Checks.{FindsFirst}
+use Rattle.wot_schema.specs.Faults.{schema_faults, table_faults, faults_in_member, faults_in_element, faults_within, faults_below, faults_of_list, faults_of_members, AreRowsMet}
 use Rattle.wot_schema.specs.Alike.{AcceptAlike, AllAlike, NamedAlike}
 use Rattle.wot_schema.specs.Rules.{AreRulesOf}
 use Rattle.wot_schema.specs.Nodes.{node_members, schema_of, schemas_of, list_of, items_of, properties_of}
@@ -20,7 +23,7 @@ use Rattle.wot_schema.specs.declared.node.Node.{Node}
 use Rattle.wot_schema.specs.declared.node.Node.TheInside.{Inside}
 use Rattle.wot_schema.proofs.Rows.{rows_hold, rows_asked}
 use Rattle.wot_schema.proofs.NodeMeaning.{within_is, node_accepts, one_of_node, items_node, properties_node, holders}
-use Rattle.wot_schema.proofs.FirstFaults.{stops}
+use Rattle.wot_schema.proofs.FirstFaults.{parts_none, none_through, table_met}
 use Rattle.wot_schema.proofs.Steps.{rest_at}
 
 -- a member nests no deeper than its object
@@ -36,44 +39,51 @@ found_nests name (member n v ms) s is =
     of_some a b same = cc
 
 -- the faults below a member, by the member
-faults_found : (holder : Holder) (place : List ℕ) (ms : Members) → faults_within holder place ms ≡ option_map_or (faults_below holder (place_of_member place (name_of holder))) (value_under (name_of holder) ms) []
-faults_found holder place no_members = refl
-faults_found holder place (member n s ms) =
+faults_found : (holder : Holder) (ms : Members) → faults_within holder ms ≡ faults_in_member (name_of holder) (option_map_or (faults_below holder) (value_under (name_of holder) ms) [])
+faults_found holder no_members = refl
+faults_found holder (member n s ms) =
     elim (bytes_eq (name_of holder) n) as (λ b.
-    (if b then faults_below holder (place_of_member place (name_of holder)) s else faults_within holder place ms)
-    ≡ option_map_or (faults_below holder (place_of_member place (name_of holder))) (if b then Some s else value_under (name_of holder) ms) [])
-    [ true ↦ refl | false ↦ faults_found holder place ms ]
+    (if b then faults_in_member (name_of holder) (faults_below holder s) else faults_within holder ms)
+    ≡ faults_in_member (name_of holder) (option_map_or (faults_below holder) (if b then Some s else value_under (name_of holder) ms) []))
+    [ true ↦ refl | false ↦ faults_found holder ms ]
 
 -- where the member is absent, nothing is asked and nothing is wrong
 pub absent_asks : (holder : Holder) (ms : Members) → None ≡ value_under (name_of holder) ms → (v : Json) → Within holder ms v
 absent_asks holder ms is v = (within_is holder ms v None (sym is)).1 tt
 
-pub absent_faultless : (holder : Holder) (place : List ℕ) (ms : Members) → None ≡ value_under (name_of holder) ms → faults_within holder place ms ≡ []
-absent_faultless holder place ms is =
-    faults_found holder place ms ∙ ap (λ o. option_map_or (faults_below holder (place_of_member place (name_of holder))) o []) (sym is)
+pub absent_faultless : (holder : Holder) (ms : Members) → None ≡ value_under (name_of holder) ms → faults_within holder ms ≡ []
+absent_faultless holder ms is = faults_found holder ms ∙ ap (λ o. faults_in_member (name_of holder) (option_map_or (faults_below holder) o [])) (sym is)
 
-there : (holder : Holder) (place p : List ℕ) (ms : Members) (s : Json) → Some s ≡ value_under (name_of holder) ms → p ≡ place_of_member place (name_of holder) → faults_within holder place ms ≡ faults_below holder p s
-there holder place p ms s is at =
-    faults_found holder place ms
-    ∙ (ap (λ o. option_map_or (faults_below holder (place_of_member place (name_of holder))) o []) (sym is)
-    ∙ ap (λ q. faults_below holder q s) (sym at))
+there : (holder : Holder) (ms : Members) (s : Json) → Some s ≡ value_under (name_of holder) ms → faults_within holder ms ≡ faults_in_member (name_of holder) (faults_below holder s)
+there holder ms s is = faults_found holder ms ∙ ap (λ o. faults_in_member (name_of holder) (option_map_or (faults_below holder) o [])) (sym is)
 
 -- where it is there, what it holds is asked, and what is wrong there is wrong
-pub there_asks : {A : Type 0} (r : Result A SchemaFault) (X : A → Json → Type 0) (holder : Holder) (ms : Members) (s : Json) → Some s ≡ value_under (name_of holder) ms →
+pub there_asks : {A : Type 0} (r : Result A AllocError) (X : A → Json → Type 0) (holder : Holder) (ms : Members) (s : Json) → Some s ≡ value_under (name_of holder) ms →
     IfOk r (λ x. (v : Json) → (X x v ↔ Asks holder s v)) → IfOk r (λ x. (v : Json) → (X x v ↔ Within holder ms v))
 there_asks (Ok x) X holder ms s is asked =
     λ v. (λ h. (within_is holder ms v (Some s) (sym is)).1 ((asked v).0 h), λ h. (asked v).1 ((within_is holder ms v (Some s) (sym is)).0 h))
 there_asks (Err e) X holder ms s is asked = tt
 
-pub there_faultless : {A : Type 0} (r : Result A SchemaFault) (holder : Holder) (place p : List ℕ) (ms : Members) (s : Json) → Some s ≡ value_under (name_of holder) ms → p ≡ place_of_member place (name_of holder) →
-    OnOk r (faults_below holder p s ≡ []) → OnOk r (faults_within holder place ms ≡ [])
-there_faultless (Ok x) holder place p ms s is at none = there holder place p ms s is at ∙ none
-there_faultless (Err e) holder place p ms s is at none = tt
+pub there_found : (r : Result (Unit {0}) SchemaFault) (holder : Holder) (ms : Members) (s : Json) → Some s ≡ value_under (name_of holder) ms →
+    FindsFirst (faults_in_member (name_of holder) (faults_below holder s)) r → FindsFirst (faults_within holder ms) r
+there_found r holder ms s is found = subst (λ fs. FindsFirst fs r) (sym (there holder ms s is)) found
 
-pub there_fault : {A : Type 0} (r : Result A SchemaFault) (holder : Holder) (place p : List ℕ) (ms : Members) (s : Json) → Some s ≡ value_under (name_of holder) ms → p ≡ place_of_member place (name_of holder) →
-    IfErr r (IsFirstFault (faults_below holder p s)) → IfErr r (IsFirstFault (faults_within holder place ms))
-there_fault (Ok x) holder place p ms s is at first = tt
-there_fault (Err e) holder place p ms s is at first = subst (λ fs. IsFirstFault fs e) (sym (there holder place p ms s is at)) first
+pub there_none : (holder : Holder) (ms : Members) (s : Json) → Some s ≡ value_under (name_of holder) ms → faults_within holder ms ≡ [] → faults_below holder s ≡ []
+there_none holder ms s is none = none_through (step_text (name_of holder)) (faults_below holder s) (sym (there holder ms s is) ∙ none)
+
+-- a schema without a fault has none in its rows, and none below
+pub record IsFaultless (ms : Members) : Type 0 where
+  pub rows : AreRowsMet ms
+  pub alternatives : faults_within one_of ms ≡ []
+  pub elements : faults_within items ms ≡ []
+  pub members : faults_within properties ms ≡ []
+
+pub faultless : (ms : Members) → schema_faults (object ms) ≡ [] → IsFaultless ms
+faultless ms none =
+    let first = parts_none (table_faults ms) (faults_within one_of ms ++ (faults_within items ms ++ faults_within properties ms)) none in
+    let second = parts_none (faults_within one_of ms) (faults_within items ms ++ faults_within properties ms) first.1 in
+    let third = parts_none (faults_within items ms) (faults_within properties ms) second.1 in
+    record { rows = table_met ms first.0; alternatives = second.0; elements = third.0; members = third.1 }
 
 none_alike : (ss ts : List Json) (v : Json) → AllAlike ss ts → AcceptNone (elements_of ss) v ↔ AcceptNone (elements_of ts) v
 none_alike [] [] v alike = (λ h. h, λ h. h)
@@ -187,14 +197,20 @@ named_more [] (u ∷ ts) s t alike name one = absurd alike
 named_more (r ∷ ss) [] s t alike name one = absurd alike
 named_more (r ∷ ss) (u ∷ ts) s t alike name one = (alike.0, alike.1, named_more ss ts s t alike.2 name one)
 
--- the faults of a list from one of its schemas on
-pub list_faults_at : (place : List ℕ) (ts : List Tree) (i : ℕ) (t : Tree) → i < length ts → t ≡ get_or ts i t →
-    faults_of_list place i (elements_of (json_items (drop i ts))) ≡ faults_at (place_of_element place i) (json_of t) ++ faults_of_list place (i + 1) (elements_of (json_items (drop (i + 1) ts)))
-list_faults_at place ts i t within is = ap (λ us. faults_of_list place i (elements_of (json_items us))) (rest_at ts i t within is)
+-- an element and the others of a list of schemas without a fault
+pub list_none : (ts : List Tree) (i : ℕ) (t : Tree) → i < length ts → t ≡ get_or ts i t → faults_of_list i (elements_of (json_items (drop i ts))) ≡ [] →
+    (schema_faults (json_of t) ≡ []) × (faults_of_list (i + 1) (elements_of (json_items (drop (i + 1) ts))) ≡ [])
+list_none ts i t within is none =
+    let parts = parts_none (faults_in_element i (schema_faults (json_of t))) (faults_of_list (i + 1) (elements_of (json_items (drop (i + 1) ts))))
+    (sym (ap (λ us. faults_of_list i (elements_of (json_items us))) (rest_at ts i t within is)) ∙ none) in
+    (none_through (element_step_text i) (schema_faults (json_of t)) parts.0, parts.1)
 
-pub named_faults_at : (place : List ℕ) (ts : List (List ℕ × Tree)) (i : ℕ) (t : List ℕ × Tree) → i < length ts → t ≡ get_or ts i t →
-    faults_of_members place (members_of (json_members (drop i ts))) ≡ faults_at (place_of_member place t.0) (json_of t.1) ++ faults_of_members place (members_of (json_members (drop (i + 1) ts)))
-named_faults_at place ts i t within is = ap (λ us. faults_of_members place (members_of (json_members us))) (rest_at ts i t within is)
+pub named_none : (ts : List (List ℕ × Tree)) (i : ℕ) (t : List ℕ × Tree) → i < length ts → t ≡ get_or ts i t → faults_of_members (members_of (json_members (drop i ts))) ≡ [] →
+    (schema_faults (json_of t.1) ≡ []) × (faults_of_members (members_of (json_members (drop (i + 1) ts))) ≡ [])
+named_none ts i t within is none =
+    let parts = parts_none (faults_in_member t.0 (schema_faults (json_of t.1))) (faults_of_members (members_of (json_members (drop (i + 1) ts))))
+    (sym (ap (λ us. faults_of_members (members_of (json_members us))) (rest_at ts i t within is)) ∙ none) in
+    (none_through (step_text t.0) (schema_faults (json_of t.1)) parts.0, parts.1)
 
 -- the node of compiled parts accepts what the schema accepts
 pub compiled_alike : (a : Inside) (ms : Members) → AreRulesOf ms a.rules →
@@ -224,7 +240,7 @@ compiled_alike a ms rules alternatives items_asked properties_asked v = (
     asked_some (Some nodes) v h = h
 
 -- compiled schemas of named members ask what those ask
-pub named_ok : (r : Result (Vec (List ℕ × Node) Global) SchemaFault) (ts : List (List ℕ × Json)) → IfOk r (λ named. NamedAlike (schemas_of named.items) ts) →
+pub named_ok : (r : Result (Vec (List ℕ × Node) Global) AllocError) (ts : List (List ℕ × Json)) → IfOk r (λ named. NamedAlike (schemas_of named.items) ts) →
     IfOk r (λ named. (v : Json) → (Asks properties (properties_of named.items) v ↔ Asks properties (object (members_of ts)) v))
 named_ok (Ok named) ts alike = λ v. properties_alike (schemas_of named.items) ts alike v
 named_ok (Err e) ts alike = tt
@@ -241,27 +257,3 @@ pub named_list_more : (ns ms : List (List ℕ × Node)) (n : List ℕ × Node) (
 named_list_more ns ms n ts i t within is alike name one more =
     let front : take (i + 1) ts ≡ take i ts ++ t ∷ [] = take_more ts i t within ∙ ap (λ u. take i ts ++ u ∷ []) (sym is) in
     rw (more, front, map-append, map-append) (named_more (schemas_of ns) (json_members (take i ts)) (n.0, schema_of n.1) (t.0, json_of t.1) alike name one)
-
--- it has no fault, so the others' are left
-pub list_faults_more : (faults : List SchemaFault) (place p : List ℕ) (ts : List Tree) (i : ℕ) (t : Tree) → i < length ts → t ≡ get_or ts i t → faults ≡ faults_of_list place i (elements_of (json_items (drop i ts))) →
-    p ≡ place_of_element place i → faults_at p (json_of t) ≡ [] → faults ≡ faults_of_list place (i + 1) (elements_of (json_items (drop (i + 1) ts)))
-list_faults_more faults place p ts i t within is left at none =
-    left ∙ (list_faults_at place ts i t within is ∙ ap (λ fs. fs ++ faults_of_list place (i + 1) (elements_of (json_items (drop (i + 1) ts)))) (ap (λ q. faults_at q (json_of t)) (sym at) ∙ none))
-
-pub named_faults_more : (faults : List SchemaFault) (place p : List ℕ) (ts : List (List ℕ × Tree)) (i : ℕ) (t : List ℕ × Tree) → i < length ts → t ≡ get_or ts i t → faults ≡ faults_of_members place (members_of (json_members (drop i ts))) →
-    p ≡ place_of_member place t.0 → faults_at p (json_of t.1) ≡ [] → faults ≡ faults_of_members place (members_of (json_members (drop (i + 1) ts)))
-named_faults_more faults place p ts i t within is left at none =
-    left ∙ (named_faults_at place ts i t within is ∙ ap (λ fs. fs ++ faults_of_members place (members_of (json_members (drop (i + 1) ts)))) (ap (λ q. faults_at q (json_of t.1)) (sym at) ∙ none))
-
--- or its first fault is the first of all
-pub list_fault : (faults : List SchemaFault) (place p : List ℕ) (ts : List Tree) (i : ℕ) (t : Tree) (e : SchemaFault) → i < length ts → t ≡ get_or ts i t → faults ≡ faults_of_list place i (elements_of (json_items (drop i ts))) →
-    p ≡ place_of_element place i → IsFirstFault (faults_at p (json_of t)) e → IsFirstFault faults e
-list_fault faults place p ts i t e within is left at first =
-    subst (λ fs. IsFirstFault fs e) (sym (left ∙ list_faults_at place ts i t within is))
-    (stops (faults_at (place_of_element place i) (json_of t)) (faults_of_list place (i + 1) (elements_of (json_items (drop (i + 1) ts)))) e (subst (λ q. IsFirstFault (faults_at q (json_of t)) e) at first))
-
-pub named_fault : (faults : List SchemaFault) (place p : List ℕ) (ts : List (List ℕ × Tree)) (i : ℕ) (t : List ℕ × Tree) (e : SchemaFault) → i < length ts → t ≡ get_or ts i t → faults ≡ faults_of_members place (members_of (json_members (drop i ts))) →
-    p ≡ place_of_member place t.0 → IsFirstFault (faults_at p (json_of t.1)) e → IsFirstFault faults e
-named_fault faults place p ts i t e within is left at first =
-    subst (λ fs. IsFirstFault fs e) (sym (left ∙ named_faults_at place ts i t within is))
-    (stops (faults_at (place_of_member place t.0) (json_of t.1)) (faults_of_members place (members_of (json_members (drop (i + 1) ts)))) e (subst (λ q. IsFirstFault (faults_at q (json_of t.1)) e) at first))

@@ -1,102 +1,133 @@
 -- The first fault of faults that come part by part.
-use Rattle.std.proofs.Common.{◌≡◌, ℕ, zero, suc, List, [], ◌∷◌, ◌++◌, take, get_or, codes, Option, Some, None, refl, sym, subst, ◌∙◌, inl, inr, append_assoc}
+use Rattle.std.proofs.Common.{append-nil, ◌≡◌, ◌<◌, ◌+◌, ◌++◌, ℕ, List, [], ◌∷◌, length, get_or, drop, map, Option, Some, None, Result, Err, refl, sym, ap, subst, ◌∙◌}
+use Rattle.std.specs.Prelude.{IfSome}
 use Rattle.std.specs.List.{flat_map}
 use Rattle.std.specs.Option.{option_map_or}
-use Rattle.wot_json.specs.Tree.{Json, Members}
+use Rattle.std.proofs.lemmas.List.{drop_more}
+use Rattle.wot_json.specs.Tree.{Json, Members, elements_of, members_of}
+use Rattle.wot_json.specs.Meaning.{json_of, json_items, json_members}
+use Rattle.wot_json.specs.declared.tree.Tree.{Tree}
 use Rattle.wot_json.specs.Lookup.{value_under}
+use Rattle.wot_json.specs.Places.{step_text}
 use Rattle.wot_schema.specs.declared.fault.SchemaFault.{SchemaFault}
-use Rattle.wot_schema.specs.Faults.{Judge, row_faults, table_faults, unsupported_rows, number_rows, absent, whole_number, number_above_zero, type_name, any_value, list_with_element, count, object_or_list, any_object, list_of_texts, IsFirstFault}
+use Rattle.wot_schema.specs.declared.fault.SchemaFault.TheVariants as schema_fault
+use Rattle.wot_schema.specs.Checks.{FindsFirst}
+use Rattle.wot_schema.specs.Faults.{Judge, fault_through, faults_in_member, faults_in_element, schema_faults, faults_of_list, faults_of_members, row_faults, table, table_faults, IsMet, AreRowsMet}
+use Rattle.wot_schema.proofs.Steps.{rest_at}
 
--- faults one behind the other
-abbrev pub together : List (List SchemaFault) → List SchemaFault
-together [] = []
-together (p ∷ ps) = p ++ together ps
+abbrev Faults : Type 0
+Faults = List SchemaFault
 
--- none of the parts has a fault
-abbrev pub AllNone : List (List SchemaFault) → Type 0
-AllNone [] = Unit {0}
-AllNone (p ∷ ps) = (p ≡ []) × AllNone ps
+abbrev Outcome : Type 0
+Outcome = Result (Unit {0}) SchemaFault
 
--- no part has a fault, so there is none
-pub all_none : (ps : List (List SchemaFault)) → AllNone ps → together ps ≡ []
-all_none [] none = refl
-all_none (p ∷ ps) none = rw none.0 (all_none ps none.1)
+-- what was found of the first part is found of all
+pub stops : (f g : Faults) (e : SchemaFault) → FindsFirst f (Err e) → FindsFirst (f ++ g) (Err e)
+stops [] g schema_fault.NoMemory first = absurd cc
+stops [] g (schema_fault.Malformed p) first = absurd cc
+stops [] g (schema_fault.Unsupported p w) first = absurd cc
+stops (x ∷ f) g schema_fault.NoMemory first = first
+stops (x ∷ f) g (schema_fault.Malformed p) first = first
+stops (x ∷ f) g (schema_fault.Unsupported p w) first = first
 
--- the first fault of the first part is the first of all
-pub stops : (f g : List SchemaFault) (e : SchemaFault) → IsFirstFault f e → IsFirstFault (f ++ g) e
-stops [] g e (inl memory) = inl memory
-stops [] g e (inr first) = absurd cc
-stops (x ∷ f) g e first = first
+-- after a part with no fault comes what is found of the others
+pub goes_on : (f g : Faults) (e : SchemaFault) → f ≡ [] → FindsFirst g (Err e) → FindsFirst (f ++ g) (Err e)
+goes_on f g e none first = subst (λ fs. FindsFirst (fs ++ g) (Err e)) (sym none) first
 
--- behind a part with no fault comes the first of the others
-pub goes_on : (f g : List SchemaFault) (e : SchemaFault) → f ≡ [] → IsFirstFault g e → IsFirstFault (f ++ g) e
-goes_on f g e none first = rw none first
+-- ---- through a step
 
--- behind parts with no fault the first fault of the next is the first of all
-pub stops_at : (ps : List (List SchemaFault)) (i : ℕ) (e : SchemaFault) → AllNone (take i ps) → IsFirstFault (get_or ps i []) e → IsFirstFault (together ps) e
-stops_at [] i e none first = first
-stops_at (p ∷ ps) zero e none first = stops p (together ps) e first
-stops_at (p ∷ ps) (suc i) e none first = goes_on p (together ps) e none.0 (stops_at ps i e none.1 first)
+-- a step that ends where the rest begins
+pub through_step : (step token : List ℕ) (fs : Faults) (r : Outcome) → step ≡ token ++ [] → FindsFirst (map (fault_through step) fs) r → FindsFirst (map (fault_through token) fs) r
+through_step step token fs r is found = subst (λ s. FindsFirst (map (fault_through s) fs) r) (is ∙ append-nil token) found
 
--- the parts in which the table is read
-abbrev pub table_parts : List ℕ → Members → List (List SchemaFault)
-table_parts place ms =
-    let row : List ℕ → Judge → List SchemaFault = λ name judge. row_faults place ms (name, judge) in
-    flat_map (row_faults place ms) unsupported_rows ∷
-    row (codes "type") type_name ∷
-    row (codes "const") any_value ∷
-    row (codes "enum") list_with_element ∷
-    row (codes "oneOf") list_with_element ∷
-    flat_map (row_faults place ms) number_rows ∷
-    (row (codes "minLength") count ++ row (codes "maxLength") count) ∷
-    row (codes "items") object_or_list ∷
-    (row (codes "minItems") count ++ row (codes "maxItems") count) ∷
-    row (codes "properties") any_object ∷
-    row (codes "required") list_of_texts ∷
-    []
+-- ---- rows, elements and members
 
-regroup : (a1 a2 a3 a4 a5 a6 a7 b1 b2 b3 b4 b5 c1 c2 d e1 e2 f g : List SchemaFault) →
-    a1 ++ (a2 ++ (a3 ++ (a4 ++ (a5 ++ (a6 ++ (a7 ++ (b1 ++ (b2 ++ (b3 ++ (b4 ++ (b5 ++ (c1 ++ (c2 ++ (d ++ (e1 ++ (e2 ++ (f ++ (g ++ []))))))))))))))))))
-    ≡ (a1 ++ (a2 ++ (a3 ++ []))) ++ (a4 ++ (a5 ++ (a6 ++ (a7 ++ ((b1 ++ (b2 ++ (b3 ++ (b4 ++ (b5 ++ []))))) ++ ((c1 ++ c2) ++ (d ++ ((e1 ++ e2) ++ (f ++ (g ++ []))))))))))
-regroup a1 a2 a3 a4 a5 a6 a7 b1 b2 b3 b4 b5 c1 c2 d e1 e2 f g = simp append_assoc
+-- a member with its row's faults, seen from the object
+pub member_there : (name : List ℕ) (J : Judge) (ms : Members) (s : Json) (r : Outcome) → Some s ≡ value_under name ms → FindsFirst (faults_in_member name (J s)) r → FindsFirst (row_faults ms (name, J)) r
+member_there name J ms s r is found = subst (λ o. FindsFirst (faults_in_member name (option_map_or J o [])) r) is found
 
-pub table_faults-is : (place : List ℕ) (ms : Members) → table_faults place ms ≡ together (table_parts place ms)
-table_faults-is place ms =
-    let row : List ℕ → Judge → List SchemaFault = λ name judge. row_faults place ms (name, judge) in
-    regroup
-    (row (codes "pattern") (absent (codes "pattern")))
-    (row (codes "contentEncoding") (absent (codes "contentEncoding")))
-    (row (codes "contentMediaType") (absent (codes "contentMediaType")))
-    (row (codes "type") type_name)
-    (row (codes "const") any_value)
-    (row (codes "enum") list_with_element)
-    (row (codes "oneOf") list_with_element)
-    (row (codes "minimum") whole_number)
-    (row (codes "maximum") whole_number)
-    (row (codes "exclusiveMinimum") whole_number)
-    (row (codes "exclusiveMaximum") whole_number)
-    (row (codes "multipleOf") number_above_zero)
-    (row (codes "minLength") count)
-    (row (codes "maxLength") count)
-    (row (codes "items") object_or_list)
-    (row (codes "minItems") count)
-    (row (codes "maxItems") count)
-    (row (codes "properties") any_object)
-    (row (codes "required") list_of_texts)
+-- of rows, the first fault of the first row that has one is the first of all
+pub row_stops : {B : Type 0} (rows : List B) (row : B → List ℕ × Judge) (i : ℕ) (b : B) (ms : Members) (fs : Faults) (e : SchemaFault) → i < length rows →
+    fs ≡ flat_map (row_faults ms) (map row (drop i rows)) → FindsFirst (row_faults ms (row (get_or rows i b))) (Err e) → FindsFirst fs (Err e)
+row_stops rows row i b ms fs e within left first =
+    subst (λ gs. FindsFirst gs (Err e)) (sym (left ∙ ap (λ bs. flat_map (row_faults ms) (map row bs)) (drop_more rows i b within)))
+    (stops (row_faults ms (row (get_or rows i b))) (flat_map (row_faults ms) (map row (drop (i + 1) rows))) e first)
 
--- a table that is read up to a part has the first fault of that part as its first
-pub table_stops : (place : List ℕ) (ms : Members) (i : ℕ) (e : SchemaFault) → AllNone (take i (table_parts place ms)) → IsFirstFault (get_or (table_parts place ms) i []) e → IsFirstFault (table_faults place ms) e
-table_stops place ms i e none first =
-    subst (λ (fs : List SchemaFault). IsFirstFault fs e) (sym (table_faults-is place ms)) (stops_at (table_parts place ms) i e none first)
+pub element_stops : (fs : Faults) (ts : List Tree) (i : ℕ) (t : Tree) (e : SchemaFault) → i < length ts → t ≡ get_or ts i t →
+    fs ≡ faults_of_list i (elements_of (json_items (drop i ts))) → FindsFirst (faults_in_element i (schema_faults (json_of t))) (Err e) → FindsFirst fs (Err e)
+element_stops fs ts i t e within is left first =
+    subst (λ gs. FindsFirst gs (Err e)) (sym (left ∙ ap (λ us. faults_of_list i (elements_of (json_items us))) (rest_at ts i t within is)))
+    (stops (faults_in_element i (schema_faults (json_of t))) (faults_of_list (i + 1) (elements_of (json_items (drop (i + 1) ts)))) e first)
 
--- a table none of whose parts has a fault has none
-pub table_none : (place : List ℕ) (ms : Members) → AllNone (table_parts place ms) → table_faults place ms ≡ []
-table_none place ms none = table_faults-is place ms ∙ all_none (table_parts place ms) none
+pub element_passed : (fs : Faults) (ts : List Tree) (i : ℕ) (t : Tree) → i < length ts → t ≡ get_or ts i t →
+    fs ≡ faults_of_list i (elements_of (json_items (drop i ts))) → faults_in_element i (schema_faults (json_of t)) ≡ [] → fs ≡ faults_of_list (i + 1) (elements_of (json_items (drop (i + 1) ts)))
+element_passed fs ts i t within is left none =
+    left ∙ ap (λ us. faults_of_list i (elements_of (json_items us))) (rest_at ts i t within is) ∙ ap (λ gs. gs ++ faults_of_list (i + 1) (elements_of (json_items (drop (i + 1) ts)))) none
 
-no_judge : (o : Option Json) → option_map_or (λ (s : Json). let fs : List SchemaFault = [] in fs) o [] ≡ []
-no_judge None = refl
-no_judge (Some s) = refl
+pub named_stops : (fs : Faults) (ts : List (List ℕ × Tree)) (i : ℕ) (t : List ℕ × Tree) (name : List ℕ) (e : SchemaFault) → i < length ts → t ≡ get_or ts i t → name ≡ t.0 →
+    fs ≡ faults_of_members (members_of (json_members (drop i ts))) → FindsFirst (faults_in_member name (schema_faults (json_of t.1))) (Err e) → FindsFirst fs (Err e)
+named_stops fs ts i t name e within is named left first =
+    subst (λ gs. FindsFirst gs (Err e)) (sym (left ∙ ap (λ us. faults_of_members (members_of (json_members us))) (rest_at ts i t within is)))
+    (stops (faults_in_member t.0 (schema_faults (json_of t.1))) (faults_of_members (members_of (json_members (drop (i + 1) ts)))) e
+    (subst (λ n. FindsFirst (faults_in_member n (schema_faults (json_of t.1))) (Err e)) named first))
 
--- `const` may be any value
-pub constant_none : (place : List ℕ) (ms : Members) → row_faults place ms (codes "const", any_value) ≡ []
-constant_none place ms = no_judge (value_under (codes "const") ms)
+pub named_passed : (fs : Faults) (ts : List (List ℕ × Tree)) (i : ℕ) (t : List ℕ × Tree) (name : List ℕ) → i < length ts → t ≡ get_or ts i t → name ≡ t.0 →
+    fs ≡ faults_of_members (members_of (json_members (drop i ts))) → faults_in_member name (schema_faults (json_of t.1)) ≡ [] → fs ≡ faults_of_members (members_of (json_members (drop (i + 1) ts)))
+named_passed fs ts i t name within is named left none =
+    left ∙ ap (λ us. faults_of_members (members_of (json_members us))) (rest_at ts i t within is)
+    ∙ ap (λ gs. gs ++ faults_of_members (members_of (json_members (drop (i + 1) ts)))) (ap (λ n. faults_in_member n (schema_faults (json_of t.1))) (sym named) ∙ none)
+
+-- ---- schemas without a fault
+
+first_none : (f g : Faults) → f ++ g ≡ [] → f ≡ []
+first_none [] g none = refl
+first_none (x ∷ f) g none = absurd cc
+
+rest_none : (f g : Faults) → f ++ g ≡ [] → g ≡ []
+rest_none [] g none = none
+rest_none (x ∷ f) g none = absurd cc
+
+-- two parts have no fault
+pub parts_none : (f g : Faults) → f ++ g ≡ [] → (f ≡ []) × (g ≡ [])
+parts_none f g none = (first_none f g none, rest_none f g none)
+
+-- what has no fault through a step has none
+pub none_through : (step : List ℕ) (fs : Faults) → map (fault_through step) fs ≡ [] → fs ≡ []
+none_through step [] none = refl
+none_through step (f ∷ fs) none = absurd cc
+
+-- a row without a fault is met
+row_met : (ms : Members) (name : List ℕ) (J : Judge) → row_faults ms (name, J) ≡ [] → IsMet ms (name, J)
+row_met ms name J none = of_option (value_under name ms) J (none_through (step_text name) (option_map_or J (value_under name ms) []) none)
+  where
+    of_option : (o : Option Json) (J : Judge) → option_map_or J o [] ≡ [] → IfSome o (λ s. J s ≡ [])
+    of_option None J none = tt
+    of_option (Some s) J none = none
+
+-- each of these rows is met
+abbrev AllMet : Members → List (List ℕ × Judge) → Type 0
+AllMet ms [] = Unit {0}
+AllMet ms (row ∷ rows) = IsMet ms row × AllMet ms rows
+
+all_met : (ms : Members) (rows : List (List ℕ × Judge)) → flat_map (row_faults ms) rows ≡ [] → AllMet ms rows
+all_met ms [] none = tt
+all_met ms (row ∷ rows) none =
+    let parts = parts_none (row_faults ms row) (flat_map (row_faults ms) rows) none in
+    (row_met ms row.0 row.1 parts.0, all_met ms rows parts.1)
+
+pub table_met : (ms : Members) → table_faults ms ≡ [] → AreRowsMet ms
+table_met ms none =
+    let all : AllMet ms table = all_met ms table none in record {
+      type = all.1.1.1.0;
+      choice = all.1.1.1.1.1.0;
+      minimum = all.1.1.1.1.1.1.1.0;
+      maximum = all.1.1.1.1.1.1.1.1.0;
+      exclusive_minimum = all.1.1.1.1.1.1.1.1.1.0;
+      exclusive_maximum = all.1.1.1.1.1.1.1.1.1.1.0;
+      multiple_of = all.1.1.1.1.1.1.1.1.1.1.1.0;
+      min_length = all.1.1.1.1.1.1.1.1.1.1.1.1.0;
+      max_length = all.1.1.1.1.1.1.1.1.1.1.1.1.1.0;
+      min_items = all.1.1.1.1.1.1.1.1.1.1.1.1.1.1.1.0;
+      max_items = all.1.1.1.1.1.1.1.1.1.1.1.1.1.1.1.1.0;
+      required = all.1.1.1.1.1.1.1.1.1.1.1.1.1.1.1.1.1.1.0;
+    }

@@ -1,4 +1,4 @@
-pub mod Found
+pub mod ListShapes
 pub mod FirstFaults
 pub mod Multiples
 pub mod Rows

@@ -9,7 +9,7 @@ use Rattle.wot_json.specs.Tree.{Json, Members, no_members, member, members_of}
 use Rattle.wot_json.specs.Lookup.{value_under}
 use Rattle.wot_schema.specs.Acceptance.{Accepts, Holder, one_of, items, properties, name_of, Within, Asks}
 use Rattle.wot_schema.specs.Rules.{IsAllowed, AreRulesOf}
-use Rattle.wot_schema.specs.Nodes.{present, node_rows, node_members, schema_of, list_of, items_of, properties_of}
+use Rattle.wot_schema.specs.Nodes.{present_members, node_rows, node_members, schema_of, list_of, items_of, properties_of}
 use Rattle.wot_schema.specs.declared.node.Node.{Node}
 use Rattle.wot_schema.specs.declared.node.Node.TheInside.{Inside}
 use Rattle.wot_schema.proofs.Rows.{rows_hold, rows_asked}
@@ -39,7 +39,7 @@ is_false : (b : Bool) → not b ≡ true → b ≡ false
 is_false true h = absurd cc
 is_false false h = refl
 
-new_absent : (name : List ℕ) (rows : List Row) → is_new name rows ≡ true → value_under name (members_of (present rows)) ≡ None
+new_absent : (name : List ℕ) (rows : List Row) → is_new name rows ≡ true → value_under name (members_of (present_members rows)) ≡ None
 new_absent name [] new = refl
 new_absent name ((n, None) ∷ rows) new = new_absent name rows (both (not (bytes_eq name n)) (is_new name rows) new).1
 new_absent name ((n, Some v) ∷ rows) new =
@@ -47,7 +47,7 @@ new_absent name ((n, Some v) ∷ rows) new =
     rw (is_false (bytes_eq name n) parts.0) (new_absent name rows parts.1)
 
 -- of rows with distinct names the members that are there have the rows' values
-found_present : (name : List ℕ) (rows : List Row) → are_distinct rows ≡ true → value_under name (members_of (present rows)) ≡ picked name rows
+found_present : (name : List ℕ) (rows : List Row) → are_distinct rows ≡ true → value_under name (members_of (present_members rows)) ≡ picked name rows
 found_present name [] distinct = refl
 found_present name ((n, Some v) ∷ rows) distinct =
     ap (λ o. if bytes_eq name n then Some v else o) (found_present name rows (both (is_new n rows) (are_distinct rows) distinct).1)
@@ -55,8 +55,8 @@ found_present name ((n, None) ∷ rows) distinct =
     let parts = both (is_new n rows) (are_distinct rows) distinct in
     absent_row name n rows (bytes_eq name n) refl parts.0 (found_present name rows parts.1)
   where
-    absent_row : (name n : List ℕ) (rows : List Row) (b : Bool) → b ≡ bytes_eq name n → is_new n rows ≡ true → value_under name (members_of (present rows)) ≡ picked name rows →
-        value_under name (members_of (present rows)) ≡ (if b then None else picked name rows)
+    absent_row : (name n : List ℕ) (rows : List Row) (b : Bool) → b ≡ bytes_eq name n → is_new n rows ≡ true → value_under name (members_of (present_members rows)) ≡ picked name rows →
+        value_under name (members_of (present_members rows)) ≡ (if b then None else picked name rows)
     absent_row name n rows true same new rest = new_absent name rows (subst (λ m. is_new m rows ≡ true) (sym (same_text name n same)) new)
     absent_row name n rows false same new rest = rest
 

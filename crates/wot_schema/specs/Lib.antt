@@ -1,6 +1,7 @@
 pub mod Values
 pub mod Acceptance
 pub mod Faults
+pub mod Checks
 pub mod Kinds
 pub mod Counts
 pub mod Numbers

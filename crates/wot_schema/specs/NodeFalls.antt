@@ -5,7 +5,7 @@ use Rattle.std.proofs.Common.{arith}
 use Rattle.std.specs.Option.{option_map}
 use denote.Param.Weighed.{most}
 use Rattle.wot_json.specs.Tree.{Json, most_member_nesting, nesting, elements_nesting, members_nesting, elements_of, members_of}
-use Rattle.wot_schema.specs.Nodes.{present, node_members, rule_rows, schema_of, list_of, items_of, properties_of}
+use Rattle.wot_schema.specs.Nodes.{present_members, node_members, rule_rows, schema_of, list_of, items_of, properties_of}
 use Rattle.wot_schema.specs.declared.node.Node.{Node}
 use Rattle.wot_schema.specs.declared.node.Node.TheInside.{Inside}
 use Rattle.wot_schema.specs.declared.node.ItemRule.{ItemRule}
@@ -17,15 +17,15 @@ abbrev value_nesting : Option Json → ℕ
 value_nesting None = 0
 value_nesting (Some v) = nesting v
 
-row_nests : (name : List ℕ) (o : Option Json) (rows : List (List ℕ × Option Json)) → value_nesting o ≤ most_member_nesting (present ((name, o) ∷ rows))
+row_nests : (name : List ℕ) (o : Option Json) (rows : List (List ℕ × Option Json)) → value_nesting o ≤ most_member_nesting (present_members ((name, o) ∷ rows))
 row_nests name None rows = omega arith
 row_nests name (Some v) rows = omega arith
 
-further_row_nests : (name : List ℕ) (o : Option Json) (rows : List (List ℕ × Option Json)) → most_member_nesting (present rows) ≤ most_member_nesting (present ((name, o) ∷ rows))
+further_row_nests : (name : List ℕ) (o : Option Json) (rows : List (List ℕ × Option Json)) → most_member_nesting (present_members rows) ≤ most_member_nesting (present_members ((name, o) ∷ rows))
 further_row_nests name None rows = omega arith
 further_row_nests name (Some v) rows = omega arith
 
-further_rows_nest : (front rows : List (List ℕ × Option Json)) → most_member_nesting (present rows) ≤ most_member_nesting (present (front ++ rows))
+further_rows_nest : (front rows : List (List ℕ × Option Json)) → most_member_nesting (present_members rows) ≤ most_member_nesting (present_members (front ++ rows))
 further_rows_nest [] rows = omega arith
 further_rows_nest (row ∷ front) rows = omega (arith, further_rows_nest front rows, further_row_nests row.0 row.1 (front ++ rows))
 

@@ -9,14 +9,15 @@ use Rattle.wot_schema.specs.declared.node.Node.TheInside.{Inside}
 use Rattle.wot_schema.specs.declared.node.ItemRule.{ItemRule}
 use Rattle.wot_schema.specs.declared.node.ItemRule.TheVariants as item
 
--- the members of an object that are there
+-- these members, and before them one of this name if there is a value
 abbrev pub with_member : List ℕ → Option Json → List (List ℕ × Json) → List (List ℕ × Json)
 with_member name None ms = ms
 with_member name (Some v) ms = (name, v) ∷ ms
 
-abbrev pub present : List (List ℕ × Option Json) → List (List ℕ × Json)
-present [] = []
-present (row ∷ rows) = with_member row.0 row.1 (present rows)
+-- the members that are there
+abbrev pub present_members : List (List ℕ × Option Json) → List (List ℕ × Json)
+present_members [] = []
+present_members (row ∷ rows) = with_member row.0 row.1 (present_members rows)
 
 -- the schema of a node, of which clauses see the members
 abbrev pub schema_of : List (List ℕ × Json) → Json
@@ -64,4 +65,4 @@ node_rows a =
     [])
 
 abbrev pub node_members : Inside → List (List ℕ × Json)
-node_members a = present (node_rows a)
+node_members a = present_members (node_rows a)

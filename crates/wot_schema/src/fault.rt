@@ -1,20 +1,26 @@
-//! What is wrong with a schema.
+//! What is wrong with a schema, and what a check finds.
+
+ghost use Rattle.std.specs.Prelude.{◌≡◌, ◌++◌, List, ℕ, map, Err, IfOk};
+ghost use Rattle.wot_schema.specs.Checks.{FindsFirst};
+ghost use Rattle.wot_schema.specs.Faults.{wrong_form, unsupported_word, fault_through, faults_in_member, faults_in_element};
+ghost use Rattle.wot_schema.specs.declared.fault.SchemaFault.{SchemaFault};
 
 use servient_base::NoMemory;
+use std::alloc::Global;
 use thiserror::Error;
-use wot_json::Text;
+use wot_json::{Text, through_element, through_member};
 
 /// Why a tree is no schema that this product reads.
 #[derive(Debug, Drop, Error)]
 pub enum SchemaFault {
     /// A member that is not supported: its JSON Pointer (RFC 6901), and its name, or `number` for a type.
-    #[error("a word that is not supported")]
+    #[error("`{1}` at `{0}` is not supported")]
     Unsupported(Text, Text),
     /// A value of another form than its place asks for, by its JSON Pointer (RFC 6901).
-    #[error("a value of another form")]
+    #[error("the value at `{0}` has another form than a data schema asks for there")]
     Malformed(Text),
-    /// There was no memory.
-    #[error("no memory")]
+    /// Out of memory.
+    #[error("out of memory")]
     NoMemory,
 }
 
@@ -27,4 +33,73 @@ impl From<NoMemory> for SchemaFault {
     fn from(_: NoMemory) -> Self {
         SchemaFault::NoMemory
     }
+}
+
+/// What a check finds: nothing, or the first fault, with its place seen from what was checked.
+pub(crate) type Found = Result<(), SchemaFault>;
+
+/// That a value has another form than is asked for.
+pub(crate) fn malformed(alloc: Global) -> Found
+    ensures { FindsFirst wrong_form result }
+{
+    Err(SchemaFault::Malformed(Text::from_string(String::new(alloc))))
+}
+
+/// That a value is not supported, or is a word that is not.
+pub(crate) fn unsupported(alloc: Global, word: &str) -> Found
+    ensures { FindsFirst (unsupported_word word.now) result }
+{
+    let word = Text::copy_of(alloc, word)?;
+    Err(SchemaFault::Unsupported(Text::from_string(String::new(alloc)), word))
+}
+
+/// What was found in a member, seen from its object.
+pub(crate) fn in_member(alloc: Global, name: &str, found: Found) -> Found
+    ensures { (faults : List SchemaFault) → FindsFirst faults found → FindsFirst (faults_in_member name.now faults) result }
+{
+    match found {
+        Ok(()) => Ok(()),
+        Err(fault) => {
+            let step = through_member(alloc, name, "")?;
+            through(step, fault)
+        }
+    }
+}
+
+/// What was found in an element, seen from its list.
+pub(crate) fn in_element(alloc: Global, index: usize, found: Found) -> Found
+    ensures { (faults : List SchemaFault) → FindsFirst faults found → FindsFirst (faults_in_element index faults) result }
+{
+    match found {
+        Ok(()) => Ok(()),
+        Err(fault) => {
+            let step = through_element(alloc, index, "")?;
+            through(step, fault)
+        }
+    }
+}
+
+/// A fault that is reached through a step.
+fn through(step: Text, fault: SchemaFault) -> Found
+    ensures { (faults : List SchemaFault) → FindsFirst faults (Err fault) → FindsFirst (map (fault_through step) faults) result }
+{
+    match fault {
+        SchemaFault::Malformed(place) => {
+            let place = joined(step, place.as_str())?;
+            Err(SchemaFault::Malformed(place))
+        }
+        SchemaFault::Unsupported(place, word) => {
+            let place = joined(step, place.as_str())?;
+            Err(SchemaFault::Unsupported(place, word))
+        }
+        SchemaFault::NoMemory => Err(SchemaFault::NoMemory),
+    }
+}
+
+fn joined(step: Text, place: &str) -> Result<Text, NoMemory>
+    ensures { IfOk result (λ t. t ≡ step ++ place.now) }
+{
+    let mut text = step.into_string();
+    text.push_str(place)?;
+    Ok(Text::from_string(text))
 }

@@ -1,23 +1,29 @@
 //! Data schemas (TD 1.1, section 5.3.2) over JSON trees whose numbers are whole.
 //!
-//! `Schema::read` compiles a schema's tree or names its first fault, `Schema::accepts` holds a value against it. Which
-//! values a schema accepts is `Accepts` of `specs/Acceptance.antt`, what may be wrong with it `schema_faults` of
-//! `specs/Faults.antt`; both speak of its tree alone.
+//! `check` gives the first fault of a schema's tree, `Schema::read` compiles a tree that has none, and
+//! `Schema::accepts` says whether a schema accepts a value. Which values it accepts is `Accepts` of
+//! `specs/Acceptance.antt`, what may be wrong with it `schema_faults` of `specs/Faults.antt`; both speak of its tree
+//! alone.
+//!
+//! ```text
+//! let level = Schema::read(alloc, &read(alloc, br#"{"type":"integer","minimum":0}"#)?)?;
+//! assert!(level.accepts(&Tree::Int(7)));
+//! assert!(!level.accepts(&Tree::Int(-7)));
+//! ```
 #![tactic(auto)]
 
-mod accepting;
-mod compiling;
+mod acceptance;
+mod compilation;
 mod counts;
 mod fault;
 mod kind;
-mod member;
 mod node;
 mod numbers;
-mod reading;
 mod rules;
 mod schema;
-#[cfg(test)]
-mod tests;
+mod shape;
+mod validity;
 
 pub use fault::SchemaFault;
 pub use schema::Schema;
+pub use validity::check;

@@ -1,15 +1,11 @@
 //! What a schema asks of integers.
 
-ghost use Rattle.std.specs.Prelude.{◌≡◌, ◌↔◌, ◌<◌, ◌≤ℤ◌, ◌<ℤ◌, ◌*ℤ◌, ℤ, pos, [], IsTrue, IfSome, IfOk, OnOk, IfErr};
+ghost use Rattle.std.specs.Prelude.{◌≡◌, ◌↔◌, ◌<◌, ◌*ℤ◌, ℤ, pos, IsTrue, IfSome};
 ghost use Rattle.std.specs.Option.{ForSome, option_map};
-ghost use Rattle.std.specs.List.{flat_map};
 ghost use Rattle.wot_json.specs.Tree.{integer, members_of};
 ghost use Rattle.wot_json.specs.Lookup.{value_under};
-ghost use Rattle.wot_schema.specs.Faults.{row_faults, whole_number, number_above_zero, number_rows, IsFirstFault};
+ghost use Rattle.wot_schema.specs.Faults.{IsMet, AreRowsMet, whole_number, number_above_zero};
 
-use crate::SchemaFault;
-use crate::member::{malformed, member};
-use std::alloc::Global;
 use wot_json::{Members, Tree};
 
 /// The rows of the table that speak of integers.
@@ -27,74 +23,28 @@ impl NumberRules {
     ghost use Rattle.wot_schema.specs.Numbers.{AreNumbersOf, IsNumberWithin};
 
     /// The rules that the members of a schema give.
-    pub(crate) fn read(
-        alloc: Global,
-        place: &str,
-        members: &Members,
-    ) -> Result<NumberRules, SchemaFault>
-        ensures rules { IfOk result (λ r. AreNumbersOf (members_of members.now) r) }
-        ensures faultless { OnOk result (flat_map (row_faults place.now (members_of members.now)) number_rows ≡ []) }
-        ensures fault { IfErr result (IsFirstFault (flat_map (row_faults place.now (members_of members.now)) number_rows)) }
+    pub(crate) fn read(members: &Members) -> NumberRules
+        requires { AreRowsMet (members_of members.now) }
+        ensures { AreNumbersOf (members_of members.now) result }
     {
-        let minimum = read_integer(alloc, place, members, "minimum")?;
-        let maximum = read_integer(alloc, place, members, "maximum")?;
-        let exclusive_minimum = read_integer(alloc, place, members, "exclusiveMinimum")?;
-        let exclusive_maximum = read_integer(alloc, place, members, "exclusiveMaximum")?;
-        let multiple_of = read_unit(alloc, place, members, "multipleOf")?;
-        Ok(NumberRules {
-            minimum,
-            maximum,
-            exclusive_minimum,
-            exclusive_maximum,
-            multiple_of,
-        })
+        NumberRules {
+            minimum: read_integer(members, "minimum"),
+            maximum: read_integer(members, "maximum"),
+            exclusive_minimum: read_integer(members, "exclusiveMinimum"),
+            exclusive_maximum: read_integer(members, "exclusiveMaximum"),
+            multiple_of: read_unit(members, "multipleOf"),
+        }
     }
 
     /// The number meets the rules.
     pub(crate) fn accept(&self, number: i64) -> bool
         ensures { IsTrue result ↔ IsNumberWithin self.now number }
     {
-        is_at_least(number, self.minimum)
-            && is_at_most(number, self.maximum)
-            && is_above(number, self.exclusive_minimum)
-            && is_below(number, self.exclusive_maximum)
+        self.minimum.is_none_or(|least| least <= number)
+            && self.maximum.is_none_or(|most| number <= most)
+            && self.exclusive_minimum.is_none_or(|bound| bound < number)
+            && self.exclusive_maximum.is_none_or(|bound| number < bound)
             && is_multiple(number, self.multiple_of)
-    }
-}
-
-fn is_at_least(number: i64, least: Option<i64>) -> bool
-    ensures { IsTrue result ↔ IfSome least (λ n. n ≤ℤ number) }
-{
-    match least {
-        None => true,
-        Some(least) => least <= number,
-    }
-}
-
-fn is_at_most(number: i64, most: Option<i64>) -> bool
-    ensures { IsTrue result ↔ IfSome most (λ n. number ≤ℤ n) }
-{
-    match most {
-        None => true,
-        Some(most) => number <= most,
-    }
-}
-
-fn is_above(number: i64, bound: Option<i64>) -> bool
-    ensures { IsTrue result ↔ IfSome bound (λ n. n <ℤ number) }
-{
-    match bound {
-        None => true,
-        Some(bound) => bound < number,
-    }
-}
-
-fn is_below(number: i64, bound: Option<i64>) -> bool
-    ensures { IsTrue result ↔ IfSome bound (λ n. number <ℤ n) }
-{
-    match bound {
-        None => true,
-        Some(bound) => number < bound,
     }
 }
 
@@ -109,40 +59,24 @@ fn is_multiple(number: i64, unit: Option<u64>) -> bool
 }
 
 /// The integer that the member of this name is.
-fn read_integer(
-    alloc: Global,
-    place: &str,
-    members: &Members,
-    name: &str,
-) -> Result<Option<i64>, SchemaFault>
-    ensures value { IfOk result (λ o.
-        value_under name.now (members_of members.now) ≡ option_map integer o) }
-    ensures faultless { OnOk result (row_faults place.now (members_of members.now) (name.now, whole_number) ≡ []) }
-    ensures fault { IfErr result (IsFirstFault (row_faults place.now (members_of members.now) (name.now, whole_number))) }
+fn read_integer(members: &Members, name: &str) -> Option<i64>
+    requires { IsMet (members_of members.now) (name.now, whole_number) }
+    ensures { value_under name.now (members_of members.now) ≡ option_map integer result }
 {
-    match member(members, name) {
-        None => Ok(None),
-        Some(Tree::Int(number)) => Ok(Some(*number)),
-        Some(_) => Err(malformed(alloc, place, name)),
+    match members.value_under(name)? {
+        Tree::Int(number) => Some(*number),
+        _ => None,
     }
 }
 
 /// The integer above 0 that the member of this name is.
-fn read_unit(
-    alloc: Global,
-    place: &str,
-    members: &Members,
-    name: &str,
-) -> Result<Option<u64>, SchemaFault>
-    ensures value { IfOk result (λ o.
-        value_under name.now (members_of members.now) ≡ option_map (λ n. integer (pos n)) o) }
-    ensures above_zero { IfOk result (λ o. ForSome o (λ n. 0 < n)) }
-    ensures faultless { OnOk result (row_faults place.now (members_of members.now) (name.now, number_above_zero) ≡ []) }
-    ensures fault { IfErr result (IsFirstFault (row_faults place.now (members_of members.now) (name.now, number_above_zero))) }
+fn read_unit(members: &Members, name: &str) -> Option<u64>
+    requires { IsMet (members_of members.now) (name.now, number_above_zero) }
+    ensures ok { value_under name.now (members_of members.now) ≡ option_map (λ n. integer (pos n)) result }
+    ensures above_zero { ForSome result (λ n. 0 < n) }
 {
-    match member(members, name) {
-        None => Ok(None),
-        Some(Tree::Int(number)) if *number > 0 => Ok(Some(*number as u64)),
-        Some(_) => Err(malformed(alloc, place, name)),
+    match members.value_under(name)? {
+        Tree::Int(number) if *number > 0 => Some(*number as u64),
+        _ => None,
     }
 }

@@ -3,15 +3,16 @@
 ghost use Rattle.std.specs.Prelude.{◌≡◌, ◌⊎◌, ◌↔◌, [], IsTrue, IfOk, OnOk, IfErr};
 ghost use Rattle.wot_json.specs.Meaning.{json_of};
 ghost use Rattle.wot_schema.specs.Acceptance.{Accepts};
-ghost use Rattle.wot_schema.specs.Faults.{schema_faults, IsFirstFault};
+ghost use Rattle.wot_schema.specs.Faults.{schema_faults, IsSchemaRefusal};
 
 use crate::SchemaFault;
-use crate::accepting::accepts;
-use crate::compiling::compile;
+use crate::acceptance::accepts;
+use crate::compilation::compile;
 use crate::node::Node;
+use crate::validity::check;
 use std::alloc::Global;
 use std::marker::Model;
-use wot_json::{Tree, copy};
+use wot_json::{NoMemory, Tree, copy};
 
 /// A data schema (TD 1.1, section 5.3.2), compiled, with the tree that it was read from. Contracts see it as
 /// that tree.
@@ -39,15 +40,22 @@ impl Model for Schema {
 }
 
 impl Schema {
-    /// The schema of a tree, or its first fault: those of the table in docs/PROFILE.md come in its order, and then
-    /// those of the schemas below, of `oneOf`, of `items` and of `properties`. Each has the JSON Pointer (RFC 6901)
-    /// of its place. The time is in proportion to the size of the tree, and for a text of a place to its length.
+    /// The schema of a tree, or its first fault, as `check` gives it. The time is in proportion to the size of the tree.
     pub fn read(alloc: Global, tree: &Tree) -> Result<Schema, SchemaFault>
-        ensures ok { IfOk result (λ s. s ≡ json_of tree.now) }
-        ensures faultless { OnOk result (schema_faults (json_of tree.now) ≡ []) }
-        ensures fault { IfErr result (IsFirstFault (schema_faults (json_of tree.now))) }
+        ensures ok { IfOk result (λ s. (s ≡ json_of tree.now) × (schema_faults (json_of tree.now) ≡ [])) }
+        ensures fault { IfErr result (IsSchemaRefusal (schema_faults (json_of tree.now))) }
     {
-        let root = compile(alloc, "", tree)?;
+        check(alloc, tree)?;
+        let schema = Schema::compile(alloc, tree)?;
+        Ok(schema)
+    }
+
+    /// The schema of a tree that has no fault, as a caller knows who has checked it.
+    pub fn compile(alloc: Global, tree: &Tree) -> Result<Schema, NoMemory>
+        requires { schema_faults (json_of tree.now) ≡ [] }
+        ensures { IfOk result (λ s. s ≡ json_of tree.now) }
+    {
+        let root = compile(alloc, tree)?;
         let tree = copy(alloc, tree)?;
         Ok(Schema { tree, root })
     }

@@ -1,7 +1,7 @@
 //! What is asked of one value, and of a member that has such a value.
 
 ghost use Rattle.std.specs.Prelude.{◌≡◌, [], map, IfSome, IfNone};
-ghost use Rattle.wot_schema.specs.Faults.{schema_faults, IsFirstFault};
+ghost use Rattle.wot_schema.specs.Faults.{schema_faults, IsSchemaRefusal};
 ghost use Rattle.wot_json.specs.Tree.{members_of};
 ghost use Rattle.wot_json.specs.Meaning.{json_of};
 ghost use Rattle.wot_terms.specs.Faults.{required_member, optional_member, optional_members, schema as schema_judge};
@@ -55,7 +55,7 @@ pub(crate) fn schema(alloc: Global, value: &Tree) -> Finding
 
 fn schema_fault(alloc: Global, value: &Tree) -> Option<SchemaFault>
     ensures none { IfNone result (schema_faults (json_of value.now) ≡ []) }
-    ensures some { IfSome result (IsFirstFault (schema_faults (json_of value.now))) }
+    ensures some { IfSome result (IsSchemaRefusal (schema_faults (json_of value.now))) }
 {
     match Schema::read(alloc, value) {
         Ok(_) => None,

@@ -1,4 +1,4 @@
-use Rattle.wot_schema.proofs.Found.{element_count-elements_of}
+use Rattle.wot_schema.proofs.ListShapes.{element_count-elements_of}
 use Rattle.wot_schema.proofs.rules.Rules.accept_contents.Goals as goal
 
 -- src/rules.rt:76:5

@@ -9,3 +9,5 @@ mod forms;
 mod json;
 #[cfg(test)]
 mod messages;
+#[cfg(test)]
+mod schemas;

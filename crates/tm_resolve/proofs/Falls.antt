@@ -61,7 +61,7 @@ stepped : (f : Json → Option Json) (r : Option Json) (v : Json) → option_and
 stepped f None v found = absurd (cc)
 stepped f (Some w) v found = (w, refl, found)
 
--- what stands in a value nests no deeper
+-- what is in a value nests no deeper
 tokens_nest : (tokens : List (List ℕ)) (whole part : Json) → value_at tokens whole ≡ Some part → nesting part ≤ nesting whole
 tokens_nest [] whole part found =
     let same : whole ≡ part = cc in
@@ -90,7 +90,7 @@ without_fault None whole is = absurd (cc)
 without_fault (Some (Ok model)) whole is = let same : model ≡ whole = cc in ap (λ (v : Json). Some (Ok v)) same
 without_fault (Some (Err fault)) whole is = absurd (cc)
 
--- a model that is entered stands under its URL, and its target isn't in the chain
+-- a model that is entered is under its URL, and its target isn't in the chain
 pub model_parts : (sources : Sources) (chain : List Reference) (target : Reference) (whole : Json) → entered_model sources chain target ≡ Some whole
     → (source_named target.url sources ≡ Some (Ok whole)) × (is_in_chain target chain ≡ false)
 model_parts sources chain target whole is =
@@ -108,7 +108,7 @@ pub entered_model_is : (sources : Sources) (chain : List Reference) (target : Re
     → (f : Json → Option Json) → option_and_then f (entered_model sources chain target) ≡ f whole
 entered_model_is sources chain target whole found new f = ap (λ (m : Option Json). option_and_then f m) (model_is sources chain target whole found new)
 
--- a part that is entered stands in a model that is
+-- a part that is entered is in a model that is
 pub entered_parts : (sources : Sources) (chain : List Reference) (target : Reference) (part : Json) → entered_part sources chain target ≡ Some part
     → (whole : Json) × (entered_model sources chain target ≡ Some whole) × (part_of target.pointer whole ≡ Some part)
 entered_parts sources chain target part found = stepped (part_of target.pointer) (entered_model sources chain target) part found

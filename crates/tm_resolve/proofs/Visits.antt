@@ -1,4 +1,4 @@
--- Counting visits, one list of them behind another.
+-- Counting visits, one list of them after another.
 use Rattle.std.proofs.Common.{◌≡◌, ℕ, zero, suc, ◌+◌, ◌-◌, ◌<◌, ◌≤◌, List, [], ◌∷◌, ◌++◌, length, drop, get_or, true, false, refl, sym, ap, subst, inl, inr, ◌∙◌, arith, length-append}
 use Rattle.std.proofs.lemmas.Bool.Decides.{nat_tests}
 use Rattle.std.proofs.lemmas.List.{drop_all}
@@ -34,7 +34,7 @@ far_both vs ws = list_any-append is_too_far vs ws
 pub weighs_none : (left : ℕ) → Weighs [] left (Ok left)
 weighs_none left = (omega arith, refl)
 
--- visits behind visits that were counted
+-- visits after visits that were counted
 pub weighs_then : (vs ws : List Visit) (left mid : ℕ) (r : Result ℕ Stop) → Weighs vs left (Ok mid) → Weighs ws mid r → Weighs (vs ++ ws) left r
 weighs_then vs ws left mid (Ok rest) first second =
     (omega (arith, weight_both vs ws, first.0, second.0), far_both vs ws ∙ or_from (list_any is_too_far vs) (list_any is_too_far ws) first.1 second.1)
@@ -42,7 +42,7 @@ weighs_then vs ws left mid (Err TooLarge) first (inl more) = inl (omega (arith, 
 weighs_then vs ws left mid (Err TooLarge) first (inr far) = inr (far_both vs ws ∙ or_right (list_any is_too_far vs) (list_any is_too_far ws) far)
 weighs_then vs ws left mid (Err NoMemory) first second = tt
 
--- where counting stops it stops for what comes behind too
+-- where counting stops it stops for what comes after too
 pub weighs_stop : (vs ws : List Visit) (left : ℕ) (stop : Stop) → Weighs vs left (Err stop) → Weighs (vs ++ ws) left (Err stop)
 weighs_stop vs ws left TooLarge (inl more) = inl (omega (arith, weight_both vs ws, more))
 weighs_stop vs ws left TooLarge (inr far) = inr (far_both vs ws ∙ or_left (list_any is_too_far vs) (list_any is_too_far ws) far)
@@ -105,12 +105,12 @@ names_left ms index m within is =
     ap (λ (ns : List (List ℕ × Tree)). sum_by name_weight (json_members ns)) (left_at ms index m within is)
     ∙ sum_by-cons name_weight (json_member m) (json_members (drop (index + 1) ms))
 
--- what is left behind two amounts
+-- what is left after two amounts
 spends_both : (first second left mid : ℕ) (rest : Option ℕ) → mid + first ≡ left → Spends second mid rest → Spends (first + second) left rest
 spends_both first second left mid None is less = omega (arith, is, less)
 spends_both first second left mid (Some n) is less = omega (arith, is, less)
 
--- what is left behind a list, and behind an object
+-- what is left after a list, and after an object
 pub spends_list : (t : Tree) (vs : List Json) (left mid : ℕ) (rest : Option ℕ) → t ≡ tree.List vs → mid + 2 ≡ left → Spends (length vs) mid rest → Spends (own_weight (json_of t)) left rest
 spends_list t vs left mid rest is begins spends =
     subst (λ (u : Tree). Spends (own_weight (json_of u)) left rest) (sym is)

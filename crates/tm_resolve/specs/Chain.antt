@@ -15,15 +15,15 @@ whole_of url = record { url = url; pointer = [] }
 abbrev pub is_target : Reference → Reference → Bool
 is_target target entry = bytes_eq entry.url target.url && bytes_eq entry.pointer target.pointer
 
--- the target stands in the chain
+-- the target is in the chain
 abbrev pub is_in_chain : Reference → List Reference → Bool
 is_in_chain target chain = list_any (is_target target) chain
 
--- the pointer that these pieces make, one behind another
+-- the pointer that these pieces make, one after another
 abbrev pub pointer_of : List (List ℕ) → List ℕ
 pointer_of pieces = flat_map (λ piece. piece) pieces
 
--- The model that a step to the target enters, where one can be made: it stands under the target's URL, the substitution
--- in it has no fault, and the chain hasn't got the target.
+-- The model that a step to the target enters, where one can be made: it is under the target's URL, the substitution
+-- in it has no fault, and the target isn't in the chain.
 abbrev pub entered_model : Sources → List Reference → Reference → Option Json
 entered_model sources chain target = if is_in_chain target chain then None else option_and_then result_ok (source_named target.url sources)

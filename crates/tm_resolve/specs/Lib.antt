@@ -8,3 +8,4 @@ pub mod Faults
 pub mod Resolution
 pub mod Walking
 pub mod Resolver
+pub mod ModelLinks

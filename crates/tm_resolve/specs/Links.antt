@@ -45,14 +45,14 @@ elements_under v = []
 abbrev pub links_under : Json → List Json
 links_under model = elim (member_named (codes "links") (members_under model)) [ None ↦ [] | Some links ↦ elements_under links ]
 
--- the links to models that are extended among links counted from this index on, each with its index
-abbrev pub extensions_from : ℕ → List Json → List (ℕ × Json)
-extensions_from index [] = []
-extensions_from index (v ∷ vs) = if is_link (codes "tm:extends") v then (index, v) ∷ extensions_from (index + 1) vs else extensions_from (index + 1) vs
+-- the links with this relation that count, of links that are counted from this index on, each with its index
+abbrev pub links_from : List ℕ → ℕ → List Json → List (ℕ × Json)
+links_from relation index [] = []
+links_from relation index (v ∷ vs) = if is_link relation v then (index, v) ∷ links_from relation (index + 1) vs else links_from relation (index + 1) vs
 
 -- the links to the models that a model extends
 abbrev pub extensions : Json → List (ℕ × Json)
-extensions model = extensions_from 0 (links_under model)
+extensions model = links_from (codes "tm:extends") 0 (links_under model)
 
 -- the pointer to a model's links, and that to one of them
 abbrev pub links_place : List ℕ

@@ -16,13 +16,13 @@ use Rattle.tm_resolve.specs.Links.{reference_name, reference_of, is_link, links_
 
 -- ---- one visit
 
--- a visit of a node: how deep the node stands, how many targets the chain that leads to it has, and what it weighs
+-- a visit of a node: how deep the node is, how many targets the chain that leads to it has, and what it weighs
 pub record Visit : Type 0 where
   pub depth : ℕ
   pub entries : ℕ
   pub weight : ℕ
 
--- a name weighs as much as it is written with, and 2 for what stands around it
+-- a name weighs as much as it is written with, and 2 for what is around it
 abbrev pub name_weight : List ℕ × Json → ℕ
 name_weight m = length (json_string m.0) + 2
 
@@ -52,7 +52,7 @@ reference_visits step url chain depth None = []
 reference_visits step url chain depth (Some reference) = elim (reference_of url reference) [ None ↦ [] | Some target ↦ step Part depth chain target ]
 
 -- The visits of a part at this depth of the model under `url`: the part itself, what it refers to, and one deeper what
--- stands in it.
+-- is in it.
 abbrev mutual
   pub part_visits : Step → List ℕ → List Reference → ℕ → Json → List Visit
   part_visits step url chain depth null = own_visit chain depth null ∷ []
@@ -107,7 +107,7 @@ target_visits step role depth chain target part =
     part_visits step target.url chain depth part
     ++ (if is_whole target then links_visits step role target.url chain part else [])
 
--- the part that a step leads to, where one can be made and something stands at the pointer
+-- the part that a step leads to, where one can be made and the model has a part at the pointer
 abbrev pub entered_part : Sources → List Reference → Reference → Option Json
 entered_part sources chain target = option_and_then (part_of target.pointer) (entered_model sources chain target)
 

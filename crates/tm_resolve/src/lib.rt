@@ -29,6 +29,7 @@ mod chain;
 mod fault;
 mod laws;
 mod links;
+mod model_links;
 mod resolver;
 mod sources;
 mod walk;
@@ -36,5 +37,6 @@ mod weight;
 
 pub use fault::{ResolveFault, ResolveKind};
 pub use laws::too_large_is_exact;
+pub use model_links::{Link, Relation};
 pub use resolver::{Resolver, resolve};
 pub use servient_base::NoMemory;

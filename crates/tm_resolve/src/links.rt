@@ -6,7 +6,7 @@ ghost use Rattle.url.specs.Setters.{set_fragment};
 ghost use Rattle.wot_json.specs.Meaning.{json_of, json_items};
 ghost use Rattle.wot_json.specs.Lookup.{member_named};
 ghost use Rattle.wot_json.specs.Merge.{members_under};
-ghost use Rattle.tm_resolve.specs.Links.{extensions_from, extensions, located_url, linked_model, text_under, reference_of};
+ghost use Rattle.tm_resolve.specs.Links.{links_from, extensions, located_url, linked_model, text_under, reference_of};
 ghost use Rattle.tm_resolve.specs.Links as spec;
 ghost use Rattle.tm_resolve.specs.ExtensionLinks.{ShowsExtensions};
 
@@ -20,7 +20,7 @@ use wot_json::{Members, Text, Tree, merge_patch};
 pub(crate) const REFERENCE: &str = "tm:ref";
 
 /// The relation of a link to a model that is extended.
-const EXTENDS: &str = "tm:extends";
+pub(crate) const EXTENDS: &str = "tm:extends";
 
 /// The relation of a link to a submodel.
 pub(crate) const SUBMODEL: &str = "tm:submodel";
@@ -60,9 +60,9 @@ pub(crate) fn links_under(model: &Tree) -> &[Tree]
 
 /// The first link to a model that is extended at this place or after it, and its place.
 fn next_extension(links: &[Tree], from: usize) -> Option<(usize, &Tree)>
-    ensures next { MatchOption result (extensions_from from (json_items (drop from links.now)) ≡ [])
-        (λ x. extensions_from from (json_items (drop from links.now))
-        ≡ (x.0, json_of x.1.now) ∷ extensions_from (x.0 + 1) (json_items (drop (x.0 + 1) links.now))) }
+    ensures next { MatchOption result (links_from (codes "tm:extends") from (json_items (drop from links.now)) ≡ [])
+        (λ x. links_from (codes "tm:extends") from (json_items (drop from links.now))
+        ≡ (x.0, json_of x.1.now) ∷ links_from (codes "tm:extends") (x.0 + 1) (json_items (drop (x.0 + 1) links.now))) }
     ensures within { IfSome result (λ x. x.0 < length links.now) }
 {
     for index in from..links.len() {

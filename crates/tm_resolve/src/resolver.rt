@@ -1,17 +1,18 @@
 //! The values of whole Thing Models.
 
-ghost use Rattle.std.specs.Prelude.{◌≡◌, ◌⊎◌, Ok, Err, IfOk, IfErr};
+ghost use Rattle.std.specs.Prelude.{◌≡◌, ◌⊎◌, Ok, Err, IfOk, IfErr, option_map};
 ghost use Rattle.wot_json.specs.Meaning.{json_of};
 ghost use Rattle.tm_parts.specs.Sources.{sources_of};
 ghost use Rattle.tm_resolve.specs.Resolution.{resolved_from, resolved_model};
 
 use crate::fault::{ResolveFault, ResolveKind};
+use crate::model_links::{Link, Relation, copied_member, model_links};
 use crate::sources::Sources;
 use crate::walk::target_value;
 use crate::weight::is_too_large;
 use servient_base::NoMemory;
 use std::alloc::Global;
-use tm_parts::{Bindings, Library, Reference};
+use tm_parts::{Bindings, Library, Reference, source_named};
 use wot_json::{Text, Tree};
 
 /// The models of a library with values in the places of their placeholders, prepared once for all that is asked of
@@ -23,6 +24,7 @@ pub struct Resolver {
 
 impl Resolver {
     ghost use Rattle.tm_resolve.specs.Resolver.{resolver_models};
+    ghost use Rattle.tm_resolve.specs.ModelLinks.{relation_text, kept_links, optional_part, model_links as links_under_url, whole_model as whole_model_under};
 
     /// Puts the values into each model of the library, once. No limit holds for that.
     pub fn new(alloc: Global, library: &Library, bindings: &Bindings) -> Result<Self, NoMemory>
@@ -68,6 +70,39 @@ impl Resolver {
         }
         let mut chain = Vec::new(sources.alloc);
         target_value(sources, root, &[], &target, &mut chain)
+    }
+
+    /// The links with this relation of the model under the URL that count, in their order: objects in its list `links`
+    /// without `tm:ref`. There are none where the library doesn't have the model or its substitution has a fault.
+    pub fn links(&self, url: &str, relation: Relation) -> Result<Vec<Link>, NoMemory>
+        ensures { IfOk result (λ links. kept_links links.items
+            ≡ links_under_url (resolver_models self.now) url.now (relation_text relation)) }
+    {
+        match self.whole_model(url) {
+            None => Ok(Vec::new(self.sources.alloc)),
+            Some(whole) => model_links(self.sources.alloc, url, whole, relation.text()),
+        }
+    }
+
+    /// The `tm:optional` of the model under the URL. None where it has none, where the library doesn't have the model, or
+    /// where its substitution has a fault.
+    pub fn optional(&self, url: &str) -> Result<Option<Tree>, NoMemory>
+        ensures { IfOk result (λ part. option_map json_of part ≡ optional_part (resolver_models self.now) url.now) }
+    {
+        match self.whole_model(url) {
+            None => Ok(None),
+            Some(whole) => copied_member(self.sources.alloc, whole, "tm:optional"),
+        }
+    }
+
+    /// The model under the URL with its values, where there is one and its substitution has no fault.
+    fn whole_model(&self, url: &str) -> Option<&Tree>
+        ensures { option_map (λ t. json_of t.now) result ≡ whole_model_under (resolver_models self.now) url.now }
+    {
+        match source_named(self.sources.models.as_slice(), url) {
+            Some(Ok(whole)) => Some(whole),
+            _ => None,
+        }
     }
 }
 

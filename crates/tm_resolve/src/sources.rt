@@ -36,7 +36,7 @@ pub(crate) fn entered_part<'a>(
     }
 }
 
-/// What stands at a pointer, where anything does.
+/// The part at a pointer, where there is one.
 pub(crate) fn part_of<'a>(whole: &'a Tree, place: &str) -> Option<&'a Tree>
     ensures { option_map (λ part. json_of part.now) result ≡ part_of_value place.now (json_of whole.now) }
 {

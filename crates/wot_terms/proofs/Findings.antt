@@ -1,5 +1,5 @@
 -- What is found in parts one after the other, in the elements of a list and in the members of an object.
-use Rattle.std.proofs.Common.{◌≡◌, ◌<◌, ◌+◌, ◌++◌, ℕ, List, [], ◌∷◌, length, get_or, drop, map, Some, None, Err, Result, ◌≢◌, Bool, if◌then◌else◌, sym, ap, subst, ◌∙◌, arith}
+use Rattle.std.proofs.Common.{refl, ◌≡◌, ◌<◌, ◌+◌, ◌++◌, ℕ, List, [], ◌∷◌, length, get_or, drop, map, Some, None, Err, Result, ◌≢◌, Bool, if◌then◌else◌, sym, ap, subst, ◌∙◌, arith}
 use Rattle.std.specs.Option.{option_map_or}
 use Rattle.wot_json.specs.Tree.{Json, array, object, Members, elements_of, members_of}
 use Rattle.wot_json.specs.Meaning.{json_of, json_items, json_members}
@@ -15,7 +15,8 @@ use Rattle.wot_terms.specs.Rows.{IsFinding}
 
 -- the first place of the first part is the first of all
 pub stops : (p q : Places) (e : RowFault) → IsFinding p (Err e) → IsFinding (p ++ q) (Err e)
-stops p q row_fault.NoMemory first = tt
+stops [] q row_fault.NoMemory some = absurd (some refl)
+stops (y ∷ p) q row_fault.NoMemory some = λ none. absurd cc
 stops [] q (row_fault.At x) first = absurd cc
 stops (y ∷ p) q (row_fault.At x) first = first
 

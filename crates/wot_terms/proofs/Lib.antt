@@ -3,4 +3,5 @@ pub mod TableRows
 pub mod AffordanceLists
 pub mod ValidParts
 pub mod PlaceOrder
+pub mod SchemaPlaces
 pub mod RowOrder

@@ -13,8 +13,9 @@ use Rattle.wot_terms.specs.declared.kind.Kind.{Kind}
 use Rattle.wot_terms.specs.declared.kind.Kind.TheVariants as kind
 use Rattle.wot_terms.specs.Operations.{is_operation}
 use Rattle.wot_terms.specs.Faults.{Places, Judge, MembersJudge, here, holder, is, is_text, is_text_with, is_text_not_empty, is_boolean, text, anything, truth_value, any_object, each_member, each_element, required_member, optional_member, object_with, object_of_some, list_of, list_of_some, if_object, if_list, texts, affordances_of, each_affordance, forms_of, each_form, td_context, context, title, security_definitions, has_member, security, id, base, thing_model, type_of_thing, types, affordances, affordance_maps, affordance_forms, root_forms, form_href, form_operations, form_text_names, form_texts, flag_names, affordance_flags, schema, schema_names, affordance_schemas, link, links, version, table}
-use Rattle.wot_terms.specs.Order.{to_member, Path, pointer_along, value_along, IsPlace, ComesBefore, Each, AreInPreorder, ComeInPreorder, schema_places, SchemasComeInPreorder, IsInPreorder}
-use Rattle.wot_terms.proofs.PlaceOrder.{further_place, Group, group_places, all_places, GroupsAreOrdered, each_weaker, AreGrouped, Any, BeginsAt, BeginsIn, BeginsFrom, Lifts, Says, weaker, none, one, joined_places, then_named, last_named, IsGood, IsGoodOfMembers, good_is, good_required, good_optional, good_optional_members, good_object_with, good_if_object, good_each_member, names, good_each_element, good_list_of, good_list_of_some, good_if_list, good_object_of_some, good_texts}
+use Rattle.wot_terms.specs.Order.{to_member, Path, pointer_along, value_along, IsPlace, IsPointerIn, ComesBefore, Each, AreInPreorder, ComeInPreorder, schema_places, SchemasComeInPreorder, IsInPreorder}
+use Rattle.wot_terms.proofs.SchemaPlaces.{pointer_from, schema_places_in}
+use Rattle.wot_terms.proofs.PlaceOrder.{each_append, each_map, further_place, Group, group_places, all_places, GroupsAreOrdered, each_weaker, AreGrouped, Any, BeginsAt, BeginsIn, BeginsFrom, Lifts, Says, weaker, none, one, joined_places, then_named, last_named, IsGood, IsGoodOfMembers, good_is, good_required, good_optional, good_optional_members, good_object_with, good_if_object, good_each_member, names, good_each_element, good_list_of, good_list_of_some, good_if_list, good_object_of_some, good_texts}
 
 -- ## Affordances and forms
 
@@ -104,15 +105,15 @@ come_in_preorder v places g = record {
 -- ## Or a schema
 
 abbrev SchemaFaults : Json → Path → Places → Type 0
-SchemaFaults v p inside = (w : Json) × (value_along p v ≡ Some w) × (inside ≡ schema w)
+SchemaFaults v p inside = (w : Json) × (value_along p v ≡ Some w) × (inside ≡ schema w) × Each (IsPointerIn w) inside
 
 schemas_lift : Lifts SchemaFaults
 schemas_lift = record {
-  step = λ s v w p inside is leaf. (leaf.0, ap (λ (o : Option Json). option_and_then (value_along p) o) is ∙ leaf.1, leaf.2);
+  step = λ s v w p inside is leaf. (leaf.0, ap (λ (o : Option Json). option_and_then (value_along p) o) is ∙ leaf.1, leaf.2, leaf.3);
 }
 
 good_schema : IsGood SchemaFaults schema
-good_schema w formed = weaker SchemaFaults (λ p. p ≡ []) Any w (schema w) (λ p b. tt) (one SchemaFaults w (schema w) (w, refl, refl))
+good_schema w formed = weaker SchemaFaults (λ p. p ≡ []) Any w (schema w) (λ p b. tt) (one SchemaFaults w (schema w) (w, refl, refl, schema_places_in w formed))
 
 schemas_of_groups : (v : Json) (gs : List Group) → Each (λ (g : Group). SchemaFaults v g.0 g.1) gs → all_places gs ≡ flat_map (schema_places v) (map end_of gs)
 schemas_of_groups v [] leaves = refl
@@ -120,6 +121,15 @@ schemas_of_groups v (g ∷ gs) leaves =
     let inside : g.1 ≡ option_map_or schema (value_along g.0 v) [] = leaves.0.2 ∙ sym (ap (λ (o : Option Json). option_map_or schema o []) leaves.0.1) in
     ap (λ qs. map (λ p. pointer_along g.0 ++ p) qs ++ all_places gs) inside
     ∙ ap (λ ps. schema_places v g.0 ++ ps) (schemas_of_groups v gs leaves.1)
+
+leads_from : (v w : Json) (path : Path) (inside : Places) → value_along path v ≡ Some w → Each (IsPointerIn w) inside → Each (IsPointerIn v) (map (λ p. pointer_along path ++ p) inside)
+leads_from v w path inside is lead =
+    each_map (λ p. pointer_along path ++ p) (IsPointerIn v) inside (each_weaker (IsPointerIn w) (λ p. IsPointerIn v (pointer_along path ++ p)) inside (λ p. pointer_from path v w p is) lead)
+
+all_lead : (v : Json) (gs : List Group) → Each (λ (g : Group). SchemaFaults v g.0 g.1) gs → Each (IsPointerIn v) (all_places gs)
+all_lead v [] leaves = tt
+all_lead v (g ∷ gs) leaves =
+    each_append (IsPointerIn v) (group_places g) (all_places gs) (leads_from v leaves.0.0 g.0 g.1 leaves.0.1 leaves.0.3) (all_lead v gs leaves.1)
 
 some_value : (o : Option Json) (w : Json) → o ≡ Some w → IsSome o
 some_value o w is = subst (λ (x : Option Json). IsSome x) (sym is) refl
@@ -131,6 +141,7 @@ schemas_come_in_preorder v places g = record {
   order = ends_ordered g.groups g.order;
   are_there = each_end (λ p. IsSome (value_along p v)) g.groups
       (each_weaker (λ (h : Group). SchemaFaults v h.0 h.1) (λ (h : Group). IsSome (value_along h.0 v)) g.groups (λ h leaf. some_value (value_along h.0 v) leaf.0 leaf.1) g.leaves);
+  lead = subst (λ ps. Each (IsPointerIn v) ps) (sym g.places_are) (all_lead v g.groups g.leaves);
 }
 
 -- ## The rows

@@ -100,7 +100,7 @@ all_met ms k whole met = no_faults 2 (table ms) (numbered ms) (λ j above below.
 
 -- the first fault of a row is that of the description, where the rows before it are met
 pub first_of_all : (ms : Members) (k : ℕ) (e : RowFault) → 2 ≤ k → AreMet 2 k (table ms) → IsFinding (row_places k ms) (Err e) → IsCheckRefusal (faults_of (object ms)) (fault_in k e)
-first_of_all ms k row_fault.NoMemory within met first = tt
+first_of_all ms k row_fault.NoMemory within met some = fault_of_row 2 k (table ms) some
 first_of_all ms k (row_fault.At p) within met first = first_fault 2 k (table ms) p (numbered ms) within met first
 
 -- one more row is met

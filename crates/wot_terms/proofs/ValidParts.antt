@@ -23,7 +23,7 @@ none_right : {A : Type 0} (xs ys : List A) → xs ++ ys ≡ [] → ys ≡ []
 none_right [] ys none = none
 none_right (x ∷ xs) ys none = absurd cc
 
-none_of : {A B : Type 0} (f : A → B) (xs : List A) → map f xs ≡ [] → xs ≡ []
+pub none_of : {A B : Type 0} (f : A → B) (xs : List A) → map f xs ≡ [] → xs ≡ []
 none_of f [] none = refl
 none_of f (x ∷ xs) none = absurd cc
 

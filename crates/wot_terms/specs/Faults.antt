@@ -1,5 +1,5 @@
 -- What may be wrong with a Thing Description (TD 1.1 section 5.3): a table of 18 conditions, and the list of all faults.
-use Rattle.std.specs.Prelude.{◌≡◌, ⊤, ℕ, ◌+◌, List, [], ◌∷◌, ◌++◌, Bool, true, false, Option, Some, None, is_some, slice_get, codes, map, if◌then◌else◌}
+use Rattle.std.specs.Prelude.{◌≡◌, ◌≢◌, ℕ, ◌+◌, List, [], ◌∷◌, ◌++◌, Bool, true, false, Option, Some, None, is_some, slice_get, codes, map, if◌then◌else◌}
 use Rattle.std.specs.List.{flat_map}
 use Rattle.std.specs.Option.{option_map_or}
 use Rattle.std.specs.Str.{bytes_eq}
@@ -306,7 +306,7 @@ faults_of v = (1, []) ∷ []
 abbrev pub IsValid : Json → Type 0
 IsValid v = faults_of v ≡ []
 
--- the fault is the first of these, or the call is out of memory
+-- the fault is the first of these, or the call is out of memory and there is one
 abbrev pub IsCheckRefusal : List (ℕ × List ℕ) → CheckFault → Type 0
-IsCheckRefusal faults check_fault.NoMemory = ⊤
+IsCheckRefusal faults check_fault.NoMemory = faults ≢ []
 IsCheckRefusal faults (check_fault.Td fault) = slice_get faults 0 ≡ Some (fault.number, fault.pointer)

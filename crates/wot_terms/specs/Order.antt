@@ -105,12 +105,14 @@ pub record ComeInPreorder (v : Json) (places : Places) : Type 0 where
 abbrev pub schema_places : Json → Path → Places
 schema_places v path = map (λ p. pointer_along path ++ p) (option_map_or schema (value_along path v) [])
 
--- The pointers are those of the faults of schemas in a value; the schemas are there, in preorder.
+-- The pointers are those of the faults of schemas in a value, each at a place that is there; the schemas come in
+-- preorder.
 pub record SchemasComeInPreorder (v : Json) (places : Places) : Type 0 where
   pub paths : List Path
   pub places_are : places ≡ flat_map (schema_places v) paths
   pub order : AreInPreorder paths
   pub are_there : Each (λ p. IsSome (value_along p v)) paths
+  pub lead : Each (IsPointerIn v) places
 
 -- what holds of a row of the table of a description: row 16 is the one on schemas
 abbrev pub IsInPreorder : Json → ℕ × Places → Type 0

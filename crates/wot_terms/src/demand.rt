@@ -1,7 +1,6 @@
 //! What is asked of one value, and of a member that has such a value.
 
-ghost use Rattle.std.specs.Prelude.{◌≡◌, [], map, IfSome, IfNone};
-ghost use Rattle.wot_schema.specs.Faults.{schema_faults, IsSchemaRefusal};
+ghost use Rattle.std.specs.Prelude.{◌≡◌, map};
 ghost use Rattle.wot_json.specs.Tree.{members_of};
 ghost use Rattle.wot_json.specs.Meaning.{json_of};
 ghost use Rattle.wot_terms.specs.Faults.{required_member, optional_member, optional_members, schema as schema_judge};
@@ -10,7 +9,7 @@ ghost use Rattle.wot_terms.specs.Rows.{IsFinding, judge_of};
 use crate::fault::{Finding, RowFault, in_member, missing, wrong};
 use std::alloc::Global;
 use wot_json::{Members, Tree};
-use wot_schema::{Schema, SchemaFault};
+use wot_schema::SchemaFault;
 
 /// What is asked of a value.
 #[derive(Clone, Copy, Debug)]
@@ -45,21 +44,11 @@ impl Demand {
 pub(crate) fn schema(alloc: Global, value: &Tree) -> Finding
     ensures { IsFinding (schema_judge (json_of value.now)) result }
 {
-    match schema_fault(alloc, value) {
-        None => Ok(()),
-        Some(SchemaFault::Unsupported(place, _word)) => Err(RowFault::At(place)),
-        Some(SchemaFault::Malformed(place)) => Err(RowFault::At(place)),
-        Some(SchemaFault::NoMemory) => Err(RowFault::NoMemory),
-    }
-}
-
-fn schema_fault(alloc: Global, value: &Tree) -> Option<SchemaFault>
-    ensures none { IfNone result (schema_faults (json_of value.now) ≡ []) }
-    ensures some { IfSome result (IsSchemaRefusal (schema_faults (json_of value.now))) }
-{
-    match Schema::read(alloc, value) {
-        Ok(_) => None,
-        Err(fault) => Some(fault),
+    match wot_schema::check(alloc, value) {
+        Ok(()) => Ok(()),
+        Err(SchemaFault::Unsupported(place, _word)) => Err(RowFault::At(place)),
+        Err(SchemaFault::Malformed(place)) => Err(RowFault::At(place)),
+        Err(SchemaFault::NoMemory) => Err(RowFault::NoMemory),
     }
 }
 

@@ -2,10 +2,10 @@
 
 use crate::{Affordance, Kind};
 use servient_base::NoMemory;
-use std::alloc::{AllocError, Global};
+use std::alloc::Global;
 use std::marker::Model;
 use wot_json::{Members, Text, Tree};
-use wot_schema::{Schema, SchemaFault};
+use wot_schema::Schema;
 
 /// The affordances of a description. Contracts see the list of them.
 #[derive(Debug, Drop)]
@@ -30,7 +30,6 @@ ghost use Rattle.std.specs.Option.{option_map_or};
 ghost use Rattle.wot_json.specs.Tree.{members_of};
 ghost use Rattle.wot_json.specs.Meaning.{json_of, json_members};
 ghost use Rattle.wot_terms.specs.Faults.{IsValid};
-ghost use Rattle.wot_schema.specs.declared.fault.SchemaFault.{SchemaFault};
 ghost use Rattle.wot_terms.specs.Schemas.{IsSchema, HasSchemas, HaveSchemas, HoldsSchemas, HoldSchemas};
 ghost use Rattle.wot_terms.specs.Affordances.{affordances_of, affordances_in, held_affordances, named_affordances, affordance_of, input_of, output_of, flag_of, is_true as is_true_value};
 
@@ -161,28 +160,7 @@ fn schema(alloc: Global, tree: Option<&Tree>) -> Result<Option<Schema>, NoMemory
 {
     match tree {
         None => Ok(None),
-        Some(tree) => Ok(Some(faultless_schema(alloc, tree)?)),
-    }
-}
-
-fn faultless_schema(alloc: Global, tree: &Tree) -> Result<Schema, NoMemory>
-    requires { IsSchema (json_of tree.now) }
-    ensures { IfOk result (λ s. s ≡ json_of tree.now) }
-{
-    match Schema::read(alloc, tree) {
-        Ok(schema) => Ok(schema),
-        Err(fault) => Err(no_memory(fault)),
-    }
-}
-
-/// The one fault of reading a schema that has none.
-fn no_memory(fault: SchemaFault) -> NoMemory
-    requires { fault ≡ SchemaFault.NoMemory }
-{
-    match fault {
-        SchemaFault::NoMemory => AllocError,
-        SchemaFault::Unsupported(_place, _word) => unreachable!(),
-        SchemaFault::Malformed(_place) => unreachable!(),
+        Some(tree) => Ok(Some(Schema::compile(alloc, tree)?)),
     }
 }
 

@@ -1,6 +1,6 @@
 //! The table of conditions, in the order of its rows.
 
-ghost use Rattle.std.specs.Prelude.{◌≡◌, IfErr, OnOk, IsTrue};
+ghost use Rattle.std.specs.Prelude.{◌≡◌, IfErr, IsOk, OnOk, IsTrue};
 ghost use Rattle.wot_json.specs.Tree.{members_of, object};
 ghost use Rattle.wot_json.specs.Meaning.{json_of};
 ghost use Rattle.wot_terms.specs.Faults.{IsValid, faults_of, IsCheckRefusal};
@@ -24,6 +24,7 @@ const ROWS: u8 = 18;
 /// no memory; else a pointer is written for the fault that is answered.
 pub fn check(alloc: Global, tree: &Tree) -> Result<(), CheckFault>
     ensures ok { OnOk result (IsValid (json_of tree.now)) }
+    ensures complete { IsValid (json_of tree.now) → IsOk result }
     ensures fault { IfErr result (IsCheckRefusal (faults_of (json_of tree.now))) }
 {
     match tree {

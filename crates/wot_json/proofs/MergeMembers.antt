@@ -93,7 +93,7 @@ after_one name n v ms cs ordered later =
       | greater is behind test ↦ other test
     ]
 
-named_merged : (name : List ℕ) (ms : List Field) (changes : Members) → AreOrdered (member_list changes) → member_named name (merged_members ms changes) ≡ patched_member (member_named name ms) (value_under name changes)
+pub named_merged : (name : List ℕ) (ms : List Field) (changes : Members) → AreOrdered (member_list changes) → member_named name (merged_members ms changes) ≡ patched_member (member_named name ms) (value_under name changes)
 named_merged name ms no_members ordered = refl
 named_merged name ms (member n v cs) ordered =
     after_one name n v ms cs ordered (named_merged name (changed_members n v (merge (unwrap_or (member_named n ms) null) v) ms) cs (rest_ordered (n, v) (member_list cs) ordered))

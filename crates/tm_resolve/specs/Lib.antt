@@ -9,3 +9,4 @@ pub mod Resolution
 pub mod Walking
 pub mod Resolver
 pub mod ModelLinks
+pub mod OwnLinks

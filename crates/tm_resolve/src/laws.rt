@@ -2,8 +2,10 @@
 
 ghost use Rattle.std.specs.Prelude.{◌≡◌, ◌↔◌, ℕ, List, [], true, Err};
 ghost use Rattle.tm_parts.specs.Library.{Models};
-ghost use Rattle.tm_parts.specs.Sources.{sources_of};
+ghost use Rattle.tm_parts.specs.Sources.{Sources, sources_of};
 ghost use Rattle.tm_parts.specs.Substitution.{Values};
+ghost use Rattle.tm_parts.specs.declared.reference.Reference.{Reference};
+ghost use Rattle.tm_resolve.specs.OwnLinks.{PartsAreOrdered, LinksAreOwn};
 ghost use Rattle.tm_resolve.specs.Resolution.{resolved_model};
 ghost use Rattle.tm_resolve.specs.Weight.{expansion, is_too_large};
 ghost use Rattle.tm_resolve.specs.declared.fault.ResolveFault.TheVariants.{At};
@@ -15,4 +17,11 @@ pub fn too_large_is_exact()
     ensures { (models : Models) → (values : Values) → (root url place : List ℕ)
         → (resolved_model models values root ≡ Err (At TooLarge url place))
         ↔ ((is_too_large (expansion (sources_of models values) root) ≡ true) × (url ≡ root) × (place ≡ [])) }
+{}
+
+/// The links of a resolved model that has a list of them are its own, each at its own index, with its references brought
+/// in. So what is known of a model's links by their indices is known of those of its value.
+pub fn links_are_the_models_own()
+    ensures { (sources : Sources) → PartsAreOrdered sources → (room : ℕ) → (chain : List Reference)
+        → (target : Reference) → LinksAreOwn sources room chain target }
 {}

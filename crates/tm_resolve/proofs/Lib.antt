@@ -1,4 +1,5 @@
 pub mod Falls
+pub mod FewThings
 pub mod LinksStay
 pub mod Loops
 pub mod ModelLinks

@@ -10,3 +10,4 @@ pub mod Walking
 pub mod Resolver
 pub mod ModelLinks
 pub mod OwnLinks
+pub mod Things

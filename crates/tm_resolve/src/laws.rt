@@ -1,12 +1,13 @@
 //! What the definition of a resolved model comes to, as contracts of functions that no code needs to call.
 
-ghost use Rattle.std.specs.Prelude.{◌≡◌, ◌↔◌, ℕ, List, [], true, Err};
+ghost use Rattle.std.specs.Prelude.{◌≡◌, ◌↔◌, ◌≤◌, ℕ, List, [], true, false, length, Err};
 ghost use Rattle.tm_parts.specs.Library.{Models};
 ghost use Rattle.tm_parts.specs.Sources.{Sources, sources_of};
 ghost use Rattle.tm_parts.specs.Substitution.{Values};
 ghost use Rattle.tm_parts.specs.declared.reference.Reference.{Reference};
 ghost use Rattle.tm_resolve.specs.OwnLinks.{PartsAreOrdered, LinksAreOwn};
 ghost use Rattle.tm_resolve.specs.Resolution.{resolved_model};
+ghost use Rattle.tm_resolve.specs.Things.{root_things, most_things};
 ghost use Rattle.tm_resolve.specs.Weight.{expansion, is_too_large};
 ghost use Rattle.tm_resolve.specs.declared.fault.ResolveFault.TheVariants.{At};
 ghost use Rattle.tm_resolve.specs.declared.fault.ResolveKind.TheVariants.{TooLarge};
@@ -24,4 +25,10 @@ pub fn too_large_is_exact()
 pub fn links_are_the_models_own()
     ensures { (sources : Sources) → PartsAreOrdered sources → (room : ℕ) → (chain : List Reference)
         → (target : Reference) → LinksAreOwn sources room chain target }
+{}
+
+/// A root that isn't too large has at most 131,072 Things: each is visited, and weighs 2 at least.
+pub fn things_are_few()
+    ensures { (sources : Sources) → (root : List ℕ) → is_too_large (expansion sources root) ≡ false
+        → length (root_things sources root) ≤ most_things }
 {}

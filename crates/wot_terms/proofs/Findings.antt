@@ -20,31 +20,12 @@ stops (y ∷ p) q row_fault.NoMemory some = λ none. absurd cc
 stops [] q (row_fault.At x) first = absurd cc
 stops (y ∷ p) q (row_fault.At x) first = first
 
--- after a part with no wrong place comes what is found in the others
-pub goes_on : (p q : Places) (r : Result (Unit {0}) RowFault) → p ≡ [] → IsFinding q r → IsFinding (p ++ q) r
-goes_on p q r none others = rw none others
-
--- an element with no wrong place leaves the others
-pub element_passed : (J : Judge) (places : Places) (ts : List Tree) (i : ℕ) (t : Tree) → i < length ts → t ≡ get_or ts i t →
-    places ≡ each_element J i (elements_of (json_items (drop i ts))) → in_element i (J (json_of t)) ≡ [] →
-    places ≡ each_element J (i + 1) (elements_of (json_items (drop (i + 1) ts)))
-element_passed J places ts i t within is left none =
-    left ∙ (ap (λ us. each_element J i (elements_of (json_items us))) (rest_at ts i t within is)
-    ∙ ap (λ p. p ++ each_element J (i + 1) (elements_of (json_items (drop (i + 1) ts)))) none)
-
--- or has the first of all
+-- an element that has a wrong place has the first of all, where those before it have none
 pub element_stops : (J : Judge) (places : Places) (ts : List Tree) (i : ℕ) (t : Tree) (e : RowFault) → i < length ts → t ≡ get_or ts i t →
     places ≡ each_element J i (elements_of (json_items (drop i ts))) → IsFinding (in_element i (J (json_of t))) (Err e) → IsFinding places (Err e)
 element_stops J places ts i t e within is left first =
     subst (λ ps. IsFinding ps (Err e)) (sym (left ∙ ap (λ us. each_element J i (elements_of (json_items us))) (rest_at ts i t within is)))
     (stops (in_element i (J (json_of t))) (each_element J (i + 1) (elements_of (json_items (drop (i + 1) ts)))) e first)
-
-pub member_passed : (J : Judge) (places : Places) (ts : List (List ℕ × Tree)) (i : ℕ) (t : List ℕ × Tree) → i < length ts → t ≡ get_or ts i t →
-    places ≡ each_member J (members_of (json_members (drop i ts))) → in_member t.0 (J (json_of t.1)) ≡ [] →
-    places ≡ each_member J (members_of (json_members (drop (i + 1) ts)))
-member_passed J places ts i t within is left none =
-    left ∙ (ap (λ us. each_member J (members_of (json_members us))) (rest_at ts i t within is)
-    ∙ ap (λ p. p ++ each_member J (members_of (json_members (drop (i + 1) ts)))) none)
 
 pub member_stops : (J : Judge) (places : Places) (ts : List (List ℕ × Tree)) (i : ℕ) (t : List ℕ × Tree) (name : List ℕ) (e : RowFault) → i < length ts → t ≡ get_or ts i t → name ≡ t.0 →
     places ≡ each_member J (members_of (json_members (drop i ts))) → IsFinding (in_member name (J (json_of t.1))) (Err e) → IsFinding places (Err e)

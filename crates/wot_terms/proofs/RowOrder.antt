@@ -6,13 +6,12 @@ use Rattle.std.specs.Option.{option_map_or}
 use Rattle.std.specs.Str.{bytes_eq}
 use Rattle.std.proofs.lemmas.List.{append-nil}
 use Rattle.wot_json.specs.Tree.{Json, null, boolean, integer, string, array, object, Members}
-use Rattle.wot_json.specs.Lookup.{value_under}
 use Rattle.wot_json.specs.Texts.{has_text}
 use Rattle.wot_json.specs.WellFormed.{IsWellFormed}
 use Rattle.wot_terms.specs.declared.kind.Kind.{Kind}
 use Rattle.wot_terms.specs.declared.kind.Kind.TheVariants as kind
 use Rattle.wot_terms.specs.Operations.{is_operation}
-use Rattle.wot_terms.specs.Faults.{Places, Judge, MembersJudge, here, holder, is, is_text, is_text_with, is_text_not_empty, is_boolean, text, anything, truth_value, any_object, each_member, each_element, required_member, optional_member, object_with, object_of_some, list_of, list_of_some, if_object, if_list, texts, affordances_of, each_affordance, forms_of, each_form, td_context, context, title, security_definitions, has_member, security, id, base, thing_model, type_of_thing, types, affordances, affordance_maps, affordance_forms, root_forms, form_href, form_operations, form_text_names, form_texts, flag_names, affordance_flags, schema, schema_names, affordance_schemas, link, links, version, table}
+use Rattle.wot_terms.specs.Faults.{Places, Judge, MembersJudge, here, holder, is, is_text, is_text_with, is_text_not_empty, is_boolean, text, anything, truth_value, any_object, each_member, each_element, required_member, optional_member, object_with, object_of_some, list_of, list_of_some, if_object, if_list, texts, affordances_of, each_affordance, forms_of, each_form, td_context, context, title, security_definitions, is_defined, security, id, base, thing_model, type_of_thing, types, affordances, affordance_maps, affordance_forms, root_forms, form_href, form_operations, form_text_names, form_texts, flag_names, affordance_flags, schema, schema_names, affordance_schemas, link, links, version, table}
 use Rattle.wot_terms.specs.Order.{to_member, Path, pointer_along, value_along, IsPlace, IsPointerIn, ComesBefore, Each, AreInPreorder, ComeInPreorder, schema_places, SchemasComeInPreorder, IsInPreorder}
 use Rattle.wot_terms.proofs.SchemaPlaces.{pointer_from, schema_places_in}
 use Rattle.wot_terms.proofs.PlaceOrder.{each_append, each_map, further_place, Group, group_places, all_places, GroupsAreOrdered, each_weaker, AreGrouped, Any, BeginsAt, BeginsIn, BeginsFrom, Lifts, Says, weaker, none, one, joined_places, then_named, last_named, IsGood, IsGoodOfMembers, good_is, good_required, good_optional, good_optional_members, good_object_with, good_if_object, good_each_member, names, good_each_element, good_list_of, good_list_of_some, good_if_list, good_object_of_some, good_texts}
@@ -261,7 +260,7 @@ each_row ms formed = (
     (
       other_row 4 security_definitions ms (λ is. omega arith) formed (λ ns of_ns. required_row (codes "securityDefinitions") (object_of_some (object_with (required_member (codes "scheme") (is (is_text_with (bytes_eq (codes "nosec"))))))) (good_object_of_some OnePlace one_place (object_with (required_member (codes "scheme") (is (is_text_with (bytes_eq (codes "nosec")))))) good_no_security) ns of_ns),
       (
-        other_row 5 security ms (λ is. omega arith) formed (λ ns of_ns. required_row (codes "security") (texts (has_member (value_under (codes "securityDefinitions") ns))) (good_texts OnePlace one_place (has_member (value_under (codes "securityDefinitions") ns))) ns of_ns),
+        other_row 5 security ms (λ is. omega arith) formed (λ ns of_ns. required_row (codes "security") (texts (is_defined ns)) (good_texts OnePlace one_place (is_defined ns)) ns of_ns),
         (
           other_row 6 id ms (λ is. omega arith) formed (λ ns of_ns. optional_row (codes "id") (is is_text_not_empty) (good_is OnePlace one_place is_text_not_empty) ns of_ns),
           (

@@ -170,8 +170,11 @@ abbrev pub has_member : Option Json → List ℕ → Bool
 has_member (Some (object ms)) name = is_some (value_under name ms)
 has_member v name = false
 
+abbrev pub is_defined : Members → List ℕ → Bool
+is_defined ms name = has_member (value_under (codes "securityDefinitions") ms) name
+
 abbrev pub security : MembersJudge
-security ms = required_member (codes "security") (texts (has_member (value_under (codes "securityDefinitions") ms))) ms
+security ms = required_member (codes "security") (texts (is_defined ms)) ms
 
 -- 6: `id` (section 5.3.1.1)
 abbrev pub is_text_not_empty : Json → Bool

@@ -3,8 +3,7 @@
 ghost use Rattle.std.specs.Prelude.{◌≡◌, codes};
 ghost use Rattle.wot_json.specs.Tree.{elements_of, members_of};
 ghost use Rattle.wot_json.specs.Meaning.{json_of, json_items};
-ghost use Rattle.wot_json.specs.Lookup.{value_under};
-ghost use Rattle.wot_terms.specs.Faults.{is, is_text_with, each_element as each_of, each_member as each_named, object_with, object_of_some, required_member, texts, context as context_row, security_definitions as security_definitions_row, security as security_row, has_member, types as types_row, type_of_thing as type_of_thing_judge, affordances as affordances_row, affordance_maps as affordance_maps_row, root_forms as root_forms_row, links as links_row, version as version_row};
+ghost use Rattle.wot_terms.specs.Faults.{is, is_text_with, each_element as each_of, each_member as each_named, object_with, object_of_some, required_member, texts, context as context_row, security_definitions as security_definitions_row, security as security_row, is_defined as is_defined_in, types as types_row, type_of_thing as type_of_thing_judge, affordances as affordances_row, affordance_maps as affordance_maps_row, root_forms as root_forms_row, links as links_row, version as version_row};
 ghost use Rattle.wot_terms.specs.Rows.{IsFinding, entry_judge, judge_of};
 ghost use Rattle.wot_terms.specs.declared.demand.Demand.{Demand};
 ghost use Rattle.wot_terms.specs.declared.entries.Entry.{Entry};
@@ -70,7 +69,7 @@ pub(crate) fn security(alloc: Global, root: &Members) -> Finding
 }
 
 fn definition_names(alloc: Global, value: &Tree, root: &Members) -> Finding
-    ensures { IsFinding (texts (has_member (value_under (codes "securityDefinitions") (members_of root.now))) (json_of value.now)) result }
+    ensures { IsFinding (texts (is_defined_in (members_of root.now)) (json_of value.now)) result }
 {
     match value {
         Tree::List(names) if names.len() > 0 => each_definition(alloc, names.as_slice(), root),
@@ -79,7 +78,7 @@ fn definition_names(alloc: Global, value: &Tree, root: &Members) -> Finding
 }
 
 fn each_definition(alloc: Global, names: &[Tree], root: &Members) -> Finding
-    ensures { IsFinding (each_of (is (is_text_with (has_member (value_under (codes "securityDefinitions") (members_of root.now))))) 0 (elements_of (json_items names.now))) result }
+    ensures { IsFinding (each_of (is (is_text_with (is_defined_in (members_of root.now)))) 0 (elements_of (json_items names.now))) result }
 {
     for (index, name) in names.iter().enumerate() {
         let passes = names_definition(root, name);
@@ -90,7 +89,7 @@ fn each_definition(alloc: Global, names: &[Tree], root: &Members) -> Finding
 
 /// The value is the name of a security definition.
 fn names_definition(root: &Members, value: &Tree) -> bool
-    ensures { result ≡ is_text_with (has_member (value_under (codes "securityDefinitions") (members_of root.now))) (json_of value.now) }
+    ensures { result ≡ is_text_with (is_defined_in (members_of root.now)) (json_of value.now) }
 {
     match value {
         Tree::Text(name) => is_defined(root, name.as_str()),
@@ -101,7 +100,7 @@ fn names_definition(root: &Members, value: &Tree) -> bool
 /// There is a security definition of this name.
 #[tactic(auto, using(crate::proofs::Findings::named_among))]
 fn is_defined(root: &Members, name: &str) -> bool
-    ensures { result ≡ has_member (value_under (codes "securityDefinitions") (members_of root.now)) name.now }
+    ensures { result ≡ is_defined_in (members_of root.now) name.now }
 {
     match root.get("securityDefinitions") {
         Some(Tree::Obj(definitions)) => definitions.get(name).is_some(),

@@ -1,8 +1,8 @@
 -- A root that isn't too large has few Things, since each has a node that is visited.
-use Rattle.std.proofs.Common.{◌≡◌, ℕ, zero, suc, ◌+◌, ◌*◌, ◌<◌, ◌≤◌, List, [], ◌∷◌, ◌++◌, length, Bool, true, false, refl, sym, ap, subst, ◌∙◌, inl, inr, arith, length-append, cond}
+use Rattle.std.proofs.Common.{◌≡◌, ℕ, zero, suc, ◌+◌, ◌*◌, ◌≤◌, List, [], ◌∷◌, ◌++◌, length, Bool, true, false, arith, length-append, cond}
 use Rattle.std.specs.Prelude.{Option, Some, None, option_map, option_and_then, codes, nat_lt}
-use Rattle.std.specs.List.{flat_map, list_any, sum_by}
-use Rattle.std.proofs.lemmas.Bool.{cases_Bool, or_parts}
+use Rattle.std.specs.List.{flat_map, list_any}
+use Rattle.std.proofs.lemmas.Bool.{or_parts}
 use Rattle.std.proofs.lemmas.Bool.Decides.{nat_tests}
 use Rattle.std.proofs.lemmas.List.Sums.{sum_by-cons, sum_by-append}
 use Rattle.wot_json.specs.Json.{json_string, escaped_byte}
@@ -14,7 +14,7 @@ use Rattle.tm_parts.specs.declared.reference.Reference.{Reference}
 use Rattle.tm_resolve.specs.Chain.{whole_of}
 use Rattle.tm_resolve.specs.Links.{reference_name, is_link, links_under, located_url, text_under, extensions}
 use Rattle.tm_resolve.specs.Things.{ThingStep, link_things, things_within, root_things, most_things}
-use Rattle.tm_resolve.specs.Weight.{Visit, Step, own_weight, own_visit, reference_visits, part_visits, element_visits, member_visits, link_visits, extension_visits, submodel_visits, links_visits, target_visits, is_whole, entered_part, visits_within, most_weight, most_entries, expansion, is_too_far, weight_of, is_too_large}
+use Rattle.tm_resolve.specs.Weight.{Visit, Step, own_weight, own_visit, reference_visits, part_visits, element_visits, member_visits, link_visits, extension_visits, submodel_visits, target_visits, entered_part, visits_within, most_weight, most_entries, expansion, is_too_far, weight_of, is_too_large}
 use Rattle.tm_resolve.specs.declared.weight.Role.TheVariants.{Thing}
 
 heavier : (vs ws : List Visit) → weight_of (vs ++ ws) ≡ weight_of vs + weight_of ws

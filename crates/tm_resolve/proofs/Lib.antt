@@ -1,3 +1,4 @@
+pub mod EnoughRoom
 pub mod Falls
 pub mod FewThings
 pub mod LinksStay

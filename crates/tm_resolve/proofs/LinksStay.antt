@@ -1,5 +1,5 @@
 -- The links of a model that is resolved are its own.
-use Rattle.std.proofs.Common.{◌≡◌, ℕ, zero, suc, List, [], ◌∷◌, ◌++◌, Bool, true, false, map, refl, sym, ap, subst, ◌∙◌, inl, inr, cond}
+use Rattle.std.proofs.Common.{◌≡◌, ℕ, zero, suc, List, [], ◌∷◌, ◌++◌, true, false, refl, sym, ap, subst, ◌∙◌, inl, inr}
 use Rattle.std.specs.Prelude.{Option, Some, None, option_map, codes}
 use Rattle.std.specs.Str.{bytes_eq}
 use Rattle.std.proofs.lemmas.Bool.{cases_Bool}
@@ -15,7 +15,7 @@ use Rattle.wot_json.proofs.MergeMembers.{named_merged}
 use Rattle.tm_parts.specs.Sources.{Sources}
 use Rattle.tm_parts.specs.declared.reference.Reference.{Reference}
 use Rattle.tm_resolve.specs.Links.{reference_name, reference_of, extensions, linked_model, without_links}
-use Rattle.tm_resolve.specs.OwnLinks.{PartsAreOrdered, HasLinks, LinksAreOwn}
+use Rattle.tm_resolve.specs.OwnLinks.{PartsAreOrdered, LinksAreOwn}
 use Rattle.tm_resolve.specs.Value.{ValueStep, reference_value, link_value, imported_value, part_value, elements_value, members_value, extended_value, target_value, value_within}
 use Rattle.tm_resolve.specs.Weight.{is_whole, entered_part}
 use Rattle.tm_resolve.proofs.Loops.{elements_mapped}

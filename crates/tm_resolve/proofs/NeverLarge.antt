@@ -1,6 +1,6 @@
 -- No fault of a part says that a model is too large.
 use Rattle.std.proofs.Common.{◌≡◌, ℕ, zero, suc, ◌+◌, List, [], ◌∷◌, ◌++◌, Bool, true, false, refl, sym, ap, ◌∙◌, inl, inr, cond}
-use Rattle.std.specs.Prelude.{◌↔◌, ◌&&◌, Option, Some, None, Result, Ok, Err}
+use Rattle.std.specs.Prelude.{◌↔◌, Option, Some, None, Result, Ok, Err}
 use Rattle.std.specs.List.{list_all}
 use Rattle.std.specs.Str.{bytes_eq}
 use Rattle.std.proofs.lemmas.Bool.{true≢false, cases_Bool, and_from}
@@ -10,7 +10,6 @@ use Rattle.wot_json.specs.Lookup.{member_list, member_named}
 use Rattle.wot_json.specs.Places.{step_text, element_step_text}
 use Rattle.wot_json.specs.Pointer.{part_of}
 use Rattle.tm_parts.specs.Library.{Models}
-use Rattle.tm_parts.specs.Placeholders.{first_of}
 use Rattle.tm_parts.specs.Sources.{Sources, sources_of, source_named}
 use Rattle.tm_parts.specs.Substitution.{Values}
 use Rattle.tm_parts.specs.declared.reference.Reference.{Reference}

@@ -1,5 +1,5 @@
 -- Values and faults, put together from those of parts.
-use Rattle.std.proofs.Common.{◌≡◌, ◌⊎◌, ℕ, List, [], ◌∷◌, ◌++◌, refl, sym, ap, subst, inl, inr, ◌∙◌}
+use Rattle.std.proofs.Common.{◌≡◌, ◌⊎◌, List, [], ◌∷◌, ◌++◌, sym, ap, subst, inl, inr, ◌∙◌}
 use Rattle.std.specs.Prelude.{Some}
 use Rattle.tm_parts.specs.Placeholders.{first_of}
 use Rattle.tm_resolve.specs.Walking.{IsRefusal}

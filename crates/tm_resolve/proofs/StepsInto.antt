@@ -1,6 +1,6 @@
 -- Steps into targets.
-use Rattle.std.proofs.Common.{◌≡◌, ◌≢◌, ◌⊎◌, ℕ, zero, suc, ◌+◌, ◌-◌, ◌<◌, ◌≤◌, List, [], ◌∷◌, ◌++◌, length, Bool, true, false, refl, sym, ap, subst, inl, inr, ◌∙◌, arith, length-append, cond}
-use Rattle.std.specs.Prelude.{◌==◌, Option, Some, None, Result, Ok, Err}
+use Rattle.std.proofs.Common.{◌≡◌, ◌≢◌, ℕ, zero, suc, ◌+◌, ◌-◌, ◌<◌, ◌≤◌, List, [], ◌∷◌, ◌++◌, length, Bool, true, false, refl, sym, ap, subst, ◌∙◌, arith, length-append, cond}
+use Rattle.std.specs.Prelude.{◌==◌, Option, Some, None, Result, Ok}
 use Rattle.std.proofs.lemmas.Bool.Decides.{nat_tests}
 use Rattle.wot_json.specs.Tree.{Json, null, object, members_of}
 use Rattle.wot_json.specs.Lookup.{member_named}
@@ -15,14 +15,13 @@ use Rattle.tm_parts.specs.declared.substitution.PartFault.{PartFault}
 use Rattle.tm_resolve.specs.Chain.{is_in_chain}
 use Rattle.tm_resolve.specs.Links.{reference_name, extensions}
 use Rattle.tm_resolve.specs.Value.{part_value, members_value, imported_value, extended_value, target_value, value_within}
-use Rattle.tm_resolve.specs.Faults.{Steps, fault_at, fault_in, part_faults, member_faults, reference_faults, extension_faults, target_faults, model_faults, step_faults, faults_within}
+use Rattle.tm_resolve.specs.Faults.{Steps, fault_at, part_faults, member_faults, reference_faults, extension_faults, target_faults, model_faults, step_faults, faults_within}
 use Rattle.tm_resolve.specs.Walking.{steps_from, Gives, IsRefusal}
 use Rattle.tm_resolve.specs.Weight.{most_entries, entered_part, is_whole}
 use Rattle.tm_resolve.specs.declared.fault.ResolveFault.{ResolveFault}
-use Rattle.tm_resolve.specs.declared.fault.ResolveFault.TheVariants.{At, NoMemory}
-use Rattle.tm_resolve.specs.declared.fault.ResolveKind.TheVariants.{MissingModel, MissingNode, Circular}
-use Rattle.tm_resolve.proofs.Falls.{entered_model_is, model_parts, entered_parts}
-use Rattle.tm_resolve.proofs.Outcomes.{refused_before, refused_by}
+use Rattle.tm_resolve.specs.declared.fault.ResolveKind.TheVariants.{MissingNode, Circular}
+use Rattle.tm_resolve.proofs.Falls.{model_parts, entered_parts}
+use Rattle.tm_resolve.proofs.Outcomes.{refused_before}
 
 -- ---- whether a step can be made
 

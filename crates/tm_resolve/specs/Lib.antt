@@ -11,3 +11,4 @@ pub mod Resolver
 pub mod ModelLinks
 pub mod OwnLinks
 pub mod Things
+pub mod Room

@@ -1,6 +1,6 @@
 -- The Things that a Thing Model is derived into: its own and those of its submodels (Thing Description 1.1, section "Thing
 -- Model").
-use Rattle.std.specs.Prelude.{◌++◌, ℕ, zero, suc, List, [], ◌∷◌, codes, Option, Some, None, if◌then◌else◌}
+use Rattle.std.specs.Prelude.{◌++◌, ℕ, zero, suc, List, [], ◌∷◌, codes, Some, None, if◌then◌else◌}
 use Rattle.std.specs.List.{flat_map}
 use Rattle.wot_json.specs.Tree.{Json}
 use Rattle.tm_parts.specs.Sources.{Sources}

@@ -1,7 +1,7 @@
 -- What a part of a Thing Model becomes once the models that it extends and the parts that it refers to are brought in
 -- (Thing Description 1.1, section "Thing Model"). All parts are of models that have values in place of their
 -- placeholders. The value is said of each part, also of one with faults, whose value nobody asks for.
-use Rattle.std.specs.Prelude.{◌+◌, ℕ, zero, suc, List, [], ◌∷◌, ◌++◌, Option, Some, None, if◌then◌else◌}
+use Rattle.std.specs.Prelude.{ℕ, zero, suc, List, [], ◌∷◌, ◌++◌, Option, Some, None, if◌then◌else◌}
 use Rattle.std.specs.Str.{bytes_eq}
 use Rattle.wot_json.specs.Tree.{Json, null, boolean, integer, string, array, object, Elements, no_elements, element, Members, no_members, member}
 use Rattle.wot_json.specs.Lookup.{member_list, member_named}

@@ -6,7 +6,7 @@ use Rattle.wot_json.specs.declared.tree.Tree.{Tree}
 use Rattle.tm_parts.specs.Placeholders.{first_of}
 use Rattle.tm_parts.specs.Sources.{Sources, kept_sources}
 use Rattle.tm_parts.specs.declared.reference.Reference.{Reference}
-use Rattle.tm_resolve.specs.Value.{ValueStep, value_within}
+use Rattle.tm_resolve.specs.Value.{value_within}
 use Rattle.tm_resolve.specs.Faults.{Steps, faults_within}
 use Rattle.tm_resolve.specs.Weight.{most_entries}
 use Rattle.tm_resolve.specs.declared.sources.Sources as kept

@@ -36,7 +36,7 @@ mod walk;
 mod weight;
 
 pub use fault::{ResolveFault, ResolveKind};
-pub use laws::{links_are_the_models_own, things_are_few, too_large_is_exact};
+pub use laws::{links_are_the_models_own, room_is_enough, things_are_few, too_large_is_exact};
 pub use model_links::{Link, Relation};
 pub use resolver::{Resolver, resolve};
 pub use servient_base::NoMemory;

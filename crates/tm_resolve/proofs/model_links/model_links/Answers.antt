@@ -1,6 +1,4 @@
-use Rattle.std.proofs.Common.{◌≡◌, ◌++◌, ◌∷◌, [], sym, arith}
-use Rattle.std.proofs.lemmas.Grind.{common_steps}
-use Rattle.tm_resolve.proofs.ModelLinks.{link_more, link_other, links_end}
+use Rattle.tm_resolve.proofs.ModelLinks.{links_end}
 use Rattle.tm_resolve.proofs.model_links.model_links.Goals as goal
 
 pub returns : goal.returns

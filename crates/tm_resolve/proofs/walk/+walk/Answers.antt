@@ -1,11 +1,11 @@
-use Rattle.std.proofs.Common.{◌≡◌, ℕ, ◌+◌, ◌≤◌, ◌∙◌, refl, sym, ap, subst, arith, List, [], ◌∷◌, ◌++◌, drop, length, length-append}
+use Rattle.std.proofs.Common.{◌≡◌, ℕ, ◌+◌, ◌≤◌, ◌∙◌, sym, ap, subst, arith, List, [], ◌∷◌, ◌++◌, drop, length, length-append}
 use Rattle.std.specs.Prelude.{Some, None, Ok, Err}
 use Rattle.std.specs.Str.{bytes_eq}
 use Rattle.std.proofs.lemmas.Grind.{common_steps}
 use Rattle.std.proofs.lemmas.Result.{err_from_is_err_and}
 use Rattle.wot_json.specs.Meaning.{json_of, json_members}
 use Rattle.wot_json.specs.Merge.{merge}
-use Rattle.wot_json.specs.Places.{step_text, element_step_text}
+use Rattle.wot_json.specs.Places.{step_text}
 use Rattle.wot_json.specs.Tree.{Json, object, members_of, nesting, AreOrdered}
 use Rattle.wot_json.specs.declared.tree.Tree.TheVariants as tree
 use Rattle.wot_json.proofs.Nesting.{read_element_nests, read_member_nests}
@@ -14,7 +14,7 @@ use Rattle.tm_parts.specs.Sources.{kept_sources}
 use Rattle.tm_parts.specs.declared.reference.Reference.{Reference}
 use Rattle.tm_resolve.specs.Chain.{pointer_of}
 use Rattle.tm_resolve.specs.Links.{reference_name}
-use Rattle.tm_resolve.specs.Faults.{part_faults, member_faults, reference_faults}
+use Rattle.tm_resolve.specs.Faults.{member_faults, reference_faults}
 use Rattle.tm_resolve.specs.Value.{reference_value}
 use Rattle.tm_resolve.specs.Walking.{steps_from, IsRefusal}
 use Rattle.tm_resolve.specs.Weight.{most_entries}

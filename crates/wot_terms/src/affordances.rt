@@ -60,7 +60,9 @@ fn affordances_of(alloc: Global, root: &Members, kind: Kind, row: AffordanceRow)
 }
 
 fn affordances_in(alloc: Global, value: &Tree, kind: Kind, row: AffordanceRow) -> Finding
-    ensures { IsFinding (if_object (each_member (if_object (affordance_judge row kind))) (json_of value.now)) result }
+    ensures { IsFinding
+        (if_object (each_member (if_object (affordance_judge row kind))) (json_of value.now))
+        result }
 {
     match value {
         Tree::Obj(affordances) => each_named(alloc, affordances.as_slice(), kind, row),
@@ -74,7 +76,9 @@ fn each_named(
     kind: Kind,
     row: AffordanceRow,
 ) -> Finding
-    ensures { IsFinding (each_member (if_object (affordance_judge row kind)) (members_of (json_members affordances.now))) result }
+    ensures { IsFinding
+        (each_member (if_object (affordance_judge row kind)) (members_of (json_members affordances.now)))
+        result }
 {
     for (name, value) in affordances {
         in_member(alloc, name.as_str(), affordance(alloc, value, kind, row))?;

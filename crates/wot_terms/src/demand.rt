@@ -81,7 +81,9 @@ pub(crate) fn optional_each(
     names: &[&'static str],
     demand: Demand,
 ) -> Finding
-    ensures { IsFinding (optional_members (map (λ s. s.now) names.now) (judge_of demand) (members_of members.now)) result }
+    ensures { IsFinding
+        (optional_members (map (λ s. s.now) names.now) (judge_of demand) (members_of members.now))
+        result }
 {
     for name in names {
         optional(alloc, members, name, demand)?;

@@ -66,7 +66,8 @@ fn push_affordances(
     kind: Kind,
 ) -> Result<(), NoMemory>
     requires { HoldSchemas kind (members_of root.now) }
-    ensures { OnOk result (list.new.items ≡ list.old.items ++ affordances_in kind (members_of root.now)) }
+    ensures { OnOk result (list.new.items ≡
+        list.old.items ++ affordances_in kind (members_of root.now)) }
 {
     match root.get(kind.holder()) {
         Some(held) => push_held(alloc, list, held, kind),
@@ -82,7 +83,8 @@ fn push_held(
     kind: Kind,
 ) -> Result<(), NoMemory>
     requires { HoldsSchemas kind (json_of held.now) }
-    ensures { OnOk result (list.new.items ≡ list.old.items ++ held_affordances kind (json_of held.now)) }
+    ensures { OnOk result (list.new.items ≡
+        list.old.items ++ held_affordances kind (json_of held.now)) }
 {
     match held {
         Tree::Obj(affordances) => push_named(alloc, list, affordances.as_slice(), kind),
@@ -97,7 +99,8 @@ fn push_named(
     kind: Kind,
 ) -> Result<(), NoMemory>
     requires { HaveSchemas kind (members_of (json_members affordances.now)) }
-    ensures { OnOk result (list.new.items ≡ list.old.items ++ named_affordances kind (members_of (json_members affordances.now))) }
+    ensures { OnOk result (list.new.items ≡
+        list.old.items ++ named_affordances kind (members_of (json_members affordances.now))) }
 {
     for (name, value) in affordances {
         let affordance = described(alloc, kind, name.as_str(), value)?;

@@ -67,7 +67,9 @@ pub(crate) fn each_element(alloc: Global, items: &[Tree], entry: Entry) -> Findi
 
 /// Each member of an object is as asked.
 pub(crate) fn each_member(alloc: Global, members: &[(Text, Tree)], entry: Entry) -> Finding
-    ensures { IsFinding (each_named (entry_judge entry) (members_of (json_members members.now))) result }
+    ensures { IsFinding
+        (each_named (entry_judge entry) (members_of (json_members members.now)))
+        result }
 {
     for (name, member) in members {
         in_member(alloc, name.as_str(), entry.check(alloc, member))?;

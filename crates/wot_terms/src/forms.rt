@@ -57,7 +57,9 @@ fn operation_names(alloc: Global, value: &Tree, place: Option<Kind>) -> Finding
 }
 
 fn each_operation(alloc: Global, names: &[Tree], place: Option<Kind>) -> Finding
-    ensures { IsFinding (each_element (is (is_text_with (is_operation_of place))) 0 (elements_of (json_items names.now))) result }
+    ensures { IsFinding
+        (each_element (is (is_text_with (is_operation_of place))) 0 (elements_of (json_items names.now)))
+        result }
 {
     for (index, name) in names.iter().enumerate() {
         let passes = names_operation(place, name);

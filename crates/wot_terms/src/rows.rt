@@ -78,7 +78,9 @@ fn definition_names(alloc: Global, value: &Tree, root: &Members) -> Finding
 }
 
 fn each_definition(alloc: Global, names: &[Tree], root: &Members) -> Finding
-    ensures { IsFinding (each_of (is (is_text_with (is_defined_in (members_of root.now)))) 0 (elements_of (json_items names.now))) result }
+    ensures { IsFinding
+        (each_of (is (is_text_with (is_defined_in (members_of root.now)))) 0 (elements_of (json_items names.now)))
+        result }
 {
     for (index, name) in names.iter().enumerate() {
         let passes = names_definition(root, name);
@@ -155,7 +157,9 @@ fn affordance_map(alloc: Global, root: &Members, kind: Kind) -> Finding
 
 /// The value is an object of objects.
 fn objects(alloc: Global, value: &Tree) -> Finding
-    ensures { IsFinding (object_with (each_named (entry_judge Entry.Object)) (json_of value.now)) result }
+    ensures { IsFinding
+        (object_with (each_named (entry_judge Entry.Object)) (json_of value.now))
+        result }
 {
     match value {
         Tree::Obj(members) => each_member(alloc, members.as_slice(), Entry::Object),
@@ -197,7 +201,9 @@ pub(crate) fn version(alloc: Global, root: &Members) -> Finding
 }
 
 fn version_info(alloc: Global, value: &Tree) -> Finding
-    ensures { IsFinding (object_with (required_member (codes "instance") (judge_of Demand.Text)) (json_of value.now)) result }
+    ensures { IsFinding
+        (object_with (required_member (codes "instance") (judge_of Demand.Text)) (json_of value.now))
+        result }
 {
     match value {
         Tree::Obj(members) => required(alloc, members, "instance", Demand::Text),

@@ -1,3 +1,5 @@
 pub mod GivenEvents
 pub mod BytesInTurns
 pub mod ToldLaws
+pub mod NetLaws
+pub mod OrderLaws

@@ -1,15 +1,20 @@
 -- The calls of an object in memory.
-use Rattle.std.specs.Prelude.{ℕ, List, [], ◌∷◌, Option, None, Contains}
-use Rattle.servient_edge.specs.Told.{one_more}
+use Rattle.std.specs.Prelude.{ℕ, Bool, nat_eq, IsTrue, List, [], ◌∷◌, Option, None}
+use Rattle.std.specs.List.{list_any}
+use Rattle.servient_base.specs.Count.{one_more}
 use Rattle.servient_edge.specs.declared.calls.CallCount.{CallCount}
+
+-- the call of this number is among those that fail
+abbrev pub is_failing : List ℕ → ℕ → Bool
+is_failing fails number = list_any (λ fail. nat_eq fail number) fails
 
 -- the calls after one more
 abbrev pub after_call : CallCount → CallCount
 after_call calls = record calls { made = one_more calls.made }
 
--- the number of the next call is among those that fail
+-- the next call is among those that fail
 abbrev pub FailsNext : CallCount → Type 0
-FailsNext calls = Contains calls.fails (one_more calls.made)
+FailsNext calls = IsTrue (is_failing calls.fails (one_more calls.made))
 
 -- no call was made, and these fail
 abbrev pub no_calls : List ℕ → CallCount

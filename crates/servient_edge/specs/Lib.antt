@@ -2,6 +2,8 @@ pub mod Told
 pub mod Network
 pub mod CallCount
 pub mod Ending
+pub mod Order
+pub mod ActLog
 pub mod NetMemory
 pub mod Files
 pub mod FilesMemory

@@ -1,14 +1,16 @@
 -- What is seen of a network in memory.
-use Rattle.std.specs.Prelude.{◌≡◌, ◌≢◌, ℕ, List, [], ◌∷◌, ◌++◌, ◌⊎◌, Option, IsSome, take, drop}
+use Rattle.std.specs.Prelude.{◌≡◌, ◌<◌, ◌+◌, ◌-◌, ◌^◌, ℕ, List, [], ◌∷◌, ◌++◌, ◌⊎◌, Option, IsSome, drop}
+use Rattle.servient_base.specs.Count.{one_more}
 use Rattle.servient_edge.specs.declared.net.Act.{Act}
 use Rattle.servient_edge.specs.declared.net.EventWithBytes.{EventWithBytes}
 use Rattle.servient_edge.specs.declared.net.Next.{Next}
 use Rattle.servient_edge.specs.declared.net.Next.TheVariants.{Got, Failed}
 use Rattle.servient_edge.specs.declared.calls.CallCount.{CallCount}
 use Rattle.servient_edge.specs.declared.net_memory.NetMemory.{NetMemory}
-use Rattle.servient_edge.specs.Told.{told_at_zero, one_more}
+use Rattle.servient_edge.specs.Told.{told_at_zero}
 use Rattle.servient_edge.specs.CallCount.{no_calls, where_none_fails}
-use Rattle.servient_edge.specs.Network.{in_buffer}
+use Rattle.servient_edge.specs.Network.{in_buffer, Happening, NetSeen}
+use Rattle.servient_edge.specs.Order.{call_results, with_acts}
 use Rattle.servient_edge.specs.Ending.{last_moment, stop_event, with_stop}
 
 -- its calls of `next`
@@ -23,29 +25,35 @@ rest_of n = drop n.given n.events
 abbrev pub stop_moment_of : NetMemory → ℕ
 stop_moment_of n = n.stop_moment
 
--- the events given, as long as nothing was given beyond its list
-abbrev pub told_events : NetMemory → Option (List EventWithBytes)
-told_events n = told_at_zero n.stops_again (take n.given n.events)
-
--- the events still to come, where no call fails and nothing was given beyond its list
-abbrev pub left_events : NetMemory → Option (List EventWithBytes)
-left_events n = where_none_fails n.calls.fails (told_at_zero n.stops_again (rest_of n))
+-- the Stop with its bytes, which are none
+abbrev pub stop_of : NetMemory → EventWithBytes
+stop_of n = record { event = stop_event (stop_moment_of n); bytes = [] }
 
 -- the acts that found memory
 abbrev pub kept_acts : NetMemory → List Act
-kept_acts n = n.acts.items
+kept_acts n = n.log.acts.items
 
 -- how many acts found no memory
 abbrev pub lost_acts : NetMemory → ℕ
-lost_acts n = n.lost
+lost_acts n = n.log.lost
 
--- the acts, as long as none was lost
-abbrev pub told_acts : NetMemory → Option (List Act)
-told_acts n = told_at_zero (lost_acts n) (kept_acts n)
+-- What happened, as long as no act was lost. A call of `next` after 2 ^ 64 - 1 others isn't told.
+abbrev pub told_history : NetMemory → Option (List Happening)
+told_history n =
+    told_at_zero (n.uncounted + lost_acts n)
+    (with_acts n.log.gaps.items (kept_acts n) (call_results n.calls.fails n.events (stop_of n) n.calls.made))
+
+-- the events still to come, where no call fails
+abbrev pub left_events : NetMemory → Option (List EventWithBytes)
+left_events n = where_none_fails n.calls.fails (told_at_zero n.uncounted (rest_of n))
 
 -- how often it failed
 abbrev pub fault_count : NetMemory → ℕ
 fault_count n = n.faults
+
+-- what is seen of it
+abbrev pub net_seen : NetMemory → NetSeen
+net_seen n = record { history = told_history n; left = left_events n; faults = fault_count n }
 
 -- Nothing was done yet: it has these events to give, and these calls are to fail.
 pub record IsFresh (n : NetMemory) (events : List EventWithBytes) (fails : List ℕ) : Type 0 where
@@ -61,25 +69,25 @@ TakesFrom before now stop_moment Failed buffer = now ≡ before
 TakesFrom [] now stop_moment (Got e) buffer = (e ≡ stop_event stop_moment) × (now ≡ [])
 TakesFrom (first ∷ rest) now stop_moment (Got e) buffer = (in_buffer e buffer ≡ first) × (now ≡ rest)
 
--- What it gave is told after a call as before it, but where the call gave something beyond the list.
-pub record GoesOnTelling (before now : NetMemory) (result : Next) : Type 0 where
-  pub failed : result ≡ Failed → told_events now ≡ told_events before
-  pub within_list : rest_of before ≢ [] → IsSome (told_events before) → IsSome (told_events now)
+-- what happened is told after a call of `next` where it was told before, whether or not the call failed
+abbrev pub GoesOnTelling : NetMemory → NetMemory → Type 0
+GoesOnTelling before now = (calls_of before).made < 2 ^ 64 - 1 → IsSome (told_history before) → IsSome (told_history now)
 
 -- The acts stay as they were.
 pub record KeepsActs (before now : NetMemory) : Type 0 where
   pub kept : kept_acts now ≡ kept_acts before
   pub lost : lost_acts now ≡ lost_acts before
 
--- What it has to give and what it tells of that stay as they were, and no fault is counted.
+-- What it has to give and its calls stay as they were, and no fault is counted. What happened is told after an act
+-- where it was told before and the act wasn't lost.
 pub record KeepsEvents (before now : NetMemory) : Type 0 where
   pub calls : calls_of now ≡ calls_of before
   pub rest : rest_of now ≡ rest_of before
   pub stop_moment : stop_moment_of now ≡ stop_moment_of before
-  pub told : told_events now ≡ told_events before
   pub faults : fault_count now ≡ fault_count before
+  pub told : lost_acts now ≡ lost_acts before → IsSome (told_history before) → IsSome (told_history now)
 
--- The act is kept behind the others; or there is no memory for it, and it is counted.
+-- The act is kept after the others; or there is no memory for it, and it is counted.
 abbrev pub KeepsOrCounts : NetMemory → NetMemory → Act → Type 0
 KeepsOrCounts before now act =
     (kept_acts now ≡ kept_acts before ++ act ∷ []) × (lost_acts now ≡ lost_acts before)

@@ -1,13 +1,16 @@
 -- What is known of a network.
-use Rattle.std.specs.Prelude.{◌≡◌, ◌≤◌, ◌^◌, ℕ, List, [], ◌∷◌, Option, Some, None, take, length}
-use Rattle.servient_base.specs.Count.{Rose}
+use Rattle.std.specs.Prelude.{◌≡◌, ◌≤◌, ◌^◌, ℕ, suc, List, [], ◌∷◌, Option, Some, None, take, length}
+use Rattle.servient_base.specs.Count.{RoseBy}
 use Rattle.servient_edge.specs.declared.net.What.{What}
 use Rattle.servient_edge.specs.declared.net.What.TheVariants.{Datagram, Stop}
 use Rattle.servient_edge.specs.declared.net.Event.{Event}
 use Rattle.servient_edge.specs.declared.net.EventWithBytes.{EventWithBytes}
+use Rattle.servient_edge.specs.declared.net.Act.{Act}
 use Rattle.servient_edge.specs.declared.net.Next.{Next}
 use Rattle.servient_edge.specs.declared.net.Next.TheVariants.{Got, Failed}
 use Rattle.servient_edge.specs.Told.{Continues}
+
+-- ---- events
 
 -- how many bytes come with what came
 abbrev pub byte_count : What → ℕ
@@ -24,20 +27,81 @@ pub record IsWithinBounds (e : EventWithBytes) : Type 0 where
   pub event : IsEvent e.event
   pub bytes : length e.bytes ≡ byte_count e.event.what
 
--- the event, with its bytes as they stand at the front of the buffer
+-- the event, with its bytes, which are a prefix of the buffer
 abbrev pub in_buffer : Event → List ℕ → EventWithBytes
 in_buffer e buffer = record { event = e; bytes = take (byte_count e.what) buffer }
 
--- One event came and is told with its bytes; or a fault was counted and nothing came.
-abbrev pub Gives : Option (List EventWithBytes) → Option (List EventWithBytes) → ℕ → ℕ → Next → List ℕ → Type 0
-Gives before now faults_before faults_now (Got e) buffer =
-    IsEvent e × (faults_before ≤ faults_now) × Continues before now (in_buffer e buffer ∷ [])
-Gives before now faults_before faults_now Failed buffer =
-    Rose faults_before faults_now × Continues before now []
+-- ---- what happens
 
--- Where the events to come are known, the first of them comes and no fault does.
-abbrev pub GivesFirstOf : Option (List EventWithBytes) → Option (List EventWithBytes) → Next → List ℕ → Type 0
-GivesFirstOf None now result buffer = Unit {0}
-GivesFirstOf (Some []) now result buffer = Unit {0}
-GivesFirstOf (Some (first ∷ rest)) now (Got e) buffer = (in_buffer e buffer ≡ first) × (now ≡ Some rest)
-GivesFirstOf (Some (first ∷ rest)) now Failed buffer = ⊥
+-- a call of a network that may fail
+pub data NetCall : Type 0 where
+  next_event : NetCall
+
+-- One thing that happens between the servient and the network. A call that acts is one act, whatever it answers; where
+-- it failed, a break follows that names it.
+pub data Happening : Type 0 where
+  -- an event was given
+  heard : EventWithBytes → Happening
+  -- this was done to the network
+  did : Act → Happening
+  -- this call of the network failed
+  broke : NetCall → Happening
+
+-- the events among some happenings, in order
+abbrev pub events_in : List Happening → List EventWithBytes
+events_in [] = []
+events_in (heard e ∷ happened) = e ∷ events_in happened
+events_in (did act ∷ happened) = events_in happened
+events_in (broke call ∷ happened) = events_in happened
+
+-- the acts among them, in order
+abbrev pub acts_in : List Happening → List Act
+acts_in [] = []
+acts_in (heard e ∷ happened) = acts_in happened
+acts_in (did act ∷ happened) = act ∷ acts_in happened
+acts_in (broke call ∷ happened) = acts_in happened
+
+-- how often the network failed
+abbrev pub break_count : List Happening → ℕ
+break_count [] = 0
+break_count (heard e ∷ happened) = break_count happened
+break_count (did act ∷ happened) = break_count happened
+break_count (broke call ∷ happened) = suc (break_count happened)
+
+-- ---- what a network shows
+
+-- What is seen of a network at one time: all that happened so far, in the order in which it came about, where the
+-- network tells it; the events still to come, where they are known; and how often it failed.
+pub record NetSeen : Type 0 where
+  pub history : Option (List Happening)
+  pub left : Option (List EventWithBytes)
+  pub faults : ℕ
+
+-- As these happen, the events to come go from one list to another: as long as some are known to come, each event given
+-- is the first of them, and the network doesn't fail. Once none is, nothing more is known.
+abbrev pub Leaves : List Happening → Option (List EventWithBytes) → Option (List EventWithBytes) → Type 0
+Leaves [] before now = now ≡ before
+Leaves (did act ∷ happened) before now = Leaves happened before now
+Leaves (heard e ∷ happened) (Some (first ∷ rest)) now = (e ≡ first) × Leaves happened (Some rest) now
+Leaves (heard e ∷ happened) (Some []) now = Unit {0}
+Leaves (heard e ∷ happened) None now = Unit {0}
+Leaves (broke call ∷ happened) (Some (first ∷ rest)) now = ⊥
+Leaves (broke call ∷ happened) (Some []) now = Unit {0}
+Leaves (broke call ∷ happened) None now = Unit {0}
+
+-- From one time to another this happened and nothing else: it comes after what was told before; the events to come are
+-- those that are left by it; and each failure was counted.
+pub record NetShows (before now : NetSeen) (happened : List Happening) : Type 0 where
+  pub history : Continues before.history now.history happened
+  pub left : Leaves happened before.left now.left
+  pub faults : RoseBy (break_count happened) before.faults now.faults
+
+-- what a call of `next` is seen as
+abbrev pub came : Next → List ℕ → Happening
+came (Got e) buffer = heard (in_buffer e buffer)
+came Failed buffer = broke next_event
+
+-- an answer of `next` has an event that a network may give, if it has one
+abbrev pub IsAnswer : Next → Type 0
+IsAnswer (Got e) = IsEvent e
+IsAnswer Failed = Unit {0}

@@ -1,6 +1,6 @@
 //! Which calls of an object in memory fail, and how many calls it has had.
 
-ghost use Rattle.std.specs.Prelude.{◌≡◌, [], ◌∷◌, ◌++◌, ◌↔◌, Contains, IsTrue, OnErr, OnOk};
+ghost use Rattle.std.specs.Prelude.{◌≡◌, [], ◌∷◌, ◌++◌, ◌↔◌, IsTrue, OnErr, OnOk};
 
 use servient_base::NoMemory;
 use std::alloc::Global;
@@ -22,6 +22,8 @@ impl Model for Calls {
 }
 
 impl Calls {
+    ghost use Rattle.servient_edge.specs.CallCount.{is_failing};
+
     /// No call fails.
     pub fn new(alloc: Global) -> Self
         ensures { result ≡ [] }
@@ -34,13 +36,13 @@ impl Calls {
     /// The call of this number fails too.
     pub fn push(&mut self, number: u64) -> Result<(), NoMemory>
         ensures ok { OnOk result (self.new ≡ self.old ++ number ∷ []) }
-        ensures err { OnErr result (self.new ≡ self.old) }
+        ensures unchanged { OnErr result (self.new ≡ self.old) }
     {
         self.numbers.push(number)?;
         Ok(())
     }
 
-    /// The vector that these numbers stand in.
+    /// The vector that holds these numbers.
     pub fn into_vec(self) -> Vec<u64>
         ensures { result.items ≡ self }
     {
@@ -48,9 +50,9 @@ impl Calls {
         numbers
     }
 
-    /// The call of this number fails.
+    /// Whether the call of this number fails.
     pub fn contains(&self, number: u64) -> bool
-        ensures { IsTrue result ↔ Contains self.now number }
+        ensures { result ≡ is_failing self.now number }
     {
         self.numbers.as_slice().contains(&number)
     }

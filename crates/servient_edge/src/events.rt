@@ -47,13 +47,13 @@ impl Events {
     pub fn push(&mut self, event: EventWithBytes) -> Result<(), NoMemory>
         requires { IsWithinBounds event }
         ensures ok { OnOk result (self.new ≡ self.old ++ event ∷ []) }
-        ensures err { OnErr result (self.new ≡ self.old) }
+        ensures unchanged { OnErr result (self.new ≡ self.old) }
     {
         self.list.push(event)?;
         Ok(())
     }
 
-    /// The vector that these events stand in.
+    /// The vector that holds these events.
     pub fn into_vec(self) -> Vec<EventWithBytes>
         ensures { result.items ≡ self }
     {

@@ -64,7 +64,7 @@ impl Held {
         }
     }
 
-    /// The vector that these files stand in.
+    /// The vector that holds these files.
     pub fn into_vec(self) -> Vec<HeldFile>
         ensures { result.items ≡ self }
     {
@@ -72,10 +72,10 @@ impl Held {
         files
     }
 
-    /// Puts a file behind the others.
+    /// Puts a file after the others.
     pub fn push(&mut self, file: HeldFile) -> Result<(), NoMemory>
         ensures ok { OnOk result (self.new ≡ self.old ++ file ∷ []) }
-        ensures err { OnErr result (self.new ≡ self.old) }
+        ensures unchanged { OnErr result (self.new ≡ self.old) }
     {
         self.files.push(file)?;
         Ok(())
@@ -101,7 +101,7 @@ pub trait Files {
     ghost use Rattle.servient_edge.specs.declared.files.HeldFile.{HeldFile};
     ghost use Rattle.servient_edge.specs.declared.files.FileRead.{FileRead};
     ghost use Rattle.servient_edge.specs.Told.{Continues};
-    ghost use Rattle.servient_edge.specs.Files.{ReadsFile, added_reads};
+    ghost use Rattle.servient_edge.specs.Files.{AnswersRead, added_reads};
 
     /// What each file holds, where the files tell it.
     ghost held: { Self → Option (List HeldFile) };
@@ -112,11 +112,11 @@ pub trait Files {
     /// How often a read failed; it never falls.
     ghost faults: { Self → ℕ };
 
-    /// Reads a whole file of at most `limit` bytes. After any answer but `Whole` it is open what
-    /// stands in `into`, and `NoMemory` may come at any call.
+    /// Reads a whole file of at most `limit` bytes. After any answer but `Whole` what is in
+    /// `into` is open, and `NoMemory` may come at any call.
     fn read(&mut self, alloc: Global, name: &str, limit: usize, into: &mut Bytes) -> Got
-        ensures file { ReadsFile (held self.old) name.now limit result into.new }
-        ensures failed { result ≡ Got.Failed → Rose (faults self.old) (faults self.new) }
+        ensures answer { AnswersRead (held self.old) name.now limit result into.new }
+        ensures fault { result ≡ Got.Failed → Rose (faults self.old) (faults self.new) }
         ensures faults { faults self.old ≤ faults self.new }
         ensures held { held self.new ≡ held self.old }
         ensures reads { Continues (reads self.old) (reads self.new) (added_reads name.now limit result) };

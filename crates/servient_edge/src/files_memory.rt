@@ -1,7 +1,7 @@
 //! Files in memory: they tell what they hold and which reads were made.
 
 ghost use Rattle.std.specs.Prelude.{◌≡◌, ◌≢◌, [], ◌∷◌, ◌++◌, Some, IfOk, OnErr, OnOk};
-ghost use Rattle.servient_edge.specs.Files.{ReadsFile};
+ghost use Rattle.servient_edge.specs.Files.{AnswersRead};
 
 use crate::calls::CallCount;
 use crate::{Calls, FileRead, Files, Got, Held};
@@ -24,7 +24,7 @@ pub struct FilesMemory {
 
 /// Looks a file up in those that are held.
 fn read_held(held: &Held, alloc: Global, name: &str, limit: usize, into: &mut Bytes) -> Got
-    ensures file { ReadsFile (Some held.now) name.now limit result into.new }
+    ensures answer { AnswersRead (Some held.now) name.now limit result into.new }
     ensures no_failure { result ≢ Got.Failed }
 {
     let content = match held.content(name) {
@@ -43,7 +43,7 @@ fn read_held(held: &Held, alloc: Global, name: &str, limit: usize, into: &mut By
     }
 }
 
-/// Puts a read behind the others, if there is memory for it.
+/// Puts a read after the others, if there is memory for it.
 fn list_read(
     alloc: Global,
     reads: &mut Vec<FileRead>,
@@ -52,7 +52,7 @@ fn list_read(
 ) -> Result<(), NoMemory>
     ensures ok { OnOk result
         (reads.new.items ≡ reads.old.items ++ record { name = name.now; limit = limit } ∷ []) }
-    ensures err { OnErr result (reads.new.items ≡ reads.old.items) }
+    ensures unchanged { OnErr result (reads.new.items ≡ reads.old.items) }
 {
     let name = Text::copy_of(alloc, name)?;
     reads.push(FileRead { name, limit })?;
@@ -90,9 +90,9 @@ impl FilesMemory {
 
 impl Files for FilesMemory {
     ghost use Rattle.std.specs.Prelude.{◌≡◌, ◌≢◌, ◌≤◌, ◌⊎◌, Some};
-    ghost use Rattle.servient_base.specs.Count.{Rose};
-    ghost use Rattle.servient_edge.specs.Told.{Continues, one_more};
-    ghost use Rattle.servient_edge.specs.Files.{ReadsFile, added_reads};
+    ghost use Rattle.servient_base.specs.Count.{Rose, one_more};
+    ghost use Rattle.servient_edge.specs.Told.{Continues};
+    ghost use Rattle.servient_edge.specs.Files.{AnswersRead, added_reads};
     ghost use Rattle.servient_edge.specs.CallCount.{FailsNext, after_call};
     ghost use Rattle.servient_edge.specs.FilesMemory.{calls_of, held_files, listed_reads, fault_count};
 
@@ -105,8 +105,8 @@ impl Files for FilesMemory {
     /// A read whose number is in the list that `new` took answers `Failed`, or `NoMemory` where there
     /// is none to list it. A read that can't be listed answers `NoMemory`.
     fn read(&mut self, alloc: Global, name: &str, limit: usize, into: &mut Bytes) -> Got
-        ensures file { ReadsFile (Some (held_files self.old)) name.now limit result into.new }
-        ensures failed { result ≡ Got.Failed → Rose (fault_count self.old) (fault_count self.new) }
+        ensures answer { AnswersRead (Some (held_files self.old)) name.now limit result into.new }
+        ensures fault { result ≡ Got.Failed → Rose (fault_count self.old) (fault_count self.new) }
         ensures faults { fault_count self.old ≤ fault_count self.new }
         ensures held { Some (held_files self.new) ≡ Some (held_files self.old) }
         ensures reads { Continues (Some (listed_reads self.old)) (Some (listed_reads self.new))

@@ -88,9 +88,8 @@ fn read_opened<F: Read + Drop>(
 
 impl<R: rt::Files + Drop> Files for FilesReal<R> {
     ghost use Rattle.std.specs.Prelude.{◌≡◌, ◌≢◌, ◌≤◌, None, length};
-    ghost use Rattle.servient_base.specs.Count.{Rose};
-    ghost use Rattle.servient_edge.specs.Told.{one_more};
-    ghost use Rattle.servient_edge.specs.Files.{ReadsFile};
+    ghost use Rattle.servient_base.specs.Count.{Rose, one_more};
+    ghost use Rattle.servient_edge.specs.Files.{AnswersRead};
     ghost use Rattle.servient_edge.specs.FilesReal.{fault_count};
 
     ghost held = { λ f. None };
@@ -101,8 +100,8 @@ impl<R: rt::Files + Drop> Files for FilesReal<R> {
 
     /// An interruption counts as a failure, as every error does but that there is no such file.
     fn read(&mut self, alloc: Global, name: &str, limit: usize, into: &mut Bytes) -> Got
-        ensures file { ReadsFile None name.now limit result into.new }
-        ensures failed { result ≡ Got.Failed → Rose (fault_count self.old) (fault_count self.new) }
+        ensures answer { AnswersRead None name.now limit result into.new }
+        ensures fault { result ≡ Got.Failed → Rose (fault_count self.old) (fault_count self.new) }
         ensures faults { fault_count self.old ≤ fault_count self.new }
 
         ensures counted { result ≡ Got.Failed → fault_count self.new ≡ one_more (fault_count self.old) }

@@ -1,12 +1,13 @@
 //! The outside of the servient: the network, the files and the output.
 //!
-//! Each is a trait whose ghost members say what is known of it (the events given, the acts made, the
-//! bytes written, how often it failed), with a version in memory, which tells all of that; but a network
-//! in memory that gives its Stop again, or has lost an act for want of memory, tells no more of events or
-//! of acts. The files and the output have an adapter to the machine too, which tells only its count of
+//! Each is a trait whose ghost members say what is known of it: what happened at the network, in order, and what is
+//! still to come; what the files hold and which reads were made; the bytes written; how often each failed. A version
+//! in memory tells all of that; but a network in memory that has lost an act, because it was out of memory, tells no
+//! more of what happened. The files and the output have an adapter to the machine too, which tells only its count of
 //! faults.
 #![tactic(auto)]
 
+mod act_log;
 mod calls;
 mod events;
 mod files;
@@ -17,8 +18,6 @@ mod net_memory;
 mod out;
 mod out_memory;
 mod out_real;
-#[cfg(test)]
-mod tests;
 
 pub use calls::Calls;
 pub use events::Events;

@@ -56,38 +56,22 @@ pub enum Act {
     Datagram(Endpoint, Bytes),
 }
 
-/// The network. Its moments are milliseconds, and a run stands at moment 0 before its first event.
+/// The network. Its moments are milliseconds, and a run is at moment 0 before its first event.
 pub trait Net {
-    ghost use Rattle.std.specs.Prelude.{◌≡◌, ◌≤◌, ℕ, List, [], ◌∷◌, Option, length};
-    ghost use Rattle.servient_edge.specs.declared.net.Act.{Act};
+    ghost use Rattle.std.specs.Prelude.{◌≡◌, [], ◌∷◌, length};
     ghost use Rattle.servient_edge.specs.declared.net.Act.TheVariants as act;
-    ghost use Rattle.servient_edge.specs.declared.net.EventWithBytes.{EventWithBytes};
-    ghost use Rattle.servient_edge.specs.Told.{Continues};
-    ghost use Rattle.servient_edge.specs.Network.{Gives, GivesFirstOf};
+    ghost use Rattle.servient_edge.specs.Network.{NetSeen, NetShows, did, came, IsAnswer};
 
-    /// The events given so far with their bytes, where the network tells them.
-    ghost events: { Self → Option (List EventWithBytes) };
+    /// What is seen of it: what happened so far, what is still to come, and how often it failed.
+    ghost seen: { Self → NetSeen };
 
-    /// The acts so far, where the network tells them.
-    ghost acts: { Self → Option (List Act) };
-
-    /// The events still to come, where they are known.
-    ghost left: { Self → Option (List EventWithBytes) };
-
-    /// How often the network failed; it never falls.
-    ghost faults: { Self → ℕ };
-
-    /// The next event. Its bytes stand at the front of `buffer`, and what stands behind them is open.
+    /// The next event. Its bytes are put at the beginning of `buffer`, and what follows them there is open.
     fn next(&mut self, buffer: &mut [u8]) -> Next
         requires { length buffer.old ≡ 4096 }
-        ensures gives { Gives (events self.old) (events self.new) (faults self.old) (faults self.new) result buffer.new }
-        ensures left { GivesFirstOf (left self.old) (left self.new) result buffer.new }
-        ensures acts { Continues (acts self.old) (acts self.new) [] };
+        ensures answer { IsAnswer result }
+        ensures shows { NetShows (seen self.old) (seen self.new) (came result buffer.new ∷ []) };
 
     /// Sends a datagram. A real failure shows later, as a datagram that never came.
     fn datagram(&mut self, to: Endpoint, bytes: &[u8])
-        ensures acts { Continues (acts self.old) (acts self.new) (act.Datagram to bytes.now ∷ []) }
-        ensures events { Continues (events self.old) (events self.new) [] }
-        ensures left { left self.new ≡ left self.old }
-        ensures faults { faults self.old ≤ faults self.new };
+        ensures { NetShows (seen self.old) (seen self.new) (did (act.Datagram to bytes.now) ∷ []) };
 }

@@ -5,7 +5,7 @@
 pub enum Put {
     /// All of the piece was written.
     Done,
-    /// The output failed; a front of the piece may have been written.
+    /// The output failed; a prefix of the piece may have been written.
     Failed,
 }
 
@@ -21,9 +21,9 @@ pub trait Out {
     /// How often a write failed; it never falls.
     ghost faults: { Self → ℕ };
 
-    /// Writes a piece behind what was written before.
+    /// Writes a piece after what was written before.
     fn put(&mut self, bytes: &[u8]) -> Put
         ensures writes { Writes (written self.old) (written self.new) result bytes.now }
-        ensures failed { result ≡ Put.Failed → Rose (faults self.old) (faults self.new) }
+        ensures fault { result ≡ Put.Failed → Rose (faults self.old) (faults self.new) }
         ensures faults { faults self.old ≤ faults self.new };
 }

@@ -49,8 +49,7 @@ impl OutMemory {
 
 impl Out for OutMemory {
     ghost use Rattle.std.specs.Prelude.{◌≡◌, ◌≤◌, ◌↔◌, Some};
-    ghost use Rattle.servient_base.specs.Count.{Rose};
-    ghost use Rattle.servient_edge.specs.Told.{one_more};
+    ghost use Rattle.servient_base.specs.Count.{Rose, one_more};
     ghost use Rattle.servient_edge.specs.Out.{Writes};
     ghost use Rattle.servient_edge.specs.CallCount.{after_call};
     ghost use Rattle.servient_edge.specs.OutMemory.{calls_of, fault_count, room_of, written_bytes, Takes};
@@ -63,7 +62,7 @@ impl Out for OutMemory {
     /// into what is left. Nothing is written then.
     fn put(&mut self, bytes: &[u8]) -> Put
         ensures writes { Writes (Some (written_bytes self.old)) (Some (written_bytes self.new)) result bytes.now }
-        ensures failed { result ≡ Put.Failed → Rose (fault_count self.old) (fault_count self.new) }
+        ensures fault { result ≡ Put.Failed → Rose (fault_count self.old) (fault_count self.new) }
         ensures faults { fault_count self.old ≤ fault_count self.new }
 
         // Which pieces are taken, and what the others leave.

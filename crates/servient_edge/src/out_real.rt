@@ -46,8 +46,7 @@ fn write_whole<W: Write>(writer: &mut W, piece: &[u8]) -> Put
 impl<W: Write + Drop> Out for OutReal<W> {
     ghost use Rattle.std.specs.Prelude.{◌≡◌, ◌≤◌, ◌++◌, ℕ, List, None};
     ghost use Rattle.std.specs.Io.KnownBytes.{Appends};
-    ghost use Rattle.servient_base.specs.Count.{Rose};
-    ghost use Rattle.servient_edge.specs.Told.{one_more};
+    ghost use Rattle.servient_base.specs.Count.{Rose, one_more};
     ghost use Rattle.servient_edge.specs.OutReal.{fault_count, writer_of};
 
     ghost written = { λ o. None };
@@ -57,7 +56,7 @@ impl<W: Write + Drop> Out for OutReal<W> {
     /// A write that takes nothing of a piece that isn't empty is a failure, and so is every error, an
     /// interruption too.
     fn put(&mut self, bytes: &[u8]) -> Put
-        ensures failed { result ≡ Put.Failed → Rose (fault_count self.old) (fault_count self.new) }
+        ensures fault { result ≡ Put.Failed → Rose (fault_count self.old) (fault_count self.new) }
         ensures faults { fault_count self.old ≤ fault_count self.new }
 
         // What reached the writer, where it is known what that holds.

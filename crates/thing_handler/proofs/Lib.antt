@@ -1,2 +1,3 @@
-pub mod Slots
+pub mod RackLaws
+mod Slots
 pub mod TurnLaws

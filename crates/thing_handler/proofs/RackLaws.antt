@@ -69,21 +69,21 @@ rack_shows_in_order = record {
 }
 
 -- one handler counted, and the misses are none of another slot
-misses_set : (missed : List ℕ) (slot from i : ℕ) (slots : List Seen) (x y : Seen) → slot ≡ from + i → slice_get slots i ≡ Some x → y.misses ≡ raised (times slot missed) x.misses → ((other : ℕ) → other ≢ slot → times other missed ≡ 0) → CountMisses missed from slots (set slots i y)
-misses_set missed slot from i [] x y place stood counted elsewhere = absurd cc
-misses_set missed slot from zero (h ∷ slots) x y place stood counted elsewhere =
+misses_set : (misses : List ℕ) (slot from i : ℕ) (slots : List Seen) (x y : Seen) → slot ≡ from + i → slice_get slots i ≡ Some x → y.misses ≡ raised (times slot misses) x.misses → ((other : ℕ) → other ≢ slot → times other misses ≡ 0) → CountMisses misses from slots (set slots i y)
+misses_set misses slot from i [] x y place stood counted elsewhere = absurd cc
+misses_set misses slot from zero (h ∷ slots) x y place stood counted elsewhere =
     let same : h ≡ x = same_Some h x stood in
     let here : slot ≡ from = omega arith in
-    (counted ∙ ap (λ (n : ℕ). raised (times n missed) x.misses) here ∙ ap (λ (s : Seen). raised (times from missed) s.misses) (sym same), stays (suc from) slots (omega arith))
+    (counted ∙ ap (λ (n : ℕ). raised (times n misses) x.misses) here ∙ ap (λ (s : Seen). raised (times from misses) s.misses) (sym same), stays (suc from) slots (omega arith))
   where
-    stays : (next : ℕ) (rest : List Seen) → slot < next → CountMisses missed next rest rest
+    stays : (next : ℕ) (rest : List Seen) → slot < next → CountMisses misses next rest rest
     stays next [] above = tt
     stays next (k ∷ rest) above =
         let differs : next ≢ slot = omega arith in
         (omega (arith, elsewhere next differs), stays (suc next) rest (omega arith))
-misses_set missed slot from (suc i) (h ∷ slots) x y place stood counted elsewhere =
+misses_set misses slot from (suc i) (h ∷ slots) x y place stood counted elsewhere =
     let differs : from ≢ slot = omega arith in
-    (omega (arith, elsewhere from differs), misses_set missed slot (suc from) i slots x y (omega arith) stood counted elsewhere)
+    (omega (arith, elsewhere from differs), misses_set misses slot (suc from) i slots x y (omega arith) stood counted elsewhere)
 
 times_one : (slot : ℕ) → times slot (slot ∷ []) ≡ 1
 times_one slot = let t : eqb slot slot ≡ true = eq-eqb slot slot refl in rw t refl

@@ -15,7 +15,7 @@ calls_handler xs seen slot number what result x y within at call =
     record {
       before = seen x;
       after = seen y;
-      stood = rw (slice_get-map seen xs slot, slice_get_read xs (length xs) slot x refl inside at) refl;
+      was = rw (slice_get-map seen xs slot, slice_get_read xs (length xs) slot x refl inside at) refl;
       others = map-set seen xs slot y;
       call = call;
     }

@@ -1,26 +1,18 @@
--- Laws of the turns made since some time, and of the counts of want of memory.
+-- Laws of the turns of a run.
 use Rattle.std.proofs.Common.{◌≡◌, ◌≢◌, ℕ, zero, suc, ◌+◌, ◌<◌, ◌≤◌, List, [], ◌∷◌, ◌++◌, length, set, Option, Some, Ok, Err, refl, sym, ap, subst, ◌∙◌, arith, append_assoc, true, false, eqb, inl, inr, add-zero}
 use Rattle.std.specs.Prelude.{slice_get, option_map}
 use Rattle.std.specs.List.{AllByRecursion}
-use Rattle.std.specs.declared.alloc.AllocError.{AllocError}
 use Rattle.std.proofs.lemmas.Bool.{cases_eq, eq-eqb, ne_eqb}
 use Rattle.std.proofs.lemmas.List.{append-nil}
 use Rattle.std.proofs.lemmas.Option.{same_Some, slice_get-map, slice_get_within}
-use Rattle.servient_base.specs.Count.{NoneFell, RoseAt}
-use Rattle.thing_handler.specs.declared.handler.CallKind.{CallKind}
-use Rattle.thing_handler.specs.declared.handler.Answer.{Answer}
 use Rattle.thing_handler.specs.declared.handler.Turn.{Turn}
-use Rattle.thing_handler.specs.Handler.{Seen, CallsHandler, misses_of}
-use Rattle.thing_handler.specs.Turns.{RunTurn, kept_turn, turns_of_slot, AreNumberedFrom, GrewBy, AreTurnsSince}
+use Rattle.thing_handler.specs.Handler.{Seen}
+use Rattle.thing_handler.specs.Turns.{RunTurn, kept_turn, turns_of_slot, AreNumberedFrom, GrewBy}
 
 -- handlers that stayed as they were grew by no turns
-grew_by_none : (slot : ℕ) (slots : List Seen) → GrewBy [] slot slots slots
+pub grew_by_none : (slot : ℕ) (slots : List Seen) → GrewBy [] slot slots slots
 grew_by_none slot [] = tt
 grew_by_none slot (h ∷ slots) = (refl, sym (append-nil h.turns), grew_by_none (suc slot) slots)
-
--- where nothing was called, no turns were made
-pub turns_since_none : (slots : List Seen) (first : ℕ) → AreTurnsSince slots slots first []
-turns_since_none slots first = record { numbered = tt; stand = tt; kept = grew_by_none 0 slots }
 
 -- the turns of a slot in two parts of a run
 pub turns_of_slot-append : (slot : ℕ) (ps qs : List RunTurn) → turns_of_slot slot (ps ++ qs) ≡ turns_of_slot slot ps ++ turns_of_slot slot qs
@@ -30,12 +22,12 @@ turns_of_slot-append slot (p ∷ ps) qs = elim (cases_eq p.slot slot) [
   | inr other ↦ let f : eqb p.slot slot ≡ false = ne_eqb p.slot slot other in rw f (turns_of_slot-append slot ps qs)
 ]
 
-numbered_then : (first : ℕ) (ps qs : List RunTurn) → AreNumberedFrom first ps → AreNumberedFrom (first + length ps) qs → AreNumberedFrom first (ps ++ qs)
+pub numbered_then : (first : ℕ) (ps qs : List RunTurn) → AreNumberedFrom first ps → AreNumberedFrom (first + length ps) qs → AreNumberedFrom first (ps ++ qs)
 numbered_then first [] qs a b = subst (λ (n : ℕ). AreNumberedFrom n qs) (omega arith) b
 numbered_then first (p ∷ ps) qs a b =
     (a.0, numbered_then (first + 1) ps qs a.1 (subst (λ (n : ℕ). AreNumberedFrom n qs) (omega arith) b))
 
-grew_by_then : (ps qs : List RunTurn) (slot : ℕ) (old mid new : List Seen) → GrewBy ps slot old mid → GrewBy qs slot mid new → GrewBy (ps ++ qs) slot old new
+pub grew_by_then : (ps qs : List RunTurn) (slot : ℕ) (old mid new : List Seen) → GrewBy ps slot old mid → GrewBy qs slot mid new → GrewBy (ps ++ qs) slot old new
 grew_by_then ps qs slot [] [] [] a b = tt
 grew_by_then ps qs slot [] [] (z ∷ new) a b = b
 grew_by_then ps qs slot [] (y ∷ mid) new a b = absurd a
@@ -54,22 +46,12 @@ as_many turns from [] (k ∷ after) g = absurd g
 as_many turns from (h ∷ before) [] g = absurd g
 as_many turns from (h ∷ before) (k ∷ after) g = ap (λ (n : ℕ). suc n) (as_many turns (suc from) before after g.2)
 
-stand_then : (count : ℕ) (ps qs : List RunTurn) → AllByRecursion (λ t. t.slot < count) ps → AllByRecursion (λ t. t.slot < count) qs → AllByRecursion (λ t. t.slot < count) (ps ++ qs)
+pub stand_then : (count : ℕ) (ps qs : List RunTurn) → AllByRecursion (λ t. t.slot < count) ps → AllByRecursion (λ t. t.slot < count) qs → AllByRecursion (λ t. t.slot < count) (ps ++ qs)
 stand_then count [] qs a b = b
 stand_then count (p ∷ ps) qs a b = (a.0, stand_then count ps qs a.1 b)
 
--- the turns of one time and then of another
-pub turns_since_then : (old mid new : List Seen) (first : ℕ) (ps qs : List RunTurn) → AreTurnsSince old mid first ps → AreTurnsSince mid new (first + length ps) qs → AreTurnsSince old new first (ps ++ qs)
-turns_since_then old mid new first ps qs a b =
-    record {
-      numbered = numbered_then first ps qs a.numbered b.numbered;
-      stand = stand_then (length old) ps qs a.stand
-          (subst (λ (n : ℕ). AllByRecursion (λ (t : RunTurn). t.slot < n) qs) (as_many ps 0 old mid a.kept) b.stand);
-      kept = grew_by_then ps qs 0 old mid new a.kept b.kept;
-    }
-
 -- one handler grew by the turns of its slot, and the turns have none of another slot
-grew_by_set : (turns : List RunTurn) (slot from i : ℕ) (slots : List Seen) (x y : Seen) → slot ≡ from + i → slice_get slots i ≡ Some x → y.kind ≡ x.kind → y.turns ≡ x.turns ++ turns_of_slot slot turns → ((other : ℕ) → other ≢ slot → turns_of_slot other turns ≡ []) → GrewBy turns from slots (set slots i y)
+pub grew_by_set : (turns : List RunTurn) (slot from i : ℕ) (slots : List Seen) (x y : Seen) → slot ≡ from + i → slice_get slots i ≡ Some x → y.kind ≡ x.kind → y.turns ≡ x.turns ++ turns_of_slot slot turns → ((other : ℕ) → other ≢ slot → turns_of_slot other turns ≡ []) → GrewBy turns from slots (set slots i y)
 grew_by_set turns slot from i [] x y place stood kind grown others = absurd cc
 grew_by_set turns slot from zero (h ∷ slots) x y place stood kind grown others =
     let same : h ≡ x = same_Some h x stood in
@@ -86,69 +68,11 @@ grew_by_set turns slot from (suc i) (h ∷ slots) x y place stood kind grown oth
     (refl, sym (append-nil h.turns) ∙ ap (λ (ts : List Turn). h.turns ++ ts) (sym (others from differs)), grew_by_set turns slot (suc from) i slots x y (omega arith) stood kind grown others)
 
 -- a turn is one of its slot and of no other
-of_slot : (t : RunTurn) → turns_of_slot t.slot (t ∷ []) ≡ kept_turn t ∷ []
+pub of_slot : (t : RunTurn) → turns_of_slot t.slot (t ∷ []) ≡ kept_turn t ∷ []
 of_slot t = let e : eqb t.slot t.slot ≡ true = eq-eqb t.slot t.slot refl in rw e refl
 
-of_other : (t : RunTurn) (other : ℕ) → other ≢ t.slot → turns_of_slot other (t ∷ []) ≡ []
+pub of_other : (t : RunTurn) (other : ℕ) → other ≢ t.slot → turns_of_slot other (t ∷ []) ≡ []
 of_other t other differs = let f : eqb t.slot other ≡ false = ne_eqb t.slot other (λ e. differs (sym e)) in rw f refl
-
--- a call that was answered made one turn
-pub turns_since_answer : (before after : List Seen) (slot number : ℕ) (what : CallKind) (answer : Answer) → CallsHandler before after slot number what (Ok answer) → AreTurnsSince before after number (record { number = number; slot = slot; what = what; answer = answer } ∷ [])
-turns_since_answer before after slot number what answer c =
-    let turn : RunTurn = record { number = number; slot = slot; what = what; answer = answer } in
-    record {
-      numbered = (refl, tt);
-      stand = (slice_get_within before slot c.before c.stood, tt);
-      kept = subst (λ (slots : List Seen). GrewBy (turn ∷ []) 0 before slots) (sym c.others)
-          (grew_by_set (turn ∷ []) slot 0 slot before c.before c.after (omega arith) c.stood c.call.0 (c.call.1 ∙ ap (λ (ts : List Turn). c.before.turns ++ ts) (sym (of_slot turn))) (of_other turn));
-    }
-
--- a call that found no memory made none
-pub turns_since_miss : (before after : List Seen) (slot number first : ℕ) (what : CallKind) (e : AllocError) → CallsHandler before after slot number what (Err e) → AreTurnsSince before after first []
-turns_since_miss before after slot number first what e c =
-    record {
-      numbered = tt;
-      stand = tt;
-      kept = subst (λ (slots : List Seen). GrewBy [] 0 before slots) (sym c.others)
-          (grew_by_set [] slot 0 slot before c.before c.after (omega arith) c.stood c.call.0 (c.call.1 ∙ sym (append-nil c.before.turns)) (λ other differs. refl));
-    }
-
--- no count fell where nothing happened, and where one thing happened after another
-pub none_fell_same : (counts : List ℕ) → NoneFell counts counts
-none_fell_same [] = tt
-none_fell_same (n ∷ counts) = (omega arith, none_fell_same counts)
-
-fell_set : (slots : List Seen) (i : ℕ) (x y : Seen) → slice_get slots i ≡ Some x → x.misses ≤ y.misses → NoneFell (misses_of slots) (misses_of (set slots i y))
-fell_set [] i x y stood le = tt
-fell_set (h ∷ slots) zero x y stood le =
-    let same : h ≡ x = same_Some h x stood in
-    (omega (arith, ap (λ (s : Seen). s.misses) same), none_fell_same (misses_of slots))
-fell_set (h ∷ slots) (suc i) x y stood le = (omega arith, fell_set slots i x y stood le)
-
--- a call that was answered let no count fall
-pub none_fell_answer : (before after : List Seen) (slot number : ℕ) (what : CallKind) (answer : Answer) → CallsHandler before after slot number what (Ok answer) → NoneFell (misses_of before) (misses_of after)
-none_fell_answer before after slot number what answer c =
-    subst (λ (slots : List Seen). NoneFell (misses_of before) (misses_of slots)) (sym c.others) (fell_set before slot c.before c.after c.stood c.call.2)
-
-rose_set : (slots : List Seen) (i : ℕ) (x y : Seen) → slice_get slots i ≡ Some x → slice_get (misses_of (set slots i y)) i ≡ Some y.misses
-rose_set [] i x y stood = absurd cc
-rose_set (h ∷ slots) zero x y stood = refl
-rose_set (h ∷ slots) (suc i) x y stood = rose_set slots i x y stood
-
--- a call that found no memory let no count fall
-pub none_fell_miss : (before after : List Seen) (slot number : ℕ) (what : CallKind) (e : AllocError) → CallsHandler before after slot number what (Err e) → NoneFell (misses_of before) (misses_of after)
-none_fell_miss before after slot number what e c =
-    subst (λ (slots : List Seen). NoneFell (misses_of before) (misses_of slots)) (sym c.others) (fell_set before slot c.before c.after c.stood (omega (arith, c.call.2)))
-
--- and raised the count of its handler
-pub rose_at_miss : (before after : List Seen) (slot number : ℕ) (what : CallKind) (e : AllocError) → CallsHandler before after slot number what (Err e) → RoseAt slot (misses_of before) (misses_of after)
-rose_at_miss before after slot number what e c = record {
-  before = c.before.misses;
-  now = c.after.misses;
-  stood = slice_get-map (λ (s : Seen). s.misses) before slot ∙ ap (λ (o : Option Seen). option_map (λ (s : Seen). s.misses) o) c.stood;
-  stands = ap (λ (slots : List Seen). slice_get (misses_of slots) slot) c.others ∙ rose_set before slot c.before c.after c.stood;
-  rose = c.call.2;
-}
 
 -- what a slot's handler has kept in the end
 pub kept_in_slot : (turns : List RunTurn) (from i : ℕ) (before after : List Seen) (x y : Seen) → GrewBy turns from before after → slice_get before i ≡ Some x → slice_get after i ≡ Some y → y.turns ≡ x.turns ++ turns_of_slot (from + i) turns

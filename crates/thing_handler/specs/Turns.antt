@@ -1,6 +1,7 @@
--- The turns of a run.
+-- The calls of handlers in a run, and what a rack shows of them.
 use Rattle.std.specs.Prelude.{◌≡◌, ◌<◌, ℕ, suc, ◌+◌, ◌==◌, List, [], ◌∷◌, ◌++◌, length, if◌then◌else◌}
 use Rattle.std.specs.List.{AllByRecursion}
+use Rattle.servient_base.specs.Count.{raised}
 use Rattle.thing_handler.specs.declared.handler.CallKind.{CallKind}
 use Rattle.thing_handler.specs.declared.handler.Answer.{Answer}
 use Rattle.thing_handler.specs.declared.handler.Turn.{Turn}
@@ -12,6 +13,25 @@ pub record RunTurn : Type 0 where
   pub slot : ℕ
   pub what : CallKind
   pub answer : Answer
+
+-- One call of a handler, as a trace has it.
+pub data HandlerCall : Type 0 where
+  -- the handler answered, which is a turn
+  answered : RunTurn → HandlerCall
+  -- the handler in this slot found no memory
+  missed : ℕ → HandlerCall
+
+-- the turns among some calls, in order
+abbrev pub turns_in : List HandlerCall → List RunTurn
+turns_in [] = []
+turns_in (answered turn ∷ calls) = turn ∷ turns_in calls
+turns_in (missed slot ∷ calls) = turns_in calls
+
+-- the slots of the handlers that found no memory, in order
+abbrev pub misses_in : List HandlerCall → List ℕ
+misses_in [] = []
+misses_in (answered turn ∷ calls) = misses_in calls
+misses_in (missed slot ∷ calls) = slot ∷ misses_in calls
 
 -- the turn as its handler keeps it
 abbrev pub kept_turn : RunTurn → Turn
@@ -27,7 +47,7 @@ abbrev pub AreNumberedFrom : ℕ → List RunTurn → Type 0
 AreNumberedFrom first [] = Unit {0}
 AreNumberedFrom first (t ∷ ts) = (t.number ≡ first) × AreNumberedFrom (first + 1) ts
 
--- each handler, from this slot on, has kept the turns of its slot behind those that it had
+-- each handler, from this slot on, has kept the turns of its slot after those that it had
 abbrev pub GrewBy : List RunTurn → ℕ → List Seen → List Seen → Type 0
 GrewBy turns slot [] [] = Unit {0}
 GrewBy turns slot (old ∷ before) (new ∷ after) =
@@ -35,9 +55,22 @@ GrewBy turns slot (old ∷ before) (new ∷ after) =
 GrewBy turns slot [] (new ∷ after) = ⊥
 GrewBy turns slot (old ∷ before) [] = ⊥
 
--- The turns made since: those that the handlers appended from one time to another, each of a handler that
--- stands, in order of number, and the numbers go up one by one from the first.
-pub record AreTurnsSince (before after : List Seen) (first : ℕ) (turns : List RunTurn) : Type 0 where
-  pub numbered : AreNumberedFrom first turns
-  pub stand : AllByRecursion (λ t. t.slot < length before) turns
-  pub kept : GrewBy turns 0 before after
+-- how often a slot is in a list of slots
+abbrev pub times : ℕ → List ℕ → ℕ
+times slot [] = 0
+times slot (m ∷ slots) = if m == slot then suc (times slot slots) else times slot slots
+
+-- each handler, from this slot on, counted exactly the calls of its slot that found no memory
+abbrev pub CountMisses : List ℕ → ℕ → List Seen → List Seen → Type 0
+CountMisses misses slot [] [] = Unit {0}
+CountMisses misses slot (old ∷ before) (new ∷ after) =
+    (new.misses ≡ raised (times slot misses) old.misses) × CountMisses misses (suc slot) before after
+CountMisses misses slot [] (new ∷ after) = ⊥
+CountMisses misses slot (old ∷ before) [] = ⊥
+
+-- What the handlers of a rack show from one time to another: these calls and no others. Each turn is one of a handler
+-- of the rack, each handler kept its own turns in their order, and each counted the calls that found no memory.
+pub record RackShows (before after : List Seen) (calls : List HandlerCall) : Type 0 where
+  pub slots : AllByRecursion (λ t. t.slot < length before) (turns_in calls)
+  pub turns : GrewBy (turns_in calls) 0 before after
+  pub misses : CountMisses (misses_in calls) 0 before after

@@ -62,7 +62,7 @@ impl Handler for Scripted {
         ensures turn { AnswersCall (⟦<Scripted as Handler>⟧.seen self.old) (⟦<Scripted as Handler>⟧.seen self.new) number what.now result }
         ensures answer { IfOk result (λ a. a ≡ next_answer (answers_left self.old)) }
         ensures left { OnOk result (answers_left self.new ≡ drop 1 (answers_left self.old)) }
-        ensures err { OnErr result (answers_left self.new ≡ answers_left self.old) }
+        ensures unchanged { OnErr result (answers_left self.new ≡ answers_left self.old) }
     {
         let answer = self.answer(alloc);
         let kept = self.log.keep(alloc, number, what, answer);

@@ -1,7 +1,7 @@
 //! The turns that a handler in memory made, and how often it found no memory.
 
 ghost use Rattle.std.specs.Prelude.{◌≡◌, [], ◌∷◌, ◌++◌, IfOk, OnOk, OnErr};
-ghost use Rattle.servient_base.specs.Count.{Rose};
+ghost use Rattle.servient_base.specs.Count.{raised};
 
 use crate::{Answer, CallKind, Turn};
 use servient_base::NoMemory;
@@ -27,8 +27,8 @@ impl TurnLog {
         }
     }
 
-    /// Keeps the turn of a call and hands its answer on. Where there is no answer for want of memory,
-    /// or no memory to keep the turn, the call is counted instead.
+    /// Keeps the turn of a call and hands its answer on. Where there was no memory for the answer, or is none for
+    /// keeping the turn, the call is counted instead.
     pub fn keep(
         &mut self,
         alloc: Global,
@@ -36,12 +36,12 @@ impl TurnLog {
         what: &CallKind,
         answer: Result<Answer, NoMemory>,
     ) -> Result<Answer, NoMemory>
-        ensures answer { IfOk result (λ a. answer ≡ Ok a) }
+        ensures ok { IfOk result (λ a. answer ≡ Ok a) }
         ensures turn { IfOk result (λ a. self.new.turns.items
             ≡ self.old.turns.items ++ record { number = number; what = what.now; answer = a } ∷ []) }
-        ensures ok { OnOk result (self.new.misses ≡ self.old.misses) }
-        ensures same { OnErr result (self.new.turns.items ≡ self.old.turns.items) }
-        ensures missed { OnErr result (Rose self.old.misses self.new.misses) }
+        ensures no_miss { OnOk result (self.new.misses ≡ self.old.misses) }
+        ensures unchanged { OnErr result (self.new.turns.items ≡ self.old.turns.items) }
+        ensures missed { OnErr result (self.new.misses ≡ raised 1 self.old.misses) }
     {
         let kept = kept_turn(alloc, &mut self.turns, number, what, answer);
         if kept.is_err() {
@@ -59,10 +59,10 @@ fn kept_turn(
     what: &CallKind,
     answer: Result<Answer, NoMemory>,
 ) -> Result<Answer, NoMemory>
-    ensures answer { IfOk result (λ a. answer ≡ Ok a) }
-    ensures ok { IfOk result (λ a. turns.new.items
+    ensures ok { IfOk result (λ a. answer ≡ Ok a) }
+    ensures turn { IfOk result (λ a. turns.new.items
         ≡ turns.old.items ++ record { number = number; what = what.now; answer = a } ∷ []) }
-    ensures err { OnErr result (turns.new.items ≡ turns.old.items) }
+    ensures unchanged { OnErr result (turns.new.items ≡ turns.old.items) }
 {
     let answer = answer?;
     let turn = Turn {

@@ -1,0 +1,19 @@
+-- What keeping an act does to the acts that are kept.
+use Rattle.std.specs.Prelude.{◌≡◌, [], ◌∷◌, ◌++◌}
+use Rattle.servient_base.specs.Count.{one_more}
+use Rattle.servient_edge.specs.declared.net.Act.{Act}
+use Rattle.servient_edge.specs.declared.act_log.ActLog.{ActLog}
+
+-- the act and its place come after the others
+pub record AddsAct (before now : ActLog) (act : Act) : Type 0 where
+  pub acts : now.acts.items ≡ before.acts.items ++ act ∷ []
+  pub gaps : now.gaps.items ≡ before.gaps.items ++ before.since ∷ []
+  pub since : now.since ≡ 0
+  pub lost : now.lost ≡ before.lost
+
+-- there was no memory for the act: it is counted, and all else is as it was
+pub record LosesAct (before now : ActLog) : Type 0 where
+  pub acts : now.acts.items ≡ before.acts.items
+  pub gaps : now.gaps.items ≡ before.gaps.items
+  pub since : now.since ≡ before.since
+  pub lost : now.lost ≡ one_more before.lost

@@ -60,6 +60,18 @@ each_more {S} {X} Move (x ∷ xs) y s m t a b each one = record {
   whole = subst (λ (c : List X). c ++ b ≡ each.first ++ (each.second ++ b)) (sym each.whole) (append_assoc each.first each.second b);
 }
 
+-- the same where what the code keeps only stands for a state
+pub refines_each_more : {C S X W A : Type 0} (StandsFor : C → S → Type 0) (Shows : W → W → List X → Type 0) → ShowsInOrder Shows → (Move : A → S → List X → S → Type 0) (xs : List A) (y : A) (c d e : C) (w v x : W)
+    → Refines StandsFor Shows (Each Move xs) c d w v → Refines StandsFor Shows (Move y) d e v x → Refines StandsFor Shows (Each Move (xs ++ y ∷ [])) c e w x
+refines_each_more StandsFor Shows order Move xs y c d e w v x p q = λ s stands.
+    let a = p s stands in
+    let b = q a.0 a.1 in
+    (b.0, b.1, record {
+      seen = a.2.seen ++ b.2.seen;
+      move = each_more Move xs y s a.0 b.0 a.2.seen b.2.seen a.2.move b.2.move;
+      shows = order.more w v x a.2.seen b.2.seen a.2.shows b.2.shows;
+    })
+
 -- a loop until nothing is left: it is done
 pub refines_is_done : {C S X W : Type 0} (StandsFor : C → S → Type 0) (Shows : W → W → List X → Type 0) → ShowsInOrder Shows → (P : S → List X → S → Type 0) (IsDone : S → Type 0) (c : C) (w : W)
     → ((s : S) → StandsFor c s → IsDone s) → Refines StandsFor Shows (Until P IsDone) c c w w

@@ -1,120 +1,95 @@
--- What a request, a datagram and an event make, from what the calls below did.
-use Rattle.std.proofs.Common.{◌≡◌, ◌≢◌, ℕ, ◌+◌, ◌%◌, ◌^◌, ◌<◌, List, [], ◌∷◌, Option, refl, sym, ap, subst, ◌∙◌, arith, inl, inr, max}
+-- What a request, a datagram and an event bring about, from what the calls below did.
+use Rattle.std.proofs.Common.{◌≡◌, ◌≢◌, ℕ, ◌+◌, ◌%◌, ◌^◌, ◌<◌, List, [], ◌∷◌, refl, sym, subst, max}
 use Rattle.std.specs.Prelude.{Ok, Err}
 use Rattle.std.specs.declared.alloc.AllocError.{AllocError}
+use Rattle.servient_base.specs.Moves.{Stays, Refines}
+use Rattle.servient_base.proofs.MovesLaws.{refines_as, refines_stays, refines_passing}
 use Rattle.coap_msg.specs.declared.endpoint.Endpoint.{Endpoint}
 use Rattle.coap_msg.specs.Grammar.{CoapOption, CoapMessage, spelling}
 use Rattle.thing_handler.specs.declared.handler.CallKind.TheVariants.{Read}
 use Rattle.thing_handler.specs.declared.handler.Answer.{Answer}
-use Rattle.thing_handler.specs.Handler.{Seen, CallsHandler, misses_of}
-use Rattle.thing_handler.proofs.TurnLaws.{turns_since_none, turns_since_answer, turns_since_miss, none_fell_same, none_fell_answer, none_fell_miss, rose_at_miss}
+use Rattle.thing_handler.specs.Handler.{Seen, CallsHandler}
+use Rattle.thing_handler.specs.Turns.{answered, missed}
+use Rattle.thing_handler.proofs.RackLaws.{rack_shows_answer, rack_shows_miss}
 use Rattle.servient_edge.specs.declared.net.What.{What}
 use Rattle.servient_edge.specs.declared.net.What.TheVariants as what
 use Rattle.servient_edge.specs.declared.net.Event.{Event}
-use Rattle.servient_edge.specs.declared.net.Act.{Act}
 use Rattle.servient_edge.specs.declared.net.Act.TheVariants as act
-use Rattle.servient_edge.specs.Told.{Continues}
-use Rattle.servient_edge.proofs.ToldLaws.{continues_same}
+use Rattle.servient_edge.specs.Network.{NetSeen, NetShows, did}
 use Rattle.servient_core.specs.declared.outcome.Outcome.{Outcome}
 use Rattle.servient_core.specs.declared.outcome.Outcome.TheVariants as outcome
 use Rattle.servient_core.specs.Outcomes.{outcome_of}
-use Rattle.servient_core.specs.Machine.{State, status_path, IsRequest, stands_nowhere, has_no_number, finds_no_memory, reads, reply, read_turn}
-use Rattle.servient_core.specs.Serving.{ActsOn, Follows, TakesStep}
+use Rattle.servient_core.specs.Trace.{at_network, at_handler, Outside, outside, Shows}
+use Rattle.servient_core.specs.Machine.{Site, State, status_path, most_turns, IsRequest, ComesTo, is_elsewhere, has_no_number, finds_no_memory, reads, Replies, IsAnswered, Receives, answers, ignores, Follows, Step, reply, read_turn}
+use Rattle.servient_core.specs.Serving.{Kept, StandsFor}
+use Rattle.servient_core.proofs.TraceLaws.{shows_in_order, shows_at_network, shows_at_handler}
+use Rattle.servient_core.proofs.StandsLaws.{stands_moved, refines_kept}
 
--- a state with as many turns as before is the same
-same_turns : (s : State) → s ≡ record s { turns = s.turns + 0 }
-same_turns s = let same : s.turns ≡ s.turns + 0 = omega arith in ap (λ (n : ℕ). turned n) same
-  where
-    turned : ℕ → State
-    turned n = record s { turns = n }
-
--- no path but the property's stands
-pub acts_nowhere : (s : State) (path : List CoapOption) (slots : List Seen) → path ≢ status_path → ActsOn s s path slots slots outcome.NotFound
-acts_nowhere s path slots away = record {
-  turns = [];
-  acted = stands_nowhere away refl refl;
-  counts = none_fell_same (misses_of slots);
-  made = turns_since_none slots s.turns;
-  next = same_turns s;
-}
+-- there is nothing at any path but the property's
+pub acts_elsewhere : (c : Kept) (path : List CoapOption) (slots : List Seen) → path ≢ status_path → (net : NetSeen) → Refines StandsFor Shows (ComesTo c.site path outcome.NotFound) c c (outside net slots) (outside net slots)
+acts_elsewhere c path slots away net =
+    refines_as StandsFor Shows (λ (x : State). Stays x) (ComesTo c.site path outcome.NotFound) c c (outside net slots) (outside net slots)
+    (λ x seen t stays. is_elsewhere away refl stays) (refines_stays StandsFor Shows shows_in_order c (outside net slots))
 
 -- the run has no number for another turn
-pub acts_full : (s : State) (path : List CoapOption) (slots : List Seen) → path ≡ status_path → s.turns ≡ 4294967295 → ActsOn s s path slots slots outcome.CallsUsed
-acts_full s path slots at full = record {
-  turns = [];
-  acted = has_no_number at full refl refl;
-  counts = none_fell_same (misses_of slots);
-  made = turns_since_none slots s.turns;
-  next = same_turns s;
-}
+pub acts_full : (c : Kept) (path : List CoapOption) (slots : List Seen) → path ≡ status_path → c.state.turns ≡ most_turns → (net : NetSeen) → Refines StandsFor Shows (ComesTo c.site path outcome.CallsUsed) c c (outside net slots) (outside net slots)
+acts_full c path slots at full net =
+    refines_kept (ComesTo c.site path outcome.CallsUsed) c c (outside net slots) (outside net slots) (record {
+      seen = [];
+      move = has_no_number at full refl (record { next = refl; saw = refl });
+      shows = shows_in_order.none (outside net slots);
+    })
 
 -- the handler found no memory
-pub acts_missed : (s : State) (path : List CoapOption) (before after : List Seen) (e : AllocError) → path ≡ status_path → s.turns < 4294967295 → CallsHandler before after s.slot s.turns Read (Err e) → ActsOn s s path before after outcome.Memory
-acts_missed s path before after e at room call = record {
-  turns = [];
-  acted = finds_no_memory at room (rose_at_miss before after s.slot s.turns Read e call) refl refl;
-  counts = none_fell_miss before after s.slot s.turns Read e call;
-  made = turns_since_miss before after s.slot s.turns s.turns Read e call;
-  next = same_turns s;
-}
+pub acts_missed : (c : Kept) (path : List CoapOption) (before after : List Seen) (e : AllocError) → path ≡ status_path → c.state.turns < most_turns → CallsHandler before after c.site.slot c.state.turns Read (Err e) → (net : NetSeen) → Refines StandsFor Shows (ComesTo c.site path outcome.Memory) c c (outside net before) (outside net after)
+acts_missed c path before after e at room call net =
+    refines_kept (ComesTo c.site path outcome.Memory) c c (outside net before) (outside net after) (record {
+      seen = at_handler (missed c.site.slot) ∷ [];
+      move = finds_no_memory at room refl (record { next = refl; saw = refl });
+      shows = shows_at_handler net before after (missed c.site.slot) (rack_shows_miss before after c.site.slot c.state.turns Read e call);
+    })
 
 -- the handler answered
-pub acts_read : (s : State) (path : List CoapOption) (before after : List Seen) (answer : Answer) → path ≡ status_path → s.turns < 4294967295 → CallsHandler before after s.slot s.turns Read (Ok answer) → ActsOn s (record s { turns = s.turns + 1 }) path before after (outcome_of answer)
-acts_read s path before after answer at room call = record {
-  turns = read_turn s answer ∷ [];
-  acted = reads answer at room refl refl;
-  counts = none_fell_answer before after s.slot s.turns Read answer call;
-  made = turns_since_answer before after s.slot s.turns Read answer call;
-  next = refl;
-}
+pub acts_read : (c : Kept) (path : List CoapOption) (before after : List Seen) (answer : Answer) → path ≡ status_path → c.state.turns < most_turns → CallsHandler before after c.site.slot c.state.turns Read (Ok answer) → (net : NetSeen) → Refines StandsFor Shows (ComesTo c.site path (outcome_of answer)) c (record c { state = record c.state { turns = c.state.turns + 1 } }) (outside net before) (outside net after)
+acts_read c path before after answer at room call net =
+    refines_kept (ComesTo c.site path (outcome_of answer)) c (record c { state = record c.state { turns = c.state.turns + 1 } }) (outside net before) (outside net after) (record {
+      seen = at_handler (answered (read_turn c.site c.state answer)) ∷ [];
+      move = reads answer at room refl (record { next = refl; saw = refl });
+      shows = shows_at_handler net before after (answered (read_turn c.site c.state answer)) (rack_shows_answer before after c.site.slot c.state.turns Read answer call);
+    })
 
--- a datagram that is no request is followed by nothing
-pub follows_nothing : (s : State) (from : Endpoint) (size : ℕ) (bytes : List ℕ) (slots : List Seen) (told : Option (List Act)) → ((m : CoapMessage) → ¬ (IsRequest m bytes)) → Follows s s (what.Datagram from size) bytes slots slots told told
-follows_nothing s from size bytes slots told never = record {
-  acts = [];
-  turns = [];
-  follows = inr (never, record { stays = refl; counts = refl; sends_nothing = refl; makes_none = refl });
-  made = turns_since_none slots s.turns;
-  sent = continues_same told;
-}
+-- a datagram that is no request is ignored
+pub receives_nothing : (c : Kept) (from : Endpoint) (bytes : List ℕ) (w : Outside) → ((m : CoapMessage) → ¬ (IsRequest m bytes)) → Refines StandsFor Shows (Receives c.site from bytes) c c w w
+receives_nothing c from bytes w never =
+    refines_as StandsFor Shows (λ (x : State). Stays x) (Receives c.site from bytes) c c w w
+    (λ x seen t stays. ignores never stays) (refines_stays StandsFor Shows shows_in_order c w)
 
 -- a request that was acted on is followed by its reply
-pub follows_reply : (s t u : State) (from : Endpoint) (size : ℕ) (bytes : List ℕ) (before after : List Seen) (request : CoapMessage) (o : Outcome) (told now : Option (List Act)) → IsRequest request bytes → ActsOn s t request.options before after o → u ≡ record t { next_id = (t.next_id + 1) % 2 ^ 16 } → Continues told now (act.Datagram from (spelling (reply request.token t.next_id o)) ∷ []) → Follows s u (what.Datagram from size) bytes before after told now
-follows_reply s t u from size bytes before after request o told now asked acted next sent =
-    let id : t.next_id ≡ s.next_id = ap (λ (x : State). x.next_id) acted.next in
-    record {
-      acts = act.Datagram from (spelling (reply request.token t.next_id o)) ∷ [];
-      turns = acted.turns;
-      follows = inl (record {
-        request = request;
-        comes_to = o;
-        asked = asked;
-        acted = acted.acted;
-        counts = acted.counts;
-        sent = ap (λ (n : ℕ). act.Datagram from (spelling (reply request.token n o)) ∷ []) id;
-        next = next ∙ ap (λ (x : State). advanced x) acted.next;
-      });
-      made = acted.made;
-      sent = sent;
-    }
-  where
-    advanced : State → State
-    advanced x = record x { next_id = (x.next_id + 1) % 2 ^ 16 }
+pub receives_request : (site : Site) (c d e : Kept) (from : Endpoint) (bytes : List ℕ) (before after : List Seen) (request : CoapMessage) (o : Outcome) (n m : NetSeen) → IsRequest request bytes
+    → ((net : NetSeen) → Refines StandsFor Shows (ComesTo site request.options o) c d (outside net before) (outside net after))
+    → e ≡ record d { state = record d.state { next_id = (d.state.next_id + 1) % 2 ^ 16 } } → NetShows n m (did (act.Datagram from (spelling (reply request.token d.state.next_id o))) ∷ [])
+    → Refines StandsFor Shows (Receives site from bytes) c e (outside n before) (outside m after)
+receives_request site c d e from bytes before after request o n m asked acted next sent =
+    refines_as StandsFor Shows (IsAnswered site from request) (Receives site from bytes) c e (outside n before) (outside m after)
+    (λ x seen y is. answers request asked is)
+    (refines_passing StandsFor Shows shows_in_order (ComesTo site request.options) (Replies from request.token) o c d e (outside n before) (outside n after) (outside m after) (acted n)
+    (subst (λ (x : Kept). Refines StandsFor Shows (Replies from request.token o) d x (outside n after) (outside m after)) (sym next)
+    (refines_kept (Replies from request.token o) d (record d { state = record d.state { next_id = (d.state.next_id + 1) % 2 ^ 16 } }) (outside n after) (outside m after) (record {
+      seen = at_network (did (act.Datagram from (spelling (reply request.token d.state.next_id o)))) ∷ [];
+      move = record { next = refl; saw = refl };
+      shows = shows_at_network n m after (did (act.Datagram from (spelling (reply request.token d.state.next_id o)))) sent;
+    }))))
 
 -- a step, from what followed what came
-pub step_from : (s t : State) (e : Event) (w : What) (bytes : List ℕ) (before after : List Seen) (told now : Option (List Act)) → e.what ≡ w → Follows (record s { moment = max s.moment e.moment }) t w bytes before after told now → TakesStep s t (record { event = e; bytes = bytes }) before after told now
-step_from s t e w bytes before after told now is f =
-    let g : Follows (record s { moment = max s.moment e.moment }) t e.what bytes before after told now =
-    subst (λ (x : What). Follows (record s { moment = max s.moment e.moment }) t x bytes before after told now) (sym is) f in
-    record { acts = g.acts; turns = g.turns; step = g.follows; made = g.made; sent = g.sent }
+pub step_from : (site : Site) (c d : Kept) (e : Event) (w : What) (bytes : List ℕ) (before after : Outside) → e.what ≡ w → Refines StandsFor Shows (Follows site w bytes) (record c { state = record c.state { moment = max c.state.moment e.moment } }) d before after → Refines StandsFor Shows (Step site (record { event = e; bytes = bytes })) c d before after
+step_from site c d e w bytes before after is f = λ x stands.
+    let r = f (record x { moment = max x.moment e.moment }) (stands_moved e.moment c x stands) in
+    let move = subst (λ (z : What). Follows site z bytes (record x { moment = max x.moment e.moment }) r.2.seen r.0) (sym is) r.2.move in
+    (r.0, r.1, record { seen = r.2.seen; move = move; shows = r.2.shows })
 
 -- the end of the run is a step in which nothing happens
-pub step_stop : (s t : State) (e : Event) (bytes : List ℕ) (slots : List Seen) (told : Option (List Act)) → e.what ≡ what.Stop → t ≡ record s { moment = max s.moment e.moment } → TakesStep s t (record { event = e; bytes = bytes }) slots slots told told
-step_stop s t e bytes slots told is next =
-    step_from s t e what.Stop bytes slots slots told told is (record {
-      acts = [];
-      turns = [];
-      follows = record { stays = next; counts = refl; sends_nothing = refl; makes_none = refl };
-      made = turns_since_none slots s.turns;
-      sent = continues_same told;
-    })
+pub step_stop : (site : Site) (c d : Kept) (e : Event) (bytes : List ℕ) (w : Outside) → e.what ≡ what.Stop → d ≡ record c { state = record c.state { moment = max c.state.moment e.moment } } → Refines StandsFor Shows (Step site (record { event = e; bytes = bytes })) c d w w
+step_stop site c d e bytes w is next =
+    step_from site c d e what.Stop bytes w w is
+    (subst (λ (x : Kept). Refines StandsFor Shows (Follows site what.Stop bytes) (record c { state = record c.state { moment = max c.state.moment e.moment } }) x w w) (sym next)
+    (refines_stays StandsFor Shows shows_in_order (record c { state = record c.state { moment = max c.state.moment e.moment } }) w))

@@ -1,6 +1,7 @@
-pub mod StepLaws
-pub mod RunLaws
-pub mod ComingLaws
-pub mod ServingLaws
-pub mod ActLaws
-pub mod ReplyLengths
+pub mod TraceLaws
+pub mod StandsLaws
+pub mod MachineLaws
+mod ActLaws
+mod OrderLaws
+mod ReplyLengths
+mod ServingLaws

@@ -1,64 +1,93 @@
 -- How serving goes on, and how it ends.
-use Rattle.std.proofs.Common.{◌≡◌, ◌≢◌, ℕ, ◌+◌, ◌<◌, ◌≤◌, List, [], ◌∷◌, ◌++◌, Option, length, take, sym, ap, subst, arith, length-append}
-use Rattle.std.proofs.lemmas.List.{append-nil}
-use Rattle.servient_base.specs.Count.{Rose}
+use Rattle.std.proofs.Common.{◌≡◌, ◌≢◌, ℕ, ◌+◌, ◌<◌, List, [], ◌∷◌, ◌++◌, length, take, refl, sym, ap, subst, ◌∙◌, arith, length-append}
+use Rattle.servient_base.specs.Moves.{Then, Stays, Becomes, Refines}
+use Rattle.servient_base.proofs.MovesLaws.{refines_then, refines_as, refines_each_more, refines_stays}
+use Rattle.thing_handler.proofs.TurnLaws.{as_many}
 use Rattle.thing_handler.specs.Handler.{Seen}
+use Rattle.thing_handler.specs.Turns.{turns_in}
 use Rattle.servient_edge.specs.declared.net.What.TheVariants as what
 use Rattle.servient_edge.specs.declared.net.Event.{Event}
 use Rattle.servient_edge.specs.declared.net.EventWithBytes.{EventWithBytes}
-use Rattle.servient_edge.specs.Network.{byte_count, in_buffer}
-use Rattle.servient_edge.specs.declared.net.Act.{Act}
-use Rattle.servient_edge.specs.Told.{Continues}
-use Rattle.servient_edge.proofs.ToldLaws.{continues_then}
+use Rattle.servient_edge.specs.Network.{byte_count, in_buffer, Happening, NetSeen, NetShows, heard, broke, next_event}
+use Rattle.servient_core.specs.declared.serving.Served.{Served}
 use Rattle.servient_core.specs.declared.serving.Served.TheVariants as served
-use Rattle.servient_core.specs.Machine.{State}
-use Rattle.servient_core.specs.Serving.{TakesStep, TakesComing, Serves}
-use Rattle.servient_core.proofs.ComingLaws.{IsComing, coming_stopped}
-use Rattle.servient_core.proofs.RunLaws.{Progress, takes_more, no_stop_more, step_stays_within}
+use Rattle.servient_core.specs.Trace.{Sighting, at_network, calls_in, Outside, outside, Shows}
+use Rattle.servient_core.specs.Machine.{Site, State, Hears, Step, Takes, Run}
+use Rattle.servient_core.specs.Serving.{Kept, StandsFor, HasNoStop, AreTaken, Ends, Serves}
+use Rattle.servient_core.proofs.TraceLaws.{shows_in_order, shows_at_network}
+use Rattle.servient_core.proofs.StandsLaws.{stands_for_some}
+
+-- no event of all is a stop, where none so far and not the next is
+no_stop_more : (es : List EventWithBytes) (e : EventWithBytes) → HasNoStop es → e.event.what ≢ what.Stop → HasNoStop (es ++ e ∷ [])
+no_stop_more [] e all last = (last, tt)
+no_stop_more (x ∷ es) e all last = (all.0, no_stop_more es e all.1 last)
+
+-- a move leaves as many handlers as there were
+as_many_slots : (P : State → List Sighting → State → Type 0) (c d : Kept) (w v : Outside) → Refines StandsFor Shows P c d w v → length v.slots ≡ length w.slots
+as_many_slots P c d w v step =
+    let from = stands_for_some c in
+    let to = step from.0 from.1 in
+    as_many (turns_in (calls_in to.2.seen)) 0 w.slots v.slots to.2.shows.rack.turns
+
+-- one thing happens at the network, and the state stays
+refines_net : (c : Kept) (n m : NetSeen) (slots : List Seen) (h : Happening) → NetShows n m (h ∷ []) → Refines StandsFor Shows (λ (s : State). Becomes s (at_network h ∷ [])) c c (outside n slots) (outside m slots)
+refines_net c n m slots h shows = λ s stands.
+    (s, stands, record { seen = at_network h ∷ []; move = record { next = refl; saw = refl }; shows = shows_at_network n m slots h shows })
+
+-- what holds before each event that is served
+pub record Progress (c d : Kept) (w v : Outside) (count : ℕ) : Type 0 where
+  pub took : List EventWithBytes
+  pub run : Refines StandsFor Shows (Run c.site took) c d w v
+  pub count_is : length took ≡ count
+  pub going : HasNoStop took
+  pub site : d.site ≡ c.site
+  pub slot : d.site.slot < length v.slots
+
+-- before the first event
+pub progress_none : (c : Kept) (w : Outside) → c.site.slot < length w.slots → Progress c c w w 0
+progress_none c w within = record { took = []; run = refines_stays StandsFor Shows shows_in_order c w; count_is = refl; going = tt; site = refl; slot = within }
+
+-- an event came and its step was made
+took_more : (c d f : Kept) (w : Outside) (n m : NetSeen) (slots : List Seen) (u : Outside) (count : ℕ) (e : EventWithBytes) (p : Progress c d w (outside n slots) count) → NetShows n m (heard e ∷ []) → Refines StandsFor Shows (Step d.site e) d f (outside m slots) u → Refines StandsFor Shows (Run c.site (p.took ++ e ∷ [])) c f w u
+took_more c d f w n m slots u count e p comes step =
+    refines_each_more StandsFor Shows shows_in_order (Takes c.site) p.took e c d f w (outside n slots) u p.run
+    (refines_then StandsFor Shows shows_in_order (Hears e) (Step c.site e) d d f (outside n slots) (outside m slots) u (refines_net d n m slots (heard e) comes)
+    (subst (λ (x : Site). Refines StandsFor Shows (Step x e) d f (outside m slots) u) p.site step))
 
 -- an event was taken that is no stop
-pub progress_more : (s t u : State) (before after last : List Seen) (e0 e1 e2 e3 : Option (List EventWithBytes)) (a0 a1 a2 a3 : Option (List Act)) (f0 f1 f2 f3 count : ℕ) (e : EventWithBytes) (p : Progress s t before after e0 e1 a0 a1 f0 f1 count) → Continues e1 e2 (e ∷ []) → Continues a1 a2 [] → TakesStep t u e after last a2 a3 → Continues e2 e3 [] → f1 ≤ f2 → f2 ≤ f3 → e.event.what ≢ what.Stop → (coming now : Option (List EventWithBytes)) → IsComing coming now (p.run.took ++ e ∷ []) → (q : Progress s u before last e0 e3 a0 a3 f0 f3 (count + 1)) × IsComing coming now q.run.took
-progress_more s t u before after last e0 e1 e2 e3 a0 a1 a2 a3 f0 f1 f2 f3 count e p given quiet step silent rise rise_more goes coming now is =
-    let r = takes_more s t u before after last e0 e1 e2 e3 a0 a1 a2 a3 e p.run given quiet step silent in (
-      record {
-        run = r.0;
-        count_is = omega (arith, length-append p.run.took (e ∷ []), p.count_is, ap length r.1);
-        going = rw r.1 (no_stop_more p.run.took e p.going goes);
-        slot = step_stays_within t u e after last a2 a3 step p.slot;
-        faults_rise = omega (arith, p.faults_rise, rise, rise_more);
-      },
-      subst (λ (es : List EventWithBytes). IsComing coming now es) (sym r.1) is,
-    )
+pub progress_more : (c d f : Kept) (w : Outside) (n m : NetSeen) (slots : List Seen) (u : Outside) (count : ℕ) (e : EventWithBytes) → Progress c d w (outside n slots) count → NetShows n m (heard e ∷ []) → Refines StandsFor Shows (Step d.site e) d f (outside m slots) u → f.site ≡ d.site → e.event.what ≢ what.Stop → Progress c f w u (count + 1)
+progress_more c d f w n m slots u count e p comes step same goes = record {
+  took = p.took ++ e ∷ [];
+  run = took_more c d f w n m slots u count e p comes step;
+  count_is = omega (arith, length-append p.took (e ∷ []), p.count_is);
+  going = no_stop_more p.took e p.going goes;
+  site = same ∙ p.site;
+  slot = omega (arith, p.slot, as_many_slots (Step d.site e) d f (outside m slots) u step, ap (λ (x : Site). x.slot) same);
+}
+
+serves : (site : Site) (budget : ℕ) (result : Served) (took : List EventWithBytes) (c d f : Kept) (w v u : Outside) → Refines StandsFor Shows (Run site took) c d w v → Refines StandsFor Shows (Ends result) d f v u → AreTaken budget took result → Refines StandsFor Shows (Serves site budget result) c f w u
+serves site budget result took c d f w v u run ends taken =
+    refines_as StandsFor Shows (Then (Run site took) (Ends result)) (Serves site budget result) c f w u
+    (λ s seen t both. record { took = took; run = both; taken = taken })
+    (refines_then StandsFor Shows shows_in_order (Run site took) (Ends result) c d f w v u run ends)
 
 -- the network failed
-pub ends_failed : (s t : State) (before after : List Seen) (e0 e1 e2 : Option (List EventWithBytes)) (a0 a1 a2 : Option (List Act)) (f0 f1 f2 budget count : ℕ) (p : Progress s t before after e0 e1 a0 a1 f0 f1 count) → Continues e1 e2 [] → Continues a1 a2 [] → Rose f1 f2 → count < budget → (coming : Option (List EventWithBytes)) → TakesComing coming p.run.took served.Failed → Serves s t before after e0 e2 a0 a2 coming f0 f2 budget served.Failed
-ends_failed s t before after e0 e1 e2 a0 a1 a2 f0 f1 f2 budget count p given quiet rose below coming comes =
-    let run = p.run in
-    record {
-      run = record {
-        took = run.took;
-        acts = run.acts;
-        turns = run.turns;
-        run = run.run;
-        made = run.made;
-        given = subst (λ (es : List EventWithBytes). Continues e0 e2 es) (append-nil run.took) (continues_then e0 e1 e2 run.took [] run.given given);
-        sent = subst (λ (made : List Act). Continues a0 a2 made) (append-nil run.acts) (continues_then a0 a1 a2 run.acts [] run.sent quiet);
-      };
-      ends = (omega (arith, rose, p.faults_rise), p.going, omega (arith, p.count_is, below));
-      comes = comes;
-    }
+pub serves_failed : (c d : Kept) (w : Outside) (n m : NetSeen) (slots : List Seen) (budget count : ℕ) → Progress c d w (outside n slots) count → NetShows n m (broke next_event ∷ []) → count < budget → Refines StandsFor Shows (Serves c.site budget served.Failed) c d w (outside m slots)
+serves_failed c d w n m slots budget count p breaks below =
+    serves c.site budget served.Failed p.took c d d w (outside n slots) (outside m slots) p.run (refines_net d n m slots (broke next_event) breaks) (p.going, omega (arith, p.count_is, below))
 
 -- a stop was taken
-pub ends_stopped : (s t u : State) (before after last : List Seen) (e0 e1 e2 e3 : Option (List EventWithBytes)) (a0 a1 a2 a3 : Option (List Act)) (f0 f1 f3 budget count : ℕ) (e : EventWithBytes) (p : Progress s t before after e0 e1 a0 a1 f0 f1 count) → Continues e1 e2 (e ∷ []) → Continues a1 a2 [] → TakesStep t u e after last a2 a3 → Continues e2 e3 [] → e.event.what ≡ what.Stop → count < budget → (coming now : Option (List EventWithBytes)) → IsComing coming now (p.run.took ++ e ∷ []) → Serves s u before last e0 e3 a0 a3 coming f0 f3 budget served.Stopped
-ends_stopped s t u before after last e0 e1 e2 e3 a0 a1 a2 a3 f0 f1 f3 budget count e p given quiet step silent stops below coming now is =
-    let r = takes_more s t u before after last e0 e1 e2 e3 a0 a1 a2 a3 e p.run given quiet step silent in
-    record {
-      run = r.0;
-      ends = (p.run.took, e, r.1, stops, p.going, omega (arith, ap length r.1, length-append p.run.took (e ∷ []), p.count_is, below));
-      comes = subst (λ (es : List EventWithBytes). TakesComing coming es served.Stopped) (sym r.1) (coming_stopped coming now (p.run.took ++ e ∷ []) is);
-    }
+pub serves_stopped : (c d f : Kept) (w : Outside) (n m : NetSeen) (slots : List Seen) (u : Outside) (budget count : ℕ) (e : EventWithBytes) → Progress c d w (outside n slots) count → NetShows n m (heard e ∷ []) → Refines StandsFor Shows (Step d.site e) d f (outside m slots) u → e.event.what ≡ what.Stop → count < budget → Refines StandsFor Shows (Serves c.site budget served.Stopped) c f w u
+serves_stopped c d f w n m slots u budget count e p comes step stops below =
+    serves c.site budget served.Stopped (p.took ++ e ∷ []) c f f w u u (took_more c d f w n m slots u count e p comes step) (refines_stays StandsFor Shows shows_in_order f u)
+    (p.took, e, refl, stops, p.going, omega (arith, length-append p.took (e ∷ []), p.count_is, below))
 
--- the event that the network told is the one that the step took
-pub same_event : (e : Event) (n : ℕ) (buffer : List ℕ) (s t : State) (before after : List Seen) (a b : Option (List Act)) → n ≡ byte_count e.what → TakesStep s t (record { event = e; bytes = take n buffer }) before after a b → TakesStep s t (in_buffer e buffer) before after a b
-same_event e n buffer s t before after a b is step =
-    subst (λ (k : ℕ). TakesStep s t (record { event = e; bytes = take k buffer }) before after a b) is step
+-- the budget is spent
+pub serves_spent : (c d : Kept) (w v : Outside) (budget count : ℕ) → Progress c d w v count → count ≡ budget → Refines StandsFor Shows (Serves c.site budget served.Spent) c d w v
+serves_spent c d w v budget count p all =
+    serves c.site budget served.Spent p.took c d d w v v p.run (refines_stays StandsFor Shows shows_in_order d v) (p.going, p.count_is ∙ all)
+
+-- the event that the network gave is the one that the step took
+pub same_event : (site : Site) (e : Event) (n : ℕ) (buffer : List ℕ) (c d : Kept) (w v : Outside) → n ≡ byte_count e.what → Refines StandsFor Shows (Step site (record { event = e; bytes = take n buffer })) c d w v → Refines StandsFor Shows (Step site (in_buffer e buffer)) c d w v
+same_event site e n buffer c d w v is step =
+    subst (λ (k : ℕ). Refines StandsFor Shows (Step site (record { event = e; bytes = take k buffer })) c d w v) is step

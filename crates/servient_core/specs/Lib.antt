@@ -1,3 +1,4 @@
 pub mod Outcomes
+pub mod Trace
 pub mod Machine
 pub mod Serving

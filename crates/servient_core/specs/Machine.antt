@@ -1,105 +1,130 @@
--- The servient as one abstract machine: which datagrams it sends and which turns its handlers make,
--- event by event. It knows no byte of a message beyond its spelling, no slot but the one of its
--- property, and nothing of how the outside or the handlers are kept.
-use Rattle.std.specs.Prelude.{◌≡◌, ◌≢◌, ◌≤◌, ◌<◌, ◌+◌, ◌%◌, ◌^◌, ◌⊎◌, ℕ, max, List, [], ◌∷◌, ◌++◌, length, codes}
-use Rattle.servient_base.specs.Count.{NoneFell, RoseAt}
+-- The servient as one abstract machine: what it does to the network and which calls it makes of device handlers, event
+-- by event. It knows no byte of a message beyond its spelling, and nothing of how the outside or the handlers are kept.
+--
+-- A move relates the state before it, the list of what is seen of it in order, and the state after it. `Becomes`,
+-- `Stays`, `Then`, `Passing` and `Each` put moves together (servient_base/specs/Moves.antt).
+use Rattle.std.specs.Prelude.{◌≡◌, ◌≢◌, ◌≤◌, ◌<◌, ◌+◌, ◌%◌, ◌^◌, ℕ, max, List, [], ◌∷◌, length, codes}
+use Rattle.servient_base.specs.Moves.{Becomes, Stays, Then, Passing, Each}
 use Rattle.coap_msg.specs.declared.endpoint.Endpoint.{Endpoint}
 use Rattle.coap_msg.specs.declared.message.Type4.TheVariants.{Non}
 use Rattle.coap_msg.specs.Grammar.{CoapOption, CoapMessage, Spells, spelling}
 use Rattle.coap_msg.specs.Request.{IsPathRequest}
 use Rattle.thing_handler.specs.declared.handler.CallKind.TheVariants.{Read}
 use Rattle.thing_handler.specs.declared.handler.Answer.{Answer}
-use Rattle.thing_handler.specs.Turns.{RunTurn}
+use Rattle.thing_handler.specs.Turns.{RunTurn, answered, missed}
 use Rattle.servient_edge.specs.declared.net.What.{What}
 use Rattle.servient_edge.specs.declared.net.What.TheVariants as what
 use Rattle.servient_edge.specs.declared.net.EventWithBytes.{EventWithBytes}
-use Rattle.servient_edge.specs.declared.net.Act.{Act}
 use Rattle.servient_edge.specs.declared.net.Act.TheVariants as act
+use Rattle.servient_edge.specs.Network.{heard, did}
 use Rattle.servient_core.specs.declared.outcome.Outcome.{Outcome}
 use Rattle.servient_core.specs.declared.outcome.Outcome.TheVariants as outcome
 use Rattle.servient_core.specs.Outcomes.{outcome_of, reply_of}
+use Rattle.servient_core.specs.Trace.{Sighting, at_network, at_handler}
 
--- The machine's state: the slot of the built-in property's handler, the greatest moment so far in
--- milliseconds, the next message ID, and how many turns the run has.
-pub record State : Type 0 where
+-- what is constant in a run: the slot of the built-in property's handler
+pub record Site : Type 0 where
   pub slot : ℕ
+
+-- the machine's state: the greatest moment so far in milliseconds, the next message ID, and how many turns the run has
+pub record State : Type 0 where
   pub moment : ℕ
   pub next_id : ℕ
   pub turns : ℕ
 
 -- before the first event
-abbrev pub start : ℕ → State
-start slot = record { slot = slot; moment = 0; next_id = 0; turns = 0 }
+abbrev pub start : State
+start = record { moment = 0; next_id = 0; turns = 0 }
 
--- The built-in property stands at the path /lamp/properties/status: three Uri-Path options (RFC 7252
--- section 5.10.1).
+-- how many turns a run may have
+abbrev pub most_turns : ℕ
+most_turns = 4294967295
+
+-- how many bytes a datagram may have that is read
+abbrev pub longest_datagram : ℕ
+longest_datagram = 1280
+
+-- ---- requests
+
+-- The built-in property is at the path /lamp/properties/status: three Uri-Path options (RFC 7252 section 5.10.1).
 abbrev pub status_path : List CoapOption
 status_path = (11, codes "lamp") ∷ (11, codes "properties") ∷ (11, codes "status") ∷ []
 
--- A datagram that is a request: of at most 1,280 bytes, a Non-confirmable GET (RFC 7252 section 5.8.1)
--- whose options, if it has any, are all Uri-Path of at most 255 bytes.
+-- A datagram that is a request: of at most 1,280 bytes, a Non-confirmable GET (RFC 7252 section 5.8.1) whose options, if
+-- it has any, are all Uri-Path of at most 255 bytes.
 pub record IsRequest (m : CoapMessage) (bytes : List ℕ) : Type 0 where
-  pub size : length bytes ≤ 1280
+  pub size : length bytes ≤ longest_datagram
   pub message : Spells m bytes
   pub path : IsPathRequest m
   pub get : m.code ≡ 1
 
 -- the turn of a read: the run's next number, the property's slot, the call and the answer
-abbrev pub read_turn : State → Answer → RunTurn
-read_turn s answer = record { number = s.turns; slot = s.slot; what = Read; answer = answer }
+abbrev pub read_turn : Site → State → Answer → RunTurn
+read_turn site s answer = record { number = s.turns; slot = site.slot; what = Read; answer = answer }
 
--- What a request of a path comes to, and the turns made for it. The counts before and after say how
--- often each handler found no memory.
-pub data ComesTo (s : State) (path : List CoapOption) (before after : List ℕ) (o : Outcome) (turns : List RunTurn) : Type 0 where
-  -- no other path stands
-  stands_nowhere : path ≢ status_path → o ≡ outcome.NotFound → turns ≡ [] → ComesTo s path before after o turns
+-- the property's handler is called and finds no memory
+abbrev pub Misses : Site → State → List Sighting → State → Type 0
+Misses site s = Becomes s (at_handler (missed site.slot) ∷ [])
+
+-- it answers, which is the run's next turn
+abbrev pub Reads : Site → Answer → State → List Sighting → State → Type 0
+Reads site answer s = Becomes (record s { turns = s.turns + 1 }) (at_handler (answered (read_turn site s answer)) ∷ [])
+
+-- What a request of a path comes to.
+pub data ComesTo (site : Site) (path : List CoapOption) (o : Outcome) (s : State) (seen : List Sighting) (t : State) : Type 0 where
+  -- there is nothing at any other path
+  is_elsewhere : path ≢ status_path → o ≡ outcome.NotFound → Stays s seen t → ComesTo site path o s seen t
   -- the run has no number for another turn
-  has_no_number : path ≡ status_path → s.turns ≡ 4294967295 → o ≡ outcome.CallsUsed → turns ≡ [] → ComesTo s path before after o turns
-  -- the handler was called and found no memory, as its count tells
-  finds_no_memory : path ≡ status_path → s.turns < 4294967295 → RoseAt s.slot before after → o ≡ outcome.Memory → turns ≡ [] → ComesTo s path before after o turns
-  -- the handler answered, and its answer decides
-  reads : (answer : Answer) → path ≡ status_path → s.turns < 4294967295 → o ≡ outcome_of answer → turns ≡ read_turn s answer ∷ [] → ComesTo s path before after o turns
+  has_no_number : path ≡ status_path → s.turns ≡ most_turns → o ≡ outcome.CallsUsed → Stays s seen t → ComesTo site path o s seen t
+  -- the handler finds no memory
+  finds_no_memory : path ≡ status_path → s.turns < most_turns → o ≡ outcome.Memory → Misses site s seen t → ComesTo site path o s seen t
+  -- the handler answers, and its answer decides
+  reads : (answer : Answer) → path ≡ status_path → s.turns < most_turns → o ≡ outcome_of answer → Reads site answer s seen t → ComesTo site path o s seen t
 
--- The reply to a Non-confirmable request: Non-confirmable, with the servient's next message ID and the
--- request's token (RFC 7252 sections 5.2.3 and 5.3.1).
+-- ---- replies
+
+-- The reply to a Non-confirmable request: Non-confirmable, with the servient's next message ID and the request's token
+-- (RFC 7252 sections 5.2.3 and 5.3.1).
 abbrev pub reply : List ℕ → ℕ → Outcome → CoapMessage
 reply token id o = let r = reply_of o in
     record { kind = Non; code = r.code; id = id; token = token; options = r.options; payload = r.payload }
 
--- A request is acted on, answered by one datagram to its sender, and uses one message ID.
-pub record IsAnswered (s t : State) (from : Endpoint) (bytes : List ℕ) (before after : List ℕ) (acts : List Act) (turns : List RunTurn) : Type 0 where
-  pub request : CoapMessage
-  pub comes_to : Outcome
-  pub asked : IsRequest request bytes
-  pub acted : ComesTo s request.options before after comes_to turns
-  pub counts : NoneFell before after
-  pub sent : acts ≡ act.Datagram from (spelling (reply request.token s.next_id comes_to)) ∷ []
-  pub next : t ≡ record s { next_id = (s.next_id + 1) % 2 ^ 16; turns = s.turns + length turns }
+-- the reply is sent as one datagram, and uses one message ID
+abbrev pub Replies : Endpoint → List ℕ → Outcome → State → List Sighting → State → Type 0
+Replies from token o s =
+    Becomes (record s { next_id = (s.next_id + 1) % 2 ^ 16 }) (at_network (did (act.Datagram from (spelling (reply token s.next_id o)))) ∷ [])
 
--- nothing is sent, no turn is made, and nothing changes
-pub record IsSilent (s t : State) (before after : List ℕ) (acts : List Act) (turns : List RunTurn) : Type 0 where
-  pub stays : t ≡ s
-  pub counts : after ≡ before
-  pub sends_nothing : acts ≡ []
-  pub makes_none : turns ≡ []
+-- ---- events
 
--- What may follow when this comes, at the machine's moment.
-abbrev pub MayFollow : State → State → What → List ℕ → List ℕ → List ℕ → List Act → List RunTurn → Type 0
--- a datagram that is a request is answered; any other does nothing
-MayFollow s t (what.Datagram from size) bytes before after acts turns =
-    IsAnswered s t from bytes before after acts turns
-    ⊎ (((m : CoapMessage) → ¬ (IsRequest m bytes)) × IsSilent s t before after acts turns)
+-- a request is acted on, and what it comes to is replied to its sender
+abbrev pub IsAnswered : Site → Endpoint → CoapMessage → State → List Sighting → State → Type 0
+IsAnswered site from request = Passing (ComesTo site request.options) (Replies from request.token)
+
+-- What a datagram brings about.
+pub data Receives (site : Site) (from : Endpoint) (bytes : List ℕ) (s : State) (seen : List Sighting) (t : State) : Type 0 where
+  -- a request is answered
+  answers : (request : CoapMessage) → IsRequest request bytes → IsAnswered site from request s seen t → Receives site from bytes s seen t
+  -- any other datagram is ignored
+  ignores : ((m : CoapMessage) → ¬ (IsRequest m bytes)) → Stays s seen t → Receives site from bytes s seen t
+
+-- what follows when this comes, at the machine's moment
+abbrev pub Follows : Site → What → List ℕ → State → List Sighting → State → Type 0
+Follows site (what.Datagram from size) bytes s seen t = Receives site from bytes s seen t
 -- the end of the run does nothing more
-MayFollow s t what.Stop bytes before after acts turns = IsSilent s t before after acts turns
+Follows site what.Stop bytes s seen t = Stays s seen t
 
--- One event: the machine's moment becomes the greater of itself and the event's, and then what may follow.
-abbrev pub Step : State → State → EventWithBytes → List ℕ → List ℕ → List Act → List RunTurn → Type 0
-Step s t e before after acts turns =
-    MayFollow (record s { moment = max s.moment e.event.moment }) t e.event.what e.bytes before after acts turns
+-- One event: the machine's moment becomes the greater of itself and the event's, and then what follows.
+abbrev pub Step : Site → EventWithBytes → State → List Sighting → State → Type 0
+Step site e s = Follows site e.event.what e.bytes (record s { moment = max s.moment e.event.moment })
 
--- One event after another: the acts and turns of a run are those of its events, in order.
-abbrev pub Run : State → List ℕ → List EventWithBytes → State → List ℕ → List Act → List RunTurn → Type 0
-Run s before [] t after acts turns = (t ≡ s) × (after ≡ before) × (acts ≡ []) × (turns ≡ [])
-Run s before (e ∷ es) t after acts turns =
-    (mid : State) × (between : List ℕ) × (a : List Act) × (b : List Act) × (p : List RunTurn) × (q : List RunTurn)
-    × Step s mid e before between a p × Run mid between es t after b q × (acts ≡ a ++ b) × (turns ≡ p ++ q)
+-- an event comes
+abbrev pub Hears : EventWithBytes → State → List Sighting → State → Type 0
+Hears e s = Becomes s (at_network (heard e) ∷ [])
+
+-- an event comes, and then the step on it is made, before another comes
+abbrev pub Takes : Site → EventWithBytes → State → List Sighting → State → Type 0
+Takes site e = Then (Hears e) (Step site e)
+
+-- A run: one event after another is taken.
+abbrev pub Run : Site → List EventWithBytes → State → List Sighting → State → Type 0
+Run site = Each (Takes site)

@@ -1,16 +1,21 @@
 //! The servient: what it does with each event of the network, by the machine of `specs/Machine.antt`.
 //!
-//! `Servient::step` makes the acts and turns of one step of that machine, and `serve` those of a run.
-//! The handlers stand behind `Handlers` and the network behind `Net`; this crate knows no socket and
-//! no clock.
+//! `Servient::step` makes one step of that machine, and `serve` a run. Both say so in one clause: whatever state the
+//! servient stood for before, it stands afterwards for one to which the machine's move leads, and the network and the
+//! rack show what is seen of that move. The handlers are behind `Handlers` and the network behind `Net`; this crate
+//! knows no socket and no clock.
 #![tactic(auto)]
 
+mod laws;
 mod outcome;
 mod path;
 mod reply;
 mod servient;
 mod serving;
 
+pub use laws::{
+    each_stands_for_a_state, failing_is_exact, replies_come_next, turns_are_numbered,
+};
 pub use outcome::Outcome;
 pub use servient::Servient;
 pub use servient_edge::{

@@ -7,7 +7,7 @@ use wot_json::Tree;
 pub enum Outcome {
     /// The value of the property.
     Content(Tree),
-    /// No such place stands.
+    /// There is nothing at the path.
     NotFound,
     /// The device refused, for the reason of this number.
     Refused(u16),

@@ -1,13 +1,12 @@
 //! The servient's state, and what one event does.
 
-ghost use Rattle.std.specs.Prelude.{◌≡◌, ◌≤◌, ◌<◌, ◌+◌, ◌^◌, [], length, IsTrue, ◌↔◌};
-ghost use Rattle.thing_handler.specs.Handler.{misses_of};
-ghost use Rattle.thing_handler.specs.Turns.{AreTurnsSince};
-ghost use Rattle.servient_edge.specs.Network.{byte_count};
-ghost use Rattle.servient_edge.specs.Told.{Continues};
+ghost use Rattle.std.specs.Prelude.{◌≡◌, ◌≤◌, ◌<◌, length};
+ghost use Rattle.servient_base.specs.Moves.{Refines};
+ghost use Rattle.servient_edge.specs.Network.{byte_count, NetSeen};
 ghost use Rattle.servient_core.specs.Outcomes.{is_status as is_status_value, outcome_of as comes_of, IsShort};
-ghost use Rattle.servient_core.specs.Machine.{start, MayFollow};
-ghost use Rattle.servient_core.specs.Serving.{TakesStep, ActsOn, Follows};
+ghost use Rattle.servient_core.specs.Trace.{Shows, outside};
+ghost use Rattle.servient_core.specs.Machine.{start, ComesTo, Receives, Step};
+ghost use Rattle.servient_core.specs.Serving.{StandsFor};
 
 use crate::path::is_status_path;
 use crate::reply::{LONGEST_REPLY, put_reply};
@@ -17,17 +16,17 @@ use std::marker::Model;
 use thing_handler::{Answer, CallKind, Handlers};
 use wot_json::Tree;
 
-/// How many bytes a datagram may have that is read.
+/// How many bytes a datagram may have that is read; `longest_datagram` of the machine.
 const LONGEST_DATAGRAM: usize = 1280;
 
-/// How many turns a run may have.
+/// How many turns a run may have; `most_turns` of the machine.
 const MOST_TURNS: u64 = 4_294_967_295;
 
 /// The code of a GET (RFC 7252, section 12.1.1).
 const GET: u8 = 1;
 
-/// A servient of one built-in property, a whole number from 0 to 100 at `/lamp/properties/status`.
-/// Contracts see the state of the machine.
+/// A servient of one built-in property, a whole number from 0 to 100 at `/lamp/properties/status`. Contracts see its
+/// site, which never changes, and the state of the machine.
 #[derive(Drop)]
 pub struct Servient {
     slot: usize,
@@ -38,19 +37,24 @@ pub struct Servient {
 
 impl Model for Servient {
     ghost use Rattle.std.specs.Prelude.{◌≤◌};
-    ghost use Rattle.servient_core.specs.Machine.{State};
+    ghost use Rattle.servient_core.specs.Machine.{most_turns};
+    ghost use Rattle.servient_core.specs.Serving.{Kept};
 
-    ghost Value = { State };
+    ghost Value = { Kept };
 
-    ghost view = { λ s. record { slot = s.slot; moment = s.moment; next_id = s.next_id; turns = s.turns } };
+    ghost view = { λ s. record {
+      site = record { slot = s.slot };
+      state = record { moment = s.moment; next_id = s.next_id; turns = s.turns };
+    } };
 
-    ghost invariant = { λ s. s.turns ≤ 4294967295 };
+    ghost invariant = { λ s. s.turns ≤ most_turns };
 }
 
 impl Servient {
     /// A servient whose property is read from the handler in this slot, before its first event.
     pub fn new(slot: usize) -> Servient
-        ensures { result ≡ start slot }
+        ensures site { result.site.slot ≡ slot }
+        ensures start { StandsFor result start }
     {
         Servient {
             slot,
@@ -60,7 +64,7 @@ impl Servient {
         }
     }
 
-    /// Does what one event asks. Want of memory shows as a reply.
+    /// Does what one event asks. Where it is out of memory, that shows as a reply.
     pub fn step<N: Net, R: Handlers>(
         &mut self,
         net: &mut N,
@@ -68,13 +72,12 @@ impl Servient {
         event: &Event,
         bytes: &[u8],
     )
-        requires slot { self.old.slot < length (R.slots rack.old) }
+        requires slot { self.old.site.slot < length (R.slots rack.old) }
         requires bytes { length bytes.now ≡ byte_count event.now.what }
-        ensures step { TakesStep self.old self.new (record { event = event.now; bytes = bytes.now })
-            (R.slots rack.old) (R.slots rack.new) (N.acts net.old) (N.acts net.new) }
-        ensures events { Continues (N.events net.old) (N.events net.new) [] }
-        ensures left { N.left net.new ≡ N.left net.old }
-        ensures faults { N.faults net.old ≤ N.faults net.new }
+        ensures step { Refines StandsFor Shows (Step self.old.site (record { event = event.now; bytes = bytes.now }))
+            self.old self.new
+            (outside (N.seen net.old) (R.slots rack.old)) (outside (N.seen net.new) (R.slots rack.new)) }
+        ensures site { self.new.site ≡ self.old.site }
     {
         self.moment = self.moment.max(event.moment);
         match event.what {
@@ -83,7 +86,7 @@ impl Servient {
         }
     }
 
-    /// Does what a datagram asks: a request is acted on and answered, any other datagram does nothing.
+    /// Does what a datagram asks: a request is acted on and answered, any other datagram is ignored.
     fn datagram<N: Net, R: Handlers>(
         &mut self,
         net: &mut N,
@@ -91,12 +94,10 @@ impl Servient {
         from: Endpoint,
         bytes: &[u8],
     )
-        requires { self.old.slot < length (R.slots rack.old) }
-        ensures follows { Follows self.old self.new (What.Datagram from (length bytes.now)) bytes.now
-            (R.slots rack.old) (R.slots rack.new) (N.acts net.old) (N.acts net.new) }
-        ensures events { Continues (N.events net.old) (N.events net.new) [] }
-        ensures left { N.left net.new ≡ N.left net.old }
-        ensures faults { N.faults net.old ≤ N.faults net.new }
+        requires { self.old.site.slot < length (R.slots rack.old) }
+        ensures received { Refines StandsFor Shows (Receives self.old.site from bytes.now) self.old self.new
+            (outside (N.seen net.old) (R.slots rack.old)) (outside (N.seen net.new) (R.slots rack.new)) }
+        ensures site { self.new.site ≡ self.old.site }
     {
         if bytes.len() > LONGEST_DATAGRAM {
             return;
@@ -116,8 +117,10 @@ impl Servient {
 
     /// Does what a request of this path asks.
     fn act<R: Handlers>(&mut self, rack: &mut R, path: &Options<'_>) -> Outcome
-        requires { self.old.slot < length (R.slots rack.old) }
-        ensures acted { ActsOn self.old self.new path.now (R.slots rack.old) (R.slots rack.new) result }
+        requires { self.old.site.slot < length (R.slots rack.old) }
+        ensures acted { (net : NetSeen) → Refines StandsFor Shows (ComesTo self.old.site path.now result) self.old self.new
+            (outside net (R.slots rack.old)) (outside net (R.slots rack.new)) }
+        ensures site { self.new.site ≡ self.old.site }
         ensures short { IsShort result }
     {
         if !is_status_path(path) {

@@ -1,7 +1,9 @@
 //! Serving a network, event by event.
 
-ghost use Rattle.std.specs.Prelude.{◌<◌, length};
-ghost use Rattle.servient_core.specs.Serving.{Serves};
+ghost use Rattle.std.specs.Prelude.{◌≡◌, ◌<◌, length};
+ghost use Rattle.servient_base.specs.Moves.{Refines};
+ghost use Rattle.servient_core.specs.Trace.{Shows, outside};
+ghost use Rattle.servient_core.specs.Serving.{StandsFor, Serves};
 
 use crate::{Net, Next, Servient, What};
 use thing_handler::Handlers;
@@ -20,18 +22,18 @@ pub enum Served {
     Spent,
 }
 
-/// Takes the events of the network one after another, until a Stop or a failure comes, and at most
-/// `budget` of them. Want of memory shows as in `Servient::step`.
+/// Takes the events of the network one after another, until a Stop or a failure comes, and at most `budget` of them.
+/// Where it is out of memory, that shows as in `Servient::step`.
 pub fn serve<N: Net, R: Handlers>(
     servient: &mut Servient,
     net: &mut N,
     rack: &mut R,
     budget: u64,
 ) -> Served
-    requires { servient.old.slot < length (R.slots rack.old) }
-    ensures { Serves servient.old servient.new (R.slots rack.old) (R.slots rack.new)
-        (N.events net.old) (N.events net.new) (N.acts net.old) (N.acts net.new)
-        (N.left net.old) (N.faults net.old) (N.faults net.new) budget result }
+    requires { servient.old.site.slot < length (R.slots rack.old) }
+    ensures serves { Refines StandsFor Shows (Serves servient.old.site budget result) servient.old servient.new
+        (outside (N.seen net.old) (R.slots rack.old)) (outside (N.seen net.new) (R.slots rack.new)) }
+    ensures site { servient.new.site ≡ servient.old.site }
 {
     let mut buffer = [0u8; BUFFER_BYTES];
     for count in 0..budget {

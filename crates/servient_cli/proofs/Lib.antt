@@ -1,6 +1,7 @@
-pub mod HexTexts
-pub mod FieldTexts
-pub mod LineTexts
-pub mod ScriptTexts
-pub mod FaultlessEnds
-pub mod ReplayLaws
+mod HexTexts
+mod FieldTexts
+mod LineTexts
+mod ScriptTexts
+mod StageLaws
+mod FaultlessStages
+mod RunLaws

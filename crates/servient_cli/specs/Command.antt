@@ -1,28 +1,33 @@
--- The command line, and what the program reports.
+-- The commands, stage by stage, and what the program reports of them.
 --
--- There are two commands so far. `replay SCRIPT` reads the script, runs its events on the built-in property, and
--- prints the acts and the turns. `check TD` reads a Thing Description and says whether it is valid, or its first
--- fault. Each way in which a command may end has a status and a text.
-use Rattle.std.specs.Prelude.{◌≡◌, ◌<◌, ◌≤◌, ◌⊎◌, ℕ, Bool, true, not, ◌==◌, IsTrue, List, [], ◌∷◌, ◌++◌, Option, Some, IfSome, IsSomeAnd, None, slice_get, take, length, codes, decimal}
+-- There are two commands so far. `replay SCRIPT` reads the script, runs its events on the built-in property, and prints
+-- the acts and the turns. `check TD` reads a Thing Description and says whether it is valid, or its first fault.
+use Rattle.std.specs.Prelude.{◌≡◌, ◌<◌, ◌≤◌, ◌⊎◌, ℕ, Bool, true, not, ◌==◌, IsTrue, List, [], ◌∷◌, ◌++◌, Option, Some, IfSome, IsSomeAnd, None, slice_get, map, take, length, codes, decimal}
 use Rattle.servient_base.specs.Count.{Rose}
 use Rattle.wot_json.specs.Json.{json_string}
 use Rattle.wot_json.specs.Tree.{Json}
+use Rattle.wot_json.specs.Meaning.{json_of}
+use Rattle.wot_json.specs.declared.tree.Tree.{Tree}
 use Rattle.wot_json.specs.Reading.{value_of, tree_of, IsTooDeep, IsFirstWrong}
 use Rattle.wot_terms.specs.Faults.{faults_of}
-use Rattle.thing_handler.specs.Handler.{Seen, misses_of}
-use Rattle.thing_handler.specs.Turns.{RunTurn, AreTurnsSince}
+use Rattle.thing_handler.specs.Turns.{turns_in}
 use Rattle.servient_edge.specs.declared.files.HeldFile.{HeldFile}
 use Rattle.servient_edge.specs.declared.files.FileRead.{FileRead}
 use Rattle.servient_edge.specs.declared.net.EventWithBytes.{EventWithBytes}
-use Rattle.servient_edge.specs.declared.net.Act.{Act}
+use Rattle.servient_edge.specs.Network.{acts_in}
 use Rattle.servient_edge.specs.Told.{Continues}
 use Rattle.servient_edge.specs.Files.{content_of}
 use Rattle.servient_edge.specs.Ending.{with_stop}
-use Rattle.servient_core.specs.Machine.{State, Run, start}
+use Rattle.servient_core.specs.Trace.{Sighting, happened_in, calls_in}
+use Rattle.servient_core.specs.Machine.{Site, State, Run, start}
 use Rattle.servient_cli.specs.declared.command.Task.{Task}
 use Rattle.servient_cli.specs.declared.command.Task.TheVariants.{Replay, Check}
 use Rattle.servient_cli.specs.Script.{IsScript, IsFirstBadLine}
 use Rattle.servient_cli.specs.Print.{print_text}
+use Rattle.servient_cli.specs.Lines.{usage_line, file_line, input_line, spent_line, invalid_line, valid_line}
+use Rattle.servient_cli.specs.Stages.{Deed, did_read, did_call, did_write, text_in, Outcome, goes_on, ends, EndsWith, RunsOut, AndThen, FilesSeen, Around, ShowsDeeds}
+
+-- ---- the command line
 
 -- a word that may name a file: one that begins with `-` is an option, but for `-` alone
 abbrev pub may_name_file : List ℕ → Bool
@@ -40,69 +45,79 @@ pub record IsCommand (words : List (List ℕ)) (task : Task) (name : List ℕ) :
   pub words_are : words ≡ word_of task ∷ name ∷ []
   pub file : IsTrue (may_name_file name)
 
--- the longest script and the longest description, in bytes
-abbrev pub limit_of : Task → ℕ
-limit_of Replay = 16777216
-limit_of Check = 1048576
+-- ---- reading a file
 
--- the most events of a run
-abbrev pub event_budget : ℕ
-event_budget = 100000
+-- the longest script and the longest description, in bytes
+abbrev pub longest_script : ℕ
+longest_script = 16777216
+
+abbrev pub longest_description : ℕ
+longest_description = 1048576
+
+abbrev pub limit_of : Task → ℕ
+limit_of Replay = longest_script
+limit_of Check = longest_description
 
 -- the one read of a command: its file
 abbrev pub file_read : Task → List ℕ → FileRead
 file_read task name = record { name = name; limit = limit_of task }
 
--- the lines for what went wrong; names are JSON texts
-abbrev pub usage_line : List ℕ
-usage_line = codes "usage: servient replay|serve|derive|check|consume|storm ..\n"
-
-abbrev pub file_line : List ℕ → List ℕ → List ℕ
-file_line name what = codes "servient: file " ++ json_string name ++ codes " " ++ what ++ codes "\n"
-
-abbrev pub input_line : List ℕ → List ℕ → List ℕ
-input_line name what = codes "servient: input " ++ json_string name ++ codes " " ++ what ++ codes "\n"
-
-abbrev pub spent_line : List ℕ
-spent_line = codes "servient: spent\n"
-
-abbrev pub memory_line : List ℕ
-memory_line = codes "servient: memory\n"
-
-abbrev pub invalid_line : ℕ → List ℕ → List ℕ
-invalid_line number pointer = codes "servient: refused invalid " ++ decimal number ++ codes " " ++ json_string pointer ++ codes "\n"
-
-abbrev pub valid_line : List ℕ
-valid_line = codes "valid\n"
+-- Reading the file of a task, with what was known of the files before and after.
+pub data ReadsFile (before now : FilesSeen) (task : Task) (name : List ℕ) (seen : List Deed) (o : Outcome (List ℕ)) : Type 0 where
+  -- this is what it holds, where that is told
+  is_read : (content : List ℕ) → length content ≤ limit_of task → IfSome before.held (λ files. content_of files name ≡ Some content)
+      → seen ≡ did_read (file_read task name) ∷ [] → o ≡ goes_on content → ReadsFile before now task name seen o
+  -- there is no file of this name
+  is_absent : IfSome before.held (λ files. content_of files name ≡ None)
+      → EndsWith (did_read (file_read task name) ∷ []) 3 (file_line name (codes "absent")) seen o → ReadsFile before now task name seen o
+  -- reading it failed, as the count tells
+  is_unreadable : Rose before.faults now.faults
+      → EndsWith (did_read (file_read task name) ∷ []) 3 (file_line name (codes "failed")) seen o → ReadsFile before now task name seen o
+  -- it is longer than the limit
+  is_long : IfSome before.held (λ files. IsSomeAnd (content_of files name) (λ content. limit_of task < length content))
+      → EndsWith (did_read (file_read task name) ∷ []) 4 (input_line name (codes "long")) seen o → ReadsFile before now task name seen o
+  -- there was no memory for it, or for the line
+  found_no_memory : (first : List Deed) → (first ≡ []) ⊎ (first ≡ did_read (file_read task name) ∷ []) → RunsOut first seen o → ReadsFile before now task name seen o
 
 -- ---- replaying a script
 
--- How the run of a script ends: with all its events and the Stop behind them taken, status 0; or, where
--- those are more than the budget, with the first of them taken, status 8 and a line that says so.
-abbrev pub EndsRun : List EventWithBytes → List Act → List RunTurn → ℕ → List ℕ → Type 0
-EndsRun events acts turns status text =
-    (length (with_stop events) ≤ event_budget) × (status ≡ 0) × (text ≡ print_text acts turns)
-    ⊎ (event_budget < length (with_stop events)) × (status ≡ 8) × (text ≡ print_text acts turns ++ spent_line)
+-- the built-in property's handler is in slot 0
+abbrev pub built_in : Site
+built_in = record { slot = 0 }
 
--- The events of a script were run: acts and turns are those of the machine on the events and the Stop
--- behind them, as far as the budget goes, and the text is their print.
-pub record IsReplayed (events : List EventWithBytes) (before after : List Seen) (status : ℕ) (text : List ℕ) : Type 0 where
-  pub end : State
-  pub acts : List Act
-  pub turns : List RunTurn
-  pub run : Run (start 0) (misses_of before) (take event_budget (with_stop events)) end (misses_of after) acts turns
-  pub made : AreTurnsSince before after 0 turns
-  pub ends : EndsRun events acts turns status text
+-- the most events of a run
+abbrev pub event_budget : ℕ
+event_budget = 100000
 
--- How the replay of a file of this content ends, and the handlers before and after.
-pub data Replays (name content : List ℕ) (before after : List Seen) (status : ℕ) (text : List ℕ) : Type 0 where
-  -- a line of it is outside the grammar, and there are no events whose script it is; no handler was called
+-- Reading a script.
+pub data ReadsScript (name content : List ℕ) (seen : List Deed) (o : Outcome (List EventWithBytes)) : Type 0 where
+  -- it is the script of these events and no others
+  is_script : (events : List EventWithBytes) → IsScript content events → ((others : List EventWithBytes) → IsScript content others → events ≡ others)
+      → seen ≡ [] → o ≡ goes_on events → ReadsScript name content seen o
+  -- a line of it is outside the grammar, and there are no events whose script it is
   is_no_script : (line : ℕ) → IsFirstBadLine content line → ((events : List EventWithBytes) → ¬ (IsScript content events))
-      → after ≡ before → status ≡ 4 → text ≡ input_line name (codes "line " ++ decimal line) → Replays name content before after status text
-  -- it is the script of these events and no others, and they were run
-  is_run : (events : List EventWithBytes) → IsScript content events
-      → ((others : List EventWithBytes) → IsScript content others → events ≡ others)
-      → IsReplayed events before after status text → Replays name content before after status text
+      → EndsWith [] 4 (input_line name (codes "line " ++ decimal line)) seen o → ReadsScript name content seen o
+  script_memory : RunsOut [] seen o → ReadsScript name content seen o
+
+-- the calls of handlers in a run
+abbrev pub calls_of_run : List Sighting → List Deed
+calls_of_run ran = map (λ call. did_call call) (calls_in ran)
+
+-- the print of a run: its acts, and then its turns
+abbrev pub print_of_run : List Sighting → List ℕ
+print_of_run ran = print_text (acts_in (happened_in ran)) (turns_in (calls_in ran))
+
+-- Running the events of a script, and then a Stop, on the built-in property.
+pub data RunsScript (events : List EventWithBytes) (seen : List Deed) (o : Outcome (Unit {0})) : Type 0 where
+  -- all of them were taken
+  is_whole : (ran : List Sighting) (end : State) → length (with_stop events) ≤ event_budget → Run built_in (with_stop events) start ran end
+      → EndsWith (calls_of_run ran) 0 (print_of_run ran) seen o → RunsScript events seen o
+  -- they are more than the budget, and the first of them were taken
+  is_spent : (ran : List Sighting) (end : State) → event_budget < length (with_stop events) → Run built_in (take event_budget (with_stop events)) start ran end
+      → EndsWith (calls_of_run ran ++ did_write (print_of_run ran) ∷ []) 8 spent_line seen o → RunsScript events seen o
+  -- there was no memory, before the run or after so many events
+  run_memory : (ran : List Sighting) (end : State) (count : ℕ) → Run built_in (take count (with_stop events)) start ran end
+      → RunsOut (calls_of_run ran) seen o → RunsScript events seen o
 
 -- ---- checking a description
 
@@ -115,89 +130,65 @@ pub data HasNoTree (content what : List ℕ) : Type 0 where
   -- a number in it isn't whole or needs more than 64 bits with sign, the first at this pointer
   is_wrong_number : (pointer : List ℕ) → IsFirstWrong content pointer → what ≡ codes "number " ++ json_string pointer → HasNoTree content what
 
--- How the check of a file of this content ends.
-pub data Checks (name content : List ℕ) (status : ℕ) (text : List ℕ) : Type 0 where
-  has_no_tree : (what : List ℕ) → tree_of content ≡ None → HasNoTree content what
-      → status ≡ 4 → text ≡ input_line name what → Checks name content status text
+-- Reading a JSON text.
+pub data ReadsTree (name content : List ℕ) (seen : List Deed) (o : Outcome Tree) : Type 0 where
+  is_tree : (tree : Tree) → tree_of content ≡ Some (json_of tree) → seen ≡ [] → o ≡ goes_on tree → ReadsTree name content seen o
+  has_no_tree : (what : List ℕ) → tree_of content ≡ None → HasNoTree content what → EndsWith [] 4 (input_line name what) seen o → ReadsTree name content seen o
+  tree_memory : RunsOut [] seen o → ReadsTree name content seen o
+
+-- Judging a description.
+pub data Judges (tree : Tree) (seen : List Deed) (o : Outcome (Unit {0})) : Type 0 where
+  -- it has no fault
+  is_valid : faults_of (json_of tree) ≡ [] → EndsWith [] 0 valid_line seen o → Judges tree seen o
   -- it has faults, and this is the first
-  is_refused : (v : Json) (number : ℕ) (pointer : List ℕ) → tree_of content ≡ Some v → slice_get (faults_of v) 0 ≡ Some (number, pointer)
-      → status ≡ 5 → text ≡ invalid_line number pointer → Checks name content status text
-  -- it has none
-  is_valid : (v : Json) → tree_of content ≡ Some v → faults_of v ≡ []
-      → status ≡ 0 → text ≡ valid_line → Checks name content status text
+  is_refused : (number : ℕ) (pointer : List ℕ) → slice_get (faults_of (json_of tree)) 0 ≡ Some (number, pointer)
+      → EndsWith [] 5 (invalid_line number pointer) seen o → Judges tree seen o
+  judge_memory : RunsOut [] seen o → Judges tree seen o
+
+-- ---- the commands
+
+-- what a task does with the content of its file
+abbrev pub TaskOn : Task → List ℕ → List ℕ → List Deed → Outcome (Unit {0}) → Type 0
+TaskOn Replay name content = AndThen (ReadsScript name content) RunsScript
+TaskOn Check name content = AndThen (ReadsTree name content) Judges
+
+-- a command: its file is read, and then its task done
+abbrev pub Does : FilesSeen → FilesSeen → Task → List ℕ → List Deed → Outcome (Unit {0}) → Type 0
+Does before now task name = AndThen (ReadsFile before now task name) (TaskOn task name)
+
+-- What the words of the command line lead to.
+pub data Commands (before now : FilesSeen) (words : List (List ℕ)) (seen : List Deed) (o : Outcome (Unit {0})) : Type 0 where
+  is_no_command : ((task : Task) (name : List ℕ) → ¬ (IsCommand words task name)) → EndsWith [] 2 usage_line seen o → Commands before now words seen o
+  is_command : (task : Task) (name : List ℕ) → IsCommand words task name → Does before now task name seen o → Commands before now words seen o
 
 -- ---- the whole call
 
--- What a call was given and what it left: its words; what the files hold, where that is told; the reads and
--- the count of failed reads, before and after; and the handlers, before and after.
-pub record Call : Type 0 where
-  pub words : List (List ℕ)
-  pub held : Option (List HeldFile)
-  pub reads : Option (List FileRead)
-  pub reads_now : Option (List FileRead)
-  pub faults : ℕ
-  pub faults_now : ℕ
-  pub handlers : List Seen
-  pub handlers_now : List Seen
-
--- the words name this task and its file, and the one read of the call was of that
-pub record ReadsFile (c : Call) (task : Task) (name : List ℕ) : Type 0 where
-  pub words : IsCommand c.words task name
-  pub read : Continues c.reads c.reads_now (file_read task name ∷ [])
-
--- this is what the file of this name holds, where that is told
-abbrev pub Holds : Call → List ℕ → List ℕ → Type 0
-Holds c name content = IfSome c.held (λ files. content_of files name ≡ Some content)
-
--- the handlers are as they were, and this is the status and the text
-pub record EndsEarly (c : Call) (status status_is : ℕ) (text text_is : List ℕ) : Type 0 where
-  pub handlers : c.handlers_now ≡ c.handlers
-  pub status_same : status ≡ status_is
-  pub text_same : text ≡ text_is
-
--- Why a call ended with a status and a text.
-pub data HasCause (c : Call) (status : ℕ) (text : List ℕ) : Type 0 where
-  -- the words are no command line, and nothing was read
-  is_no_command : ((task : Task) (name : List ℕ) → ¬ (IsCommand c.words task name)) → Continues c.reads c.reads_now []
-      → EndsEarly c status 2 text usage_line → HasCause c status text
-  -- no file of this name stands
-  is_absent : (task : Task) (name : List ℕ) → ReadsFile c task name → IfSome c.held (λ files. content_of files name ≡ None)
-      → EndsEarly c status 3 text (file_line name (codes "absent")) → HasCause c status text
-  -- reading it failed, as the count tells
-  is_unreadable : (task : Task) (name : List ℕ) → ReadsFile c task name → Rose c.faults c.faults_now
-      → EndsEarly c status 3 text (file_line name (codes "failed")) → HasCause c status text
-  -- it is longer than the limit
-  is_long : (task : Task) (name : List ℕ) → ReadsFile c task name
-      → IfSome c.held (λ files. IsSomeAnd (content_of files name) (λ content. limit_of task < length content))
-      → EndsEarly c status 4 text (input_line name (codes "long")) → HasCause c status text
-  -- it was replayed
-  is_replay : (name content : List ℕ) → ReadsFile c Replay name → Holds c name content → length content ≤ limit_of Replay
-      → Replays name content c.handlers c.handlers_now status text → HasCause c status text
-  -- it was checked, and no handler was called
-  is_check : (name content : List ℕ) → ReadsFile c Check name → Holds c name content → length content ≤ limit_of Check
-      → c.handlers_now ≡ c.handlers → Checks name content status text → HasCause c status text
-  -- there was no memory, which may be at any time after the words are read; a check called no handler here either
-  wants_memory : (task : Task) (name : List ℕ) → IsCommand c.words task name
-      → Continues c.reads c.reads_now [] ⊎ Continues c.reads c.reads_now (file_read task name ∷ [])
-      → (task ≡ Check → c.handlers_now ≡ c.handlers)
-      → status ≡ 9 → text ≡ memory_line → HasCause c status text
-
--- The text was written and the status is its own; or the output failed, which its count tells, a front of
--- the text was written, and the status is 7.
-abbrev pub Reports : ℕ → List ℕ → Option (List ℕ) → Option (List ℕ) → ℕ → ℕ → ℕ → Type 0
-Reports status text written written_now faults faults_now result =
+-- The text was written and the status is its own; or the output failed, which its count tells, a prefix of the text was
+-- written, and the status is 7.
+abbrev pub IsReported : ℕ → List ℕ → Option (List ℕ) → Option (List ℕ) → ℕ → ℕ → ℕ → Type 0
+IsReported status text written written_now faults faults_now result =
     (result ≡ status) × Continues written written_now text
     ⊎ (result ≡ 7) × Rose faults faults_now
-    × (front : List ℕ) × (rest : List ℕ) × (text ≡ front ++ rest) × Continues written written_now front
+    × (prefix : List ℕ) × (rest : List ℕ) × (text ≡ prefix ++ rest) × Continues written written_now prefix
 
--- What the top call did: its cause, and how that was reported.
-pub record Ends (c : Call) (written written_now : Option (List ℕ)) (faults faults_now result : ℕ) : Type 0 where
+-- what is known of the output at one time: what was written, where that is told, and how often it failed
+pub record OutSeen : Type 0 where
+  pub written : Option (List ℕ)
+  pub faults : ℕ
+
+abbrev pub out_seen : Option (List ℕ) → ℕ → OutSeen
+out_seen written faults = record { written = written; faults = faults }
+
+-- What the top call did: the command of its words ended with a status, the files and the handlers show what it did, and
+-- the output shows what it wrote.
+pub record Ends (words : List (List ℕ)) (before now : Around) (out out_now : OutSeen) (result : ℕ) : Type 0 where
+  pub seen : List Deed
   pub status : ℕ
-  pub text : List ℕ
-  pub cause : HasCause c status text
-  pub report : Reports status text written written_now faults faults_now result
+  pub command : Commands before.files now.files words seen (ends status)
+  pub shows : ShowsDeeds before now seen
+  pub reported : IsReported status (text_in seen) out.written out_now.written out.faults out_now.faults result
 
--- nothing is wrong with what the file of a task holds: the script of some events, which with the Stop behind them are
+-- nothing is wrong with what the file of a task holds: the script of some events, which with the Stop after them are
 -- within the budget; a description without a fault
 abbrev pub IsFaultlessFile : Task → List ℕ → Type 0
 IsFaultlessFile Replay content = (events : List EventWithBytes) × IsScript content events × (length (with_stop events) ≤ event_budget)

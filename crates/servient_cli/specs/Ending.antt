@@ -1,10 +1,33 @@
--- How a command that was read ends.
-use Rattle.std.specs.Prelude.{Result, Ok, Err}
+-- How a stage of the code comes out.
+use Rattle.std.specs.Prelude.{◌≡◌, ℕ, List, [], Result, Ok, Err}
 use Rattle.std.specs.declared.alloc.AllocError.{AllocError}
 use Rattle.servient_cli.specs.declared.ending.Ending.{Ending}
-use Rattle.servient_cli.specs.Command.{Call, HasCause, memory_line}
+use Rattle.servient_cli.specs.declared.ending.Ended.{Ended}
+use Rattle.servient_cli.specs.declared.ending.Ended.TheVariants as ended
+use Rattle.servient_cli.specs.Lines.{memory_line}
+use Rattle.servient_cli.specs.Stages.{Deed, Outcome, goes_on, ends, text_in, Around, ShowsDeeds}
 
--- an ending has its cause; where there is none, memory was wanting
-abbrev pub EndsWith : Call → Result Ending AllocError → Type 0
-EndsWith c (Ok ending) = HasCause c ending.status ending.text
-EndsWith c (Err e) = HasCause c 9 memory_line
+-- A stage came out so, and the outside shows what it did. One that goes on has written nothing; one that ends has the
+-- text that is to be written, and out of memory is status 9 with its line.
+pub record ComesOut {A : Type 0} (P : List Deed → Outcome A → Type 0) (before now : Around) (o : Outcome A) (text : List ℕ) : Type 0 where
+  pub seen : List Deed
+  pub stage : P seen o
+  pub shows : ShowsDeeds before now seen
+  pub text_is : text_in seen ≡ text
+
+-- a stage that may go on came out so
+abbrev pub Performs : {A : Type 0} → (List Deed → Outcome A → Type 0) → Around → Around → Result A Ended → Type 0
+Performs P before now (Ok value) = ComesOut P before now (goes_on value) []
+Performs P before now (Err (ended.With ending)) = ComesOut P before now (ends ending.status) ending.text
+Performs P before now (Err ended.NoMemory) = ComesOut P before now (ends 9) memory_line
+
+-- a stage that always ends the command came out so
+abbrev pub Finishes : (List Deed → Outcome (Unit {0}) → Type 0) → Around → Around → Result Ending AllocError → Type 0
+Finishes P before now (Ok ending) = ComesOut P before now (ends ending.status) ending.text
+Finishes P before now (Err e) = ComesOut P before now (ends 9) memory_line
+
+-- and so did a stage and those after it
+abbrev pub EndsBy : (List Deed → Outcome (Unit {0}) → Type 0) → Around → Around → Result Ending Ended → Type 0
+EndsBy P before now (Ok ending) = ComesOut P before now (ends ending.status) ending.text
+EndsBy P before now (Err (ended.With ending)) = ComesOut P before now (ends ending.status) ending.text
+EndsBy P before now (Err ended.NoMemory) = ComesOut P before now (ends 9) memory_line

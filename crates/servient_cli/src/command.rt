@@ -17,8 +17,8 @@ pub enum Task {
 impl Task {
     /// The task that a word names.
     fn named(word: &str) -> Option<Task>
-        ensures named { IfSome result (λ task. word.now ≡ word_of task) }
-        ensures other { IfNone result ((task : Task) → ¬ (word.now ≡ word_of task)) }
+        ensures ok { IfSome result (λ task. word.now ≡ word_of task) }
+        ensures complete { IfNone result ((task : Task) → ¬ (word.now ≡ word_of task)) }
     {
         match word {
             "replay" => Some(Task::Replay),
@@ -47,8 +47,8 @@ pub struct Command<'a> {
 
 /// The command that the words say.
 pub fn command_of(words: &[Text]) -> Option<Command<'_>>
-    ensures command { IfSome result (λ c. IsCommand words.now c.task c.file.now) }
-    ensures other { IfNone result ((task : Task) → (name : List ℕ) → ¬ (IsCommand words.now task name)) }
+    ensures ok { IfSome result (λ c. IsCommand words.now c.task c.file.now) }
+    ensures complete { IfNone result ((task : Task) → (name : List ℕ) → ¬ (IsCommand words.now task name)) }
 {
     match words {
         [word, file] => {

@@ -1,8 +1,8 @@
-//! How a command ends: a status and a text.
+//! How a command ends: with a status and a text, or out of memory.
 
-ghost use Rattle.std.specs.Prelude.{◌≡◌, ◌++◌, codes, decimal, IfOk, OnOk};
+ghost use Rattle.std.specs.Prelude.{◌≡◌, ◌++◌, codes, decimal, IfOk, OnOk, MatchResult};
 ghost use Rattle.wot_json.specs.Json.{json_string};
-ghost use Rattle.servient_cli.specs.Command.{file_line, input_line, invalid_line, valid_line};
+ghost use Rattle.servient_cli.specs.Lines.{file_line, input_line, invalid_line, valid_line};
 
 use crate::print::put_number;
 use std::alloc::Global;
@@ -15,6 +15,36 @@ pub struct Ending {
     pub status: u8,
     /// What is written.
     pub text: Bytes,
+}
+
+/// Why a stage of a command doesn't go on.
+#[derive(Drop)]
+pub enum Ended {
+    /// The command ends so.
+    With(Ending),
+    /// There was no memory.
+    NoMemory,
+}
+
+impl From<NoMemory> for Ended {
+    ghost use Rattle.std.specs.Prelude.{◌≡◌};
+    ghost use Rattle.servient_cli.specs.declared.ending.Ended.TheVariants as ended;
+
+    ghost from_gives = { λ _ e. e ≡ ended.NoMemory };
+
+    fn from(_: NoMemory) -> Self {
+        Ended::NoMemory
+    }
+}
+
+/// How a command ends that is to end so, where there was memory for its text.
+pub fn ended(ending: Result<Ending, NoMemory>) -> Ended
+    ensures { MatchResult ending (λ e. result ≡ Ended.With e) (λ _. result ≡ Ended.NoMemory) }
+{
+    match ending {
+        Ok(ending) => Ended::With(ending),
+        Err(_) => Ended::NoMemory,
+    }
 }
 
 impl Ending {

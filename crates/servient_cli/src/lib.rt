@@ -7,6 +7,7 @@
 mod checking;
 mod command;
 mod ending;
+mod file;
 mod main_call;
 mod print;
 mod replay;

@@ -1,27 +1,29 @@
 //! The top call: from the words of the command line to the exit status.
 
-ghost use Rattle.std.specs.Prelude.{◌≡◌, ◌<◌, ◌⊎◌, ℕ, List, length};
+ghost use Rattle.std.specs.Prelude.{◌≡◌, ◌<◌, ◌⊎◌, length};
 ghost use Rattle.servient_base.specs.Count.{Rose};
-ghost use Rattle.servient_cli.specs.Command.{Ends, IsCommand, IsFaultless, Reports};
-ghost use Rattle.servient_cli.specs.Ending.{EndsWith};
+ghost use Rattle.servient_cli.specs.Stages.{around, files_seen};
+ghost use Rattle.servient_cli.specs.Command.{Does, Ends, IsFaultless, IsReported, out_seen};
+ghost use Rattle.servient_cli.specs.Ending.{EndsBy};
 
 use crate::checking::check_file;
 use crate::command::{Command, Task, command_of};
-use crate::ending::Ending;
+use crate::ending::{Ended, Ending};
+use crate::file::read_file;
 use crate::replay::replay;
-use servient_edge::{Files, Got, Net, Out, Put};
-use std::alloc::{AllocError, Global};
+use servient_edge::{Files, Net, Out, Put};
+use std::alloc::Global;
 use thing_handler::Handlers;
-use wot_json::{Bytes, NoMemory, Text};
+use wot_json::Text;
 
 /// The line for words that are no command line.
 const USAGE_LINE: &[u8] = b"usage: servient replay|serve|derive|check|consume|storm ..\n";
 
-/// The line for want of memory.
+/// The line for being out of memory.
 const MEMORY_LINE: &[u8] = b"servient: memory\n";
 
 /// Does what the words after the program's name say, and gives the exit status. The built-in property
-/// stands in slot 0 of the rack.
+/// is in slot 0 of the rack.
 pub fn servient_main<F: Files, N: Net, R: Handlers, O: Out>(
     alloc: Global,
     words: &[Text],
@@ -31,19 +33,14 @@ pub fn servient_main<F: Files, N: Net, R: Handlers, O: Out>(
     out: &mut O,
 ) -> u8
     requires { 0 < length (R.slots rack.old) }
-    // Each status has its cause, and the text of that cause is what was written.
-    ensures ends { Ends (record {
-      words = words.now;
-      held = F.held files.old;
-      reads = F.reads files.old;
-      reads_now = F.reads files.new;
-      faults = F.faults files.old;
-      faults_now = F.faults files.new;
-      handlers = R.slots rack.old;
-      handlers_now = R.slots rack.new;
-    })
-        (O.written out.old) (O.written out.new) (O.faults out.old) (O.faults out.new) result }
-    // Where nothing is wrong and nothing failed, the command does what it is for, but for want of memory.
+    // The command of the words ended with a status, and what it wrote and the status were reported.
+    ensures ends {
+        let files_before = files_seen (F.held files.old) (F.reads files.old) (F.faults files.old) in
+        let files_now = files_seen (F.held files.new) (F.reads files.new) (F.faults files.new) in
+        Ends words.now (around files_before (R.slots rack.old)) (around files_now (R.slots rack.new))
+        (out_seen (O.written out.old) (O.faults out.old))
+        (out_seen (O.written out.new) (O.faults out.new)) result }
+    // Where nothing is wrong and nothing failed, the command does what it is for, unless it is out of memory.
     ensures complete { IsFaultless words.now (F.held files.old)
         → ¬ (Rose (F.faults files.old) (F.faults files.new)) → ¬ (Rose (O.faults out.old) (O.faults out.new))
         → (result ≡ 0) ⊎ (result ≡ 9) }
@@ -55,7 +52,8 @@ pub fn servient_main<F: Files, N: Net, R: Handlers, O: Out>(
     };
     match run_command(alloc, command, files, rack) {
         Ok(ending) => report(out, ending.text.as_slice(), ending.status),
-        Err(_) => report(out, MEMORY_LINE, 9),
+        Err(Ended::With(ending)) => report(out, ending.text.as_slice(), ending.status),
+        Err(Ended::NoMemory) => report(out, MEMORY_LINE, 9),
     }
 }
 
@@ -65,37 +63,24 @@ fn run_command<F: Files, R: Handlers>(
     command: Command<'_>,
     files: &mut F,
     rack: &mut R,
-) -> Result<Ending, NoMemory>
+) -> Result<Ending, Ended>
     requires { 0 < length (R.slots rack.old) }
-    ensures { (words : List (List ℕ)) → IsCommand words command.entry.task command.entry.file.now → EndsWith (record {
-      words = words;
-      held = F.held files.old;
-      reads = F.reads files.old;
-      reads_now = F.reads files.new;
-      faults = F.faults files.old;
-      faults_now = F.faults files.new;
-      handlers = R.slots rack.old;
-      handlers_now = R.slots rack.new;
-    }) result }
+    ensures {
+        let files_before = files_seen (F.held files.old) (F.reads files.old) (F.faults files.old) in
+        let files_now = files_seen (F.held files.new) (F.reads files.new) (F.faults files.new) in
+        EndsBy (Does files_before files_now command.entry.task command.entry.file.now)
+        (around files_before (R.slots rack.old)) (around files_now (R.slots rack.new)) result }
 {
-    let name = command.file;
-    let mut content = Bytes::new(alloc);
-    match files.read(alloc, name, command.task.limit(), &mut content) {
-        Got::Whole => {}
-        Got::Absent => return Ending::file(alloc, name, "absent"),
-        Got::Failed => return Ending::file(alloc, name, "failed"),
-        Got::TooLong => return Ending::input(alloc, name, "long"),
-        Got::NoMemory => return Err(AllocError),
-    }
+    let content = read_file(alloc, &command, files)?;
     match command.task {
-        Task::Replay => replay(alloc, name, content.as_slice(), rack),
-        Task::Check => check_file(alloc, name, content.as_slice()),
+        Task::Replay => replay(alloc, command.file, content.as_slice(), rack),
+        Task::Check => check_file(alloc, command.file, content.as_slice()),
     }
 }
 
 /// Writes the text of a command, and gives its status, or 7 where the output failed.
 fn report<O: Out>(out: &mut O, text: &[u8], status: u8) -> u8
-    ensures { Reports status text.now (O.written out.old) (O.written out.new)
+    ensures { IsReported status text.now (O.written out.old) (O.written out.new)
         (O.faults out.old) (O.faults out.new) result }
 {
     match out.put(text) {

@@ -1,20 +1,25 @@
 //! Running a script, and what the run prints.
 
-ghost use Rattle.std.specs.Prelude.{◌≡◌, ◌<◌, ◌≤◌, length, IfOk};
-ghost use Rattle.std.specs.List.{AllByRecursion};
+ghost use Rattle.std.specs.Prelude.{◌≡◌, ◌<◌, ◌≤◌, ◌++◌, length, map, IfOk};
+ghost use Rattle.std.specs.List.{AllByRecursion, flat_map};
+ghost use Rattle.servient_cli.specs.declared.command.Task.TheVariants as task;
 ghost use Rattle.servient_cli.specs.Script.{IsScriptEvent};
-ghost use Rattle.servient_cli.specs.Command.{IsReplayed, Replays};
+ghost use Rattle.servient_cli.specs.Print.{act_line, in_slot, turn_line};
+ghost use Rattle.servient_cli.specs.Lines.{spent_line};
+ghost use Rattle.servient_cli.specs.Stages.{Around, FilesSeen, around};
+ghost use Rattle.servient_cli.specs.Command.{ReadsScript, RunsScript, TaskOn, longest_script};
+ghost use Rattle.servient_cli.specs.Ending.{EndsBy, Finishes, Performs};
 
-use crate::ending::Ending;
+use crate::ending::{Ended, Ending, ended};
 use crate::print::{put_acts, put_turns};
 use crate::script::{Script, ScriptFault};
 use servient_core::{Served, Servient, serve};
-use servient_edge::{Calls, Events, NetMemory};
+use servient_edge::{Act, Calls, Events, NetMemory};
 use std::alloc::{AllocError, Global};
-use thing_handler::Handlers;
+use thing_handler::{Handlers, Turn};
 use wot_json::{Bytes, NoMemory};
 
-/// The most events of a run.
+/// The most events of a run; `event_budget` of specs/Command.antt.
 const EVENT_BUDGET: u64 = 100_000;
 
 /// The slot of the built-in property's handler.
@@ -29,24 +34,35 @@ pub fn replay<R: Handlers>(
     name: &str,
     content: &[u8],
     rack: &mut R,
-) -> Result<Ending, NoMemory>
+) -> Result<Ending, Ended>
     requires slot { 0 < length (R.slots rack.old) }
-    requires length { length content.now ≤ 16777216 }
-    ensures { IfOk result (λ e. Replays name.now content.now (R.slots rack.old) (R.slots rack.new) e.status e.text) }
+    requires length { length content.now ≤ longest_script }
+    ensures { (files : FilesSeen) → EndsBy (TaskOn task.Replay name.now content.now)
+        (around files (R.slots rack.old)) (around files (R.slots rack.new)) result }
+{
+    let events = read_script(alloc, name, content)?;
+    Ok(run_script(alloc, events, rack)?)
+}
+
+/// The events of a script.
+fn read_script(alloc: Global, name: &str, content: &[u8]) -> Result<Events, Ended>
+    requires { length content.now ≤ longest_script }
+    ensures stage { (a : Around) → Performs (ReadsScript name.now content.now) a a result }
+    ensures events { IfOk result (AllByRecursion IsScriptEvent) }
 {
     match Script::read(alloc, content) {
-        Ok(script) => run_script(alloc, script.into_events(), rack),
-        Err(ScriptFault::Line(line)) => Ending::bad_line(alloc, name, line),
-        Err(ScriptFault::NoMemory) => Err(AllocError),
+        Ok(script) => Ok(script.into_events()),
+        Err(ScriptFault::Line(line)) => Err(ended(Ending::bad_line(alloc, name, line))),
+        Err(ScriptFault::NoMemory) => Err(Ended::NoMemory),
     }
 }
 
-/// Runs the events of a script, and then a Stop, on the built-in property, and prints the acts and the
-/// turns.
+/// Runs the events of a script, and then a Stop, on the built-in property, and prints the acts and the turns.
 fn run_script<R: Handlers>(alloc: Global, events: Events, rack: &mut R) -> Result<Ending, NoMemory>
     requires slot { 0 < length (R.slots rack.old) }
     requires events { AllByRecursion IsScriptEvent events }
-    ensures { IfOk result (λ e. IsReplayed events (R.slots rack.old) (R.slots rack.new) e.status e.text) }
+    ensures { (files : FilesSeen) → Finishes (RunsScript events)
+        (around files (R.slots rack.old)) (around files (R.slots rack.new)) result }
 {
     let turns_before = rack.turns(SLOT).len();
     let mut net = NetMemory::new(alloc, events, Calls::new(alloc))?;
@@ -55,16 +71,31 @@ fn run_script<R: Handlers>(alloc: Global, events: Events, rack: &mut R) -> Resul
     if net.lost() != 0 {
         return Err(AllocError);
     }
-    let mut text = Bytes::new(alloc);
-    put_acts(alloc, &mut text, net.acts())?;
     let (_, turns) = rack.turns(SLOT).split_at(turns_before);
-    put_turns(alloc, &mut text, SLOT, turns)?;
+    let text = print(alloc, net.acts(), turns)?;
     match served {
         Served::Stopped => Ok(Ending { status: 0, text }),
-        Served::Spent => {
-            text.extend(SPENT_LINE)?;
-            Ok(Ending { status: 8, text })
-        }
+        Served::Spent => spent(text),
         Served::Failed => unreachable!(),
     }
+}
+
+/// The print of acts and of turns of the built-in property's handler.
+fn print(alloc: Global, acts: &[Act], turns: &[Turn]) -> Result<Bytes, NoMemory>
+    ensures { IfOk result (λ text. text
+        ≡ flat_map act_line acts.now ++ flat_map turn_line (map (in_slot SLOT) turns.now)) }
+{
+    let mut text = Bytes::new(alloc);
+    put_acts(alloc, &mut text, acts)?;
+    put_turns(alloc, &mut text, SLOT, turns)?;
+    Ok(text)
+}
+
+/// The ending where the events were more than the budget.
+fn spent(print: Bytes) -> Result<Ending, NoMemory>
+    ensures { IfOk result (λ e. (e.status ≡ 8) × (e.text ≡ print ++ spent_line)) }
+{
+    let mut text = print;
+    text.extend(SPENT_LINE)?;
+    Ok(Ending { status: 8, text })
 }

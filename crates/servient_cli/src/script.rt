@@ -1,6 +1,6 @@
 //! Replay scripts: text files of events, one on each line.
 //!
-//! The grammar stands in specs/Script.antt. `Script::read` goes from line to line, `event_of` reads one
+//! The grammar is specs/Script.antt. `Script::read` goes from line to line, `event_of` reads one
 //! line, and each function below it one field. All of them read exactly what the grammar writes.
 
 ghost use Rattle.std.specs.Prelude.{◌≡◌, ◌≢◌, ◌<◌, ◌≤◌, ℕ, List, [], ◌∷◌, ◌++◌, ◌==◌, ◌&&◌, ◌||◌, nat_lt, slice_index, length, All, codes, decimal, IfOk, IfSome, IsSomeAnd, MatchOption, MatchResult};
@@ -10,6 +10,7 @@ ghost use Rattle.std.specs.Str.{IsUtf8};
 ghost use Rattle.coap_msg.specs.declared.endpoint.Endpoint.{Endpoint};
 ghost use Rattle.servient_edge.specs.declared.net.EventWithBytes.{EventWithBytes};
 ghost use Rattle.servient_cli.specs.Script.{hex_text, endpoint_text, datagram_text, line_text, IsScriptEndpoint, IsScriptEvent, IsScript, IsFirstBadLine};
+ghost use Rattle.servient_cli.specs.Command.{longest_script};
 
 #[cfg(test)]
 mod tests;
@@ -39,8 +40,8 @@ pub enum ScriptFault {
     /// The first line, counted from 1, that is not in the grammar.
     #[error("line {0} is not in the grammar of scripts")]
     Line(u32),
-    /// There was no memory.
-    #[error("no memory")]
+    /// It is out of memory.
+    #[error("out of memory")]
     NoMemory,
 }
 
@@ -57,9 +58,9 @@ impl From<NoMemory> for ScriptFault {
 
 /// The endpoint that `H:P` names.
 fn endpoint_of(text: &str) -> Option<Endpoint>
-    ensures text { IfSome result (λ e. text.now ≡ endpoint_text e) }
+    ensures ok { IfSome result (λ e. text.now ≡ endpoint_text e) }
     ensures bounds { IfSome result IsScriptEndpoint }
-    ensures found { (e : Endpoint) → IsScriptEndpoint e → text.now ≡ endpoint_text e → result ≡ Some e }
+    ensures complete { (e : Endpoint) → IsScriptEndpoint e → text.now ≡ endpoint_text e → result ≡ Some e }
 {
     let (host, port) = text.split_once(':')?;
     let host = parse_decimal(host, u64::from(u32::MAX))?;
@@ -70,7 +71,7 @@ fn endpoint_of(text: &str) -> Option<Endpoint>
     })
 }
 
-/// An upper-case letter stands in a text; `hex::decode` takes those, and the grammar does not.
+/// A text has an upper-case letter; `hex::decode` takes those, and the grammar does not.
 fn has_upper_case(text: &str) -> bool
     ensures { result ≡ list_any is_ascii_uppercase text.now }
 {
@@ -79,10 +80,10 @@ fn has_upper_case(text: &str) -> bool
 
 /// The bytes that HEX writes: at least two lower-case digits, or `-` for none.
 fn bytes_of(alloc: Global, text: &str) -> Result<Option<Bytes>, NoMemory>
-    ensures text { IfOk result (λ o. IfSome o (λ bytes. text.now ≡ hex_text bytes)) }
+    ensures ok { IfOk result (λ o. IfSome o (λ bytes. text.now ≡ hex_text bytes)) }
     ensures bounds { IfOk result (λ o.
         IfSome o (λ bytes. (length bytes ≤ MOST_BYTES) × All (λ b. b < 256) bytes)) }
-    ensures found { (bytes : List ℕ) → length bytes ≤ MOST_BYTES → All (λ b. b < 256) bytes
+    ensures complete { (bytes : List ℕ) → length bytes ≤ MOST_BYTES → All (λ b. b < 256) bytes
         → text.now ≡ hex_text bytes → IfOk result (λ o. o ≡ Some bytes) }
 {
     if text == "-" {
@@ -102,10 +103,10 @@ fn bytes_of(alloc: Global, text: &str) -> Result<Option<Bytes>, NoMemory>
 
 /// The datagram that `data H:P HEX` says: from where it came, and its bytes.
 fn datagram_of(alloc: Global, text: &str) -> Result<Option<(Endpoint, Bytes)>, NoMemory>
-    ensures text { IfOk result (λ o. IfSome o (λ d. text.now ≡ datagram_text d.0 d.1)) }
+    ensures ok { IfOk result (λ o. IfSome o (λ d. text.now ≡ datagram_text d.0 d.1)) }
     ensures bounds { IfOk result (λ o.
         IfSome o (λ d. IsScriptEndpoint d.0 × (length d.1 ≤ MOST_BYTES) × All (λ b. b < 256) d.1)) }
-    ensures found { (from : Endpoint) (bytes : List ℕ) → IsScriptEndpoint from
+    ensures complete { (from : Endpoint) (bytes : List ℕ) → IsScriptEndpoint from
         → length bytes ≤ MOST_BYTES → All (λ b. b < 256) bytes → text.now ≡ datagram_text from bytes
         → IfOk result (λ o. o ≡ Some (from, bytes)) }
 {
@@ -124,11 +125,11 @@ fn datagram_of(alloc: Global, text: &str) -> Result<Option<(Endpoint, Bytes)>, N
     Ok(Some((from, bytes)))
 }
 
-/// The moment at the front of a line, and what stands behind the blank that follows it.
+/// The moment that a line begins with, and what follows the blank after it.
 fn moment_of(line: &[u8]) -> Option<(u64, &str)>
-    ensures text { IfSome result (λ r. line.now ≡ decimal r.0 ++ codes " " ++ r.1.now) }
+    ensures ok { IfSome result (λ r. line.now ≡ decimal r.0 ++ codes " " ++ r.1.now) }
     ensures bound { IfSome result (λ r. r.0 ≤ LATEST_MOMENT) }
-    ensures found { (moment : ℕ) (what : List ℕ) → moment ≤ LATEST_MOMENT → IsUtf8 line.now
+    ensures complete { (moment : ℕ) (what : List ℕ) → moment ≤ LATEST_MOMENT → IsUtf8 line.now
         → line.now ≡ decimal moment ++ codes " " ++ what
         → IsSomeAnd result (λ r. (r.0 ≡ moment) × (r.1.now ≡ what)) }
 {
@@ -136,11 +137,11 @@ fn moment_of(line: &[u8]) -> Option<(u64, &str)>
     Some((parse_decimal(moment, LATEST_MOMENT)?, what))
 }
 
-/// The event of a line, which stands here without its line feed.
+/// The event of a line, which is given without its line feed.
 fn event_of(alloc: Global, line: &[u8]) -> Result<Option<EventWithBytes>, NoMemory>
-    ensures text { IfOk result (λ o. IfSome o (λ e. line.now ++ codes "\n" ≡ line_text e)) }
+    ensures ok { IfOk result (λ o. IfSome o (λ e. line.now ++ codes "\n" ≡ line_text e)) }
     ensures bounds { IfOk result (λ o. IfSome o IsScriptEvent) }
-    ensures found { (e : EventWithBytes) → IsScriptEvent e → line.now ++ codes "\n" ≡ line_text e
+    ensures complete { (e : EventWithBytes) → IsScriptEvent e → line.now ++ codes "\n" ≡ line_text e
         → IfOk result (λ o. o ≡ Some e) }
 {
     let Some((moment, what)) = moment_of(line) else {
@@ -181,13 +182,13 @@ impl Model for Script {
 }
 
 impl Script {
-    /// Reads a script of at most 16 MiB. Nothing behind the first line that is not in the grammar is read.
+    /// Reads a script of at most 16 MiB. Nothing after the first line that is not in the grammar is read.
     pub fn read(alloc: Global, bytes: &[u8]) -> Result<Script, ScriptFault>
-        requires { length bytes.now ≤ 16777216 }
-        ensures found { IfOk result (λ s. IsScript bytes.now s) }
-        ensures only { (events : List EventWithBytes) → IsScript bytes.now events
+        requires { length bytes.now ≤ longest_script }
+        ensures ok { IfOk result (λ s. IsScript bytes.now s) }
+        ensures complete { (events : List EventWithBytes) → IsScript bytes.now events
             → MatchResult result (λ s. s ≡ events) (λ e. e ≡ ScriptFault.NoMemory) }
-        ensures line { (n : ℕ) → result ≡ Err (ScriptFault.Line n) → IsFirstBadLine bytes.now n }
+        ensures fault { (n : ℕ) → result ≡ Err (ScriptFault.Line n) → IsFirstBadLine bytes.now n }
     {
         let mut events = Events::new(alloc);
         let mut rest = bytes;

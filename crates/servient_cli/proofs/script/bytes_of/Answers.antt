@@ -13,8 +13,8 @@ use Rattle.servient_cli.proofs.script.bytes_of.Goals.{then-is_empty-via-then-is_
 dash : (text : List ℕ) (r : Bool) → r ≡ bytes_eq text (codes "-") → Decides r (text ≡ codes "-")
 dash text r is = slice_eq-Decides Decides-eqb text (codes "-") r is
 
-pub returns-then-eq-clause-found : goal.returns-then-eq-clause-found
-returns-then-eq-clause-found c =
+pub returns-then-eq-clause-complete : goal.returns-then-eq-clause-complete
+returns-then-eq-clause-complete c =
     λ bytes few each is.
     let is_dash = (dash c.args.text.now c.eq.result c.eq.ensures).0 c.if-eq.true in
     elim (hex_text_cases bytes c.args.text.now each is) [
@@ -22,8 +22,8 @@ returns-then-eq-clause-found c =
       | inr digits ↦ absurd (omega (arith, digits.size, ap length is_dash))
     ]
 
-pub returns-then-is_empty-clause-found : goal.returns-then-is_empty-clause-found
-returns-then-is_empty-clause-found c =
+pub returns-then-is_empty-clause-complete : goal.returns-then-is_empty-clause-complete
+returns-then-is_empty-clause-complete c =
     λ bytes few each is.
     elim (hex_text_cases bytes c.args.text.now each is) [
       | inl none ↦
@@ -40,8 +40,8 @@ returns-then-is_empty-clause-found c =
           ]
     ]
 
-pub returns-in-Ok-clause-text : goal.returns-in-Ok-clause-text
-returns-in-Ok-clause-text c =
+pub returns-in-Ok-clause-ok : goal.returns-in-Ok-clause-ok
+returns-in-Ok-clause-ok c =
     let some : 0 < length c.args.text.now = grind (arith, nat_tests, c.is_empty.ensures, c.if-is_empty.false) in
     let lower : list_any is_ascii_uppercase c.args.text.now ≡ false = sym c.has_upper_case.ensures ∙ c.if-has_upper_case.false in
     rw c.from_vec.ensures (hex_text-decoded c.args.text.now c.in-Ok.bytes.items c.in-Ok.ensures.ok lower some)
@@ -51,8 +51,8 @@ returns-in-Ok-clause-bounds c =
     let bounds = decoded_bounds c.args.text.now c.in-Ok.bytes.items c.in-Ok.ensures.ok in
     rw c.from_vec.ensures (omega (arith, bounds.0, c.if-text.false), bounds.1)
 
-pub returns-in-Ok-clause-found : goal.returns-in-Ok-clause-found
-returns-in-Ok-clause-found c =
+pub returns-in-Ok-clause-complete : goal.returns-in-Ok-clause-complete
+returns-in-Ok-clause-complete c =
     λ bytes few each is.
     elim (hex_text_cases bytes c.args.text.now each is) [
       | inl none ↦
@@ -63,9 +63,9 @@ returns-in-Ok-clause-found c =
 
 pub returns-in_default : goal.returns-in_default
 returns-in_default c = record {
-  text = tt;
+  ok = tt;
   bounds = tt;
-  found =
+  complete =
       λ bytes few each is.
       elim (hex_text_cases bytes c.args.text.now each is) [
         | inl none ↦

@@ -25,29 +25,29 @@ event_is e from f m n b what moment same_from count bytes =
     rw (moment, same_from, count, bytes)
     (ap (λ (w : What). Some (made e.event.moment w e.bytes)) (sym what))
 
-pub returns-in_default-clause-found : goal.returns-in_default-clause-found
-returns-in_default-clause-found c = λ e is text.
+pub returns-in_default-clause-complete : goal.returns-in_default-clause-complete
+returns-in_default-clause-complete c = λ e is text.
     let line = line_is_datagram e c.args.line.now is text in
     let what = datagram_text line.from e.bytes in
-    let read = c.moment_of.ensures.found e.event.moment what (omega (arith, line.moment)) line.utf8 line.text in
+    let read = c.moment_of.ensures.complete e.event.moment what (omega (arith, line.moment)) line.utf8 line.text in
     absurd (rw c.in_default.is at read)
 
-pub returns-in_default-2-clause-found : goal.returns-in_default-2-clause-found
-returns-in_default-2-clause-found c = λ e is text.
+pub returns-in_default-2-clause-complete : goal.returns-in_default-2-clause-complete
+returns-in_default-2-clause-complete c = λ e is text.
     let line = line_is_datagram e c.args.line.now is text in
     let what = datagram_text line.from e.bytes in
-    let read = c.moment_of.ensures.found e.event.moment what (omega (arith, line.moment)) line.utf8 line.text in
+    let read = c.moment_of.ensures.complete e.event.moment what (omega (arith, line.moment)) line.utf8 line.text in
     let parts = rw c.in-Some.is at read in
-    let datagram = c.in_ok-from.ensures.found line.from e.bytes line.bounds (omega (arith, line.few)) line.each parts.1 in
+    let datagram = c.in_ok-from.ensures.complete line.from e.bytes line.bounds (omega (arith, line.few)) line.each parts.1 in
     cc (datagram, c.in_default-2.is)
 
-pub returns-clause-found : goal.returns-clause-found
-returns-clause-found c = λ e is text.
+pub returns-clause-complete : goal.returns-clause-complete
+returns-clause-complete c = λ e is text.
     let line = line_is_datagram e c.args.line.now is text in
     let what = datagram_text line.from e.bytes in
-    let read = c.moment_of.ensures.found e.event.moment what (omega (arith, line.moment)) line.utf8 line.text in
+    let read = c.moment_of.ensures.complete e.event.moment what (omega (arith, line.moment)) line.utf8 line.text in
     let parts = rw c.in-Some.is at read in
-    let datagram = c.in_ok-from.ensures.found line.from e.bytes line.bounds (omega (arith, line.few)) line.each parts.1 in
+    let datagram = c.in_ok-from.ensures.complete line.from e.bytes line.bounds (omega (arith, line.few)) line.each parts.1 in
     let same = both c.in-Some-2.from line.from c.in-Some-2.bytes e.bytes c.in_ok-from.field-0 datagram c.in-Some-2.is in
     event_is e line.from c.in-Some-2.from c.in-Some.moment c.len.result c.in-Some-2.bytes line.what parts.0 same.0
     (c.len.ensures ∙ ap length same.1) same.1

@@ -26,34 +26,34 @@ not_empty rest r is differs none =
     let size : length rest ≡ 0 = ap length none in
     grind (arith, nat_tests)
 
-pub returns-in_default-clause-only : goal.returns-in_default-clause-only
-returns-in_default-clause-only c = λ events is.
+pub returns-in_default-clause-complete : goal.returns-in_default-clause-complete
+returns-in_default-clause-complete c = λ events is.
     let some = not_empty c.lines.rest.now c.is_empty.result c.is_empty.ensures c.lines-test.true in
     let bad = bad_without_line_feed c.lines.rest.now c.in_default.ensures in
     absurd (no_script c.args.bytes.now c.lines.events c.lines.rest.now c.lines.invariant some bad events is)
 
-pub returns-in_default-clause-line : goal.returns-in_default-clause-line
-returns-in_default-clause-line c = λ n is.
+pub returns-in_default-clause-fault : goal.returns-in_default-clause-fault
+returns-in_default-clause-fault c = λ n is.
     let some = not_empty c.lines.rest.now c.is_empty.result c.is_empty.ensures c.lines-test.true in
     let bad = bad_without_line_feed c.lines.rest.now c.in_default.ensures in
     let number : c.len.result + 1 ≡ n = cc is in
     first_bad_line c.args.bytes.now c.lines.events c.lines.rest.now n c.lines.invariant some bad
     (omega (arith, number, c.len.ensures))
 
-pub returns-in_default-2-clause-only : goal.returns-in_default-2-clause-only
-returns-in_default-2-clause-only c = λ events is.
+pub returns-in_default-2-clause-complete : goal.returns-in_default-2-clause-complete
+returns-in_default-2-clause-complete c = λ events is.
     let some = not_empty c.lines.rest.now c.is_empty.result c.is_empty.ensures c.lines-test.true in
     let bad =
     bad_line c.lines.rest.now c.in-Some.line.now c.in-Some.more.now c.in-Some.ensures.0 c.in-Some.ensures.1
-    (λ e is_event text. c.in_default-2.not-Some e (c.in_ok-event.ensures.found e is_event text)) in
+    (λ e is_event text. c.in_default-2.not-Some e (c.in_ok-event.ensures.complete e is_event text)) in
     absurd (no_script c.args.bytes.now c.lines.events c.lines.rest.now c.lines.invariant some bad events is)
 
-pub returns-in_default-2-clause-line : goal.returns-in_default-2-clause-line
-returns-in_default-2-clause-line c = λ n is.
+pub returns-in_default-2-clause-fault : goal.returns-in_default-2-clause-fault
+returns-in_default-2-clause-fault c = λ n is.
     let some = not_empty c.lines.rest.now c.is_empty.result c.is_empty.ensures c.lines-test.true in
     let bad =
     bad_line c.lines.rest.now c.in-Some.line.now c.in-Some.more.now c.in-Some.ensures.0 c.in-Some.ensures.1
-    (λ e is_event text. c.in_default-2.not-Some e (c.in_ok-event.ensures.found e is_event text)) in
+    (λ e is_event text. c.in_default-2.not-Some e (c.in_ok-event.ensures.complete e is_event text)) in
     let number : c.len.result + 1 ≡ n = cc is in
     first_bad_line c.args.bytes.now c.lines.events c.lines.rest.now n c.lines.invariant some bad
     (omega (arith, number, c.len.ensures))
@@ -64,16 +64,16 @@ lines-preserved c =
     let pushed : c.push.new.self ≡ c.lines.events ++ c.in-Some-2.event ∷ [] = c.in_ok-push.ensures.ok in
     rw pushed (
     read_more c.args.bytes.now c.in-Some.line.now c.in-Some.more.now c.lines.events c.in-Some-2.event c.lines.rest.now
-    c.lines.invariant c.in-Some.ensures.0 c.in-Some.ensures.1 read.text read.bounds
-    (λ x is text. let same = read.found x is text in cc same)
+    c.lines.invariant c.in-Some.ensures.0 c.in-Some.ensures.1 read.ok read.bounds
+    (λ x is text. let same = read.complete x is text in cc same)
     )
 
-pub returns-clause-found : goal.returns-clause-found
-returns-clause-found c =
+pub returns-clause-ok : goal.returns-clause-ok
+returns-clause-ok c =
     let none = empty c.lines.rest.now c.is_empty.result c.is_empty.ensures c.lines-test.false in
     all_read c.args.bytes.now c.lines.events c.lines.rest.now c.lines.invariant none
 
-pub returns-clause-only : goal.returns-clause-only
-returns-clause-only c =
+pub returns-clause-complete : goal.returns-clause-complete
+returns-clause-complete c =
     let none = empty c.lines.rest.now c.is_empty.result c.is_empty.ensures c.lines-test.false in
     only_read c.args.bytes.now c.lines.events c.lines.rest.now c.lines.invariant none

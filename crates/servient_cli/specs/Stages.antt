@@ -1,0 +1,82 @@
+-- Stages of a command: each goes on with a value, or ends the command with a status. What is seen of a stage is a list
+-- of what it reads, calls and writes, in order, and a command is one stage after another.
+use Rattle.std.specs.Prelude.{◌≡◌, ℕ, List, [], ◌∷◌, ◌++◌, Option}
+use Rattle.thing_handler.specs.Handler.{Seen}
+use Rattle.thing_handler.specs.Turns.{HandlerCall, RackShows}
+use Rattle.servient_edge.specs.declared.files.HeldFile.{HeldFile}
+use Rattle.servient_edge.specs.declared.files.FileRead.{FileRead}
+use Rattle.servient_edge.specs.Told.{Continues}
+use Rattle.servient_cli.specs.Lines.{memory_line}
+
+-- One thing that a command does.
+pub data Deed : Type 0 where
+  -- a file was read
+  did_read : FileRead → Deed
+  -- a device handler was called
+  did_call : HandlerCall → Deed
+  -- a text was written
+  did_write : List ℕ → Deed
+
+-- the reads among some deeds, in order
+abbrev pub reads_in : List Deed → List FileRead
+reads_in [] = []
+reads_in (did_read file ∷ seen) = file ∷ reads_in seen
+reads_in (did_call call ∷ seen) = reads_in seen
+reads_in (did_write text ∷ seen) = reads_in seen
+
+-- the calls of handlers among them, in order
+abbrev pub handler_calls_in : List Deed → List HandlerCall
+handler_calls_in [] = []
+handler_calls_in (did_read file ∷ seen) = handler_calls_in seen
+handler_calls_in (did_call call ∷ seen) = call ∷ handler_calls_in seen
+handler_calls_in (did_write text ∷ seen) = handler_calls_in seen
+
+-- all that was written, one text after another
+abbrev pub text_in : List Deed → List ℕ
+text_in [] = []
+text_in (did_read file ∷ seen) = text_in seen
+text_in (did_call call ∷ seen) = text_in seen
+text_in (did_write text ∷ seen) = text ++ text_in seen
+
+-- How a stage comes out.
+pub data Outcome (A : Type 0) : Type 0 where
+  goes_on : A → Outcome A
+  ends : ℕ → Outcome A
+
+-- these are the deeds, then this line is written, and the command ends with this status
+abbrev pub EndsWith : {A : Type 0} → List Deed → ℕ → List ℕ → List Deed → Outcome A → Type 0
+EndsWith before status line seen o = (seen ≡ before ++ did_write line ∷ []) × (o ≡ ends status)
+
+-- there was no memory after these deeds
+abbrev pub RunsOut : {A : Type 0} → List Deed → List Deed → Outcome A → Type 0
+RunsOut before seen o = EndsWith before 9 memory_line seen o
+
+-- One stage, and where it goes on the next, which takes its value.
+pub data AndThen {A B : Type 0} (P : List Deed → Outcome A → Type 0) (Q : A → List Deed → Outcome B → Type 0) (seen : List Deed) (o : Outcome B) : Type 0 where
+  ends_first : (status : ℕ) → P seen (ends status) → o ≡ ends status → AndThen P Q seen o
+  goes_further : (value : A) (first second : List Deed) → P first (goes_on value) → Q value second o → seen ≡ first ++ second → AndThen P Q seen o
+
+-- ---- what the outside shows of them
+
+-- What is known of the files at one time: what they hold and which reads were made, where they tell it, and how often a
+-- read failed.
+pub record FilesSeen : Type 0 where
+  pub held : Option (List HeldFile)
+  pub reads : Option (List FileRead)
+  pub faults : ℕ
+
+abbrev pub files_seen : Option (List HeldFile) → Option (List FileRead) → ℕ → FilesSeen
+files_seen held reads faults = record { held = held; reads = reads; faults = faults }
+
+-- What is known at one time of the files and of the handlers, in the order of their slots.
+pub record Around : Type 0 where
+  pub files : FilesSeen
+  pub slots : List Seen
+
+abbrev pub around : FilesSeen → List Seen → Around
+around files slots = record { files = files; slots = slots }
+
+-- From one time to another the files show these reads, and the handlers these calls, and no others.
+pub record ShowsDeeds (before now : Around) (seen : List Deed) : Type 0 where
+  pub reads : Continues before.files.reads now.files.reads (reads_in seen)
+  pub slots : RackShows before.slots now.slots (handler_calls_in seen)

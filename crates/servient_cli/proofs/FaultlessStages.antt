@@ -15,8 +15,11 @@ use Rattle.servient_edge.specs.Ending.{with_stop}
 use Rattle.servient_cli.specs.declared.command.Task.{Task}
 use Rattle.servient_cli.specs.declared.command.Task.TheVariants.{Replay, Check}
 use Rattle.servient_cli.specs.Script.{IsScript}
-use Rattle.servient_cli.specs.Stages.{Deed, Outcome, goes_on, ends, AndThen, ends_first, goes_further, FilesSeen}
-use Rattle.servient_cli.specs.Command.{IsCommand, IsFaultless, IsFaultlessFile, IsReported, ReadsFile, is_read, is_absent, is_unreadable, is_long, found_no_memory, ReadsScript, is_script, is_no_script, script_memory, RunsScript, is_whole, is_spent, run_memory, ReadsTree, is_tree, has_no_tree, tree_memory, Judges, is_valid, is_refused, judge_memory, TaskOn, Does, Commands, is_no_command, is_command, event_budget, limit_of, word_of}
+use Rattle.servient_cli.specs.Stages.{Deed, Outcome, goes_on, ends, AndThen, ends_first, goes_further, FilesSeen, Around, did_write}
+use Rattle.servient_cli.specs.Lines.{usage_line}
+use Rattle.servient_cli.specs.Ending.{ComesOut}
+use Rattle.servient_cli.proofs.StageLaws.{line_alone, shows_wrote}
+use Rattle.servient_cli.specs.Command.{IsCommand, IsFaultless, IsFaultlessFile, IsReported, OutSeen, Ends, ReadsFile, is_read, is_absent, is_unreadable, is_long, found_no_memory, ReadsScript, is_script, is_no_script, script_memory, RunsScript, is_whole, is_spent, run_memory, ReadsTree, is_tree, has_no_tree, tree_memory, Judges, is_valid, is_refused, judge_memory, TaskOn, Does, Commands, is_no_command, is_command, event_budget, limit_of, word_of}
 
 abbrev first : List (List ℕ) → List ℕ
 first [] = []
@@ -135,13 +138,33 @@ command_well before now words seen o fine kept (is_command task name is stage) =
     (λ s r p. read_well before now task name fine.content fine.files s r fine.told (ap (content_of fine.files) n ∙ fine.holds) (subst (λ (x : Task). length fine.content ≤ limit_of x) (sym t) fine.short) kept p)
     (λ c same s p. task_well task name c s o (subst (λ (x : Task). IsFaultlessFile x c) (sym t) (subst (λ (x : List ℕ). IsFaultlessFile fine.task x) (sym same) fine.faultless)) p) stage
 
--- and so is the whole call, where the output didn't fail
-pub faultless_ends : (before now : FilesSeen) (words : List (List ℕ)) (seen : List Deed) (status : ℕ) (text : List ℕ) (written written_now : Option (List ℕ)) (faults faults_now result : ℕ) → IsFaultless words before.held → ¬ (Rose before.faults now.faults) → ¬ (Rose faults faults_now)
-    → Commands before now words seen (ends status) → IsReported status text written written_now faults faults_now result → (result ≡ 0) ⊎ (result ≡ 9)
-faultless_ends before now words seen status text written written_now faults faults_now result fine kept put command reported = elim reported [
-  | inl done ↦ elim (command_well before now words seen (ends status) fine kept command) [
-    | inl well ↦ inl (done.0 ∙ same_status status 0 well)
-    | inr nine ↦ inr (done.0 ∙ same_status status 9 nine)
+-- the whole call, from the command that came out and what was reported of it
+pub call_ends : (words : List (List ℕ)) (before now : Around) (out out_now : OutSeen) (task : Task) (name text shown : List ℕ) (status result : ℕ) → IsCommand words task name → ComesOut (Does before.files now.files task name) before now (ends status) text
+    → shown ≡ text → IsReported status shown out.written out_now.written out.faults out_now.faults result → Ends words before now out out_now result
+call_ends words before now out out_now task name text shown status result command comes is reported = record {
+  seen = comes.seen;
+  status = status;
+  command = is_command task name command comes.stage;
+  shows = comes.shows;
+  reported = subst (λ (t : List ℕ). IsReported status t out.written out_now.written out.faults out_now.faults result) (is ∙ sym comes.text_is) reported;
+}
+
+-- words that are no command line
+pub usage_ends : (words : List (List ℕ)) (a : Around) (out out_now : OutSeen) (result : ℕ) → ((task : Task) (name : List ℕ) → ¬ (IsCommand words task name)) → IsReported 2 usage_line out.written out_now.written out.faults out_now.faults result → Ends words a a out out_now result
+usage_ends words a out out_now result none reported = record {
+  seen = did_write usage_line ∷ [];
+  status = 2;
+  command = is_no_command none (refl, refl);
+  shows = shows_wrote a usage_line;
+  reported = subst (λ (t : List ℕ). IsReported 2 t out.written out_now.written out.faults out_now.faults result) (sym (line_alone usage_line)) reported;
+}
+
+-- where nothing is wrong and nothing failed, the whole call ends well
+pub ends_well : (words : List (List ℕ)) (before now : Around) (out out_now : OutSeen) (result : ℕ) → Ends words before now out out_now result → IsFaultless words before.files.held → ¬ (Rose before.files.faults now.files.faults) → ¬ (Rose out.faults out_now.faults) → (result ≡ 0) ⊎ (result ≡ 9)
+ends_well words before now out out_now result e fine kept put = elim e.reported [
+  | inl done ↦ elim (command_well before.files now.files words e.seen (ends e.status) fine kept e.command) [
+    | inl well ↦ inl (done.0 ∙ same_status e.status 0 well)
+    | inr nine ↦ inr (done.0 ∙ same_status e.status 9 nine)
   ]
   | inr failed ↦ absurd (put failed.1)
 ]

@@ -17,13 +17,15 @@ use Rattle.servient_edge.specs.Told.{Continues}
 use Rattle.servient_edge.specs.Ending.{with_stop}
 use Rattle.servient_core.specs.declared.serving.Served.{Served}
 use Rattle.servient_core.specs.declared.serving.Served.TheVariants as served
-use Rattle.servient_core.specs.Trace.{Sighting, happened_in, calls_in}
-use Rattle.servient_core.specs.Machine.{Site, State, Run}
-use Rattle.servient_core.specs.Serving.{HasNoStop, AreTaken, Serves}
+use Rattle.servient_core.specs.Trace.{Sighting, happened_in, calls_in, Outside, Shows}
+use Rattle.servient_base.specs.Moves.{Refines}
+use Rattle.servient_core.specs.Machine.{Site, State, Run, start}
+use Rattle.servient_core.specs.Serving.{Kept, StandsFor, HasNoStop, AreTaken, Serves}
 use Rattle.servient_core.proofs.MachineLaws.{AreOfSlot, run_keeps}
 use Rattle.servient_core.proofs.TraceLaws.{happened_in-append}
 use Rattle.servient_cli.specs.Script.{IsScriptEvent, IsScriptWhat}
 use Rattle.servient_cli.specs.Print.{act_line, turn_line, print_text, in_slot}
+use Rattle.servient_cli.specs.Command.{built_in}
 
 not_stop : (w : What) → IsScriptWhat w → w ≢ what.Stop
 not_stop (what.Datagram from count) is e = absurd cc
@@ -218,3 +220,28 @@ turns_after old new later turns all whole is =
 pub printed : (whole : List ℕ) (shown acts : List Act) (later : List Turn) (turns : List RunTurn) → whole ≡ flat_map act_line shown ++ flat_map turn_line (map (in_slot 0) later) → shown ≡ acts → map (in_slot 0) later ≡ turns → whole ≡ print_text acts turns
 printed whole shown acts later turns is same again =
     is ∙ ap (λ (made : List Act). flat_map act_line made ++ flat_map turn_line (map (in_slot 0) later)) same ∙ ap (λ (ts : List RunTurn). flat_map act_line acts ++ flat_map turn_line ts) again
+
+-- ---- from the clause of serving
+
+at_built_in : (site : Site) → site.slot ≡ 0 → site ≡ built_in
+at_built_in site slot = ap (λ (n : ℕ). placed n) slot
+  where
+    placed : ℕ → Site
+    placed n = record { slot = n }
+
+-- what the run of a script is, where serving began on a network that knows the script
+pub run_of : (events : List EventWithBytes) (budget : ℕ) (result : Served) (site : Site) (kept later : Kept) (w v : Outside) → StandsFor kept start → Refines StandsFor Shows (Serves site budget result) kept later w v → site.slot ≡ 0 → HasNoStop events → w.net.left ≡ Some (with_stop events)
+    → (t : State) × (seen : List Sighting) × IsServed events budget result built_in start t seen × Shows w v seen
+run_of events budget result site kept later w v stands refines slot going known =
+    let made = refines start stands in
+    let serves = subst (λ (x : Site). Serves x budget result start made.2.seen made.0) (at_built_in site slot) made.2.move in
+    (made.0, made.2.seen, serving_is_served events budget result built_in start made.0 made.2.seen w.net.left v.net.left going known made.2.shows.net.left serves, made.2.shows)
+
+-- no event yet
+pub run_none : (events : List EventWithBytes) → Run built_in (take 0 events) start [] start
+run_none [] = record { next = refl; saw = refl }
+run_none (e ∷ events) = record { next = refl; saw = refl }
+
+-- the run over the first events
+pub run_first : (events : List EventWithBytes) (budget : ℕ) (result : Served) (t : State) (seen : List Sighting) → (r : IsServed events budget result built_in start t seen) → Run built_in (take (length r.took) (with_stop events)) start seen t
+run_first events budget result t seen r = subst (λ (es : List EventWithBytes). Run built_in es start seen t) r.first r.run

@@ -36,7 +36,7 @@ text_in-append (did_write text ∷ a) b =
     ap (λ (more : List ℕ). text ++ more) (text_in-append a b) ∙ sym (append_assoc text (text_in a) (text_in b))
 
 -- a line alone is all that is written
-line_alone : (line : List ℕ) → text_in (did_write line ∷ []) ≡ line
+pub line_alone : (line : List ℕ) → text_in (did_write line ∷ []) ≡ line
 line_alone line = append-nil line
 
 -- what is shown where only a text was written, and where nothing was done
@@ -195,3 +195,10 @@ calls_end_twice P files before now calls status print line text shows is stage =
           ∙ ap (λ (more : List ℕ). more ++ text_in (did_write line ∷ [])) (text_in-append (map (λ call. did_call call) calls) (did_write print ∷ []) ∙ ap (λ (more : List ℕ). more ++ text_in (did_write print ∷ [])) (no_text calls) ∙ line_alone print)
           ∙ ap (λ (more : List ℕ). print ++ more) (line_alone line) ∙ sym is;
     }
+
+-- the same of a result, which is out of memory where there is no ending
+pub calls_finish_twice : (P : List Deed → Outcome (Unit {0}) → Type 0) (files : FilesSeen) (before now : List Seen) (calls : List HandlerCall) (r : Result Ending AllocError) (status : ℕ) (print line : List ℕ) → RackShows before now calls → IfOk r (λ e. (e.status ≡ status) × (e.text ≡ print ++ line))
+    → P ((map (λ call. did_call call) calls ++ did_write print ∷ []) ++ did_write line ∷ []) (ends status) → P (map (λ call. did_call call) calls ++ did_write memory_line ∷ []) (ends 9) → Finishes P (around files before) (around files now) r
+calls_finish_twice P files before now calls (Ok ending) status print line shows is stage memory =
+    subst (λ (n : ℕ). ComesOut P (around files before) (around files now) (ends n) ending.text) (sym is.0) (calls_end_twice P files before now calls status print line ending.text shows is.1 stage)
+calls_finish_twice P files before now calls (Err none) status print line shows is stage memory = calls_end P files before now calls 9 memory_line memory_line shows refl memory

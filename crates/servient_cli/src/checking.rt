@@ -5,7 +5,7 @@ ghost use Rattle.servient_cli.specs.Stages.{Around};
 ghost use Rattle.servient_cli.specs.Command.{Judges, ReadsTree, TaskOn};
 ghost use Rattle.servient_cli.specs.Ending.{EndsBy, Finishes, Performs};
 
-use crate::ending::{Ended, Ending, ended};
+use crate::ending::{Ended, Ending, end_with};
 use std::alloc::{AllocError, Global};
 use wot_json::{NoMemory, ReadFault, Tree, read};
 use wot_terms::{CheckFault, check};
@@ -24,10 +24,10 @@ fn read_tree(alloc: Global, name: &str, content: &[u8]) -> Result<Tree, Ended>
 {
     match read(alloc, content) {
         Ok(tree) => Ok(tree),
-        Err(ReadFault::NotJson) => Err(ended(Ending::input(alloc, name, "json"))),
-        Err(ReadFault::TooDeep) => Err(ended(Ending::input(alloc, name, "deep"))),
+        Err(ReadFault::NotJson) => Err(end_with(Ending::input(alloc, name, "json"))),
+        Err(ReadFault::TooDeep) => Err(end_with(Ending::input(alloc, name, "deep"))),
         Err(ReadFault::NotInteger(place)) => {
-            Err(ended(Ending::number(alloc, name, place.as_str())))
+            Err(end_with(Ending::number(alloc, name, place.as_str())))
         }
         Err(ReadFault::NoMemory) => Err(Ended::NoMemory),
     }

@@ -38,7 +38,7 @@ impl From<NoMemory> for Ended {
 }
 
 /// How a command ends that is to end so, where there was memory for its text.
-pub fn ended(ending: Result<Ending, NoMemory>) -> Ended
+pub fn end_with(ending: Result<Ending, NoMemory>) -> Ended
     ensures { MatchResult ending (λ e. result ≡ Ended.With e) (λ _. result ≡ Ended.NoMemory) }
 {
     match ending {

@@ -10,7 +10,7 @@ ghost use Rattle.servient_cli.specs.Stages.{Around, FilesSeen, around};
 ghost use Rattle.servient_cli.specs.Command.{ReadsScript, RunsScript, TaskOn, longest_script};
 ghost use Rattle.servient_cli.specs.Ending.{EndsBy, Finishes, Performs};
 
-use crate::ending::{Ended, Ending, ended};
+use crate::ending::{Ended, Ending, end_with};
 use crate::print::{put_acts, put_turns};
 use crate::script::{Script, ScriptFault};
 use servient_core::{Served, Servient, serve};
@@ -52,7 +52,7 @@ fn read_script(alloc: Global, name: &str, content: &[u8]) -> Result<Events, Ende
 {
     match Script::read(alloc, content) {
         Ok(script) => Ok(script.into_events()),
-        Err(ScriptFault::Line(line)) => Err(ended(Ending::bad_line(alloc, name, line))),
+        Err(ScriptFault::Line(line)) => Err(end_with(Ending::bad_line(alloc, name, line))),
         Err(ScriptFault::NoMemory) => Err(Ended::NoMemory),
     }
 }

@@ -48,13 +48,17 @@ refines_each_none StandsFor Shows order Move c w = refines_stays StandsFor Shows
 pub each_more : {S X A : Type 0} (Move : A → S → List X → S → Type 0) (xs : List A) (y : A) (s m t : S) (a b : List X)
     → Each Move xs s a m → Move y m b t → Each Move (xs ++ y ∷ []) s (a ++ b) t
 each_more {S} {X} Move [] y s m t a b each one = record {
-  mid = t; first = b; second = [];
+  mid = t;
+  first = b;
+  second = [];
   one = subst (λ (u : S). Move y u b t) each.next one;
   other = record { next = refl; saw = refl };
   whole = subst (λ (c : List X). c ++ b ≡ b ++ []) (sym each.saw) (sym (append-nil b));
 }
 each_more {S} {X} Move (x ∷ xs) y s m t a b each one = record {
-  mid = each.mid; first = each.first; second = each.second ++ b;
+  mid = each.mid;
+  first = each.first;
+  second = each.second ++ b;
   one = each.one;
   other = each_more Move xs y each.mid m t each.second b each.other one;
   whole = subst (λ (c : List X). c ++ b ≡ each.first ++ (each.second ++ b)) (sym each.whole) (append_assoc each.first each.second b);
@@ -65,12 +69,15 @@ pub refines_each_more : {C S X W A : Type 0} (StandsFor : C → S → Type 0) (S
     → Refines StandsFor Shows (Each Move xs) c d w v → Refines StandsFor Shows (Move y) d e v x → Refines StandsFor Shows (Each Move (xs ++ y ∷ [])) c e w x
 refines_each_more StandsFor Shows order Move xs y c d e w v x p q = λ s stands.
     let a = p s stands in
-    let b = q a.0 a.1 in
-    (b.0, b.1, record {
-      seen = a.2.seen ++ b.2.seen;
-      move = each_more Move xs y s a.0 b.0 a.2.seen b.2.seen a.2.move b.2.move;
-      shows = order.more w v x a.2.seen b.2.seen a.2.shows b.2.shows;
-    })
+    let b = q a.0 a.1 in (
+      b.0,
+      b.1,
+      record {
+        seen = a.2.seen ++ b.2.seen;
+        move = each_more Move xs y s a.0 b.0 a.2.seen b.2.seen a.2.move b.2.move;
+        shows = order.more w v x a.2.seen b.2.seen a.2.shows b.2.shows;
+      },
+    )
 
 -- a loop until nothing is left: it is done
 pub refines_is_done : {C S X W : Type 0} (StandsFor : C → S → Type 0) (Shows : W → W → List X → Type 0) → ShowsInOrder Shows → (P : S → List X → S → Type 0) (IsDone : S → Type 0) (c : C) (w : W)

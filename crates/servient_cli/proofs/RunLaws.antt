@@ -146,8 +146,8 @@ never_failed events budget site s t seen left now known leaves serves =
     let both = serves.run in
     let k = run_keeps site serves.took s both.first both.mid both.one in
     let broken : Leaves (happened_in both.first ++ broke next_event ∷ []) (Some (with_stop events)) now =
-        subst (λ (h : List Happening). Leaves h (Some (with_stop events)) now) (ap happened_in both.whole ∙ happened_in-append both.first both.second ∙ ap (λ (z : List Sighting). happened_in both.first ++ happened_in z) both.other.saw)
-        (subst (λ (o : Option (List EventWithBytes)). Leaves (happened_in seen) o now) known leaves) in
+    subst (λ (h : List Happening). Leaves h (Some (with_stop events)) now) (ap happened_in both.whole ∙ happened_in-append both.first both.second ∙ ap (λ (z : List Sighting). happened_in both.first ++ happened_in z) both.other.saw)
+    (subst (λ (o : Option (List EventWithBytes)). Leaves (happened_in seen) o now) known leaves) in
     let next : AreNext (with_stop events) serves.took = subst (λ (es : List EventWithBytes). AreNext (with_stop events) es) k.hears (before_break (happened_in both.first) next_event (with_stop events) now broken) in
     breaks_after (happened_in both.first) next_event (with_stop events) now broken k.unbroken
     (omega (arith, ap (λ (es : List EventWithBytes). length es) k.hears, never_past events _ serves.took refl serves.taken.0 next))

@@ -34,8 +34,7 @@ pub fn servient_main<F: Files, N: Net, R: Handlers, O: Out>(
 ) -> u8
     requires { 0 < length (R.slots rack.old) }
     // The command of the words ended with a status, and what it wrote and the status were reported.
-    ensures ends {
-        let files_before = files_seen (F.held files.old) (F.reads files.old) (F.faults files.old) in
+    ensures ends { let files_before = files_seen (F.held files.old) (F.reads files.old) (F.faults files.old) in
         let files_now = files_seen (F.held files.new) (F.reads files.new) (F.faults files.new) in
         Ends words.now (around files_before (R.slots rack.old)) (around files_now (R.slots rack.new))
         (out_seen (O.written out.old) (O.faults out.old))
@@ -65,8 +64,7 @@ fn run_command<F: Files, R: Handlers>(
     rack: &mut R,
 ) -> Result<Ending, Ended>
     requires { 0 < length (R.slots rack.old) }
-    ensures {
-        let files_before = files_seen (F.held files.old) (F.reads files.old) (F.faults files.old) in
+    ensures { let files_before = files_seen (F.held files.old) (F.reads files.old) (F.faults files.old) in
         let files_now = files_seen (F.held files.new) (F.reads files.new) (F.faults files.new) in
         EndsBy (Does files_before files_now command.entry.task command.entry.file.now)
         (around files_before (R.slots rack.old)) (around files_now (R.slots rack.new)) result }

@@ -12,9 +12,6 @@ ghost use Rattle.servient_edge.specs.declared.net.EventWithBytes.{EventWithBytes
 ghost use Rattle.servient_cli.specs.Script.{hex_text, endpoint_text, datagram_text, line_text, IsScriptEndpoint, IsScriptEvent, IsScript, IsFirstBadLine};
 ghost use Rattle.servient_cli.specs.Command.{longest_script};
 
-#[cfg(test)]
-mod tests;
-
 use coap_msg::Endpoint;
 use hex::FromHexError;
 use servient_base::parse_decimal;

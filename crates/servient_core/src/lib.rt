@@ -13,9 +13,7 @@ mod reply;
 mod servient;
 mod serving;
 
-pub use laws::{
-    each_stands_for_a_state, failing_is_exact, replies_come_next, turns_are_numbered,
-};
+pub use laws::{each_stands_for_a_state, failing_is_exact, replies_come_next, turns_are_numbered};
 pub use outcome::Outcome;
 pub use servient::Servient;
 pub use servient_edge::{

@@ -1,16 +1,17 @@
 //! Scripts that are read, and the lines that are refused.
 
 ghost use Rattle.std.specs.Prelude.{◌≤◌, length};
+ghost use Rattle.servient_cli.specs.Command.{longest_script};
 
-use super::{Script, ScriptFault};
 use coap_msg::Endpoint;
+use servient_cli::{Script, ScriptFault};
 use servient_edge::{Event, What};
 use std::alloc::{AllocError, Global};
 use std::test::Fail;
 
 /// The line that is refused; none where all are read.
 fn refused(alloc: Global, text: &[u8]) -> Result<Option<u32>, AllocError>
-    requires { length text.now ≤ 16777216 }
+    requires { length text.now ≤ longest_script }
 {
     match Script::read(alloc, text) {
         Ok(_) => Ok(None),
@@ -58,47 +59,49 @@ fn reads_datagrams(rt: HostRuntime) -> Result<(), Fail> {
     Ok(())
 }
 
+/// Scripts, each with the line that is refused, or none.
+const SCRIPTS: [(&[u8], Option<u32>); 33] = [
+    (b"", None),
+    (b"1000000000000000 data 0:0 00\n", None),
+    (b"0 data 1:1 -\n0 data 1:1 -\n", None),
+    (b"\n", Some(1)),
+    (b"0 tick\n", Some(1)),
+    (b"0 stop\n", Some(1)),
+    (b"0 data 1:1 -", Some(1)),
+    (b"0 data 1:1 -\n0 data 1:1 -", Some(2)),
+    (b"0 data 1:1 -\r\n", Some(1)),
+    (b"0 data 1:1 -\n\n", Some(2)),
+    (
+        b"0 data 1:1 -\n0 data 1:1 00\n0 data 1:1\n0 data 1:1 -\n",
+        Some(3),
+    ),
+    (b"0  data 1:1 -\n", Some(1)),
+    (b"0 data  1:1 -\n", Some(1)),
+    (b"0 data 1:1  -\n", Some(1)),
+    (b"0 data 1:1 - \n", Some(1)),
+    (b" 0 data 1:1 -\n", Some(1)),
+    (b"0\tdata 1:1 -\n", Some(1)),
+    (b"00 data 1:1 -\n", Some(1)),
+    (b"+1 data 1:1 -\n", Some(1)),
+    (b"-1 data 1:1 -\n", Some(1)),
+    (b" data 1:1 -\n", Some(1)),
+    (b"1000000000000001 data 1:1 -\n", Some(1)),
+    (b"99999999999999999999 data 1:1 -\n", Some(1)),
+    (b"0 data 4294967296:1 -\n", Some(1)),
+    (b"0 data 1:65536 -\n", Some(1)),
+    (b"0 data 01:1 -\n", Some(1)),
+    (b"0 data 1:+1 -\n", Some(1)),
+    (b"0 data 1 -\n", Some(1)),
+    (b"0 data 1:1 AB\n", Some(1)),
+    (b"0 data 1:1 abc\n", Some(1)),
+    (b"0 data 1:1 \n", Some(1)),
+    (b"0 data 1:1 0g\n", Some(1)),
+    (b"0 data 1:1 \xff\n", Some(1)),
+];
+
 #[test]
 fn refuses_lines(rt: HostRuntime) -> Result<(), Fail> {
-    let rows: [(&[u8], Option<u32>); 33] = [
-        (b"", None),
-        (b"1000000000000000 data 0:0 00\n", None),
-        (b"0 data 1:1 -\n0 data 1:1 -\n", None),
-        (b"\n", Some(1)),
-        (b"0 tick\n", Some(1)),
-        (b"0 stop\n", Some(1)),
-        (b"0 data 1:1 -", Some(1)),
-        (b"0 data 1:1 -\n0 data 1:1 -", Some(2)),
-        (b"0 data 1:1 -\r\n", Some(1)),
-        (b"0 data 1:1 -\n\n", Some(2)),
-        (
-            b"0 data 1:1 -\n0 data 1:1 00\n0 data 1:1\n0 data 1:1 -\n",
-            Some(3),
-        ),
-        (b"0  data 1:1 -\n", Some(1)),
-        (b"0 data  1:1 -\n", Some(1)),
-        (b"0 data 1:1  -\n", Some(1)),
-        (b"0 data 1:1 - \n", Some(1)),
-        (b" 0 data 1:1 -\n", Some(1)),
-        (b"0\tdata 1:1 -\n", Some(1)),
-        (b"00 data 1:1 -\n", Some(1)),
-        (b"+1 data 1:1 -\n", Some(1)),
-        (b"-1 data 1:1 -\n", Some(1)),
-        (b" data 1:1 -\n", Some(1)),
-        (b"1000000000000001 data 1:1 -\n", Some(1)),
-        (b"99999999999999999999 data 1:1 -\n", Some(1)),
-        (b"0 data 4294967296:1 -\n", Some(1)),
-        (b"0 data 1:65536 -\n", Some(1)),
-        (b"0 data 01:1 -\n", Some(1)),
-        (b"0 data 1:+1 -\n", Some(1)),
-        (b"0 data 1 -\n", Some(1)),
-        (b"0 data 1:1 AB\n", Some(1)),
-        (b"0 data 1:1 abc\n", Some(1)),
-        (b"0 data 1:1 \n", Some(1)),
-        (b"0 data 1:1 0g\n", Some(1)),
-        (b"0 data 1:1 \xff\n", Some(1)),
-    ];
-    for (text, line) in rows {
+    for (text, line) in SCRIPTS {
         assert!(rt; text.len() <= 100);
         assert_eq!(rt; refused(rt.alloc(), text)?, line, "{text:?}");
     }
@@ -115,6 +118,22 @@ fn takes_2048_bytes(rt: HostRuntime) -> Result<(), Fail> {
             line,
             "{count} bytes"
         );
+    }
+    Ok(())
+}
+
+#[test]
+fn a_fault_shows_its_line(rt: HostRuntime) -> Result<(), Fail> {
+    let alloc = rt.alloc();
+    let shown = [
+        (
+            ScriptFault::Line(7),
+            "line 7 is not in the grammar of scripts",
+        ),
+        (ScriptFault::NoMemory, "out of memory"),
+    ];
+    for (fault, text) in shown {
+        assert_eq!(rt; format!(in alloc; "{fault}")?.as_str(), text);
     }
     Ok(())
 }

@@ -203,3 +203,10 @@ fn hrefs_as_the_url_standard_joins_them(rt: HostRuntime) -> Result<(), Fail> {
     }
     Ok(())
 }
+
+#[test]
+fn faults_of_hrefs_are_shown(rt: HostRuntime) -> Result<(), Fail> {
+    let shown = format!(in rt.alloc(); "{}; {}", HrefFault::BadHref, HrefFault::NoMemory)?;
+    assert_eq!(rt; shown.as_str(), "the href names no URL; out of memory");
+    Ok(())
+}

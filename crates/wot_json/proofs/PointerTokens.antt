@@ -75,7 +75,3 @@ pub part_found : (at : List ℕ) (whole : Json) (part : Option Json) → IsPoint
     → ((tokens : List (List ℕ)) → at ≡ place_text tokens → part ≡ value_at tokens whole) → part ≡ part_of at whole
 part_found at whole part is found =
     found (tokens_in at) (place_of_tokens at is) ∙ sym (ap (λ (b : Bool). cond b (value_at (tokens_in at) whole) None) (is_pointer-pointer at is))
-
--- at a text that is no pointer there is nothing
-pub no_part : (at : List ℕ) (whole : Json) → ¬ IsPointer at → part_of at whole ≡ None
-no_part at whole other = ap (λ (b : Bool). cond b (value_at (tokens_in at) whole) None) (is_pointer-other at other)

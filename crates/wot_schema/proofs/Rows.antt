@@ -49,7 +49,7 @@ free : {A : Type 0} (m : Option A) → IfSome m (λ _. ⊤)
 free None = tt
 free (Some x) = tt
 
--- whether a value is an integer, a text, a list or an object may be asked before or behind whether a rule is there
+-- whether a value is an integer, a text, a list or an object may be asked before or after whether a rule is there
 integers : {A : Type 0} (v : Json) (m : Option A) (Q : A → ℤ → Type 0) → IfInteger v (λ n. IfSome m (λ x. Q x n)) ↔ IfSome m (λ x. IfInteger v (Q x))
 integers (integer n) m Q = (λ h. h, λ h. h)
 integers v m Q = (λ h. free m, λ h. tt)

@@ -1,4 +1,4 @@
--- The schema that a compiled node stands for: the members that would give its rules.
+-- The schema of a compiled node: the members that would give its rules.
 use Rattle.std.specs.Prelude.{ℕ, pos, List, [], ◌∷◌, Option, Some, None, codes, map}
 use Rattle.std.specs.Option.{option_map}
 use Rattle.wot_json.specs.Tree.{Json, string, integer, array, object, elements_of, members_of}

@@ -1,7 +1,7 @@
 -- Laws of moves: once for every move, whatever it is.
 use Rattle.std.proofs.Common.{◌≡◌, List, [], ◌∷◌, ◌++◌, refl, sym, subst, append_assoc}
 use Rattle.std.proofs.lemmas.List.{append-nil}
-use Rattle.servient_base.specs.Moves.{Becomes, Stays, Then, Passing, Each, Until, is_done, goes_on, ShowsInOrder, Makes, Refines}
+use Rattle.servient_base.specs.Moves.{Stays, Then, Passing, Each, Until, is_done, goes_on, ShowsInOrder, Makes, Refines}
 
 -- The one law by which code that does one thing and then another is proved.
 pub makes_then : {S X W : Type 0} (Shows : W → W → List X → Type 0) → ShowsInOrder Shows → (P Q : S → List X → S → Type 0) (s t u : S) (w v x : W) → Makes Shows P s t w v → Makes Shows Q t u v x → Makes Shows (Then P Q) s u w x

@@ -5,8 +5,8 @@ use crate::resolving::add;
 use std::alloc::Global;
 use std::test::Fail;
 use tm_parts::Library;
-use tm_resolve::{Relation, Resolver};
-use wot_json::text_of;
+use tm_resolve::{Link, Relation, Resolver};
+use wot_json::{Tree, text_of};
 
 /// Models by the last step of their URL, and the members that they have beside `@type`.
 const MODELS: [(&str, &str); 4] = [
@@ -41,6 +41,28 @@ const OPTIONAL: [(&str, &str); 5] = [
     ("absent", "-"),
 ];
 
+/// A link: its index, its target and its instance name.
+fn link_text(alloc: Global, link: &Link) -> Result<String, Fail> {
+    let index = link.index;
+    let target = target_text(link);
+    let instance = value_text(alloc, &link.instance_name)?;
+    Ok(format!(in alloc; "{index} {target} {instance};")?)
+}
+
+fn target_text(link: &Link) -> &str {
+    match &link.target {
+        Some(target) => target.as_str(),
+        None => "-",
+    }
+}
+
+fn value_text(alloc: Global, value: &Option<Tree>) -> Result<String, Fail> {
+    match value {
+        Some(value) => Ok(String::from_utf8(text_of(alloc, value)?.into_vec())?),
+        None => Ok(String::from_str(alloc, "-")?),
+    }
+}
+
 /// The links of the model under a URL that ends in this name.
 fn links_text(
     alloc: Global,
@@ -49,40 +71,41 @@ fn links_text(
     relation: Relation,
 ) -> Result<String, Fail> {
     let url = format!(in alloc; "https://m.example/{name}")?;
+    let links = resolver.links(url.as_str(), relation)?;
     let mut text = String::new(alloc);
-    for link in &resolver.links(url.as_str(), relation)? {
-        let index = link.index;
-        let target = match &link.target {
-            Some(target) => target.as_str(),
-            None => "-",
-        };
-        let instance = match &link.instance_name {
-            Some(value) => String::from_utf8(text_of(alloc, value)?.into_vec())?,
-            None => String::from_str(alloc, "-")?,
-        };
-        text.push_str(format!(in alloc; "{index} {target} {instance};")?.as_str())?;
+    for link in &links {
+        text.push_str(link_text(alloc, link)?.as_str())?;
     }
     Ok(text)
+}
+
+/// A resolver of the models of the table.
+fn resolver(alloc: Global) -> Result<Resolver, Fail> {
+    let mut library = Library::new(alloc);
+    for (name, members) in MODELS {
+        add(alloc, &mut library, name, members)?;
+    }
+    Ok(Resolver::new(alloc, &library, &bindings(alloc)?)?)
 }
 
 #[test]
 fn links_that_count(rt: HostRuntime) -> Result<(), Fail> {
     let alloc = rt.alloc();
-    let mut library = Library::new(alloc);
-    for (name, members) in MODELS {
-        add(alloc, &mut library, name, members)?;
-    }
-    let resolver = Resolver::new(alloc, &library, &bindings(alloc)?)?;
+    let resolver = resolver(alloc)?;
     for (name, relation, wanted) in LINKS {
         let text = links_text(alloc, &resolver, name, relation)?;
         assert_eq!(rt; text.as_str(), wanted, "{name}");
     }
+    Ok(())
+}
+
+#[test]
+fn optional_parts(rt: HostRuntime) -> Result<(), Fail> {
+    let alloc = rt.alloc();
+    let resolver = resolver(alloc)?;
     for (name, wanted) in OPTIONAL {
         let url = format!(in alloc; "https://m.example/{name}")?;
-        let text = match resolver.optional(url.as_str())? {
-            Some(value) => String::from_utf8(text_of(alloc, &value)?.into_vec())?,
-            None => String::from_str(alloc, "-")?,
-        };
+        let text = value_text(alloc, &resolver.optional(url.as_str())?)?;
         assert_eq!(rt; text.as_str(), wanted, "{name}");
     }
     Ok(())

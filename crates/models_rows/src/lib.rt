@@ -10,8 +10,6 @@ mod libraries;
 #[cfg(test)]
 mod limits;
 #[cfg(test)]
-mod links;
-#[cfg(test)]
 mod placeholders;
 #[cfg(test)]
 mod references;

@@ -10,6 +10,8 @@ mod libraries;
 #[cfg(test)]
 mod limits;
 #[cfg(test)]
+mod links;
+#[cfg(test)]
 mod placeholders;
 #[cfg(test)]
 mod references;

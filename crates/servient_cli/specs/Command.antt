@@ -64,13 +64,13 @@ file_read task name = record { name = name; limit = limit_of task }
 
 -- Reading the file of a task, with what was known of the files before and after.
 pub data ReadsFile (before now : FilesSeen) (task : Task) (name : List ℕ) (seen : List Deed) (o : Outcome (List ℕ)) : Type 0 where
-  -- this is what it holds, where that is told
+  -- this is what it holds, where that is recorded
   is_read : (content : List ℕ) → length content ≤ limit_of task → IfSome before.held (λ files. content_of files name ≡ Some content)
       → seen ≡ did_read (file_read task name) ∷ [] → o ≡ goes_on content → ReadsFile before now task name seen o
   -- there is no file of this name
   is_absent : IfSome before.held (λ files. content_of files name ≡ None)
       → EndsWith (did_read (file_read task name) ∷ []) 3 (file_line name (codes "absent")) seen o → ReadsFile before now task name seen o
-  -- reading it failed, as the count tells
+  -- reading it failed, as the count records
   is_unreadable : Rose before.faults now.faults
       → EndsWith (did_read (file_read task name) ∷ []) 3 (file_line name (codes "failed")) seen o → ReadsFile before now task name seen o
   -- it is longer than the limit
@@ -163,7 +163,7 @@ pub data Commands (before now : FilesSeen) (words : List (List ℕ)) (seen : Lis
 
 -- ---- the whole call
 
--- The text was written and the status is its own; or the output failed, which its count tells, a prefix of the text was
+-- The text was written and the status is its own; or the output failed, which its count records, a prefix of the text was
 -- written, and the status is 7.
 abbrev pub IsReported : ℕ → List ℕ → Option (List ℕ) → Option (List ℕ) → ℕ → ℕ → ℕ → Type 0
 IsReported status text written written_now faults faults_now result =
@@ -171,7 +171,7 @@ IsReported status text written written_now faults faults_now result =
     ⊎ (result ≡ 7) × Rose faults faults_now
     × (prefix : List ℕ) × (rest : List ℕ) × (text ≡ prefix ++ rest) × Continues written written_now prefix
 
--- what is known of the output at one time: what was written, where that is told, and how often it failed
+-- what is known of the output at one time: what was written, where that is recorded, and how often it failed
 pub record OutSeen : Type 0 where
   pub written : Option (List ℕ)
   pub faults : ℕ

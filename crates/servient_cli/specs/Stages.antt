@@ -58,7 +58,7 @@ pub data AndThen {A B : Type 0} (P : List Deed → Outcome A → Type 0) (Q : A 
 
 -- ---- what the outside shows of them
 
--- What is known of the files at one time: what they hold and which reads were made, where they tell it, and how often a
+-- What is known of the files at one time: what they hold and which reads were made, where they record it, and how often a
 -- read failed.
 pub record FilesSeen : Type 0 where
   pub held : Option (List HeldFile)

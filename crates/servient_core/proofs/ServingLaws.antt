@@ -1,6 +1,6 @@
 -- How serving goes on, and how it ends.
-use Rattle.std.proofs.Common.{◌≡◌, ◌≢◌, ℕ, ◌+◌, ◌<◌, List, [], ◌∷◌, ◌++◌, length, take, refl, sym, ap, subst, ◌∙◌, arith, length-append}
-use Rattle.servient_base.specs.Moves.{Then, Stays, Becomes, Refines}
+use Rattle.std.proofs.Common.{◌≡◌, ◌≢◌, ℕ, ◌+◌, ◌<◌, List, [], ◌∷◌, ◌++◌, length, take, refl, ap, subst, ◌∙◌, arith, length-append}
+use Rattle.servient_base.specs.Moves.{Then, Becomes, Refines}
 use Rattle.servient_base.proofs.MovesLaws.{refines_then, refines_as, refines_each_more, refines_stays}
 use Rattle.thing_handler.proofs.TurnLaws.{as_many}
 use Rattle.thing_handler.specs.Handler.{Seen}

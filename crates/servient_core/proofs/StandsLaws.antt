@@ -1,5 +1,5 @@
 -- What stands for a state. Beside the law of a leaf, all that is used of it are the first two laws.
-use Rattle.std.proofs.Common.{◌≡◌, ℕ, max, List, refl, sym, ap, subst}
+use Rattle.std.proofs.Common.{ℕ, max, List, refl, sym, ap, subst}
 use Rattle.servient_base.specs.Moves.{Makes, Refines}
 use Rattle.servient_core.specs.Trace.{Sighting, Outside, Shows}
 use Rattle.servient_core.specs.Machine.{State}

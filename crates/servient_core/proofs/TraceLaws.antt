@@ -1,13 +1,12 @@
 -- Laws of what is seen of the servient.
-use Rattle.std.proofs.Common.{◌≡◌, ℕ, ◌+◌, List, [], ◌∷◌, ◌++◌, refl, sym, ap, subst, ◌∙◌}
+use Rattle.std.proofs.Common.{◌≡◌, ◌+◌, List, [], ◌∷◌, ◌++◌, refl, sym, ap, subst, ◌∙◌}
 use Rattle.servient_base.specs.Moves.{ShowsInOrder}
 use Rattle.thing_handler.specs.Handler.{Seen}
-use Rattle.thing_handler.specs.Turns.{HandlerCall, RunTurn, RackShows, turns_in}
+use Rattle.thing_handler.specs.Turns.{HandlerCall, RackShows, turns_in}
 use Rattle.thing_handler.proofs.RackLaws.{rack_shows_none, rack_shows_then, turns_in-append}
-use Rattle.servient_edge.specs.declared.net.EventWithBytes.{EventWithBytes}
 use Rattle.servient_edge.specs.Network.{Happening, NetSeen, NetShows, events_in, break_count}
 use Rattle.servient_edge.proofs.NetLaws.{net_shows_none, net_shows_then, events_in-append, break_count-append}
-use Rattle.servient_core.specs.Trace.{Sighting, at_network, at_handler, happened_in, calls_in, Outside, outside, Shows}
+use Rattle.servient_core.specs.Trace.{Sighting, at_network, at_handler, happened_in, calls_in, outside, Shows}
 
 pub happened_in-append : (a b : List Sighting) → happened_in (a ++ b) ≡ happened_in a ++ happened_in b
 happened_in-append [] b = refl

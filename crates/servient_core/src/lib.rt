@@ -2,8 +2,8 @@
 //!
 //! `Servient::step` makes one step of that machine, and `serve` a run. Both say so in one clause: whatever state the
 //! servient stood for before, it stands afterwards for one to which the machine's move leads, and the network and the
-//! rack show what is seen of that move. The handlers are behind `Handlers` and the network behind `Net`; this crate
-//! knows no socket and no clock.
+//! rack show what is seen of that move. The crate sees the handlers as `Handlers` and the network as `Net`, and knows no
+//! socket and no clock.
 #![tactic(auto)]
 
 mod laws;

@@ -47,7 +47,7 @@ fn push_options(outcome: &Outcome, options: &mut Opts<'_>)
     }
 }
 
-/// Writes the payload of an outcome's reply to the front of `out`, and returns its length.
+/// Writes the payload of an outcome's reply to the beginning of `out`, and returns its length.
 fn put_payload(outcome: &Outcome, out: &mut [u8]) -> usize
     requires short { IsShort outcome.now }
     requires room { 64 ≤ length out.old }
@@ -69,7 +69,7 @@ fn put_payload(outcome: &Outcome, out: &mut [u8]) -> usize
     }
 }
 
-/// Writes the reply of an outcome to a request with this token to the front of `out`, and returns its
+/// Writes the reply of an outcome to a request with this token to the beginning of `out`, and returns its
 /// length.
 pub fn put_reply(outcome: &Outcome, token: &[u8], id: u16, out: &mut [u8; LONGEST_REPLY]) -> usize
     requires short { IsShort outcome.now }

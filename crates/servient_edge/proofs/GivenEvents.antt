@@ -73,12 +73,12 @@ all_counted fails events given made uncounted now none counted reached within fi
     let below : made < 2 ^ 64 - 1 = omega (arith, reached counted, each) in
     same below ∙ counted
 
--- what is told where nothing is lost goes on as it did
+-- what is recorded where nothing is lost goes on as it did
 pub continues_told : {A : Type 0} (untold : ℕ) (old new more : List A) → new ≡ old ++ more → Continues (told_at_zero untold old) (told_at_zero untold new) more
 continues_told zero old new more grown = (old, refl, grown)
 continues_told (suc untold) old new more grown = tt
 
--- and where something is lost, nothing is told
+-- and where something is lost, nothing is recorded
 pub continues_untold : {A : Type 0} (untold : ℕ) (before : Option (List A)) (now more : List A) → 0 < untold → Continues before (told_at_zero untold now) more
 continues_untold zero before now more some = absurd (omega arith)
 continues_untold (suc untold) before now more some = tt

@@ -20,7 +20,7 @@ FailsNext calls = IsTrue (is_failing calls.fails (one_more calls.made))
 abbrev pub no_calls : List ℕ → CallCount
 no_calls fails = record { fails = fails; made = 0 }
 
--- what is told where no call fails
+-- what is recorded where no call fails
 abbrev pub where_none_fails : {A : Type 0} → List ℕ → Option A → Option A
 where_none_fails [] told = told
 where_none_fails (f ∷ fails) told = None

@@ -11,7 +11,7 @@ abbrev pub content_of : List HeldFile → List ℕ → Option (List ℕ)
 content_of [] name = None
 content_of (file ∷ files) name = if bytes_eq file.name name then Some file.bytes else content_of files name
 
--- What a read says of the file of this name, where it is told what the files hold: all of it is in `into` and
+-- What a read says of the file of this name, where what the files hold is recorded: all of it is in `into` and
 -- isn't longer than the limit, or there is no such file, or its content is longer than the limit.
 abbrev pub AnswersRead : Option (List HeldFile) → List ℕ → ℕ → Got → List ℕ → Type 0
 AnswersRead held name limit Whole into =

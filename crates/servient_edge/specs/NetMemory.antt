@@ -37,7 +37,7 @@ kept_acts n = n.log.acts.items
 abbrev pub lost_acts : NetMemory → ℕ
 lost_acts n = n.log.lost
 
--- What happened, as long as no act was lost. A call of `next` after 2 ^ 64 - 1 others isn't told.
+-- What happened, as long as no act was lost. A call of `next` after 2 ^ 64 - 1 others isn't recorded.
 abbrev pub told_history : NetMemory → Option (List Happening)
 told_history n =
     told_at_zero (n.uncounted + lost_acts n)
@@ -69,7 +69,7 @@ TakesFrom before now stop_moment Failed buffer = now ≡ before
 TakesFrom [] now stop_moment (Got e) buffer = (e ≡ stop_event stop_moment) × (now ≡ [])
 TakesFrom (first ∷ rest) now stop_moment (Got e) buffer = (in_buffer e buffer ≡ first) × (now ≡ rest)
 
--- what happened is told after a call of `next` where it was told before, whether or not the call failed
+-- what happened is recorded after a call of `next` where it was recorded before, whether or not the call failed
 abbrev pub GoesOnTelling : NetMemory → NetMemory → Type 0
 GoesOnTelling before now = (calls_of before).made < 2 ^ 64 - 1 → IsSome (told_history before) → IsSome (told_history now)
 
@@ -78,8 +78,8 @@ pub record KeepsActs (before now : NetMemory) : Type 0 where
   pub kept : kept_acts now ≡ kept_acts before
   pub lost : lost_acts now ≡ lost_acts before
 
--- What it has to give and its calls stay as they were, and no fault is counted. What happened is told after an act
--- where it was told before and the act wasn't lost.
+-- What it has to give and its calls stay as they were, and no fault is counted. What happened is recorded after an act
+-- where it was recorded before and the act wasn't lost.
 pub record KeepsEvents (before now : NetMemory) : Type 0 where
   pub calls : calls_of now ≡ calls_of before
   pub rest : rest_of now ≡ rest_of before

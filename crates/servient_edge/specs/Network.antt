@@ -71,7 +71,7 @@ break_count (broke call ∷ happened) = suc (break_count happened)
 -- ---- what a network shows
 
 -- What is seen of a network at one time: all that happened so far, in the order in which it came about, where the
--- network tells it; the events still to come, where they are known; and how often it failed.
+-- network records it; the events still to come, where they are known; and how often it failed.
 pub record NetSeen : Type 0 where
   pub history : Option (List Happening)
   pub left : Option (List EventWithBytes)
@@ -89,7 +89,7 @@ Leaves (broke call ∷ happened) (Some (first ∷ rest)) now = ⊥
 Leaves (broke call ∷ happened) (Some []) now = Unit {0}
 Leaves (broke call ∷ happened) None now = Unit {0}
 
--- From one time to another this happened and nothing else: it comes after what was told before; the events to come are
+-- From one time to another this happened and nothing else: it comes after what was recorded before; the events to come are
 -- those that are left by it; and each failure was counted.
 pub record NetShows (before now : NetSeen) (happened : List Happening) : Type 0 where
   pub history : Continues before.history now.history happened

@@ -103,10 +103,10 @@ pub trait Files {
     ghost use Rattle.servient_edge.specs.Told.{Continues};
     ghost use Rattle.servient_edge.specs.Files.{AnswersRead, added_reads};
 
-    /// What each file holds, where the files tell it.
+    /// What each file holds, where the files record it.
     ghost held: { Self → Option (List HeldFile) };
 
-    /// The reads so far, where the files tell them. One for which there was no memory isn't among them.
+    /// The reads so far, where the files record them. One for which there was no memory isn't among them.
     ghost reads: { Self → Option (List FileRead) };
 
     /// How often a read failed; it never falls.

@@ -1,4 +1,4 @@
-//! Files in memory: they tell what they hold and which reads were made.
+//! Files in memory: they record what they hold and which reads were made.
 
 ghost use Rattle.std.specs.Prelude.{◌≡◌, ◌≢◌, [], ◌∷◌, ◌++◌, Some, IfOk, OnErr, OnOk};
 ghost use Rattle.servient_edge.specs.Files.{AnswersRead};

@@ -1,4 +1,4 @@
-//! The files of the machine. What they hold isn't told, nor which reads were made.
+//! The files of the machine. What they hold isn't recorded, nor which reads were made.
 
 ghost use Rattle.std.specs.Prelude.{◌≡◌, ◌≢◌, ◌≤◌, ◌<◌, ◌↔◌, length, IfOk, IfSome, IsErrAnd};
 ghost use Rattle.std.specs.IoError.{error_kind};
@@ -29,7 +29,7 @@ impl<R: rt::Files + Drop> FilesReal<R> {
     }
 }
 
-/// Reads to the end, where a read gives no byte, but not past the limit. What a reader has left is told
+/// Reads to the end, where a read gives no byte, but not past the limit. What a reader has left is recorded
 /// of readers in memory alone.
 fn read_whole<F: Read>(alloc: Global, file: &mut F, limit: usize, into: &mut Bytes) -> Got
     ensures present { result ≢ Got.Absent }

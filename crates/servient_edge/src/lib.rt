@@ -2,8 +2,8 @@
 //!
 //! Each is a trait whose ghost members say what is known of it: what happened at the network, in order, and what is
 //! still to come; what the files hold and which reads were made; the bytes written; how often each failed. A version
-//! in memory tells all of that; but a network in memory that has lost an act, because it was out of memory, tells no
-//! more of what happened. The files and the output have an adapter to the machine too, which tells only its count of
+//! in memory records all of that; but a network in memory that has lost an act, because it was out of memory, records no
+//! more of what happened. The files and the output have an adapter to the machine too, which records only its count of
 //! faults.
 #![tactic(auto)]
 

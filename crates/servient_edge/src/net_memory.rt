@@ -1,4 +1,4 @@
-//! A network in memory: it gives a list of events and a Stop, and keeps what is done to it. It tells all that happened,
+//! A network in memory: it gives a list of events and a Stop, and keeps what is done to it. It records all that happened,
 //! in order, as long as there was memory for each act.
 
 ghost use Rattle.std.specs.Prelude.{◌≡◌, ◌≤◌, ◌<◌, ◌+◌, ◌-◌, ◌^◌, ◌++◌, ℕ, [], ◌∷◌, Some, IfOk, IfSome, length, min};

@@ -15,7 +15,7 @@ pub trait Out {
     ghost use Rattle.servient_base.specs.Count.{Rose};
     ghost use Rattle.servient_edge.specs.Out.{Writes};
 
-    /// The bytes written so far, where the output tells them.
+    /// The bytes written so far, where the output records them.
     ghost written: { Self → Option (List ℕ) };
 
     /// How often a write failed; it never falls.

@@ -1,4 +1,4 @@
-//! An output in memory with a fixed room, which tells what was written.
+//! An output in memory with a fixed room, which records what was written.
 
 ghost use Rattle.std.specs.Prelude.{◌≡◌, ◌≤◌, [], Some, IfOk, vec_len, vec_capacity};
 

@@ -1,4 +1,4 @@
-//! An output over a writer of the machine. What was written isn't told.
+//! An output over a writer of the machine. What was written isn't recorded.
 
 ghost use Rattle.std.specs.Prelude.{◌≡◌, ◌++◌, List, ℕ};
 ghost use Rattle.std.specs.Io.KnownBytes.{Appends};
@@ -25,7 +25,7 @@ impl<W: Write + Drop> OutReal<W> {
     }
 }
 
-/// Writes until the writer has taken all. What a writer holds is told of writers in memory alone.
+/// Writes until the writer has taken all. What a writer holds is recorded of writers in memory alone.
 fn write_whole<W: Write>(writer: &mut W, piece: &[u8]) -> Put
     ensures done { result ≡ Put.Done → Appends (W.contents writer.old) (W.contents writer.new) piece.now }
     ensures front { result ≡ Put.Failed

@@ -30,7 +30,7 @@ pub struct Turn {
     pub answer: Answer,
 }
 
-/// What stands behind an affordance.
+/// A device, or a part of one, as the handler of one affordance.
 pub trait Handler: Drop {
     ghost use Rattle.std.specs.Prelude.{◌≡◌};
     ghost use Rattle.thing_handler.specs.Handler.{Seen, AnswersCall};
@@ -38,7 +38,7 @@ pub trait Handler: Drop {
     /// Its kind, its turns and how often it found no memory.
     ghost seen: { Self → Seen };
 
-    /// What it stands behind; this never changes.
+    /// The kind of its affordance; this never changes.
     fn kind(&self) -> Kind
         ensures { result ≡ (seen self.now).kind };
 

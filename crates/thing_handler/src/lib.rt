@@ -1,4 +1,4 @@
-//! Device handlers behind affordances, and the rack that holds them.
+//! The device handlers of affordances, and the rack that holds them.
 //!
 //! A handler is seen as its kind, the turns that it made and how often it found no memory (`Seen` of
 //! `specs/Handler.antt`). Each call makes exactly one turn, or finds no memory and is counted. What a device answers

@@ -27,7 +27,7 @@ pub trait Handlers: Drop {
         ensures count { result ≡ length (slots self.now) }
         ensures few { result < 2 ^ 32 };
 
-    /// What the handler in this slot stands behind.
+    /// The kind of the affordance whose handler is in this slot.
     fn kind(&self, slot: usize) -> Kind
         requires { slot < length (slots self.now) }
         ensures { IfSome (slice_get (slots self.now) slot) (λ h. result ≡ h.kind) };

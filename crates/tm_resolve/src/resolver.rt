@@ -52,9 +52,9 @@ impl Resolver {
     /// those of the members beside it, and members in the byte order of their names. Of what comes after the first fault
     /// nothing is looked at.
     ///
-    /// Counting takes a time in proportion to the weight, and at most to the limit, however large the expansion is. Each
-    /// step parses and joins a URL and goes through the list of the models. What is brought in twice is made twice, so
-    /// making the value is in proportion to the weight, times the length of chains.
+    /// Counting costs about what each node weighs, and for each step the parse and join of its URL and a comparison with
+    /// the URL of each model; it stops where a limit is passed. What is brought in twice is made twice, and merged again
+    /// at each step that brings it in.
     pub fn resolve(&self, root: &str) -> Result<Tree, ResolveFault>
         ensures ok { IfOk result (λ t. resolved_from (resolver_models self.now) root.now ≡ Ok (json_of t)) }
         ensures fault { IfErr result (λ e. (e ≡ ResolveFault.NoMemory)

@@ -293,7 +293,7 @@ fn a_fault_is_shown_with_its_row_and_its_place(rt: HostRuntime) -> Result<(), Fa
             let shown = format!(in alloc; "{fault}; {}", CheckFault::NoMemory)?;
             assert_eq!(rt;
                 shown.as_str(),
-                "the description does not meet row 2 at `/@context`; out of memory"
+                "the description does not meet condition 2 at `/@context`; out of memory"
             );
         }
     }

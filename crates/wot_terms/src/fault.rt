@@ -11,7 +11,7 @@ use wot_json::{Text, through_element, through_member};
 
 /// The first fault of a description.
 #[derive(Debug, Drop, Error)]
-#[error("the description does not meet row {number} at `{pointer}`")]
+#[error("the description does not meet condition {number} at `{pointer}`")]
 pub struct TdFault {
     /// The number of the row of conditions that is not met.
     pub number: u8,

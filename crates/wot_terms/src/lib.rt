@@ -11,7 +11,7 @@
 //!             println!(rt; "{:?} {}", affordance.kind, affordance.name)?;
 //!         }
 //!     }
-//!     // "the description does not meet row 3 at `/title`"
+//!     // "the description does not meet condition 3 at `/title`"
 //!     Err(fault) => println!(rt; "{fault}")?,
 //! }
 //! ```

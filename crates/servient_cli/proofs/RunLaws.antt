@@ -1,5 +1,5 @@
 -- What a run over the events of a script took, made and showed.
-use Rattle.std.proofs.Common.{◌≡◌, ◌≢◌, ℕ, zero, suc, ◌+◌, ◌<◌, ◌≤◌, List, [], ◌∷◌, ◌++◌, Option, Some, None, length, take, drop, map, refl, sym, ap, subst, ◌∙◌, arith, true, eqb, length-append}
+use Rattle.std.proofs.Common.{◌≡◌, ◌≢◌, ℕ, ◌<◌, ◌≤◌, List, [], ◌∷◌, ◌++◌, Option, Some, None, length, take, drop, map, refl, sym, ap, subst, ◌∙◌, arith, true, eqb}
 use Rattle.std.specs.Prelude.{slice_get, IfSome, IsSome}
 use Rattle.std.specs.List.{AllByRecursion, flat_map}
 use Rattle.std.proofs.lemmas.Bool.{eq-eqb}
@@ -12,7 +12,7 @@ use Rattle.servient_edge.specs.declared.net.What.{What}
 use Rattle.servient_edge.specs.declared.net.What.TheVariants as what
 use Rattle.servient_edge.specs.declared.net.EventWithBytes.{EventWithBytes}
 use Rattle.servient_edge.specs.declared.net.Act.{Act}
-use Rattle.servient_edge.specs.Network.{Happening, heard, did, broke, NetCall, next_event, Leaves, NetSeen, NetShows, events_in, acts_in, break_count}
+use Rattle.servient_edge.specs.Network.{Happening, heard, did, broke, NetCall, next_event, Leaves, events_in, acts_in, break_count}
 use Rattle.servient_edge.specs.Told.{Continues}
 use Rattle.servient_edge.specs.Ending.{with_stop}
 use Rattle.servient_core.specs.declared.serving.Served.{Served}

@@ -7,7 +7,7 @@ use Rattle.servient_edge.specs.declared.net.What.TheVariants.{Stop}
 use Rattle.servient_edge.specs.declared.net.EventWithBytes.{EventWithBytes}
 use Rattle.servient_cli.specs.Script.{IsFirstBadLine, IsScript, IsScriptEvent, line_text, script_text}
 use Rattle.servient_cli.proofs.FieldTexts.{IsPrintable}
-use Rattle.servient_cli.proofs.LineTexts.{body_is_datagram, line_body}
+use Rattle.servient_cli.proofs.LineTexts.{IsPrintable-line_body, line_body}
 
 -- no event of a script stops the run
 pub never_stops : (e : EventWithBytes) → IsScriptEvent e → e.event.what ≢ Stop
@@ -74,7 +74,7 @@ same_cut (x ∷ xs) (y ∷ ys) zs ws lacks_x lacks_y same =
 no_line_feed : (e : EventWithBytes) → IsScriptEvent e → LacksLineFeed (line_body e)
 no_line_feed e is =
     All-weaker IsPrintable (λ b. b ≢ 10) (λ b printable feed. omega (arith, printable, feed)) (line_body e)
-    ((body_is_datagram e is).printable)
+    (IsPrintable-line_body e is)
 
 -- bytes that begin with the line of an event have it as their first line
 first_line_is : (e : EventWithBytes) (line more after : List ℕ) → LacksLineFeed line → IsScriptEvent e

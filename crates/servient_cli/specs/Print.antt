@@ -1,5 +1,5 @@
 -- What a replay prints: its acts in order, and then its turns by number, each on a line of its own.
-use Rattle.std.specs.Prelude.{ℕ, List, ◌++◌, codes, decimal}
+use Rattle.std.specs.Prelude.{ℕ, List, ◌++◌, codes, decimal, length}
 use Rattle.std.specs.List.{flat_map}
 use Rattle.wot_json.specs.Json.{json_text}
 use Rattle.thing_handler.specs.declared.handler.CallKind.{CallKind}
@@ -10,11 +10,17 @@ use Rattle.thing_handler.specs.declared.handler.Turn.{Turn}
 use Rattle.thing_handler.specs.Turns.{RunTurn}
 use Rattle.servient_edge.specs.declared.net.Act.{Act}
 use Rattle.servient_edge.specs.declared.net.Act.TheVariants as act
-use Rattle.servient_cli.specs.Script.{datagram_text}
+use Rattle.servient_edge.specs.declared.net.What.TheVariants.{Datagram}
+use Rattle.servient_cli.specs.Fields.{fields_text}
+use Rattle.servient_cli.specs.Script.{what_fields}
 
--- the line of an act, as a script would write the datagram
+-- the fields of an act: those that a script has for the datagram
+abbrev pub act_fields : Act → List (List ℕ)
+act_fields (act.Datagram to bytes) = what_fields (Datagram to (length bytes)) bytes
+
+-- the line of an act
 abbrev pub act_line : Act → List ℕ
-act_line (act.Datagram to bytes) = datagram_text to bytes ++ codes "\n"
+act_line act = fields_text (act_fields act) ++ codes "\n"
 
 -- what a handler was asked
 abbrev pub call_text : CallKind → List ℕ

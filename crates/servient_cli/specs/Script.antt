@@ -13,6 +13,7 @@ use Rattle.servient_edge.specs.declared.net.What.{What}
 use Rattle.servient_edge.specs.declared.net.What.TheVariants.{Datagram, Stop}
 use Rattle.servient_edge.specs.declared.net.EventWithBytes.{EventWithBytes}
 use Rattle.servient_edge.specs.Network.{IsWithinBounds}
+use Rattle.servient_cli.specs.Fields.{fields_text}
 
 -- bytes as two lower-case hexadecimal digits each, or `-` where there are none
 abbrev pub hex_text : List ℕ → List ℕ
@@ -23,18 +24,18 @@ hex_text (b ∷ bs) = encode_lower (b ∷ bs)
 abbrev pub endpoint_text : Endpoint → List ℕ
 endpoint_text e = decimal e.host ++ codes ":" ++ decimal e.port
 
--- a datagram as `data H:P HEX`, with no line feed
-abbrev pub datagram_text : Endpoint → List ℕ → List ℕ
-datagram_text endpoint bytes = codes "data " ++ endpoint_text endpoint ++ codes " " ++ hex_text bytes
+-- the fields that say what came: `data H:P HEX` for a datagram
+abbrev pub what_fields : What → List ℕ → List (List ℕ)
+what_fields (Datagram from count) bytes = codes "data" ∷ endpoint_text from ∷ hex_text bytes ∷ []
+what_fields Stop bytes = codes "stop" ∷ []
 
--- what a line says came, by the word that it begins with
-abbrev pub what_text : What → List ℕ → List ℕ
-what_text (Datagram from count) bytes = datagram_text from bytes
-what_text Stop bytes = codes "stop"
+-- the fields of an event's line: its moment, and what came
+abbrev pub line_fields : EventWithBytes → List (List ℕ)
+line_fields e = decimal e.event.moment ∷ what_fields e.event.what e.bytes
 
--- the line of an event: its moment, what came, and a line feed
+-- the line of an event: its fields, and a line feed
 abbrev pub line_text : EventWithBytes → List ℕ
-line_text e = decimal e.event.moment ++ codes " " ++ what_text e.event.what e.bytes ++ codes "\n"
+line_text e = fields_text (line_fields e) ++ codes "\n"
 
 -- the lines of some events, one after another
 abbrev pub script_text : List EventWithBytes → List ℕ

@@ -8,10 +8,12 @@ mod checking;
 mod command;
 mod ending;
 mod file;
+mod laws;
 mod main_call;
 mod print;
 mod replay;
 mod script;
 
+pub use laws::{each_event_has_fields, lines_are_cut_in_one_way};
 pub use main_call::servient_main;
 pub use script::{Script, ScriptFault};

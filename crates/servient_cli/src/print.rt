@@ -2,7 +2,8 @@
 
 ghost use Rattle.std.specs.Prelude.{◌≡◌, ◌++◌, codes, map, OnOk};
 ghost use Rattle.std.specs.List.{flat_map};
-ghost use Rattle.servient_cli.specs.Script.{datagram_text, endpoint_text, hex_text};
+ghost use Rattle.servient_edge.specs.declared.net.Act.TheVariants as act;
+ghost use Rattle.servient_cli.specs.Script.{endpoint_text, hex_text};
 ghost use Rattle.servient_cli.specs.Print.{act_line, answer_text, call_text, in_slot, turn_line};
 
 use coap_msg::Endpoint;
@@ -41,7 +42,7 @@ pub fn put_turns(
 
 /// Puts the line of a datagram at the end.
 fn put_datagram(alloc: Global, out: &mut Bytes, to: Endpoint, bytes: &[u8]) -> Result<(), NoMemory>
-    ensures { OnOk result (out.new ≡ out.old ++ (datagram_text to bytes.now ++ codes "\n")) }
+    ensures { OnOk result (out.new ≡ out.old ++ act_line (act.Datagram to bytes.now)) }
 {
     out.extend(b"data ")?;
     put_number(out, to.host)?;

@@ -1,15 +1,17 @@
 //! Replay scripts: text files of events, one on each line.
 //!
-//! The grammar is specs/Script.antt. `Script::read` goes from line to line, `event_of` reads one
-//! line, and each function below it one field. All of them read exactly what the grammar writes.
+//! The grammar is specs/Script.antt. `Script::read` goes from line to line, `event_of` cuts one line
+//! into its fields, and `event_at` has a pattern for each kind of line. All of them read exactly what
+//! the grammar writes.
 
-ghost use Rattle.std.specs.Prelude.{◌≡◌, ◌≢◌, ◌<◌, ◌≤◌, ℕ, List, [], ◌∷◌, ◌++◌, ◌==◌, ◌&&◌, ◌||◌, nat_lt, slice_index, length, All, codes, decimal, IfOk, IfSome, IsSomeAnd, MatchOption, MatchResult};
+ghost use Rattle.std.specs.Prelude.{◌≡◌, ◌≢◌, ◌<◌, ◌≤◌, ℕ, List, [], ◌∷◌, ◌++◌, ◌==◌, ◌&&◌, ◌||◌, nat_lt, slice_index, length, map, All, codes, decimal, IfOk, IfSome, IsSomeAnd, MatchOption, MatchResult};
 ghost use Rattle.std.specs.Char.{is_ascii_uppercase};
 ghost use Rattle.std.specs.List.{list_any};
 ghost use Rattle.std.specs.Str.{IsUtf8};
 ghost use Rattle.coap_msg.specs.declared.endpoint.Endpoint.{Endpoint};
 ghost use Rattle.servient_edge.specs.declared.net.EventWithBytes.{EventWithBytes};
-ghost use Rattle.servient_cli.specs.Script.{hex_text, endpoint_text, datagram_text, line_text, IsScriptEndpoint, IsScriptEvent, IsScript, IsFirstBadLine};
+ghost use Rattle.servient_cli.specs.Fields.{fields_text, AreFields};
+ghost use Rattle.servient_cli.specs.Script.{hex_text, endpoint_text, what_fields, line_fields, line_text, IsScriptEndpoint, IsScriptEvent, IsScript, IsFirstBadLine};
 ghost use Rattle.servient_cli.specs.Command.{longest_script};
 
 use coap_msg::Endpoint;
@@ -27,6 +29,9 @@ const LATEST_MOMENT: u64 = 1_000_000_000_000_000;
 
 /// The most bytes of a datagram.
 const MOST_BYTES: usize = 2048;
+
+/// The most fields of a line.
+const MOST_FIELDS: usize = 4;
 
 /// Each line ends with it.
 const LINE_FEED: u8 = b'\n';
@@ -98,40 +103,58 @@ fn bytes_of(alloc: Global, text: &str) -> Result<Option<Bytes>, NoMemory>
     }
 }
 
-/// The datagram that `data H:P HEX` says: from where it came, and its bytes.
-fn datagram_of(alloc: Global, text: &str) -> Result<Option<(Endpoint, Bytes)>, NoMemory>
-    ensures ok { IfOk result (λ o. IfSome o (λ d. text.now ≡ datagram_text d.0 d.1)) }
-    ensures bounds { IfOk result (λ o.
-        IfSome o (λ d. IsScriptEndpoint d.0 × (length d.1 ≤ MOST_BYTES) × All (λ b. b < 256) d.1)) }
-    ensures complete { (from : Endpoint) (bytes : List ℕ) → IsScriptEndpoint from
-        → length bytes ≤ MOST_BYTES → All (λ b. b < 256) bytes → text.now ≡ datagram_text from bytes
-        → IfOk result (λ o. o ≡ Some (from, bytes)) }
+/// The datagram at a moment, from the fields after `data`.
+fn datagram_at(
+    alloc: Global,
+    moment: u64,
+    from: &str,
+    digits: &str,
+) -> Result<Option<EventWithBytes>, NoMemory>
+    requires { moment ≤ LATEST_MOMENT }
+    ensures ok { IfOk result (λ o. IfSome o (λ e. (e.event.moment ≡ moment)
+        × (codes "data" ∷ from.now ∷ digits.now ∷ [] ≡ what_fields e.event.what e.bytes))) }
+    ensures bounds { IfOk result (λ o. IfSome o IsScriptEvent) }
+    ensures complete { (e : EventWithBytes) → IsScriptEvent e → e.event.moment ≡ moment
+        → codes "data" ∷ from.now ∷ digits.now ∷ [] ≡ what_fields e.event.what e.bytes
+        → IfOk result (λ o. o ≡ Some e) }
 {
-    let Some(fields) = text.strip_prefix("data ") else {
-        return Ok(None);
-    };
-    let Some((from, digits)) = fields.split_once(' ') else {
-        return Ok(None);
-    };
     let Some(from) = endpoint_of(from) else {
         return Ok(None);
     };
     let Some(bytes) = bytes_of(alloc, digits)? else {
         return Ok(None);
     };
-    Ok(Some((from, bytes)))
+    let what = What::Datagram(from, bytes.len());
+    Ok(Some(EventWithBytes {
+        event: Event { moment, what },
+        bytes,
+    }))
 }
 
-/// The moment that a line begins with, and what follows the blank after it.
-fn moment_of(line: &[u8]) -> Option<(u64, &str)>
-    ensures ok { IfSome result (λ r. line.now ≡ decimal r.0 ++ codes " " ++ r.1.now) }
-    ensures bound { IfSome result (λ r. r.0 ≤ LATEST_MOMENT) }
-    ensures complete { (moment : ℕ) (what : List ℕ) → moment ≤ LATEST_MOMENT → IsUtf8 line.now
-        → line.now ≡ decimal moment ++ codes " " ++ what
-        → IsSomeAnd result (λ r. (r.0 ≡ moment) × (r.1.now ≡ what)) }
+/// The event at a moment, from the fields after it: a pattern for each kind of line.
+fn event_at(alloc: Global, moment: u64, fields: &[&str]) -> Result<Option<EventWithBytes>, NoMemory>
+    requires { moment ≤ LATEST_MOMENT }
+    ensures ok { IfOk result (λ o. IfSome o (λ e. (e.event.moment ≡ moment)
+        × (map (λ field. field.now) fields.now ≡ what_fields e.event.what e.bytes))) }
+    ensures bounds { IfOk result (λ o. IfSome o IsScriptEvent) }
+    ensures complete { (e : EventWithBytes) → IsScriptEvent e → e.event.moment ≡ moment
+        → map (λ field. field.now) fields.now ≡ what_fields e.event.what e.bytes
+        → IfOk result (λ o. o ≡ Some e) }
 {
-    let (moment, what) = str::from_utf8(line).ok()?.split_once(' ')?;
-    Some((parse_decimal(moment, LATEST_MOMENT)?, what))
+    match *fields {
+        ["data", from, digits] => datagram_at(alloc, moment, from, digits),
+        _ => Ok(None),
+    }
+}
+
+/// The fields of a line. Where it has more than a line may have, one more of them and no others.
+fn fields_of(alloc: Global, line: &str) -> Result<Vec<&str>, NoMemory>
+    ensures ok { IfOk result (λ fields. length fields.items ≤ MOST_FIELDS
+        → line.now ≡ fields_text (map (λ field. field.now) fields.items)) }
+    ensures complete { (fields : List (List ℕ)) → AreFields fields → length fields ≤ MOST_FIELDS
+        → line.now ≡ fields_text fields → IfOk result (λ cut. map (λ field. field.now) cut.items ≡ fields) }
+{
+    line.split(' ').take(MOST_FIELDS + 1).collect(alloc)
 }
 
 /// The event of a line, which is given without its line feed.
@@ -141,17 +164,17 @@ fn event_of(alloc: Global, line: &[u8]) -> Result<Option<EventWithBytes>, NoMemo
     ensures complete { (e : EventWithBytes) → IsScriptEvent e → line.now ++ codes "\n" ≡ line_text e
         → IfOk result (λ o. o ≡ Some e) }
 {
-    let Some((moment, what)) = moment_of(line) else {
+    let Ok(text) = str::from_utf8(line) else {
         return Ok(None);
     };
-    let Some((from, bytes)) = datagram_of(alloc, what)? else {
+    let fields = fields_of(alloc, text)?;
+    let Some((moment, what)) = fields.split_first() else {
         return Ok(None);
     };
-    let what = What::Datagram(from, bytes.len());
-    Ok(Some(EventWithBytes {
-        event: Event { moment, what },
-        bytes,
-    }))
+    let Some(moment) = parse_decimal(moment, LATEST_MOMENT) else {
+        return Ok(None);
+    };
+    event_at(alloc, moment, what)
 }
 
 /// The first line, without its line feed, and what follows that.

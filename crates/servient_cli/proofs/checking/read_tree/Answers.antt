@@ -1,4 +1,4 @@
-use Rattle.std.proofs.Common.{◌≡◌, ◌≢◌, ◌∙◌, ◌++◌, ℕ, List, refl, sym, ap}
+use Rattle.std.proofs.Common.{◌≡◌, ◌≢◌, ◌++◌, ℕ, List, refl, ap}
 use Rattle.std.specs.Prelude.{codes}
 use Rattle.wot_json.specs.declared.reading.ReadFault.{ReadFault}
 use Rattle.wot_json.specs.declared.reading.ReadFault.TheVariants as fault

@@ -1,5 +1,4 @@
 use Rattle.std.proofs.Common.{ℕ, List, sym, subst}
-use Rattle.std.specs.Prelude.{Ok, Err}
 use Rattle.std.proofs.lemmas.Result.{err_from_is_err_and}
 use Rattle.servient_cli.specs.declared.command.Task.{Task}
 use Rattle.servient_cli.specs.declared.command.Task.TheVariants.{Replay, Check}

@@ -1,6 +1,4 @@
-use Rattle.std.proofs.Common.{◌≡◌, ◌∙◌, ◌++◌, ◌∷◌, [], ℕ, List, length, refl, sym, ap, subst, arith, length-append}
-use Rattle.std.specs.Prelude.{take, Result, Ok, Err}
-use Rattle.std.specs.declared.alloc.AllocError.{AllocError}
+use Rattle.std.proofs.Common.{◌∙◌, [], List, length, refl, sym, ap, subst, arith, length-append}
 use Rattle.std.proofs.lemmas.Result.{err_from_is_err_and}
 use Rattle.thing_handler.specs.Turns.{turns_in}
 use Rattle.thing_handler.proofs.TurnLaws.{as_many}
@@ -13,7 +11,6 @@ use Rattle.servient_core.specs.Trace.{happened_in, calls_in, outside}
 use Rattle.servient_core.specs.Machine.{start, Run}
 use Rattle.servient_cli.specs.Lines.{memory_line, spent_line}
 use Rattle.servient_cli.specs.Stages.{around}
-use Rattle.servient_cli.specs.Ending.{Finishes}
 use Rattle.servient_cli.specs.Command.{RunsScript, is_whole, is_spent, run_memory, built_in, print_of_run}
 use Rattle.servient_cli.proofs.StageLaws.{ends_memory, calls_end, calls_finish_twice}
 use Rattle.servient_cli.proofs.RunLaws.{script_has_no_stop, run_of, run_none, run_first, still_known, acts_shown, turns_shown, turns_after, printed, stopped_took, spent_took, never_failed}

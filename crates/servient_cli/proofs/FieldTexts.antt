@@ -1,9 +1,11 @@
 -- The fields of a line: which bytes they are made of, and that a line is cut into them in one way.
-use Rattle.std.proofs.Common.{◌≡◌, ◌≢◌, ℕ, ◌^◌, ◌<◌, ◌≤◌, true, false, ◌==◌, List, [], ◌∷◌, ◌++◌, length, take, map, All, Option, MatchOption, Bor, codes, decimal, refl, sym, ap, ◌∙◌, append_assoc, arith}
+use Rattle.std.proofs.Common.{◌≡◌, ◌≢◌, ℕ, ◌^◌, ◌<◌, true, false, ◌==◌, List, [], ◌∷◌, ◌++◌, length, map, All, Option, MatchOption, Bor, codes, decimal, refl, sym, ap, ◌∙◌, append_assoc, arith, Some, None}
 use Rattle.std.specs.Int.{IsInRange}
 use Rattle.std.specs.List.{AllByRecursion, IsFirstAndRest, slice_split}
+use Rattle.std.specs.Iterator.{Drains, YieldsThen}
 use Rattle.std.proofs.lemmas.Bool.Decides.{nat_tests}
-use Rattle.std.proofs.lemmas.List.{take_all}
+use Rattle.std.proofs.lemmas.Iterator.{YieldsList}
+use Rattle.std.proofs.lemmas.Iterator.Consumers.{YieldsList-end, YieldsList-turn}
 use Rattle.std.proofs.lemmas.List.Elements.{All-append, All-cons, All-from_get_or, All-nil, All-weaker}
 use Rattle.std.proofs.lemmas.List.Splits.{slice_split_at, slice_split_none}
 use Rattle.std.proofs.lemmas.Str.Parse.{digit_at}
@@ -102,7 +104,7 @@ cut_each x (y ∷ more) each =
     slice_split_at (λ b. b == 32) x 32 (fields_text (y ∷ more)) (not_blank x each.0) refl
     ∙ ap (λ (rest : List (List ℕ)). x ∷ rest) (cut_each y more each.1)
 
-cut_fields : (fields : List (List ℕ)) → AreFields fields
+pub cut_fields : (fields : List (List ℕ)) → AreFields fields
     → slice_split (λ b. b == 32) (fields_text fields) ≡ fields
 cut_fields [] are = absurd (are.some refl)
 cut_fields (x ∷ xs) are = cut_each x xs are.each
@@ -113,12 +115,17 @@ pub same_fields : (fields others : List (List ℕ)) → AreFields fields → Are
 same_fields fields others are are_others same =
     sym (cut_fields fields are) ∙ ap (slice_split (λ b. b == 32)) same ∙ cut_fields others are_others
 
--- the first five parts of a line that is made of no more than four fields
-pub first_parts : (line : List ℕ) (fields : List (List ℕ)) → AreFields fields → length fields ≤ 4
-    → line ≡ fields_text fields → take 5 (slice_split (λ b. b == 32) line) ≡ fields
-first_parts line fields are few text =
-    ap (λ (bytes : List ℕ). take 5 (slice_split (λ b. b == 32) bytes)) text
-    ∙ ap (take 5) (cut_fields fields are) ∙ take_all 5 fields (omega (arith, few))
+-- the parts that a vector took, where it took all of them
+pub took_all : {S A B : Type 0} {steps : S → Option A → S → Type 0} {v : A → B} {s : S} {parts : List B}
+    → YieldsList steps v s parts → (xs : List A) → Drains steps s xs → map v xs ≡ parts
+took_all yields xs drained = (YieldsList-end yields xs drained.1.0 drained.1.1 None drained.0 refl drained.1.2).0
+
+-- and where one more came than it had room for
+pub took_some : {S A B : Type 0} {steps : S → Option A → S → Type 0} {v : A → B} {s : S} {parts : List B}
+    → YieldsList steps v s parts → (xs : List A) (x : A) (rest : S) → YieldsThen steps s xs (Some x) rest
+    → length xs < length parts
+took_some yields xs x rest then =
+    (YieldsList-turn yields xs then.0 then.1 (Some x) rest x refl then.2).0
 
 -- the first of some parts, and the others
 pub first_and_rest : (parts rest : List (Bor (List ℕ))) (first : Bor (List ℕ)) (field : List ℕ)

@@ -14,6 +14,7 @@ ghost use Rattle.servient_cli.specs.Fields.{fields_text, AreFields};
 ghost use Rattle.servient_cli.specs.Script.{hex_text, endpoint_text, what_fields, line_fields, line_text, IsScriptEndpoint, IsScriptEvent, IsScript, IsFirstBadLine};
 ghost use Rattle.servient_cli.specs.Command.{longest_script};
 
+use arrayvec::ArrayVec;
 use coap_msg::Endpoint;
 use hex::FromHexError;
 use servient_base::parse_decimal;
@@ -147,14 +148,18 @@ fn event_at(alloc: Global, moment: u64, fields: &[&str]) -> Result<Option<EventW
     }
 }
 
-/// The fields of a line. Where it has more than a line may have, one more of them and no others.
-fn fields_of(alloc: Global, line: &str) -> Result<Vec<&str>, NoMemory>
-    ensures ok { IfOk result (λ fields. length fields.items ≤ MOST_FIELDS
-        → line.now ≡ fields_text (map (λ field. field.now) fields.items)) }
+/// The fields of a line; none where there are more than any line has.
+fn fields_of(line: &str) -> Option<ArrayVec<&str, MOST_FIELDS>>
+    ensures ok { IfSome result (λ fields. line.now ≡ fields_text (map (λ field. field.now) fields.items)) }
     ensures complete { (fields : List (List ℕ)) → AreFields fields → length fields ≤ MOST_FIELDS
-        → line.now ≡ fields_text fields → IfOk result (λ cut. map (λ field. field.now) cut.items ≡ fields) }
+        → line.now ≡ fields_text fields
+        → IsSomeAnd result (λ cut. map (λ field. field.now) cut.items ≡ fields) }
 {
-    line.split(' ').take(MOST_FIELDS + 1).collect(alloc)
+    let mut fields = ArrayVec::new();
+    match fields.extend(line.split(' ')) {
+        Ok(()) => Some(fields),
+        Err(_full) => None,
+    }
 }
 
 /// The event of a line, which is given without its line feed.
@@ -167,7 +172,9 @@ fn event_of(alloc: Global, line: &[u8]) -> Result<Option<EventWithBytes>, NoMemo
     let Ok(text) = str::from_utf8(line) else {
         return Ok(None);
     };
-    let fields = fields_of(alloc, text)?;
+    let Some(fields) = fields_of(text) else {
+        return Ok(None);
+    };
     let Some((moment, what)) = fields.split_first() else {
         return Ok(None);
     };

@@ -8,27 +8,36 @@ pub returns-in_default-clause-complete : goal.returns-in_default-clause-complete
 returns-in_default-clause-complete c = λ e is text.
     absurd (c.in_default.ensures.cases.0 (line_is_utf8 e c.args.line.now is text))
 
+pub returns-in_default-fields_of-clause-complete :
+    goal.returns-in_default-fields_of-clause-complete
+returns-in_default-fields_of-clause-complete c = λ e is text.
+    absurd
+    (c.in_default-fields_of.ensures.complete (line_fields e) (AreFields-line_fields e is) (length-line_fields e)
+    (c.in-Ok.ensures.cases.0 ∙ body_is e c.args.line.now text))
+
 pub returns-in_default-parse_decimal-clause-complete :
     goal.returns-in_default-parse_decimal-clause-complete
 returns-in_default-parse_decimal-clause-complete c = λ e is text.
     let cut =
-    c.in_ok-fields.ensures.complete (line_fields e) (AreFields-line_fields e is) (length-line_fields e)
+    c.in-Some.ensures.complete (line_fields e) (AreFields-line_fields e is) (length-line_fields e)
     (c.in-Ok.ensures.cases.0 ∙ body_is e c.args.line.now text) in
     let parts =
-    first_and_rest c.deref.result.now c.in-Some.what.now c.in-Some.moment.now (decimal e.event.moment)
-    (what_fields e.event.what e.bytes) c.in-Some.ensures.cases (rw c.deref.ensures.value cut) in
+    first_and_rest c.deref.result.now c.in-Some-split_first.what.now c.in-Some-split_first.moment.now
+    (decimal e.event.moment) (what_fields e.event.what e.bytes) c.in-Some-split_first.ensures.cases
+    (rw c.deref.ensures.0 cut) in
     let latest = is.bounds.event.moment in
     let read = c.parse_decimal.ensures.complete e.event.moment (omega (arith, latest)) parts.0 in
-    absurd (c.in_default-parse_decimal.not-Some _ read)
+    absurd (c.in_default-parse_decimal.not-Some e.event.moment read)
 
 pub returns-clause-complete : goal.returns-clause-complete
 returns-clause-complete c = λ e is text.
     let cut =
-    c.in_ok-fields.ensures.complete (line_fields e) (AreFields-line_fields e is) (length-line_fields e)
+    c.in-Some.ensures.complete (line_fields e) (AreFields-line_fields e is) (length-line_fields e)
     (c.in-Ok.ensures.cases.0 ∙ body_is e c.args.line.now text) in
     let parts =
-    first_and_rest c.deref.result.now c.in-Some.what.now c.in-Some.moment.now (decimal e.event.moment)
-    (what_fields e.event.what e.bytes) c.in-Some.ensures.cases (rw c.deref.ensures.value cut) in
+    first_and_rest c.deref.result.now c.in-Some-split_first.what.now c.in-Some-split_first.moment.now
+    (decimal e.event.moment) (what_fields e.event.what e.bytes) c.in-Some-split_first.ensures.cases
+    (rw c.deref.ensures.0 cut) in
     let latest = is.bounds.event.moment in
     let read = c.parse_decimal.ensures.complete e.event.moment (omega (arith, latest)) parts.0 in
     let moment : e.event.moment ≡ c.in-Some-parse_decimal.moment = cc (read, c.in-Some-parse_decimal.is) in

@@ -17,11 +17,11 @@ use Rattle.servient_cli.specs.Script.{IsScriptEndpoint, endpoint_text, hex_text}
 use Rattle.servient_base.proofs.DecimalTexts.{AllDigits-decimal, split_after_number}
 use Rattle.servient_cli.proofs.HexTexts.{all_lower-encode_lower, is_lower_digit}
 
--- a byte that may stand in a field
+-- a byte that a field may have
 abbrev pub IsGraphic : ℕ → Type 0
 IsGraphic c = IsInRange 33 126 c
 
--- a byte that may stand in a line
+-- a byte that a line may have
 abbrev pub IsPrintable : ℕ → Type 0
 IsPrintable c = IsInRange 32 126 c
 
@@ -64,7 +64,7 @@ IsGraphic-data =
 abbrev pub AreGraphic : List (List ℕ) → Type 0
 AreGraphic fields = AllByRecursion (All IsGraphic) fields
 
--- no blank stands in them
+-- no blank is in them
 each_is_field : (fields : List (List ℕ)) → AreGraphic fields → AllByRecursion IsField fields
 each_is_field [] graphic = tt
 each_is_field (x ∷ xs) graphic =
@@ -136,7 +136,7 @@ first_and_rest parts rest first field fields cut same =
     sym (ap (map (λ part. part.now)) cut.0) ∙ same in
     (cc parts_are, cc parts_are)
 
--- the text of an endpoint is cut behind its host
+-- the text of an endpoint is cut after its host
 pub cut_endpoint : (e : Endpoint) (text : List ℕ) (r : Option (Bor (List ℕ) × Bor (List ℕ)))
     → IsSplitOnceResult 58 text r → IsScriptEndpoint e → text ≡ endpoint_text e
     → MatchOption r ⊥ (λ x. (x.0.now ≡ decimal e.host) × (x.1.now ≡ decimal e.port))

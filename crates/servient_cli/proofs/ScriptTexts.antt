@@ -56,7 +56,7 @@ no_events (x ∷ xs) none =
 abbrev pub LacksLineFeed : List ℕ → Type 0
 LacksLineFeed xs = All (λ b. b ≢ 10) xs
 
--- where two texts are one, the first line feed stands at one place
+-- where two texts are one, the first line feed is at one place
 same_cut : (xs ys zs ws : List ℕ) → LacksLineFeed xs → LacksLineFeed ys → xs ++ 10 ∷ zs ≡ ys ++ 10 ∷ ws
     → (xs ≡ ys) × (zs ≡ ws)
 same_cut [] [] zs ws lacks_x lacks_y same = (refl, cc same)
@@ -87,7 +87,7 @@ first_line_is e line more after lacks is same =
 
 -- ---- after some lines
 
--- These events were read from the front and this rest is left: every script of the bytes goes on with it.
+-- These events were read and this rest is left: every script of the bytes goes on with it.
 pub record HasRead (bytes : List ℕ) (events : List EventWithBytes) (rest : List ℕ) : Type 0 where
   pub text : bytes ≡ script_text events ++ rest
   pub each : AllByRecursion IsScriptEvent events
@@ -106,7 +106,7 @@ few_events bytes rest events read =
     ap length read.text ∙ length-append (script_text events) rest in
     omega (arith, lines, size)
 
--- a line feed stands in the rest
+-- a line feed is in the rest
 some_line : (xs ys : List ℕ) → xs ++ 10 ∷ ys ≡ [] → ⊥
 some_line [] ys same = cc same
 some_line (x ∷ xs) ys same = cc same
@@ -168,7 +168,7 @@ only_read bytes events rest read empty all is =
 
 -- ---- at a bad line
 
--- no line of an event stands at the front
+-- no line of an event is a prefix
 abbrev pub IsBad : List ℕ → Type 0
 IsBad rest = (e : EventWithBytes) (more : List ℕ) → IsScriptEvent e → rest ≢ line_text e ++ more
 

@@ -1,8 +1,8 @@
 -- Replay scripts: the text of their lines, and which bytes are one.
 --
 -- A script is a text of lines, each ended by a line feed, with one event on each. So far the only line is
--- `MOMENT data H:P HEX`: at that moment these bytes came in one datagram from this endpoint. One blank stands
--- between two fields, and nothing else stands in a line. Numbers are decimal, with no sign and no leading zero.
+-- `MOMENT data H:P HEX`: at that moment these bytes came in one datagram from this endpoint. One blank is
+-- between two fields, and nothing else is in a line. Numbers are decimal, with no sign and no leading zero.
 -- MOMENT is in milliseconds, at most 10 ^ 15; H, the number of the host, is below 2 ^ 32; P, its UDP port, is
 -- below 2 ^ 16; HEX is 1 to 2,048 bytes, each as two lower-case hexadecimal digits, or `-` for none.
 use Rattle.std.specs.Prelude.{◌≡◌, ◌≢◌, ◌<◌, ◌+◌, ◌^◌, ℕ, List, [], ◌∷◌, ◌++◌, All, codes, decimal, length}
@@ -63,7 +63,7 @@ pub record IsScript (bytes : List ℕ) (events : List EventWithBytes) : Type 0 w
   pub each : AllByRecursion IsScriptEvent events
 
 -- Line n, counted from 1, is the first that is not in the grammar: the lines before it are those of some
--- events, something stands behind them, and it doesn't begin with the line of an event.
+-- events, something comes after them, and it doesn't begin with the line of an event.
 pub record IsFirstBadLine (bytes : List ℕ) (n : ℕ) : Type 0 where
   pub good : List EventWithBytes
   pub rest : List ℕ

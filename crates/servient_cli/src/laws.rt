@@ -11,7 +11,7 @@ pub fn lines_are_cut_in_one_way()
         → fields_text fields ≡ fields_text others → fields ≡ others }
 {}
 
-/// Each event's line is a line of fields: no blank stands in any of them.
+/// Each event's line is a line of fields: no blank is in any of them.
 pub fn each_event_has_fields()
     ensures { (e : EventWithBytes) → IsScriptEvent e → AreFields (line_fields e) }
 {}

@@ -1,7 +1,7 @@
 //! The whole program below `main`: it makes the real files, the output and the rack, and does what the program's
 //! words say.
 //!
-//! It stands in a library so that each program crate is this one call: `servient`, and each stored run of it with
+//! It is a library so that each program crate is this one call: `servient`, and each stored run of it with
 //! words and an exit status of its own.
 #![tactic(auto)]
 

@@ -122,6 +122,7 @@ fn each_outcome_has_its_reply(rt: HostRuntime) -> Result<(), Fail> {
     let served = serve(&mut servient, &mut net, &mut rack, 11);
     assert_eq!(rt; served, Served::Stopped);
     assert_replies(&rt, net.acts())?;
+    assert_eq!(rt; rack.len(), 1);
     assert_turns(&rt, rack.turns(0));
     Ok(())
 }

@@ -1,0 +1,18 @@
+-- What is judged is the table at the new moment.
+use Rattle.std.proofs.Common.{subst}
+use Rattle.coap_exchange.specs.Admission.{Arrival}
+use Rattle.coap_exchange.specs.Table.{Table, at_moment, Meets}
+use Rattle.coap_exchange.proofs.SlotUses.{moment_after, awaited_after, kept_after}
+use Rattle.coap_exchange.proofs.exchanges.Exchanges.meet.Goals as goal
+
+pub returns : goal.returns
+returns c =
+    let a : Arrival = record { moment = c.args.now; from = c.args.from; id = c.args.id; kind = c.args.kind } in
+    let P : Table → Type 0 = λ t. Meets t (record { moment = t.moment; from = c.args.from; id = c.args.id; kind = c.args.kind }) c.judge.result c.judge.new.self in
+    let met : Meets (at_moment c.args.now c.args.self.now) a c.judge.result c.judge.new.self = subst P c.go_on.ensures c.judge.ensures in
+    record {
+      met = met;
+      moment = moment_after (at_moment c.args.now c.args.self.now) a c.judge.result c.judge.new.self met;
+      awaited = λ slot e. awaited_after (at_moment c.args.now c.args.self.now) a c.judge.result c.judge.new.self met slot e;
+      kept = λ slot e. kept_after (at_moment c.args.now c.args.self.now) a c.judge.result c.judge.new.self met slot e;
+    }

@@ -1,0 +1,4 @@
+pub mod Admission
+pub mod Kept
+pub mod Laws
+pub mod Table

@@ -1,0 +1,18 @@
+//! Laws of admission, as contracts of functions that do nothing.
+
+ghost use Rattle.coap_exchange.specs.Laws.{TablesFollowTheHistory, AdmittedOnce, LivingExchangesDiffer};
+
+/// What tables do is what the history of requests says.
+pub fn tables_follow_the_history()
+    ensures { TablesFollowTheHistory }
+{}
+
+/// A repeat within the lifetime is never admitted (RFC 7252, section 4.5).
+pub fn admitted_once()
+    ensures { AdmittedOnce }
+{}
+
+/// At most one admitted request that lives has a given endpoint and message id (RFC 7252, section 4.4).
+pub fn living_exchanges_differ()
+    ensures { LivingExchangesDiffer }
+{}

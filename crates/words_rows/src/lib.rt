@@ -6,6 +6,8 @@ mod descriptions;
 #[cfg(test)]
 mod forms;
 #[cfg(test)]
+mod generated_forms;
+#[cfg(test)]
 mod json;
 #[cfg(test)]
 mod messages;

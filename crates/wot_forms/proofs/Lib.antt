@@ -1,2 +1,4 @@
 pub mod NamedOps
 pub mod FormLists
+pub mod Encoding
+pub mod PatchedForms

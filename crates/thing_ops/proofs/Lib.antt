@@ -1,0 +1,3 @@
+pub mod InvocationIds
+pub mod SegmentLists
+pub mod VerbNames

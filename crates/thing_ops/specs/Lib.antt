@@ -1,0 +1,5 @@
+pub mod Outcomes
+pub mod Requests
+pub mod Routes
+pub mod Segments
+pub mod Verbs

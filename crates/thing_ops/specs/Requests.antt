@@ -1,0 +1,26 @@
+-- Requests apart from where their parts lie in memory.
+use Rattle.std.specs.Prelude.{ℕ, List}
+use Rattle.thing_ops.specs.declared.verb.Verb.{Verb}
+use Rattle.thing_ops.specs.declared.request.Accept.{Accept}
+use Rattle.thing_ops.specs.declared.request.Format.{Format}
+use Rattle.thing_ops.specs.declared.request.Request.{Request}
+
+-- a request: its path is a list of segments, and segments, query and body are lists of bytes
+pub record PlainRequest : Type 0 where
+  pub verb : Verb
+  pub path : List (List ℕ)
+  pub query : List ℕ
+  pub accept : Accept
+  pub format : Format
+  pub body : List ℕ
+
+-- what a request says
+abbrev pub plain_request : Request → PlainRequest
+plain_request r = record {
+  verb = r.verb;
+  path = r.path;
+  query = r.query.now;
+  accept = r.accept;
+  format = r.format;
+  body = r.body.now;
+}

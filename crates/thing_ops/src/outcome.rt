@@ -1,0 +1,80 @@
+//! What a request comes to.
+
+ghost use Rattle.std.specs.Prelude.{◌≡◌, option_map};
+ghost use Rattle.thing_ops.specs.Outcomes.{text_of};
+
+use crate::{Allow, Segments};
+use wot_json::{Bytes, Text};
+
+/// What a request comes to. `specs/Outcomes.antt` says how each is answered.
+#[derive(Debug, Drop)]
+pub enum Outcome {
+    /// A value, as a JSON text.
+    Content(Bytes),
+    /// A description, as a JSON text; and whether it is sent as `application/td+json`.
+    Description(Bytes, bool),
+    /// There is no value yet.
+    Empty,
+    /// What was asked is done, and there is nothing to say of it.
+    Changed,
+    /// What an action gave, as a JSON text.
+    Output(Bytes),
+    /// An action goes on: the path of its invocation, and the invocation's status as a JSON text.
+    Started(Segments, Bytes),
+    /// What was at the path is gone.
+    Deleted,
+    /// The directory has a new entry; its id, where the directory chose it.
+    Created(Option<Text>),
+    /// The entries of the directory, as a JSON text.
+    Listed(Bytes),
+    /// The request waits for the next value or emission of what has this slot.
+    Wait(u32),
+    /// There is nothing at the path.
+    NotFound,
+    /// What is at the path takes these verbs and not the request's.
+    NotAllowed(Allow),
+    /// The sender takes no media type that the answer could have.
+    NotAcceptable,
+    /// The body isn't in a format that is taken here.
+    Format,
+    /// The body is missing or not wanted, can't be read, or isn't what the schema asks.
+    BadValue,
+    /// The value is longer than is taken here.
+    TooLarge,
+    /// The device refused, for the reason of this number.
+    Refused(u16),
+    /// The device has a fault, of this number.
+    DeviceFault(u16),
+    /// The device answered what it mustn't.
+    BadAnswer,
+    /// No further invocation can run beside those that do.
+    InvocationsFull,
+    /// The run has no number left for another call of a handler.
+    CallsUsed,
+    /// The description breaks the rule of this number.
+    Invalid(u8),
+    /// The description's own id isn't the one in the path.
+    IdDiffers,
+    /// The description has an id, where the directory gives it one.
+    HasId,
+    /// The directory has no room for another entry.
+    DirectoryFull,
+    /// Out of memory.
+    Memory,
+}
+
+impl Outcome {
+    /// The text that the outcome carries and that is its payload. Where it carries none, its payload is its word.
+    pub fn text(&self) -> Option<&[u8]>
+        ensures { option_map (λ t. t.now) result ≡ text_of self.now }
+    {
+        match self {
+            Outcome::Content(text)
+            | Outcome::Description(text, _)
+            | Outcome::Output(text)
+            | Outcome::Started(_, text)
+            | Outcome::Listed(text) => Some(text.as_slice()),
+            _ => None,
+        }
+    }
+}

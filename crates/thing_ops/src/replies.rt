@@ -1,0 +1,69 @@
+//! The status of an outcome over HTTP and its code over CoAP, by the table in `specs/Outcomes.antt`.
+
+ghost use Rattle.std.specs.Prelude.{◌≡◌, ◌+◌, ◌*◌, ◌<◌, Some};
+ghost use Rattle.thing_ops.specs.Outcomes.{answer_of, coap, HasStatus, HasCode};
+
+use crate::Outcome;
+
+/// The status over HTTP (RFC 9110, section 15). A request that waits has none yet.
+pub fn http_status(outcome: &Outcome) -> u16
+    requires { HasStatus outcome.now }
+    ensures { (answer_of outcome.now).status ≡ Some result }
+{
+    match outcome {
+        Outcome::Content(_)
+        | Outcome::Description(_, _)
+        | Outcome::Output(_)
+        | Outcome::Listed(_) => 200,
+        Outcome::Started(_, _) | Outcome::Created(_) => 201,
+        Outcome::Empty | Outcome::Changed | Outcome::Deleted => 204,
+        Outcome::BadValue | Outcome::Invalid(_) | Outcome::IdDiffers | Outcome::HasId => 400,
+        Outcome::Refused(_) => 403,
+        Outcome::NotFound => 404,
+        Outcome::NotAllowed(_) => 405,
+        Outcome::NotAcceptable => 406,
+        Outcome::TooLarge => 413,
+        Outcome::Format => 415,
+        Outcome::DeviceFault(_) | Outcome::BadAnswer => 500,
+        Outcome::InvocationsFull | Outcome::CallsUsed | Outcome::DirectoryFull => 503,
+        Outcome::Memory => 507,
+        Outcome::Wait(_) => unreachable!(),
+    }
+}
+
+/// The code over CoAP (RFC 7252, section 5.9): the class times 32, and the detail. The directory's own outcomes have
+/// none, since it isn't reached over CoAP.
+pub fn coap_code(outcome: &Outcome) -> u8
+    requires { HasCode outcome.now }
+    ensures { (answer_of outcome.now).code ≡ Some result }
+{
+    match outcome {
+        Outcome::Started(_, _) => code(2, 1),
+        Outcome::Deleted => code(2, 2),
+        Outcome::Changed | Outcome::Output(_) => code(2, 4),
+        Outcome::Content(_) | Outcome::Description(_, _) | Outcome::Empty => code(2, 5),
+        Outcome::BadValue => code(4, 0),
+        Outcome::Refused(_) => code(4, 3),
+        Outcome::NotFound | Outcome::Wait(_) => code(4, 4),
+        Outcome::NotAllowed(_) => code(4, 5),
+        Outcome::NotAcceptable => code(4, 6),
+        Outcome::TooLarge => code(4, 13),
+        Outcome::Format => code(4, 15),
+        Outcome::DeviceFault(_) | Outcome::BadAnswer => code(5, 0),
+        Outcome::InvocationsFull | Outcome::CallsUsed | Outcome::Memory => code(5, 3),
+        Outcome::Created(_)
+        | Outcome::Listed(_)
+        | Outcome::Invalid(_)
+        | Outcome::IdDiffers
+        | Outcome::HasId
+        | Outcome::DirectoryFull => unreachable!(),
+    }
+}
+
+/// A code of this class and detail.
+fn code(class: u8, detail: u8) -> u8
+    requires { 32 * class + detail < 256 }
+    ensures { result ≡ coap class detail }
+{
+    32 * class + detail
+}

@@ -1,0 +1,45 @@
+//! Requests as both protocols see them.
+
+use crate::{Segments, Verb};
+
+/// The media type of a request's body, as its content format says (RFC 9110, section 8.3; RFC 7252, section 12.3).
+#[derive(Clone, Copy, Debug, PartialEq, Eq, Drop)]
+pub enum Format {
+    /// The request names none.
+    Absent,
+    /// `application/json`.
+    Json,
+    /// `application/td+json` (TD 1.1, "IANA Considerations").
+    Td,
+    /// `application/merge-patch+json` (RFC 7396).
+    Patch,
+    /// Any other.
+    Other,
+}
+
+/// The media types that the sender takes in an answer.
+#[derive(Clone, Copy, Debug, PartialEq, Eq, Drop)]
+pub struct Accept {
+    /// `application/json`.
+    pub json: bool,
+    /// `application/td+json`.
+    pub td: bool,
+}
+
+/// A request. It owns its path, and borrows query and body from the message that it came in.
+/// `plain_request` of `specs/Requests.antt` is the same as a record of lists.
+#[derive(Debug, Drop)]
+pub struct Request<'a> {
+    /// What it asks to be done.
+    pub verb: Verb,
+    /// The segments of its path, decoded.
+    pub path: Segments,
+    /// Its query as it came, without the `?`; empty where it has none.
+    pub query: &'a [u8],
+    /// What its sender takes in an answer.
+    pub accept: Accept,
+    /// What it says that its body is.
+    pub format: Format,
+    /// Its body; empty where it has none.
+    pub body: &'a [u8],
+}

@@ -1,0 +1,11 @@
+//! Tests of what the crates of requests on Things offer: routes, verbs, outcomes.
+#![tactic(auto)]
+
+#[cfg(test)]
+mod outcomes;
+#[cfg(test)]
+mod paths;
+#[cfg(test)]
+mod routes;
+#[cfg(test)]
+mod verbs;

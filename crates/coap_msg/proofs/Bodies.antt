@@ -77,13 +77,13 @@ at_end body last [] p none = at_payload body last [] [] body p refl (sym (take_a
 at_end body last (b ∷ rest) p none = absurd (omega arith)
 
 -- the rest is options in order and a tail
-record IsRest (last : ℕ) (rest tail : List ℕ) : Type 0 where
-  more : List CoapOption
-  order : AreInOrder last more
-  rest_is : rest ≡ options_spelling last more ++ tail
+pub record IsRest (last : ℕ) (rest tail : List ℕ) : Type 0 where
+  pub more : List CoapOption
+  pub order : AreInOrder last more
+  pub rest_is : rest ≡ options_spelling last more ++ tail
 
 -- what comes after the options that were read is the rest of any other way to read them
-same_rest : (last : ℕ) (done others : List CoapOption) (rest tail : List ℕ) → AreInOrder last done →
+pub same_rest : (last : ℕ) (done others : List CoapOption) (rest tail : List ℕ) → AreInOrder last done →
     AreInOrder last others → BeginsNoOption tail →
     options_spelling last others ++ tail ≡ options_spelling last done ++ rest →
     IsRest (last_number last done) rest tail

@@ -9,14 +9,14 @@ use Rattle.coap_msg.specs.Parts.{SpellsHeader, SpellsBody}
 use Rattle.coap_msg.proofs.OptionLists.{one_body}
 
 -- type bits are two bits
-type_bits_below : (kind : Type4) → type_bits kind < 4
+pub type_bits_below : (kind : Type4) → type_bits kind < 4
 type_bits_below Con = omega arith
 type_bits_below Non = omega arith
 type_bits_below Ack = omega arith
 type_bits_below Rst = omega arith
 
 -- types are told apart by their bits
-same_type : (a b : Type4) → type_bits a ≡ type_bits b → a ≡ b
+pub same_type : (a b : Type4) → type_bits a ≡ type_bits b → a ≡ b
 same_type Con Con same = refl
 same_type Con Non same = absurd (omega arith)
 same_type Con Ack same = absurd (omega arith)

@@ -28,15 +28,15 @@ pub record TakesOption (last : ℕ) (o : CoapOption) (bytes rest : List ℕ) : T
   pub bytes_are : bytes ≡ option_spelling last o ++ rest
 
 -- four lists joined from the right are the same joined from the left
-regrouped : (a b c d : List ℕ) → a ++ (b ++ (c ++ d)) ≡ ((a ++ b) ++ c) ++ d
+pub regrouped : (a b c d : List ℕ) → a ++ (b ++ (c ++ d)) ≡ ((a ++ b) ++ c) ++ d
 regrouped a b c d = simp append_assoc
 
--- an option from the numbers of its two nibbles
-takes_parts : (last b delta size : ℕ) (bytes middle tail : List ℕ) → TakesNumber (b / 16) delta bytes middle →
-    TakesNumber (b % 16) size middle tail → size ≤ length tail → last + delta < 2 ^ 16 →
-    TakesOption last (last + delta, take size tail) (b ∷ bytes) (drop size tail)
+-- the bytes of an option from the numbers of its two nibbles
+pub spelled_parts : (last b delta size : ℕ) (bytes middle tail : List ℕ) → TakesNumber (b / 16) delta bytes middle →
+    TakesNumber (b % 16) size middle tail → size ≤ length tail →
+    b ∷ bytes ≡ option_spelling last (last + delta, take size tail) ++ drop size tail
 unfolding option_spelling
-takes_parts last b delta size bytes middle tail of_delta of_size within number =
+spelled_parts last b delta size bytes middle tail of_delta of_size within =
     let delta_is : last + delta - last ≡ delta = omega arith in
     let size_is : length (take size tail) ≡ size = length-take-le size tail within in
     let halves : b ≡ 16 * (b / 16) + b % 16 = omega arith in
@@ -50,9 +50,17 @@ takes_parts last b delta size bytes middle tail of_delta of_size within number =
     ∙ regrouped (extended delta) (extended size) (take size tail) (drop size tail) in
     let all : b ∷ bytes ≡ (16 * nibble delta + nibble size) ∷ (((extended delta ++ extended size) ++ take size tail) ++ drop size tail) =
     ap (λ (n : ℕ). n ∷ bytes) first ∙ ap (λ (xs : List ℕ). (16 * nibble delta + nibble size) ∷ xs) after in
+    rw (delta_is, size_is) all
+
+-- an option from the numbers of its two nibbles
+takes_parts : (last b delta size : ℕ) (bytes middle tail : List ℕ) → TakesNumber (b / 16) delta bytes middle →
+    TakesNumber (b % 16) size middle tail → size ≤ length tail → last + delta < 2 ^ 16 →
+    TakesOption last (last + delta, take size tail) (b ∷ bytes) (drop size tail)
+takes_parts last b delta size bytes middle tail of_delta of_size within number =
+    let size_is : length (take size tail) ≡ size = length-take-le size tail within in
     record {
       follows = record { order = omega arith; number = omega arith; value = omega (arith, size_is, of_size.bound) };
-      bytes_are = rw (delta_is, size_is) all;
+      bytes_are = spelled_parts last b delta size bytes middle tail of_delta of_size within;
     }
 
 -- what `value_at` reads

@@ -1,8 +1,8 @@
 pub mod Grammar
-pub mod Request
 pub mod Parts
 pub mod Options
 pub mod Opts
 pub mod OptionsLeft
 pub mod MessageOf
 pub mod PlainMessage
+pub mod Faults

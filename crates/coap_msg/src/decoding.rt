@@ -1,54 +1,37 @@
-//! Reading a message: any message of the grammar, and then the test that it is one that is taken.
+//! Reading a message: the one that bytes spell, or what is wrong with them.
 
-ghost use Rattle.std.specs.Prelude.{◌≡◌, ◌↔◌, ℕ, List, IfSome, IsSomeAnd, IfOk, IsOkAnd, IsTrue};
-ghost use Rattle.std.specs.List.{list_all};
+ghost use Rattle.std.specs.Prelude.{◌≡◌, ◌↔◌, ◌∷◌, ◌≢◌, ℕ, List, None, IfOk, IfErr, IsOkAnd, OnOk, IsTrue};
 ghost use Rattle.coap_msg.specs.Grammar.{CoapOption, CoapMessage, IsClass, Spells};
-ghost use Rattle.coap_msg.specs.Request.{is_uri_path, IsPathRequest};
+ghost use Rattle.coap_msg.specs.Faults.{HasMsgFault, HasHeaderFault, HasBodyFault, HasFaultHere, MayGoOn, BeginsWhole};
+ghost use Rattle.coap_msg.specs.Options.{option_at};
 ghost use Rattle.coap_msg.specs.Parts.{SpellsBody};
 ghost use Rattle.coap_msg.specs.MessageOf.{message_of};
 
-use crate::header::take_header;
+use crate::header::{Header, take_header};
 use crate::message::PAYLOAD_MARKER;
-use crate::options::take_option;
-use crate::{Message, MsgFault, Options, Type4};
+use crate::options::{take_number, take_option};
+use crate::{Message, MsgFault, Options};
 
-/// The number of the option Uri-Path (RFC 7252, section 5.10).
-const URI_PATH: u16 = 11;
+/// The nibble that no option has (RFC 7252, section 3.1).
+const RESERVED: u8 = 15;
 
-/// The most bytes that the value of a Uri-Path option has (RFC 7252, section 5.10).
-const URI_PATH_LIMIT: usize = 255;
-
-/// The message that the bytes spell, if it is a Non-confirmable request with no option but Uri-Path.
+/// The message that the bytes spell, whatever its type, its code and its options. It copies nothing.
 pub fn decode(bytes: &[u8]) -> Result<Message<'_>, MsgFault>
-    ensures ok { IfOk result (λ m. Spells (message_of m) bytes.now × IsPathRequest (message_of m)) }
-    ensures complete { (m : CoapMessage) → Spells m bytes.now → IsPathRequest m →
-        IsOkAnd result (λ n. message_of n ≡ m) }
+    ensures ok { IfOk result (λ m. Spells (message_of m) bytes.now) }
+    ensures complete { (m : CoapMessage) → Spells m bytes.now → IsOkAnd result (λ n. message_of n ≡ m) }
 
     // Writing what was read gives the same bytes.
     ensures unique { IfOk result (λ m. (other : List ℕ) → Spells (message_of m) other → other ≡ bytes.now) }
-{
-    match read_message(bytes) {
-        Some(message) if is_path_request(&message) => Ok(message),
-        _ => Err(MsgFault::Malformed),
-    }
-}
 
-/// The message that the bytes spell, whatever its type, class and options.
-fn read_message(bytes: &[u8]) -> Option<Message<'_>>
-    ensures ok { IfSome result (λ m. Spells (message_of m) bytes.now) }
-    ensures complete { (m : CoapMessage) → Spells m bytes.now → IsSomeAnd result (λ n. message_of n ≡ m) }
+    ensures fault { IfErr result (λ e. HasMsgFault e bytes.now) }
 {
-    let (header, rest) = take_header(bytes)?;
-    let token_length = header.token_length as usize;
-    if header.version != 1 || token_length > 8 || token_length > rest.len() {
-        return None;
-    }
-    if !is_class(header.code / 32) || header.code == 0 && !rest.is_empty() {
-        return None;
-    }
-    let (token, body) = rest.split_at(token_length);
+    let Some((header, rest)) = take_header(bytes) else {
+        return Err(MsgFault::Short);
+    };
+    check_header(&header, rest)?;
+    let (token, body) = rest.split_at(header.token_length as usize);
     let (options, payload) = split_body(body)?;
-    Some(Message {
+    Ok(Message {
         kind: header.kind,
         code: header.code,
         id: header.id,
@@ -56,6 +39,27 @@ fn read_message(bytes: &[u8]) -> Option<Message<'_>>
         options,
         payload,
     })
+}
+
+/// Finds what is wrong with a header and the number of bytes after it.
+fn check_header(header: &Header, rest: &[u8]) -> Result<(), MsgFault>
+    ensures ok { OnOk result (MayGoOn header.now rest.now) }
+    ensures fault { IfErr result (λ e. HasHeaderFault e header.now rest.now) }
+{
+    let token_length = header.token_length as usize;
+    if header.version != 1 {
+        return Err(MsgFault::Version);
+    }
+    if token_length > 8 || token_length > rest.len() {
+        return Err(MsgFault::TokenLength);
+    }
+    if header.code == 0 && !rest.is_empty() {
+        return Err(MsgFault::EmptyCode);
+    }
+    if !is_class(header.code / 32) {
+        return Err(MsgFault::Class);
+    }
+    Ok(())
 }
 
 /// Whether a class is not reserved (RFC 7252, section 12.1).
@@ -66,47 +70,55 @@ fn is_class(class: u8) -> bool
 }
 
 /// The options and the payload in the bytes after the token.
-fn split_body(body: &[u8]) -> Option<(Options<'_>, &[u8])>
-    ensures ok { IfSome result (λ split. SpellsBody split.0 split.1.now body.now) }
+fn split_body(body: &[u8]) -> Result<(Options<'_>, &[u8]), MsgFault>
+    ensures ok { IfOk result (λ split. SpellsBody split.0 split.1.now body.now) }
     ensures complete { (options : List CoapOption) (payload : List ℕ) → SpellsBody options payload body.now →
-        IsSomeAnd result (λ split. (split.0 ≡ options) × (split.1.now ≡ payload)) }
+        IsOkAnd result (λ split. (split.0 ≡ options) × (split.1.now ≡ payload)) }
+    ensures fault { IfErr result (λ e. HasBodyFault e body.now) }
 {
     let mut rest = body;
     let mut last = 0;
     'options: while let Some((first, after)) = rest.split_first() {
         if *first == PAYLOAD_MARKER {
             if after.is_empty() {
-                return None;
+                return Err(MsgFault::NoPayload);
             }
-            return Some((Options::of(&body[..body.len() - rest.len()]), after));
+            return Ok((Options::of(&body[..body.len() - rest.len()]), after));
         }
         let Some((number, _, next)) = take_option(last, rest) else {
-            return None;
+            return Err(option_fault(last, *first, after));
         };
         last = number;
         rest = next;
     }
-    Some((Options::of(body), rest))
+    Ok((Options::of(body), rest))
 }
 
-/// Whether a message is one that is taken so far.
-fn is_path_request(message: &Message<'_>) -> bool
-    ensures { IsTrue result ↔ IsPathRequest (message_of message.now) }
+/// What is wrong with the bytes after an option of the number `last`, which begin with no option that may be there.
+fn option_fault(last: u16, first: u8, after: &[u8]) -> MsgFault
+    requires none { option_at last (first ∷ after.now) ≡ None }
+    requires marker { first ≢ 255 }
+    ensures { HasFaultHere result last (first ∷ after.now) }
 {
-    message.kind == Type4::Non
-        && message.code > 0
-        && message.code < 32
-        && are_uri_path(&message.options)
-}
-
-/// Whether all options are Uri-Path.
-fn are_uri_path(options: &Options<'_>) -> bool
-    ensures { result ≡ list_all is_uri_path options.now }
-{
-    for (number, value) in options.iter() {
-        if number != URI_PATH || value.len() > URI_PATH_LIMIT {
-            return false;
-        }
+    if first / 16 == RESERVED || first % 16 == RESERVED {
+        return MsgFault::Nibble;
     }
-    true
+    if is_whole(first, after) {
+        MsgFault::OptionNumber
+    } else {
+        MsgFault::OptionCut
+    }
+}
+
+/// Whether an option doesn't pass the end, whatever its number.
+fn is_whole(first: u8, after: &[u8]) -> bool
+    ensures { IsTrue result ↔ BeginsWhole (first ∷ after.now) }
+{
+    match take_number(first / 16, after) {
+        Some((_, middle)) => match take_number(first % 16, middle) {
+            Some((size, rest)) => size <= rest.len(),
+            None => false,
+        },
+        None => false,
+    }
 }

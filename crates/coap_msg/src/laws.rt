@@ -1,7 +1,9 @@
 //! Laws of the grammar, as contracts of functions that do nothing.
 
 ghost use Rattle.std.specs.Prelude.{◌≡◌, ℕ, List};
+ghost use Rattle.coap_msg.specs.declared.message.MsgFault.{MsgFault};
 ghost use Rattle.coap_msg.specs.Grammar.{CoapMessage, IsWellFormed, Spells};
+ghost use Rattle.coap_msg.specs.Faults.{HasMsgFault};
 
 /// A message within the bounds has exactly one spelling.
 pub fn one_spelling()
@@ -12,4 +14,14 @@ pub fn one_spelling()
 /// A list of bytes spells at most one message.
 pub fn one_message()
     ensures { (m n : CoapMessage) (b : List ℕ) → Spells m b → Spells n b → m ≡ n }
+{}
+
+/// The bytes of a message have no fault.
+pub fn no_fault()
+    ensures { (f : MsgFault) (m : CoapMessage) (b : List ℕ) → Spells m b → ¬ (HasMsgFault f b) }
+{}
+
+/// Bytes have at most one fault.
+pub fn one_fault()
+    ensures { (f g : MsgFault) (b : List ℕ) → HasMsgFault f b → HasMsgFault g b → f ≡ g }
 {}

@@ -26,10 +26,11 @@
 //! }
 //! ```
 //!
-//! The grammar is `specs/Grammar.antt`. The contract in a sentence: `decode` gives exactly the one message that its
-//! bytes spell where it is a message that is taken so far (`specs/Request.antt`), and `encode` writes exactly the
-//! spelling of the message that it is given. Their clauses `unique` say that the two are inverse. The laws: a message
-//! has one spelling, and bytes spell at most one message.
+//! The grammar is `specs/Grammar.antt`, and what can be wrong with bytes `specs/Faults.antt`. The contract in a sentence:
+//! `decode` gives exactly the one message that its bytes spell, or else the first fault that they have, and `encode`
+//! writes exactly the spelling of the message that it is given. Their clauses `unique` say that the two are inverse.
+//! The laws: a message has one spelling, bytes spell at most one message, those of a message have no fault, and other
+//! bytes have at most one.
 #![tactic(auto)]
 
 mod decoding;
@@ -44,7 +45,7 @@ mod opts;
 pub use decoding::decode;
 pub use encoding::{Plain, encode};
 pub use endpoint::Endpoint;
-pub use laws::{one_message, one_spelling};
+pub use laws::{no_fault, one_fault, one_message, one_spelling};
 pub use message::{Message, MsgFault, Type4};
 pub use options::{Options, OptionsIter};
 pub use opts::{NoRoom, Opts};

@@ -50,12 +50,37 @@ impl Type4 {
     }
 }
 
-/// Why bytes are no message that is taken.
+/// Why bytes are no message (RFC 7252, section 3): the first of these that holds of them, where the options are judged one
+/// after another. `HasMsgFault` of `specs/Faults.antt` says when each holds.
 #[derive(Clone, Copy, Debug, PartialEq, Eq, Error)]
 pub enum MsgFault {
-    /// The bytes spell no message (RFC 7252, section 3), or one that is not taken so far.
-    #[error("the bytes are no message that is taken")]
-    Malformed,
+    /// There are under 4 bytes.
+    #[error("a message has 4 bytes or more")]
+    Short,
+    /// The version is not 1.
+    #[error("the version is not 1")]
+    Version,
+    /// The token length is above 8, or the token passes the end.
+    #[error("the token has more than 8 bytes or passes the end")]
+    TokenLength,
+    /// The code is 0.00, and something stands after the header (section 4.1).
+    #[error("an Empty message has more than a header")]
+    EmptyCode,
+    /// The class is one of the reserved 1, 3, 6 and 7 (section 12.1).
+    #[error("the class is reserved")]
+    Class,
+    /// An option's first byte is not the payload marker and has the reserved nibble 15 (section 3.1).
+    #[error("an option has the reserved nibble 15")]
+    Nibble,
+    /// An option passes the end.
+    #[error("an option passes the end")]
+    OptionCut,
+    /// An option's number is above 65,535.
+    #[error("an option has a number above 65535")]
+    OptionNumber,
+    /// Nothing stands after the payload marker (section 3).
+    #[error("no payload follows the payload marker")]
+    NoPayload,
 }
 
 /// A message that was read; token, options and payload lie in the bytes that it was read from.

@@ -73,7 +73,7 @@ impl<'a> Iterator for OptionsIter<'a> {
 
 /// The number of a nibble with its extended bytes, and the bytes after them.
 #[tactic(auto, unfolding(crate::specs::Options::number_at))]
-fn take_number(nibble: u8, bytes: &[u8]) -> Option<(usize, &[u8])>
+pub fn take_number(nibble: u8, bytes: &[u8]) -> Option<(usize, &[u8])>
     requires { nibble < 16 }
     ensures ok { option_map (λ taken. (taken.0, taken.1.now)) result ≡ number_at nibble bytes.now }
     ensures bound { IfSome result (λ taken. taken.0 ≤ largest_number) }

@@ -1,4 +1,5 @@
 pub mod Outcomes
 pub mod Trace
+pub mod Requests
 pub mod Machine
 pub mod Serving

@@ -8,7 +8,6 @@ use Rattle.servient_base.specs.Moves.{Becomes, Stays, Then, Passing, Each}
 use Rattle.coap_msg.specs.declared.endpoint.Endpoint.{Endpoint}
 use Rattle.coap_msg.specs.declared.message.Type4.TheVariants.{Non}
 use Rattle.coap_msg.specs.Grammar.{CoapOption, CoapMessage, Spells, spelling}
-use Rattle.coap_msg.specs.Request.{IsPathRequest}
 use Rattle.thing_handler.specs.declared.handler.CallKind.TheVariants.{Read}
 use Rattle.thing_handler.specs.declared.handler.Answer.{Answer}
 use Rattle.thing_handler.specs.Turns.{RunTurn, answered, missed}
@@ -19,6 +18,7 @@ use Rattle.servient_edge.specs.declared.net.Act.TheVariants as act
 use Rattle.servient_edge.specs.Network.{heard, did}
 use Rattle.servient_core.specs.declared.outcome.Outcome.{Outcome}
 use Rattle.servient_core.specs.declared.outcome.Outcome.TheVariants as outcome
+use Rattle.servient_core.specs.Requests.{IsPathRequest}
 use Rattle.servient_core.specs.Outcomes.{outcome_of, reply_of}
 use Rattle.servient_core.specs.Trace.{Sighting, at_network, at_handler}
 

@@ -8,7 +8,7 @@ ghost use Rattle.servient_core.specs.Trace.{Shows, outside};
 ghost use Rattle.servient_core.specs.Machine.{start, ComesTo, Receives, Step};
 ghost use Rattle.servient_core.specs.Serving.{StandsFor};
 
-use crate::path::is_status_path;
+use crate::path::{is_path_request, is_status_path};
 use crate::reply::{LONGEST_REPLY, put_reply};
 use crate::{Event, Net, Outcome, What};
 use coap_msg::{Endpoint, Options, decode};
@@ -105,6 +105,9 @@ impl Servient {
         let Ok(message) = decode(bytes) else {
             return;
         };
+        if !is_path_request(&message) {
+            return;
+        }
         if message.code != GET {
             return;
         }

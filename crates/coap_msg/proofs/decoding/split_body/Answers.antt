@@ -3,6 +3,7 @@ use Rattle.std.proofs.lemmas.Bool.Decides.{nat_tests}
 use Rattle.coap_msg.specs.Grammar.{payload_spelling}
 use Rattle.coap_msg.proofs.Bodies.{begin, step, falls, marker_and_bytes, at_payload, at_end, bare_marker, no_option}
 use Rattle.coap_msg.proofs.OptionLists.{one_body}
+use Rattle.coap_msg.proofs.FaultLaws.{body_fault_at}
 use Rattle.coap_msg.proofs.decoding.split_body.Goals as goal
 
 pub returns-then-is_empty-clause-complete : goal.returns-then-is_empty-clause-complete
@@ -47,3 +48,8 @@ returns-clause-ok c =
 pub returns-clause-complete : goal.returns-clause-complete
 returns-clause-complete c options payload spells =
     one_body c.of-2.result options c.options.rest.now payload c.args.body.now (returns-clause-ok c) spells
+
+pub returns-in_default-take_option-clause-fault : goal.returns-in_default-take_option-clause-fault
+returns-in_default-take_option-clause-fault c =
+    body_fault_at c.option_fault.result c.args.body.now c.options.last c.in-Some.first.now c.options.rest.now c.in-Some.after.now
+    c.options.invariant c.in-Some.ensures.cases.0 c.option_fault.ensures

@@ -1,4 +1,4 @@
--- The messages that are taken so far: requests with a path.
+-- The messages that are acted on so far: requests with a path.
 use Rattle.std.specs.Prelude.{◌≡◌, ◌<◌, length, Bool, ◌==◌, ◌&&◌, nat_le, IsTrue}
 use Rattle.std.specs.List.{list_all}
 use Rattle.coap_msg.specs.declared.message.Type4.TheVariants.{Non}

@@ -1,5 +1,9 @@
-//! Tests of what the crates of the bindings offer: exchanges of CoAP.
+//! Tests of what the crates of the bindings offer: CoAP messages, what they ask for, and exchanges.
 #![tactic(auto)]
 
 #[cfg(test)]
 mod exchanges;
+#[cfg(test)]
+mod messages;
+#[cfg(test)]
+mod options;

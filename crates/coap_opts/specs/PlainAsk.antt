@@ -1,0 +1,8 @@
+-- A request that was read.
+use Rattle.thing_ops.specs.Requests.{plain_request}
+use Rattle.coap_opts.specs.declared.ask.CoapAsk.{CoapAsk}
+use Rattle.coap_opts.specs.Reading.{PlainAsk}
+
+-- a request that was read, apart from where it lies in memory
+abbrev pub plain_ask : CoapAsk → PlainAsk
+plain_ask a = record { request = plain_request a.request; observe = a.observe }

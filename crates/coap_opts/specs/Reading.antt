@@ -1,0 +1,106 @@
+-- What a CoAP request asks for, and what can be wrong with its options (RFC 7252, sections 5.4, 5.8 and 5.10).
+use Rattle.std.specs.Prelude.{ℕ, ◌+◌, ◌*◌, ◌%◌, ◌^◌, List, [], ◌∷◌, length, map, Bool, true, not, ◌==◌, ◌&&◌, ◌||◌, Option, Some, None, option_and_then, slice_get, if◌then◌else◌}
+use Rattle.std.specs.List.{filter}
+use Rattle.coap_msg.specs.Grammar.{CoapOption, CoapMessage}
+use Rattle.thing_ops.specs.declared.verb.Verb.{Verb}
+use Rattle.thing_ops.specs.declared.verb.Verb.TheVariants as verb
+use Rattle.thing_ops.specs.declared.request.Accept.{Accept}
+use Rattle.thing_ops.specs.declared.request.Format.{Format}
+use Rattle.thing_ops.specs.declared.request.Format.TheVariants as format
+use Rattle.thing_ops.specs.Requests.{PlainRequest}
+use Rattle.coap_opts.specs.declared.fault.AskFault.{AskFault}
+use Rattle.coap_opts.specs.declared.fault.AskFault.TheVariants as fault
+use Rattle.coap_opts.specs.declared.known.Known.{Known}
+use Rattle.coap_opts.specs.Table.{observe, content_format, accept, has_length, may_stand}
+
+-- ---- what is wrong
+
+-- Proxy-Uri and Proxy-Scheme (section 5.10.2)
+abbrev pub is_proxy : ℕ → Bool
+is_proxy number = (number == 35) || (number == 39)
+
+-- an option of an odd number is critical, any other is elective (section 5.4.6)
+abbrev pub is_critical : ℕ → Bool
+is_critical number = number % 2 == 1
+
+-- What is wrong with an option after one of the number before. A critical one that may not stand there is bad, an
+-- elective one is ignored (section 5.4.1).
+abbrev pub fault_of : Option ℕ → CoapOption → Option AskFault
+fault_of before o =
+    if is_proxy o.0 then Some fault.Proxy
+    else if is_critical o.0 && not (may_stand before o) then Some (fault.BadOption o.0)
+    else None
+
+-- a fault, if there is one, and then these
+abbrev pub and_then_these : Option AskFault → List AskFault → List AskFault
+and_then_these None faults = faults
+and_then_these (Some f) faults = f ∷ faults
+
+-- the faults of the options after one of the number before, in their order
+abbrev pub faults_after : Option ℕ → List CoapOption → List AskFault
+faults_after before [] = []
+faults_after before (o ∷ os) = and_then_these (fault_of before o) (faults_after (Some o.0) os)
+
+-- all faults of the options of a message, in their order
+abbrev pub faults_of : List CoapOption → List AskFault
+faults_of os = faults_after None os
+
+-- ---- what is asked
+
+-- the values of all options of this number, in their order
+abbrev pub values_under : ℕ → List CoapOption → List (List ℕ)
+values_under number os = map (λ o. o.1) (filter (λ o. o.0 == number) os)
+
+-- the number that bytes say, in network byte order; no bytes are the number 0 (section 3.2)
+abbrev pub number_of : List ℕ → ℕ
+number_of [] = 0
+number_of (b ∷ bytes) = 256 ^ length bytes * b + number_of bytes
+
+-- the number that a value says, where it is as long as the option's may be
+abbrev pub number_within : Known → List ℕ → Option ℕ
+number_within k value = if has_length k value then Some (number_of value) else None
+
+-- The number that an option says which doesn't repeat: the first of its number counts, if its value is as long as it
+-- may be, and no other does.
+abbrev pub number_under : Known → List CoapOption → Option ℕ
+number_under k os = option_and_then (number_within k) (slice_get (values_under k.number os) 0)
+
+-- the verb of a code of class 0 (section 12.1.1)
+abbrev pub verb_of : ℕ → Verb
+verb_of code =
+    if code == 1 then verb.Get
+    else if code == 2 then verb.Post
+    else if code == 3 then verb.Put
+    else if code == 4 then verb.Delete
+    else verb.Other
+
+-- the media type of a content format: 50 is `application/json` (section 12.3), 432 `application/td+json` (TD 1.1)
+abbrev pub format_of : Option ℕ → Format
+format_of None = format.Absent
+format_of (Some number) =
+    if number == 50 then format.Json else if number == 432 then format.Td else format.Other
+
+-- what is taken in an answer; where the request says nothing, both are (section 5.10.4)
+abbrev pub accept_of : Option ℕ → Accept
+accept_of None = record { json = true; td = true }
+accept_of (Some number) = record { json = number == 50; td = number == 432 }
+
+-- a request and the value of Observe, apart from where they lie in memory
+pub record PlainAsk : Type 0 where
+  pub request : PlainRequest
+  pub observe : Option ℕ
+
+-- What a message of class 0 asks for, if nothing is wrong with its options. Its path is the values of Uri-Path, and
+-- Uri-Query isn't read.
+abbrev pub asked : CoapMessage → PlainAsk
+asked m = record {
+  request = record {
+    verb = verb_of m.code;
+    path = values_under 11 m.options;
+    query = [];
+    accept = accept_of (number_under accept m.options);
+    format = format_of (number_under content_format m.options);
+    body = m.payload;
+  };
+  observe = number_under observe m.options;
+}

@@ -1,0 +1,130 @@
+//! The options that are known, and what is wrong with others.
+
+ghost use Rattle.std.specs.Prelude.{◌≡◌};
+ghost use Rattle.coap_opts.specs.Table.{known_of, has_length, is_repeat, may_stand};
+ghost use Rattle.coap_opts.specs.Reading.{fault_of};
+
+use crate::AskFault;
+
+/// A row of the table of options (RFC 7252, section 5.10).
+#[derive(Clone, Copy)]
+pub struct Known {
+    /// The number of the option.
+    pub number: u16,
+    /// The least number of bytes in its value.
+    pub shortest: usize,
+    /// The most bytes in its value.
+    pub longest: usize,
+    /// It may stand more than once.
+    pub repeats: bool,
+}
+
+/// The number of Uri-Path, a segment of the path.
+pub const URI_PATH: u16 = 11;
+
+/// Observe (RFC 7641, section 2).
+pub const OBSERVE: Known = Known {
+    number: 6,
+    shortest: 0,
+    longest: 3,
+    repeats: false,
+};
+
+/// Content-Format (RFC 7252, section 5.10.3).
+pub const CONTENT_FORMAT: Known = Known {
+    number: 12,
+    shortest: 0,
+    longest: 2,
+    repeats: false,
+};
+
+/// Accept (RFC 7252, section 5.10.4).
+pub const ACCEPT: Known = Known {
+    number: 17,
+    shortest: 0,
+    longest: 2,
+    repeats: false,
+};
+
+/// The table: Uri-Host, Observe, Uri-Port, Uri-Path, Content-Format, Uri-Query and Accept.
+const KNOWN: [Known; 7] = [
+    Known {
+        number: 3,
+        shortest: 1,
+        longest: 255,
+        repeats: false,
+    },
+    OBSERVE,
+    Known {
+        number: 7,
+        shortest: 0,
+        longest: 2,
+        repeats: false,
+    },
+    Known {
+        number: URI_PATH,
+        shortest: 0,
+        longest: 255,
+        repeats: true,
+    },
+    CONTENT_FORMAT,
+    Known {
+        number: 15,
+        shortest: 0,
+        longest: 255,
+        repeats: true,
+    },
+    ACCEPT,
+];
+
+/// The row of an option.
+fn row_of(number: u16) -> Option<Known>
+    ensures { result ≡ known_of number }
+{
+    for row in &KNOWN {
+        if row.number == number {
+            return Some(*row);
+        }
+    }
+    None
+}
+
+/// Whether a value is as long as an option's may be.
+pub fn fits(row: Known, value: &[u8]) -> bool
+    ensures { result ≡ has_length row value.now }
+{
+    row.shortest <= value.len() && value.len() <= row.longest
+}
+
+/// Whether the option before this one has its number.
+fn is_again(before: Option<u16>, number: u16) -> bool
+    ensures { result ≡ is_repeat before number }
+{
+    match before {
+        Some(other) => other == number,
+        None => false,
+    }
+}
+
+/// Whether an option is one that the table knows, after one of this number.
+fn is_right(before: Option<u16>, number: u16, value: &[u8]) -> bool
+    ensures { result ≡ may_stand before (number, value.now) }
+{
+    match row_of(number) {
+        Some(row) => fits(row, value) && (row.repeats || !is_again(before, number)),
+        None => false,
+    }
+}
+
+/// What is wrong with an option after one of this number.
+pub fn option_fault(before: Option<u16>, number: u16, value: &[u8]) -> Option<AskFault>
+    ensures { result ≡ fault_of before (number, value.now) }
+{
+    if number == 35 || number == 39 {
+        return Some(AskFault::Proxy);
+    }
+    if number % 2 == 1 && !is_right(before, number, value) {
+        return Some(AskFault::BadOption(number));
+    }
+    None
+}

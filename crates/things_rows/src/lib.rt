@@ -1,6 +1,8 @@
-//! Tests of what the crates of requests on Things offer: routes, verbs, outcomes.
+//! Tests of what the crates of requests on Things offer: routes, verbs, outcomes, the directory.
 #![tactic(auto)]
 
+#[cfg(test)]
+mod directory;
 #[cfg(test)]
 mod outcomes;
 #[cfg(test)]

@@ -1,0 +1,6 @@
+pub mod Entries
+pub mod Numbers
+pub mod Puts
+pub mod Lists
+pub mod Finds
+pub mod EntryLaws

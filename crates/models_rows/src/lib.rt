@@ -2,6 +2,12 @@
 #![tactic(auto)]
 
 #[cfg(test)]
+mod derivation;
+#[cfg(test)]
+mod derivation_lamp;
+#[cfg(test)]
+mod derivation_steps;
+#[cfg(test)]
 mod displays;
 #[cfg(test)]
 mod inputs;

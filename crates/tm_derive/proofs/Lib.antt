@@ -1,0 +1,7 @@
+pub mod Outcomes
+pub mod Children
+pub mod Values
+pub mod Gathering
+pub mod Putting
+pub mod OneThing
+pub mod WholeDerivation

@@ -1,0 +1,14 @@
+use Rattle.tm_resolve.specs.Resolver.{resolver_models}
+use Rattle.tm_derive.specs.Derivation.{derived}
+use Rattle.tm_derive.proofs.WholeDerivation.{derived_by, ok_of, fault_of}
+use Rattle.tm_derive.proofs.derivation.derive.Goals as goal
+
+pub returns-clause-ok : goal.returns-clause-ok
+returns-clause-ok c =
+    ok_of (derived c.args.library.now c.args.bindings.now c.args.choices.now c.args.frame.now c.args.root.now) c.derive_with.result
+    (derived_by c.args.library.now c.args.bindings.now c.args.choices.now c.args.frame.now c.args.root.now (resolver_models c.in_ok-resolver.resolver) c.derive_with.result c.in_ok-resolver.ensures c.derive_with.ensures)
+
+pub returns-clause-fault : goal.returns-clause-fault
+returns-clause-fault c =
+    fault_of (derived c.args.library.now c.args.bindings.now c.args.choices.now c.args.frame.now c.args.root.now) c.derive_with.result
+    (derived_by c.args.library.now c.args.bindings.now c.args.choices.now c.args.frame.now c.args.root.now (resolver_models c.in_ok-resolver.resolver) c.derive_with.result c.in_ok-resolver.ensures c.derive_with.ensures)

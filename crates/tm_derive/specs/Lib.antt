@@ -1,0 +1,12 @@
+pub mod Given
+pub mod Changes
+pub mod Optional
+pub mod Dropping
+pub mod Submodels
+pub mod Finishing
+pub mod Derivation
+pub mod Refusals
+pub mod Kept
+pub mod Selected
+pub mod ThingLists
+pub mod Making

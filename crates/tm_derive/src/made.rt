@@ -1,0 +1,11 @@
+//! What is made of one Thing.
+
+use crate::place::Place;
+use wot_json::Tree;
+
+/// A Thing, and those that it is composed of.
+#[derive(Drop)]
+pub(crate) struct Made {
+    pub(crate) tree: Tree,
+    pub(crate) children: Vec<Place>,
+}

@@ -12,10 +12,10 @@ use Rattle.tm_derive.specs.Derivation.{Outcome, Things, all_faults, derived, out
 use Rattle.tm_derive.specs.Making.{Derives}
 use Rattle.tm_derive.specs.Optional.{choices_elsewhere}
 use Rattle.tm_derive.specs.Refusals.{IsRefusal}
-use Rattle.tm_derive.specs.ThingLists.{kept_things, segments_in}
+use Rattle.wot_terms.specs.ThingLists.{kept_things, segments_in}
 use Rattle.tm_derive.specs.declared.frame.Frame.{Frame}
 use Rattle.tm_derive.specs.declared.place.Place.{Place}
-use Rattle.tm_derive.specs.declared.thing.Thing.{Thing}
+use Rattle.wot_terms.specs.declared.thing.Thing.{Thing}
 use Rattle.tm_derive.specs.declared.fault.DeriveFault.{DeriveFault}
 use Rattle.tm_derive.specs.declared.fault.DeriveFault.TheVariants.{NoMemory}
 use Rattle.tm_derive.proofs.Outcomes.{refused_before, refused_after, none_then_none}

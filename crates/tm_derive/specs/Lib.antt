@@ -8,5 +8,4 @@ pub mod Derivation
 pub mod Refusals
 pub mod Kept
 pub mod Selected
-pub mod ThingLists
 pub mod Making

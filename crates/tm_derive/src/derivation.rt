@@ -7,7 +7,7 @@ ghost use Rattle.tm_derive.specs.Kept.{given_of};
 ghost use Rattle.tm_derive.specs.Making.{Derives, PutsThings};
 ghost use Rattle.tm_derive.specs.Optional.{is_among, choices_elsewhere};
 ghost use Rattle.tm_derive.specs.Refusals.{Finds};
-ghost use Rattle.tm_derive.specs.ThingLists.{segments_in};
+ghost use Rattle.wot_terms.specs.ThingLists.{segments_in};
 
 use crate::choices::Choices;
 use crate::common::Common;
@@ -16,7 +16,7 @@ use crate::frame::Frame;
 use crate::making::{make_thing, most_below};
 use crate::place::Place;
 use crate::refusals::optional_fault;
-use crate::thing::{Thing, Things};
+use wot_terms::{Thing, Things};
 use servient_base::NoMemory;
 use std::alloc::Global;
 use tm_parts::{Bindings, Library};

@@ -45,11 +45,10 @@ mod optional;
 mod place;
 mod refusals;
 mod submodels;
-mod thing;
 
 pub use choices::Choices;
 pub use derivation::derive;
 pub use fault::DeriveFault;
 pub use frame::Frame;
 pub use servient_base::NoMemory;
-pub use thing::{Thing, Things};
+pub use wot_terms::{Thing, Things};

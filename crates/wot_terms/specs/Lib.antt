@@ -5,3 +5,4 @@ pub mod Affordances
 pub mod AffordanceCodes
 pub mod Schemas
 pub mod Order
+pub mod ThingLists

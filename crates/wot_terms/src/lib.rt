@@ -32,6 +32,7 @@ mod laws;
 mod op;
 mod rows;
 mod table;
+mod thing;
 
 pub use affordance::Affordance;
 pub use description::{Description, flag};
@@ -41,3 +42,4 @@ pub use laws::faults_come_in_preorder;
 pub use op::Op;
 pub use servient_base::NoMemory;
 pub use table::check;
+pub use thing::{Thing, Things};

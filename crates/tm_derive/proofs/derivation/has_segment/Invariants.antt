@@ -1,6 +1,6 @@
 use Rattle.std.proofs.Common.{◌≡◌, drop}
 use Rattle.tm_derive.specs.Optional.{is_among}
-use Rattle.tm_derive.specs.ThingLists.{segments_in}
+use Rattle.wot_terms.specs.ThingLists.{segments_in}
 use Rattle.tm_derive.proofs.derivation.has_segment.Given as goal
 
 abbrev pub invariant-loop-thing : goal.invariant-loop-thing

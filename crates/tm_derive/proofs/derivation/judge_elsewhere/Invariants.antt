@@ -1,6 +1,6 @@
 use Rattle.std.proofs.Common.{◌≡◌, drop}
 use Rattle.tm_derive.specs.Optional.{choices_elsewhere}
-use Rattle.tm_derive.specs.ThingLists.{segments_in}
+use Rattle.wot_terms.specs.ThingLists.{segments_in}
 use Rattle.tm_derive.proofs.derivation.judge_elsewhere.Given as goal
 
 abbrev pub invariant-loop-chosen_for : goal.invariant-loop-chosen_for

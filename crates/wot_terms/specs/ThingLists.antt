@@ -1,8 +1,8 @@
--- What contracts see of the Things of the code.
+-- What contracts see of Things.
 use Rattle.std.specs.Prelude.{ℕ, List, map}
 use Rattle.wot_json.specs.Tree.{Json}
 use Rattle.wot_json.specs.Meaning.{json_of}
-use Rattle.tm_derive.specs.declared.thing.Thing.{Thing}
+use Rattle.wot_terms.specs.declared.thing.Thing.{Thing}
 
 -- the segment of each Thing, and its description
 abbrev pub kept_thing : Thing → List ℕ × Json

@@ -1,4 +1,4 @@
-//! What a derivation makes.
+//! Things: descriptions, each with the segment under which it is exposed.
 
 ghost use Rattle.std.specs.Prelude.{◌≡◌, ◌++◌, [], ◌∷◌, length, OnErr, OnOk};
 ghost use Rattle.wot_json.specs.Meaning.{json_of};
@@ -15,7 +15,7 @@ pub struct Thing {
     pub tree: Tree,
 }
 
-/// The Things of a derivation in preorder. Contracts see the list of their segments and descriptions.
+/// Things, in an order that their maker gives. Contracts see the list of their segments and descriptions.
 #[derive(Debug, Drop)]
 pub struct Things {
     list: Vec<Thing>,
@@ -30,16 +30,16 @@ impl Model for Things {
 
     ghost coded = { members_code };
 
-    ghost use Rattle.tm_derive.specs.ThingLists.{kept_things};
+    ghost use Rattle.wot_terms.specs.ThingLists.{kept_things};
 
     ghost view = { λ t. kept_things t.list.items };
 }
 
 impl Things {
-    ghost use Rattle.tm_derive.specs.ThingLists.{kept_things as seen};
+    ghost use Rattle.wot_terms.specs.ThingLists.{kept_things as seen};
 
     /// No Things.
-    pub(crate) fn new(alloc: Global) -> Self
+    pub fn new(alloc: Global) -> Self
         ensures { result ≡ [] }
     {
         Things {
@@ -55,7 +55,7 @@ impl Things {
     }
 
     /// Puts a Thing at the end.
-    pub(crate) fn push(&mut self, segment: Text, tree: Tree) -> Result<(), NoMemory>
+    pub fn push(&mut self, segment: Text, tree: Tree) -> Result<(), NoMemory>
         ensures ok { OnOk result (self.new ≡ self.old ++ (segment, json_of tree) ∷ []) }
         ensures unchanged { OnErr result (self.new ≡ self.old) }
     {

@@ -1,11 +1,12 @@
 -- What a replay prints: its acts in order, and then its turns by number, each on a line of its own.
-use Rattle.std.specs.Prelude.{ℕ, List, ◌++◌, codes, decimal, length}
+use Rattle.std.specs.Prelude.{ℕ, List, ◌++◌, codes, decimal, length, Option, Some, None}
 use Rattle.std.specs.List.{flat_map}
+use Rattle.wot_json.specs.declared.tree.Tree.{Tree}
 use Rattle.wot_json.specs.Json.{json_text}
 use Rattle.thing_handler.specs.declared.handler.CallKind.{CallKind}
-use Rattle.thing_handler.specs.declared.handler.CallKind.TheVariants.{Read}
+use Rattle.thing_handler.specs.declared.handler.CallKind.TheVariants.{Read, Write, Invoke, Query, Cancel, Poll}
 use Rattle.thing_handler.specs.declared.handler.Answer.{Answer}
-use Rattle.thing_handler.specs.declared.handler.Answer.TheVariants.{Value, Refused}
+use Rattle.thing_handler.specs.declared.handler.Answer.TheVariants.{Value, Done, Started, Running, Finished, Cancelled, Quiet, Fired, Refused, DeviceFault}
 use Rattle.thing_handler.specs.declared.handler.Turn.{Turn}
 use Rattle.thing_handler.specs.Turns.{RunTurn}
 use Rattle.servient_edge.specs.declared.net.Act.{Act}
@@ -22,14 +23,32 @@ act_fields (act.Datagram to bytes) = what_fields (Datagram to (length bytes)) by
 abbrev pub act_line : Act → List ℕ
 act_line act = fields_text (act_fields act) ++ codes "\n"
 
+-- the JSON text of a value, or `-` where there is none
+abbrev pub text_if_any : Option Tree → List ℕ
+text_if_any None = codes "-"
+text_if_any (Some tree) = json_text tree
+
 -- what a handler was asked
 abbrev pub call_text : CallKind → List ℕ
 call_text Read = codes "read"
+call_text (Write tree) = codes "write " ++ json_text tree
+call_text (Invoke id input) = codes "invoke " ++ decimal id ++ codes " " ++ text_if_any input
+call_text (Query id) = codes "query " ++ decimal id
+call_text (Cancel id) = codes "cancel " ++ decimal id
+call_text Poll = codes "poll"
 
 -- what it answered
 abbrev pub answer_text : Answer → List ℕ
 answer_text (Value tree) = codes "value " ++ json_text tree
+answer_text Done = codes "done"
+answer_text Started = codes "started"
+answer_text Running = codes "running"
+answer_text (Finished output) = codes "finished " ++ text_if_any output
+answer_text Cancelled = codes "cancelled"
+answer_text Quiet = codes "quiet"
+answer_text (Fired tree) = codes "fired " ++ json_text tree
 answer_text (Refused n) = codes "refused " ++ decimal n
+answer_text (DeviceFault n) = codes "fault " ++ decimal n
 
 -- the line of a turn: `turn NUMBER SLOT CALL = ANSWER`
 abbrev pub turn_line : RunTurn → List ℕ

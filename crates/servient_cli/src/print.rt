@@ -4,14 +4,15 @@ ghost use Rattle.std.specs.Prelude.{◌≡◌, ◌++◌, codes, map, OnOk};
 ghost use Rattle.std.specs.List.{flat_map};
 ghost use Rattle.servient_edge.specs.declared.net.Act.TheVariants as act;
 ghost use Rattle.servient_cli.specs.Script.{endpoint_text, hex_text};
-ghost use Rattle.servient_cli.specs.Print.{act_line, answer_text, call_text, in_slot, turn_line};
+ghost use Rattle.servient_cli.specs.Print.{act_line, answer_text, call_text, in_slot, text_if_any, turn_line};
+ghost use Rattle.wot_json.specs.Json.{json_text};
 
 use coap_msg::Endpoint;
 use itoa::{Buffer, Integer};
 use servient_edge::Act;
 use std::alloc::Global;
 use thing_handler::{Answer, CallKind, Turn};
-use wot_json::{Bytes, NoMemory, text_of};
+use wot_json::{Bytes, NoMemory, Tree, text_of};
 
 /// Puts the lines of acts at the end, in order.
 pub fn put_acts(alloc: Global, out: &mut Bytes, acts: &[Act]) -> Result<(), NoMemory>
@@ -62,18 +63,27 @@ fn put_turn(alloc: Global, out: &mut Bytes, slot: usize, turn: &Turn) -> Result<
     out.extend(b" ")?;
     put_number(out, slot)?;
     out.extend(b" ")?;
-    put_call(out, &turn.what)?;
+    put_call(alloc, out, &turn.what)?;
     out.extend(b" = ")?;
     put_answer(alloc, out, &turn.answer)?;
     out.extend(b"\n")
 }
 
 /// Puts what a handler was asked at the end.
-fn put_call(out: &mut Bytes, what: &CallKind) -> Result<(), NoMemory>
+fn put_call(alloc: Global, out: &mut Bytes, what: &CallKind) -> Result<(), NoMemory>
     ensures { OnOk result (out.new ≡ out.old ++ call_text what.now) }
 {
     match what {
         CallKind::Read => out.extend(b"read"),
+        CallKind::Write(tree) => put_with_tree(alloc, out, b"write ", tree),
+        CallKind::Invoke(id, input) => {
+            put_with_number(out, b"invoke ", *id)?;
+            out.extend(b" ")?;
+            put_if_any(alloc, out, input)
+        }
+        CallKind::Query(id) => put_with_number(out, b"query ", *id),
+        CallKind::Cancel(id) => put_with_number(out, b"cancel ", *id),
+        CallKind::Poll => out.extend(b"poll"),
     }
 }
 
@@ -82,16 +92,47 @@ fn put_answer(alloc: Global, out: &mut Bytes, answer: &Answer) -> Result<(), NoM
     ensures { OnOk result (out.new ≡ out.old ++ answer_text answer.now) }
 {
     match answer {
-        Answer::Value(tree) => {
-            let text = text_of(alloc, tree)?;
-            out.extend(b"value ")?;
-            out.extend(text.as_slice())
+        Answer::Value(tree) => put_with_tree(alloc, out, b"value ", tree),
+        Answer::Done => out.extend(b"done"),
+        Answer::Started => out.extend(b"started"),
+        Answer::Running => out.extend(b"running"),
+        Answer::Finished(output) => {
+            out.extend(b"finished ")?;
+            put_if_any(alloc, out, output)
         }
-        Answer::Refused(number) => {
-            out.extend(b"refused ")?;
-            put_number(out, *number)
-        }
+        Answer::Cancelled => out.extend(b"cancelled"),
+        Answer::Quiet => out.extend(b"quiet"),
+        Answer::Fired(tree) => put_with_tree(alloc, out, b"fired ", tree),
+        Answer::Refused(number) => put_with_number(out, b"refused ", *number),
+        Answer::DeviceFault(number) => put_with_number(out, b"fault ", *number),
     }
+}
+
+/// Puts a word and the text of a value at the end.
+fn put_with_tree(alloc: Global, out: &mut Bytes, word: &[u8], tree: &Tree) -> Result<(), NoMemory>
+    ensures { OnOk result (out.new ≡ out.old ++ word.now ++ json_text tree.now) }
+{
+    let text = text_of(alloc, tree)?;
+    out.extend(word)?;
+    out.extend(text.as_slice())
+}
+
+/// Puts the text of a value at the end, or `-` where there is none.
+fn put_if_any(alloc: Global, out: &mut Bytes, value: &Option<Tree>) -> Result<(), NoMemory>
+    ensures { OnOk result (out.new ≡ out.old ++ text_if_any value.now) }
+{
+    match value {
+        Some(tree) => put_with_tree(alloc, out, b"", tree),
+        None => out.extend(b"-"),
+    }
+}
+
+/// Puts a word and a number at the end.
+fn put_with_number<I: Integer>(out: &mut Bytes, word: &[u8], number: I) -> Result<(), NoMemory>
+    ensures { OnOk result (out.new ≡ out.old ++ word.now ++ I.text number) }
+{
+    out.extend(word)?;
+    put_number(out, number)
 }
 
 /// Puts bytes at the end as lower-case hexadecimal digits, or `-` for none.

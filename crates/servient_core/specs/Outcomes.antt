@@ -6,7 +6,7 @@ use Rattle.wot_json.specs.declared.tree.Tree.TheVariants as json
 use Rattle.wot_json.specs.Json.{json_text}
 use Rattle.coap_msg.specs.Grammar.{CoapOption}
 use Rattle.thing_handler.specs.declared.handler.Answer.{Answer}
-use Rattle.thing_handler.specs.declared.handler.Answer.TheVariants.{Value, Refused}
+use Rattle.thing_handler.specs.declared.handler.Answer.TheVariants.{Value, Done, Started, Running, Finished, Cancelled, Quiet, Fired, Refused, DeviceFault}
 use Rattle.servient_core.specs.declared.outcome.Outcome.{Outcome}
 use Rattle.servient_core.specs.declared.outcome.Outcome.TheVariants as outcome
 
@@ -24,6 +24,15 @@ is_status (json.Obj ms) = false
 abbrev pub outcome_of : Answer → Outcome
 outcome_of (Value tree) = if is_status tree then outcome.Content tree else outcome.BadAnswer
 outcome_of (Refused n) = outcome.Refused n
+-- each other answer is none to a Read, or says that the device failed
+outcome_of Done = outcome.BadAnswer
+outcome_of Started = outcome.BadAnswer
+outcome_of Running = outcome.BadAnswer
+outcome_of (Finished output) = outcome.BadAnswer
+outcome_of Cancelled = outcome.BadAnswer
+outcome_of Quiet = outcome.BadAnswer
+outcome_of (Fired tree) = outcome.BadAnswer
+outcome_of (DeviceFault n) = outcome.BadAnswer
 
 -- how an outcome is replied: a code, options and a payload
 pub record Reply : Type 0 where

@@ -156,6 +156,14 @@ fn outcome_of(answer: Answer) -> Outcome
             }
         }
         Answer::Refused(number) => Outcome::Refused(number),
+        Answer::Done
+        | Answer::Started
+        | Answer::Running
+        | Answer::Finished(_)
+        | Answer::Cancelled
+        | Answer::Quiet
+        | Answer::Fired(_)
+        | Answer::DeviceFault(_) => Outcome::BadAnswer,
     }
 }
 

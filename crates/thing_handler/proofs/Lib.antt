@@ -1,3 +1,4 @@
+pub mod JobLaws
 pub mod RackLaws
 mod Slots
 pub mod TurnLaws

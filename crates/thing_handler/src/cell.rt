@@ -1,15 +1,16 @@
 //! A property that holds a value.
 
-ghost use Rattle.std.specs.Prelude.{◌≡◌, IfOk};
+ghost use Rattle.std.specs.Prelude.{◌≡◌, IfOk, unwrap_or};
 ghost use Rattle.thing_handler.specs.Handler.{fresh_handler};
 
+use crate::handler::NOT_ITS_KIND;
 use crate::turn_log::TurnLog;
 use crate::{Answer, CallKind, Handler, Kind, Turn};
 use servient_base::NoMemory;
 use std::alloc::Global;
 use wot_json::{Tree, copy};
 
-/// A property in memory: a Read answers the value that it holds.
+/// A property in memory: a Read answers the value that it holds, and a Write gives it another.
 #[derive(Drop)]
 pub struct Cell {
     value: Tree,
@@ -17,11 +18,11 @@ pub struct Cell {
 }
 
 impl Cell {
-    ghost use Rattle.thing_handler.specs.InMemory.{value_in};
+    ghost use Rattle.thing_handler.specs.InMemory.{cell_answer, cell_after, cell_seen, value_in};
 
     /// A cell that holds this value.
     pub fn new(alloc: Global, value: Tree) -> Self
-        ensures seen { ⟦<Cell as Handler>⟧.seen result ≡ fresh_handler Kind.Property }
+        ensures seen { cell_seen result ≡ fresh_handler Kind.Property }
         ensures value { value_in result ≡ value }
     {
         Cell {
@@ -30,36 +31,50 @@ impl Cell {
         }
     }
 
-    /// The answer to a call.
-    fn answer(&self, alloc: Global, what: &CallKind) -> Result<Answer, NoMemory>
-        ensures { IfOk result (λ a. a ≡ Answer.Value (value_in self.now)) }
+    /// The answer to a call, and the value that is written by it.
+    fn turned(&self, alloc: Global, what: &CallKind) -> Result<(Answer, Option<Tree>), NoMemory>
+        ensures answer { IfOk result (λ t. t.0 ≡ cell_answer (value_in self.now) what.now) }
+        ensures value { IfOk result (λ t. unwrap_or t.1 (value_in self.now) ≡ cell_after (value_in self.now) what.now) }
     {
         match what {
-            CallKind::Read => Ok(Answer::Value(copy(alloc, &self.value)?)),
+            CallKind::Read => Ok((Answer::Value(copy(alloc, &self.value)?), None)),
+            CallKind::Write(value) => Ok((Answer::Done, Some(copy(alloc, value)?))),
+            CallKind::Invoke(_, _) | CallKind::Query(_) | CallKind::Cancel(_) | CallKind::Poll => {
+                Ok((Answer::Refused(NOT_ITS_KIND), None))
+            }
         }
     }
 }
 
 impl Handler for Cell {
-    ghost use Rattle.std.specs.Prelude.{◌≡◌, IfOk};
-    ghost use Rattle.wot_terms.specs.declared.kind.Kind.TheVariants.{Property};
-    ghost use Rattle.thing_handler.specs.declared.handler.Answer.TheVariants.{Value};
+    ghost use Rattle.std.specs.Prelude.{◌≡◌, IfOk, OnOk, OnErr};
     ghost use Rattle.thing_handler.specs.Handler.{AnswersCall};
-    ghost use Rattle.thing_handler.specs.InMemory.{value_in};
+    ghost use Rattle.thing_handler.specs.InMemory.{cell_answer, cell_after, cell_seen, value_in};
 
-    ghost seen = { λ c. record { kind = Property; turns = c.log.turns.items; misses = c.log.misses } };
+    ghost seen = { cell_seen };
 
     fn kind(&self) -> Kind {
         Kind::Property
     }
 
     fn call(&mut self, alloc: Global, number: u64, what: &CallKind) -> Result<Answer, NoMemory>
-        ensures turn { AnswersCall (⟦<Cell as Handler>⟧.seen self.old) (⟦<Cell as Handler>⟧.seen self.new) number what.now result }
-        ensures answer { IfOk result (λ a. a ≡ Value (value_in self.old)) }
-        ensures value { value_in self.new ≡ value_in self.old }
+        ensures turn { AnswersCall (cell_seen self.old) (cell_seen self.new) number what.now result }
+        ensures answer { IfOk result (λ a. a ≡ cell_answer (value_in self.old) what.now) }
+        ensures value { OnOk result (value_in self.new ≡ cell_after (value_in self.old) what.now) }
+        ensures unchanged { OnErr result (value_in self.new ≡ value_in self.old) }
     {
-        let answer = self.answer(alloc, what);
-        self.log.keep(alloc, number, what, answer)
+        match self.turned(alloc, what) {
+            Ok((answer, written)) => {
+                let kept = self.log.keep(alloc, number, what, Ok(answer));
+                if kept.is_ok()
+                    && let Some(value) = written
+                {
+                    self.value = value;
+                }
+                kept
+            }
+            Err(error) => self.log.keep(alloc, number, what, Err(error)),
+        }
     }
 
     fn turns(&self) -> &[Turn] {

@@ -10,6 +10,16 @@ use wot_terms::Kind;
 pub enum CallKind {
     /// The value of the property.
     Read,
+    /// To give the property this value.
+    Write(Tree),
+    /// To begin an invocation of this id, with an input or without one.
+    Invoke(u32, Option<Tree>),
+    /// How the invocation of this id stands.
+    Query(u32),
+    /// To end the invocation of this id before it is finished.
+    Cancel(u32),
+    /// Whether the event has come about.
+    Poll,
 }
 
 /// What a handler answers.
@@ -17,9 +27,28 @@ pub enum CallKind {
 pub enum Answer {
     /// The value that was asked for.
     Value(Tree),
+    /// The value was written.
+    Done,
+    /// The invocation was begun, and runs on.
+    Started,
+    /// The invocation runs still.
+    Running,
+    /// The invocation is finished, with an output or without one.
+    Finished(Option<Tree>),
+    /// The invocation was ended.
+    Cancelled,
+    /// The event hasn't come about.
+    Quiet,
+    /// The event has come about, with this value.
+    Fired(Tree),
     /// The handler doesn't do what it was asked, for a reason of its own that the number names.
     Refused(u16),
+    /// The device failed, in a way that the number names.
+    DeviceFault(u16),
 }
+
+/// The number of the refusal of a call that is none for the handler's kind.
+pub(crate) const NOT_ITS_KIND: u16 = 0;
 
 /// One call and its answer.
 #[derive(Debug, Drop)]

@@ -2,19 +2,40 @@
 //!
 //! A handler is seen as its kind, the turns that it made and how often it found no memory (`Seen` of
 //! `specs/Handler.antt`). Each call makes exactly one turn, or finds no memory and is counted. What a device answers
-//! is its own. The crates above use a rack through the trait `Handlers`, and say what a rack did as the list of its
-//! calls (`RackShows` of `specs/Turns.antt`).
+//! is its own.
+//!
+//! ```text
+//! let mut fade = Job::new(alloc, 2);
+//! assert!(matches!(fade.call(alloc, 0, &CallKind::Invoke(1, None))?, Answer::Started));
+//! assert!(matches!(fade.call(alloc, 1, &CallKind::Query(1))?, Answer::Running));
+//! assert!(matches!(fade.call(alloc, 2, &CallKind::Query(1))?, Answer::Finished(None)));
+//! assert_eq!(fade.turns().len(), 3);
+//! ```
+//!
+//! The handlers in memory are tables of `specs/InMemory.antt`: for what a handler holds and what it is called with, what it
+//! answers and what it holds then. `shipped_in` gives the handlers of the shipped rack, by the table of
+//! `specs/Shipped.antt`. The contract in a sentence: each call answers what its table says, makes one turn of that answer and
+//! leaves what the table says; or it finds no memory, makes no turn, counts one miss and leaves what was held.
+//!
+//! The crates above use a rack through the trait `Handlers`, and say what a rack did as the list of its calls (`RackShows` of
+//! `specs/Turns.antt`).
 #![tactic(auto)]
 
 mod cell;
 mod handler;
+mod job;
+mod pulse;
 mod rack;
 mod scripted;
+mod shipped;
 mod turn_log;
 
 pub use cell::Cell;
 pub use handler::{Answer, CallKind, Handler, Turn};
+pub use job::Job;
+pub use pulse::Pulse;
 pub use rack::{Handlers, Rack};
 pub use scripted::Scripted;
 pub use servient_base::NoMemory;
+pub use shipped::{SHIPPED_SLOTS, Shipped, shipped_in};
 pub use wot_terms::Kind;

@@ -6,7 +6,7 @@ ghost use Rattle.servient_base.specs.Count.{raised};
 use crate::{Answer, CallKind, Turn};
 use servient_base::NoMemory;
 use std::alloc::Global;
-use wot_json::copy;
+use wot_json::{Tree, copy};
 
 /// The turns of one handler, in order, and the count of calls that found no memory.
 #[derive(Drop)]
@@ -75,11 +75,16 @@ fn kept_turn(
 }
 
 /// An equal call.
-fn copy_call(_alloc: Global, what: &CallKind) -> Result<CallKind, NoMemory>
+fn copy_call(alloc: Global, what: &CallKind) -> Result<CallKind, NoMemory>
     ensures { IfOk result (λ w. w ≡ what.now) }
 {
     match what {
         CallKind::Read => Ok(CallKind::Read),
+        CallKind::Write(value) => Ok(CallKind::Write(copy(alloc, value)?)),
+        CallKind::Invoke(id, input) => Ok(CallKind::Invoke(*id, copy_if_any(alloc, input)?)),
+        CallKind::Query(id) => Ok(CallKind::Query(*id)),
+        CallKind::Cancel(id) => Ok(CallKind::Cancel(*id)),
+        CallKind::Poll => Ok(CallKind::Poll),
     }
 }
 
@@ -88,7 +93,25 @@ pub fn copy_answer(alloc: Global, answer: &Answer) -> Result<Answer, NoMemory>
     ensures { IfOk result (λ a. a ≡ answer.now) }
 {
     match answer {
-        Answer::Value(tree) => Ok(Answer::Value(copy(alloc, tree)?)),
+        Answer::Value(value) => Ok(Answer::Value(copy(alloc, value)?)),
+        Answer::Done => Ok(Answer::Done),
+        Answer::Started => Ok(Answer::Started),
+        Answer::Running => Ok(Answer::Running),
+        Answer::Finished(output) => Ok(Answer::Finished(copy_if_any(alloc, output)?)),
+        Answer::Cancelled => Ok(Answer::Cancelled),
+        Answer::Quiet => Ok(Answer::Quiet),
+        Answer::Fired(value) => Ok(Answer::Fired(copy(alloc, value)?)),
         Answer::Refused(number) => Ok(Answer::Refused(*number)),
+        Answer::DeviceFault(number) => Ok(Answer::DeviceFault(*number)),
+    }
+}
+
+/// An equal value, or none where there is none.
+pub fn copy_if_any(alloc: Global, value: &Option<Tree>) -> Result<Option<Tree>, NoMemory>
+    ensures { IfOk result (λ v. v ≡ value.now) }
+{
+    match value {
+        Some(value) => Ok(Some(copy(alloc, value)?)),
+        None => Ok(None),
     }
 }

@@ -5,3 +5,4 @@ mod ScriptTexts
 mod StageLaws
 mod FaultlessStages
 mod RunLaws
+mod ModelStages

@@ -25,7 +25,7 @@ use Rattle.servient_core.proofs.MachineLaws.{AreOfSlot, run_keeps}
 use Rattle.servient_core.proofs.TraceLaws.{happened_in-append}
 use Rattle.servient_cli.specs.Script.{IsScriptEvent, IsScriptWhat}
 use Rattle.servient_cli.specs.Print.{act_line, turn_line, print_text, in_slot}
-use Rattle.servient_cli.specs.Command.{built_in}
+use Rattle.servient_cli.specs.Replaying.{built_in}
 
 not_stop : (w : What) → IsScriptWhat w → w ≢ what.Stop
 not_stop (what.Datagram from count) is e = absurd cc

@@ -2,6 +2,11 @@ pub mod Fields
 pub mod Script
 pub mod Print
 pub mod Lines
+pub mod FaultLines
 pub mod Stages
+pub mod Reading
+pub mod Replaying
+pub mod Checking
+pub mod Deriving
 pub mod Command
 pub mod Ending

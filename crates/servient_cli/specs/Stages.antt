@@ -1,6 +1,7 @@
 -- Stages of a command: each goes on with a value, or ends the command with a status. What is seen of a stage is a list
 -- of what it reads, calls and writes, in order, and a command is one stage after another.
-use Rattle.std.specs.Prelude.{◌≡◌, ℕ, List, [], ◌∷◌, ◌++◌, Option}
+use Rattle.std.specs.Prelude.{◌≡◌, ◌≤◌, ℕ, List, [], ◌∷◌, ◌++◌, Option}
+use Rattle.servient_base.specs.Count.{Rose}
 use Rattle.thing_handler.specs.Handler.{Seen}
 use Rattle.thing_handler.specs.Turns.{HandlerCall, RackShows}
 use Rattle.servient_edge.specs.declared.files.HeldFile.{HeldFile}
@@ -10,8 +11,10 @@ use Rattle.servient_cli.specs.Lines.{memory_line}
 
 -- One thing that a command does.
 pub data Deed : Type 0 where
-  -- a file was read
+  -- a file was read, or was absent or too long
   did_read : FileRead → Deed
+  -- a read of a file failed
+  did_fail : FileRead → Deed
   -- a device handler was called
   did_call : HandlerCall → Deed
   -- a text was written
@@ -21,13 +24,23 @@ pub data Deed : Type 0 where
 abbrev pub reads_in : List Deed → List FileRead
 reads_in [] = []
 reads_in (did_read file ∷ seen) = file ∷ reads_in seen
+reads_in (did_fail file ∷ seen) = file ∷ reads_in seen
 reads_in (did_call call ∷ seen) = reads_in seen
 reads_in (did_write text ∷ seen) = reads_in seen
+
+-- one of these reads failed
+abbrev pub HasFailed : List Deed → Type 0
+HasFailed [] = ⊥
+HasFailed (did_read file ∷ seen) = HasFailed seen
+HasFailed (did_fail file ∷ seen) = Unit {0}
+HasFailed (did_call call ∷ seen) = HasFailed seen
+HasFailed (did_write text ∷ seen) = HasFailed seen
 
 -- the calls of handlers among them, in order
 abbrev pub handler_calls_in : List Deed → List HandlerCall
 handler_calls_in [] = []
 handler_calls_in (did_read file ∷ seen) = handler_calls_in seen
+handler_calls_in (did_fail file ∷ seen) = handler_calls_in seen
 handler_calls_in (did_call call ∷ seen) = call ∷ handler_calls_in seen
 handler_calls_in (did_write text ∷ seen) = handler_calls_in seen
 
@@ -35,6 +48,7 @@ handler_calls_in (did_write text ∷ seen) = handler_calls_in seen
 abbrev pub text_in : List Deed → List ℕ
 text_in [] = []
 text_in (did_read file ∷ seen) = text_in seen
+text_in (did_fail file ∷ seen) = text_in seen
 text_in (did_call call ∷ seen) = text_in seen
 text_in (did_write text ∷ seen) = text ++ text_in seen
 
@@ -76,7 +90,10 @@ pub record Around : Type 0 where
 abbrev pub around : FilesSeen → List Seen → Around
 around files slots = record { files = files; slots = slots }
 
--- From one time to another the files show these reads, and the handlers these calls, and no others.
+-- From one time to another the files show these reads, and the handlers these calls, and no others. Where a read failed, the
+-- count of failures rose; it never falls.
 pub record ShowsDeeds (before now : Around) (seen : List Deed) : Type 0 where
   pub reads : Continues before.files.reads now.files.reads (reads_in seen)
+  pub faults : before.files.faults ≤ now.files.faults
+  pub failed : HasFailed seen → Rose before.files.faults now.files.faults
   pub slots : RackShows before.slots now.slots (handler_calls_in seen)

@@ -3,6 +3,7 @@
 ghost use Rattle.std.specs.Prelude.{◌≡◌, List, ℕ, IsTrue, IfSome, IfNone};
 ghost use Rattle.servient_cli.specs.Command.{IsCommand, limit_of, may_name_file as may_name, word_of};
 
+use crate::reading::{LONGEST_JSON, LONGEST_SCRIPT};
 use wot_json::Text;
 
 /// What a command does with its file.
@@ -12,6 +13,8 @@ pub enum Task {
     Replay,
     /// Checks it as a Thing Description.
     Check,
+    /// Derives the Things of the plan that it is.
+    Derive,
 }
 
 impl Task {
@@ -23,6 +26,7 @@ impl Task {
         match word {
             "replay" => Some(Task::Replay),
             "check" => Some(Task::Check),
+            "derive" => Some(Task::Derive),
             _ => None,
         }
     }
@@ -32,8 +36,8 @@ impl Task {
         ensures { result ≡ limit_of self }
     {
         match self {
-            Task::Replay => 16_777_216,
-            Task::Check => 1_048_576,
+            Task::Replay => LONGEST_SCRIPT,
+            Task::Check | Task::Derive => LONGEST_JSON,
         }
     }
 }

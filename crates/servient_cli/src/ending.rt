@@ -75,11 +75,27 @@ impl Ending {
         ensures { IfOk result (λ e.
             (e.status ≡ 4) × (e.text ≡ input_line name.now (codes "number " ++ json_string place.now))) }
     {
+        Ending::input_at(alloc, name, b"number ", place)
+    }
+
+    /// The content of a file is refused at a place, as `what` says.
+    fn input_at(alloc: Global, name: &str, what: &[u8], place: &str) -> Result<Ending, NoMemory>
+        ensures { IfOk result (λ e.
+            (e.status ≡ 4) × (e.text ≡ input_line name.now (what.now ++ json_string place.now))) }
+    {
         let mut text = input_text(alloc, name)?;
-        text.extend(b"number ")?;
+        text.extend(what)?;
         text.extend(quoted(alloc, place)?.as_slice())?;
         text.extend(b"\n")?;
         Ok(Ending { status: 4, text })
+    }
+
+    /// A plan has this member wrong first.
+    pub fn plan(alloc: Global, name: &str, place: &str) -> Result<Ending, NoMemory>
+        ensures { IfOk result (λ e.
+            (e.status ≡ 4) × (e.text ≡ input_line name.now (codes "plan " ++ json_string place.now))) }
+    {
+        Ending::input_at(alloc, name, b"plan ", place)
     }
 
     /// A description has no fault.

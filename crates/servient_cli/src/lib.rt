@@ -6,11 +6,13 @@
 
 mod checking;
 mod command;
+mod derivation;
 mod ending;
-mod file;
+mod fault_lines;
 mod laws;
 mod main_call;
 mod print;
+mod reading;
 mod replay;
 mod script;
 

@@ -8,8 +8,9 @@ ghost use Rattle.servient_cli.specs.Ending.{EndsBy};
 
 use crate::checking::check_file;
 use crate::command::{Command, Task, command_of};
+use crate::derivation::derive_plan;
 use crate::ending::{Ended, Ending};
-use crate::file::read_file;
+use crate::reading::read_file;
 use crate::replay::replay;
 use servient_edge::{Files, Net, Out, Put};
 use std::alloc::Global;
@@ -66,13 +67,14 @@ fn run_command<F: Files, R: Handlers>(
     requires { 0 < length (R.slots rack.old) }
     ensures { let files_before = files_seen (F.held files.old) (F.reads files.old) (F.faults files.old) in
         let files_now = files_seen (F.held files.new) (F.reads files.new) (F.faults files.new) in
-        EndsBy (Does files_before files_now command.entry.task command.entry.file.now)
+        EndsBy (Does (F.held files.old) command.entry.task command.entry.file.now)
         (around files_before (R.slots rack.old)) (around files_now (R.slots rack.new)) result }
 {
-    let content = read_file(alloc, &command, files)?;
+    let content = read_file(alloc, command.file, command.task.limit(), files)?;
     match command.task {
         Task::Replay => replay(alloc, command.file, content.as_slice(), rack),
         Task::Check => check_file(alloc, command.file, content.as_slice()),
+        Task::Derive => derive_plan(alloc, command.file, content.as_slice(), files),
     }
 }
 

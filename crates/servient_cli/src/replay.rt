@@ -2,12 +2,12 @@
 
 ghost use Rattle.std.specs.Prelude.{◌≡◌, ◌<◌, ◌≤◌, ◌++◌, length, map, IfOk};
 ghost use Rattle.std.specs.List.{AllByRecursion, flat_map};
-ghost use Rattle.servient_cli.specs.declared.command.Task.TheVariants as task;
 ghost use Rattle.servient_cli.specs.Script.{IsScriptEvent};
 ghost use Rattle.servient_cli.specs.Print.{act_line, in_slot, turn_line};
 ghost use Rattle.servient_cli.specs.Lines.{spent_line};
 ghost use Rattle.servient_cli.specs.Stages.{Around, FilesSeen, around};
-ghost use Rattle.servient_cli.specs.Command.{ReadsScript, RunsScript, TaskOn, longest_script};
+ghost use Rattle.servient_cli.specs.Reading.{longest_script};
+ghost use Rattle.servient_cli.specs.Replaying.{ReadsScript, Replays, RunsScript};
 ghost use Rattle.servient_cli.specs.Ending.{EndsBy, Finishes, Performs};
 
 use crate::ending::{Ended, Ending, end_with};
@@ -19,7 +19,7 @@ use std::alloc::{AllocError, Global};
 use thing_handler::{Handlers, Turn};
 use wot_json::{Bytes, NoMemory};
 
-/// The most events of a run; `event_budget` of specs/Command.antt.
+/// The most events of a run; `event_budget` of specs/Replaying.antt.
 const EVENT_BUDGET: u64 = 100_000;
 
 /// The slot of the built-in property's handler.
@@ -37,7 +37,7 @@ pub fn replay<R: Handlers>(
 ) -> Result<Ending, Ended>
     requires slot { 0 < length (R.slots rack.old) }
     requires length { length content.now ≤ longest_script }
-    ensures { (files : FilesSeen) → EndsBy (TaskOn task.Replay name.now content.now)
+    ensures { (files : FilesSeen) → EndsBy (Replays name.now content.now)
         (around files (R.slots rack.old)) (around files (R.slots rack.new)) result }
 {
     let events = read_script(alloc, name, content)?;

@@ -12,7 +12,7 @@ ghost use Rattle.coap_msg.specs.declared.endpoint.Endpoint.{Endpoint};
 ghost use Rattle.servient_edge.specs.declared.net.EventWithBytes.{EventWithBytes};
 ghost use Rattle.servient_cli.specs.Fields.{fields_text, AreFields};
 ghost use Rattle.servient_cli.specs.Script.{hex_text, endpoint_text, what_fields, line_fields, line_text, IsScriptEndpoint, IsScriptEvent, IsScript, IsFirstBadLine};
-ghost use Rattle.servient_cli.specs.Command.{longest_script};
+ghost use Rattle.servient_cli.specs.Reading.{longest_script};
 
 use arrayvec::ArrayVec;
 use coap_msg::Endpoint;

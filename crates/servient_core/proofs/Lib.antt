@@ -4,4 +4,7 @@ pub mod MachineLaws
 mod ActLaws
 mod OrderLaws
 mod ReplyLengths
+mod PlanLaws
+mod PlanTexts
+mod PlanLists
 mod ServingLaws

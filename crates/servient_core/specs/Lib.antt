@@ -1,3 +1,4 @@
+pub mod Plan
 pub mod Outcomes
 pub mod Trace
 pub mod Requests

@@ -9,12 +9,16 @@
 mod laws;
 mod outcome;
 mod path;
+mod plan;
+mod plan_texts;
+mod plan_values;
 mod reply;
 mod servient;
 mod serving;
 
 pub use laws::{each_stands_for_a_state, failing_is_exact, replies_come_next, turns_are_numbered};
 pub use outcome::Outcome;
+pub use plan::{ModelFiles, Plan, PlanFault, Slots};
 pub use servient::Servient;
 pub use servient_edge::{
     Act, Calls, Event, EventWithBytes, Events, FileRead, Files, FilesMemory, FilesReal, Got, Held,

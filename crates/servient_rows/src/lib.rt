@@ -5,6 +5,8 @@
 #[cfg(test)]
 mod checks;
 #[cfg(test)]
+mod derivations;
+#[cfg(test)]
 mod edges;
 #[cfg(test)]
 mod handlers;

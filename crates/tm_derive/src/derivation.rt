@@ -16,12 +16,12 @@ use crate::frame::Frame;
 use crate::making::{make_thing, most_below};
 use crate::place::Place;
 use crate::refusals::optional_fault;
-use wot_terms::{Thing, Things};
 use servient_base::NoMemory;
 use std::alloc::Global;
 use tm_parts::{Bindings, Library};
 use tm_resolve::Resolver;
 use wot_json::Text;
+use wot_terms::{Thing, Things};
 
 /// Derives a Thing Model: makes the description of its Thing and of each Thing that it is composed of, the root first, and
 /// each before those below it.

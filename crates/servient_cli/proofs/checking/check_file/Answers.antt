@@ -1,7 +1,8 @@
 use Rattle.std.specs.Prelude.{Ok, Err}
 use Rattle.std.proofs.lemmas.Result.{err_from_is_err_and}
 use Rattle.servient_cli.specs.declared.ending.Ended.TheVariants as ended
-use Rattle.servient_cli.specs.Command.{ReadsTree, Judges}
+use Rattle.servient_cli.specs.Reading.{ReadsTree}
+use Rattle.servient_cli.specs.Checking.{Judges}
 use Rattle.servient_cli.proofs.StageLaws.{then_ends, error_ends}
 use Rattle.servient_cli.proofs.checking.check_file.Goals as goal
 

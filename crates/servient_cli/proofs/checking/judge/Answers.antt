@@ -1,6 +1,6 @@
 use Rattle.std.proofs.Common.{refl}
 use Rattle.servient_cli.specs.Lines.{valid_line, invalid_line}
-use Rattle.servient_cli.specs.Command.{Judges, is_valid, is_refused, judge_memory}
+use Rattle.servient_cli.specs.Checking.{Judges, is_valid, is_refused, judge_memory}
 use Rattle.servient_cli.proofs.StageLaws.{ends_memory, finishes_line}
 use Rattle.servient_cli.proofs.checking.judge.Goals as goal
 

@@ -4,7 +4,7 @@ use Rattle.servient_edge.specs.declared.net.EventWithBytes.{EventWithBytes}
 use Rattle.servient_cli.specs.declared.script.ScriptFault.{ScriptFault}
 use Rattle.servient_cli.specs.Script.{IsScript}
 use Rattle.servient_cli.specs.Lines.{input_line}
-use Rattle.servient_cli.specs.Command.{ReadsScript, is_script, is_no_script, script_memory}
+use Rattle.servient_cli.specs.Replaying.{ReadsScript, is_script, is_no_script, script_memory}
 use Rattle.servient_cli.proofs.StageLaws.{goes_quietly, ends_memory, writes_line}
 use Rattle.servient_cli.proofs.replay.read_script.Goals as goal
 

@@ -2,7 +2,7 @@ use Rattle.std.specs.Prelude.{Ok, Err}
 use Rattle.std.proofs.lemmas.Result.{err_from_is_err_and}
 use Rattle.servient_cli.specs.declared.ending.Ended.TheVariants as ended
 use Rattle.servient_cli.specs.Stages.{around}
-use Rattle.servient_cli.specs.Command.{ReadsScript, RunsScript}
+use Rattle.servient_cli.specs.Replaying.{ReadsScript, RunsScript}
 use Rattle.servient_cli.proofs.StageLaws.{then_ends, error_ends}
 use Rattle.servient_cli.proofs.replay.replay.Goals as goal
 

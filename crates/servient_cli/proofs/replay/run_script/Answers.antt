@@ -11,7 +11,7 @@ use Rattle.servient_core.specs.Trace.{happened_in, calls_in, outside}
 use Rattle.servient_core.specs.Machine.{start, Run}
 use Rattle.servient_cli.specs.Lines.{memory_line, spent_line}
 use Rattle.servient_cli.specs.Stages.{around}
-use Rattle.servient_cli.specs.Command.{RunsScript, is_whole, is_spent, run_memory, built_in, print_of_run}
+use Rattle.servient_cli.specs.Replaying.{RunsScript, is_whole, is_spent, run_memory, built_in, print_of_run}
 use Rattle.servient_cli.proofs.StageLaws.{ends_memory, calls_end, calls_finish_twice}
 use Rattle.servient_cli.proofs.RunLaws.{script_has_no_stop, run_of, run_none, run_first, still_known, acts_shown, turns_shown, turns_after, printed, stopped_took, spent_took, never_failed}
 use Rattle.servient_cli.proofs.replay.run_script.Goals as goal

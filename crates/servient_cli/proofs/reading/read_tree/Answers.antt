@@ -4,9 +4,9 @@ use Rattle.wot_json.specs.declared.reading.ReadFault.{ReadFault}
 use Rattle.wot_json.specs.declared.reading.ReadFault.TheVariants as fault
 use Rattle.wot_json.specs.Json.{json_string}
 use Rattle.servient_cli.specs.Lines.{input_line}
-use Rattle.servient_cli.specs.Command.{ReadsTree, is_tree, has_no_tree, tree_memory, is_no_json, is_too_deep, is_wrong_number}
+use Rattle.servient_cli.specs.Reading.{ReadsTree, is_tree, has_no_tree, tree_memory, is_no_json, is_too_deep, is_wrong_number}
 use Rattle.servient_cli.proofs.StageLaws.{goes_quietly, ends_memory, writes_line}
-use Rattle.servient_cli.proofs.checking.read_tree.Goals as goal
+use Rattle.servient_cli.proofs.reading.read_tree.Goals as goal
 
 -- these faults aren't out of memory
 no_json : (f : ReadFault) → f ≡ fault.NotJson → f ≢ fault.NoMemory

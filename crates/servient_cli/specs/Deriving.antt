@@ -1,0 +1,97 @@
+-- `derive PLAN`: a plan and then its models are read, and the descriptions are printed that the root is derived into.
+use Rattle.std.specs.Prelude.{◌≡◌, ◌≤◌, ℕ, List, [], ◌∷◌, ◌++◌, length, Option, Some, Result, Ok, Err, codes}
+use Rattle.std.specs.List.{flat_map}
+use Rattle.wot_json.specs.Tree.{Json}
+use Rattle.wot_json.specs.Json.{text_of, json_string}
+use Rattle.wot_json.specs.Meaning.{json_of}
+use Rattle.wot_json.specs.Reading.{tree_of}
+use Rattle.wot_json.specs.declared.tree.Tree.{Tree}
+use Rattle.tm_parts.specs.declared.library.AddFault.TheVariants as add
+use Rattle.tm_parts.specs.Library.{Models, with_model, HasAddFault, MayAdd}
+use Rattle.tm_derive.specs.Derivation.{derived}
+use Rattle.tm_derive.specs.declared.fault.DeriveFault.{DeriveFault}
+use Rattle.servient_edge.specs.declared.files.HeldFile.{HeldFile}
+use Rattle.servient_edge.specs.Files.{content_of}
+use Rattle.servient_core.specs.declared.plan.Plan.{Plan}
+use Rattle.servient_core.specs.Plan.{plan_of}
+use Rattle.servient_cli.specs.Lines.{input_line}
+use Rattle.servient_cli.specs.FaultLines.{refused_line}
+use Rattle.servient_cli.specs.Stages.{Deed, Outcome, goes_on, EndsWith, RunsOut, AndThen}
+use Rattle.servient_cli.specs.Reading.{ReadsFile, ReadsTree, longest_json}
+
+-- Reading a plan.
+pub data ReadsPlan (name : List ℕ) (tree : Tree) (seen : List Deed) (o : Outcome Plan) : Type 0 where
+  is_plan : (plan : Plan) → plan_of (json_of tree) ≡ Ok plan → seen ≡ [] → o ≡ goes_on plan → ReadsPlan name tree seen o
+  -- the member at this pointer is the first that isn't as a plan has it
+  is_no_plan : (pointer : List ℕ) → plan_of (json_of tree) ≡ Err pointer
+      → EndsWith [] 4 (input_line name (codes "plan " ++ json_string pointer)) seen o → ReadsPlan name tree seen o
+  plan_memory : RunsOut [] seen o → ReadsPlan name tree seen o
+
+-- ---- the models
+
+-- why a model isn't taken, as the line on its file says it
+pub data IsNotTaken (url : List ℕ) (model : Json) (models : Models) (what : List ℕ) : Type 0 where
+  has_bad_url : HasAddFault add.BadUrl url model models → what ≡ codes "url" → IsNotTaken url model models what
+  is_there_twice : HasAddFault add.Twice url model models → what ≡ codes "twice" → IsNotTaken url model models what
+  is_no_model : HasAddFault add.NotModel url model models → what ≡ codes "model" → IsNotTaken url model models what
+
+-- A model is put under its URL.
+pub data AddsModel (models : Models) (url file : List ℕ) (tree : Tree) (seen : List Deed) (o : Outcome Models) : Type 0 where
+  is_added : MayAdd url (json_of tree) models → seen ≡ [] → o ≡ goes_on (with_model url (json_of tree) models) → AddsModel models url file tree seen o
+  is_not_added : (what : List ℕ) → IsNotTaken url (json_of tree) models what → EndsWith [] 4 (input_line file what) seen o
+      → AddsModel models url file tree seen o
+  add_memory : RunsOut [] seen o → AddsModel models url file tree seen o
+
+-- One model of a plan: its file is read and judged, and it is put beside those before it.
+abbrev pub TakesModel : Option (List HeldFile) → List ℕ × List ℕ → Models → List Deed → Outcome Models → Type 0
+TakesModel held model models =
+    AndThen (ReadsFile held longest_json model.1) (λ content. AndThen (ReadsTree model.1 content) (AddsModel models model.0 model.1))
+
+-- All of them, in the plan's order, each judged before the next is read.
+abbrev pub TakesModels : Option (List HeldFile) → List (List ℕ × List ℕ) → Models → List Deed → Outcome Models → Type 0
+TakesModels held [] models seen o = (seen ≡ []) × (o ≡ goes_on models)
+TakesModels held (model ∷ left) models seen o = AndThen (TakesModel held model models) (TakesModels held left) seen o
+
+-- ---- the descriptions
+
+-- each description's text, and a line feed
+abbrev pub thing_text : List ℕ × Json → List ℕ
+thing_text thing = text_of thing.1 ++ codes "\n"
+
+abbrev pub things_text : List (List ℕ × Json) → List ℕ
+things_text = flat_map thing_text
+
+-- what the plan's root is derived into
+abbrev pub derived_of : Plan → Models → Result (List (List ℕ × Json)) DeriveFault
+derived_of plan models = derived models plan.bindings plan.choices plan.frame plan.root
+
+-- Deriving the root: all descriptions, the root's first, or the first fault.
+pub data Derives (plan : Plan) (models : Models) (seen : List Deed) (o : Outcome (Unit {0})) : Type 0 where
+  is_derived : (things : List (List ℕ × Json)) → derived_of plan models ≡ Ok things → EndsWith [] 0 (things_text things) seen o → Derives plan models seen o
+  is_refused : (fault : DeriveFault) → derived_of plan models ≡ Err fault → EndsWith [] 5 (refused_line fault) seen o → Derives plan models seen o
+  derive_memory : RunsOut [] seen o → Derives plan models seen o
+
+-- what is done with the content of a plan
+abbrev pub DerivesPlan : Option (List HeldFile) → List ℕ → List ℕ → List Deed → Outcome (Unit {0}) → Type 0
+DerivesPlan held name content =
+    AndThen (ReadsTree name content) (λ tree. AndThen (ReadsPlan name tree) (λ plan. AndThen (TakesModels held plan.models []) (Derives plan)))
+
+-- ---- a plan with which nothing is wrong
+
+-- the files hold these models, and they can stand beside one another; and all of them
+abbrev pub AreFaultlessModels : List HeldFile → List (List ℕ × List ℕ) → Models → Models → Type 0
+AreFaultlessModels files [] models all = all ≡ models
+AreFaultlessModels files (model ∷ left) models all =
+    (content : List ℕ) × (v : Json) × (content_of files model.1 ≡ Some content) × (length content ≤ longest_json)
+    × (tree_of content ≡ Some v) × MayAdd model.0 v models × AreFaultlessModels files left (with_model model.0 v models) all
+
+-- it is a plan, its models are there, and the root is derived
+pub record IsFaultlessPlan (files : List HeldFile) (content : List ℕ) : Type 0 where
+  pub value : Json
+  pub plan : Plan
+  pub models : Models
+  pub things : List (List ℕ × Json)
+  pub read : tree_of content ≡ Some value
+  pub plan_is : plan_of value ≡ Ok plan
+  pub taken : AreFaultlessModels files plan.models [] models
+  pub derived_is : derived_of plan models ≡ Ok things

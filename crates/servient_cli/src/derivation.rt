@@ -1,0 +1,141 @@
+//! Deriving the Things of a plan.
+
+ghost use Rattle.std.specs.Prelude.{◌≡◌, ◌++◌, [], List, IfOk, OnOk};
+ghost use Rattle.thing_handler.specs.Handler.{Seen};
+ghost use Rattle.wot_terms.specs.ThingLists.{kept_thing, kept_things};
+ghost use Rattle.servient_cli.specs.Stages.{Around, around, files_seen};
+ghost use Rattle.servient_cli.specs.Deriving.{AddsModel, Derives, DerivesPlan, ReadsPlan, TakesModel, TakesModels, thing_text, things_text};
+ghost use Rattle.servient_cli.specs.Ending.{EndsBy, Finishes, Performs};
+
+use crate::ending::{Ended, Ending, end_with};
+use crate::fault_lines::refused;
+use crate::reading::{LONGEST_JSON, read_file, read_tree};
+use servient_core::{ModelFiles, Plan, PlanFault};
+use servient_edge::Files;
+use std::alloc::{AllocError, Global};
+use tm_derive::derive;
+use tm_parts::{AddFault, Library};
+use wot_json::{Bytes, NoMemory, Text, Tree, text_of};
+use wot_terms::Thing;
+
+/// Reads the plan that the content of a file is, and its models, and prints the descriptions of its Things.
+pub fn derive_plan<F: Files>(
+    alloc: Global,
+    name: &str,
+    content: &[u8],
+    files: &mut F,
+) -> Result<Ending, Ended>
+    ensures { let before = files_seen (F.held files.old) (F.reads files.old) (F.faults files.old) in
+        let now = files_seen (F.held files.new) (F.reads files.new) (F.faults files.new) in
+        (slots : List Seen) → EndsBy (DerivesPlan (F.held files.old) name.now content.now) (around before slots) (around now slots) result }
+{
+    let tree = read_tree(alloc, name, content)?;
+    let plan = read_plan(alloc, name, &tree)?;
+    let library = take_models(alloc, &plan.models, files)?;
+    Ok(derive_things(alloc, &plan, &library)?)
+}
+
+/// The plan that a tree is.
+fn read_plan(alloc: Global, name: &str, tree: &Tree) -> Result<Plan, Ended>
+    ensures { (a : Around) → Performs (ReadsPlan name.now tree.now) a a result }
+{
+    match Plan::read(alloc, tree) {
+        Ok(plan) => Ok(plan),
+        Err(PlanFault::At(pointer)) => {
+            Err(end_with(Ending::plan(alloc, name, pointer.as_str())))
+        }
+        Err(PlanFault::NoMemory) => Err(Ended::NoMemory),
+    }
+}
+
+/// The library of the models of a plan, each read and judged before the next.
+fn take_models<F: Files>(
+    alloc: Global,
+    models: &ModelFiles,
+    files: &mut F,
+) -> Result<Library, Ended>
+    ensures { let before = files_seen (F.held files.old) (F.reads files.old) (F.faults files.old) in
+        let now = files_seen (F.held files.new) (F.reads files.new) (F.faults files.new) in
+        (slots : List Seen) → Performs (TakesModels (F.held files.old) models.now []) (around before slots) (around now slots) result }
+{
+    let mut library = Library::new(alloc);
+    for model in models.as_slice() {
+        library = take_model(alloc, model, library, files)?;
+    }
+    Ok(library)
+}
+
+/// Reads a model, the text of its URL and the name of its file, and puts it into a library.
+fn take_model<F: Files>(
+    alloc: Global,
+    model: &(Text, Text),
+    library: Library,
+    files: &mut F,
+) -> Result<Library, Ended>
+    ensures stage { let before = files_seen (F.held files.old) (F.reads files.old) (F.faults files.old) in
+        let now = files_seen (F.held files.new) (F.reads files.new) (F.faults files.new) in
+        (slots : List Seen) → Performs (TakesModel (F.held files.old) model.now library) (around before slots) (around now slots) result }
+    ensures held { F.held files.new ≡ F.held files.old }
+{
+    let (url, file) = (model.0.as_str(), model.1.as_str());
+    let content = read_file(alloc, file, LONGEST_JSON, files)?;
+    let tree = read_tree(alloc, file, content.as_slice())?;
+    add_model(alloc, url, file, tree, library)
+}
+
+/// Puts a model into a library.
+fn add_model(
+    alloc: Global,
+    url: &str,
+    file: &str,
+    tree: Tree,
+    library: Library,
+) -> Result<Library, Ended>
+    ensures { (a : Around) → Performs (AddsModel library url.now file.now tree) a a result }
+{
+    let mut library = library;
+    match library.add(url, tree) {
+        Ok(()) => Ok(library),
+        Err(AddFault::BadUrl) => Err(end_with(Ending::input(alloc, file, "url"))),
+        Err(AddFault::Twice) => Err(end_with(Ending::input(alloc, file, "twice"))),
+        Err(AddFault::NotModel) => Err(end_with(Ending::input(alloc, file, "model"))),
+        Err(AddFault::NoMemory) => Err(Ended::NoMemory),
+    }
+}
+
+/// The print of the Things of a plan, or its first fault.
+fn derive_things(alloc: Global, plan: &Plan, library: &Library) -> Result<Ending, NoMemory>
+    ensures { (a : Around) → Finishes (Derives plan.now library.now) a a result }
+{
+    let root = plan.root.as_str();
+    match derive(
+        alloc,
+        library,
+        root,
+        &plan.bindings,
+        &plan.choices,
+        &plan.frame,
+    ) {
+        Ok(things) => printed(alloc, things.as_slice()),
+        Err(fault) => refused(alloc, &fault),
+    }
+}
+
+/// The ending that prints Things.
+fn printed(alloc: Global, things: &[Thing]) -> Result<Ending, NoMemory>
+    ensures { IfOk result (λ e. (e.status ≡ 0) × (e.text ≡ things_text (kept_things things.now))) }
+{
+    let mut text = Bytes::new(alloc);
+    for thing in things {
+        put_thing(alloc, &mut text, thing)?;
+    }
+    Ok(Ending { status: 0, text })
+}
+
+/// Puts the text of a description and a line feed at the end.
+fn put_thing(alloc: Global, text: &mut Bytes, thing: &Thing) -> Result<(), NoMemory>
+    ensures { OnOk result (text.new ≡ text.old ++ thing_text (kept_thing thing.now)) }
+{
+    text.extend(text_of(alloc, &thing.tree)?.as_slice())?;
+    text.extend(b"\n")
+}

@@ -1,0 +1,56 @@
+//! Reading files, and the JSON texts in them.
+
+ghost use Rattle.std.specs.Prelude.{◌≡◌, ◌≤◌, List, length, IfOk};
+ghost use Rattle.thing_handler.specs.Handler.{Seen};
+ghost use Rattle.servient_cli.specs.Stages.{Around, around, files_seen};
+ghost use Rattle.servient_cli.specs.Reading.{ReadsFile, ReadsTree};
+ghost use Rattle.servient_cli.specs.Ending.{Performs};
+
+use crate::ending::{Ended, Ending, end_with};
+use servient_edge::{Files, Got};
+use std::alloc::Global;
+use wot_json::{Bytes, ReadFault, Tree, read};
+
+/// The longest script, in bytes.
+pub const LONGEST_SCRIPT: usize = 16_777_216;
+
+/// The longest description, plan or model, in bytes.
+pub const LONGEST_JSON: usize = 1_048_576;
+
+/// Reads a whole file of at most `limit` bytes.
+pub fn read_file<F: Files>(
+    alloc: Global,
+    name: &str,
+    limit: usize,
+    files: &mut F,
+) -> Result<Bytes, Ended>
+    ensures stage { let before = files_seen (F.held files.old) (F.reads files.old) (F.faults files.old) in
+        let now = files_seen (F.held files.new) (F.reads files.new) (F.faults files.new) in
+        (slots : List Seen) → Performs (ReadsFile (F.held files.old) limit name.now) (around before slots) (around now slots) result }
+    ensures within { IfOk result (λ content. length content ≤ limit) }
+    ensures held { F.held files.new ≡ F.held files.old }
+{
+    let mut content = Bytes::new(alloc);
+    match files.read(alloc, name, limit, &mut content) {
+        Got::Whole => Ok(content),
+        Got::Absent => Err(end_with(Ending::file(alloc, name, "absent"))),
+        Got::Failed => Err(end_with(Ending::file(alloc, name, "failed"))),
+        Got::TooLong => Err(end_with(Ending::input(alloc, name, "long"))),
+        Got::NoMemory => Err(Ended::NoMemory),
+    }
+}
+
+/// The tree of a JSON text, the content of the file of this name.
+pub fn read_tree(alloc: Global, name: &str, content: &[u8]) -> Result<Tree, Ended>
+    ensures { (a : Around) → Performs (ReadsTree name.now content.now) a a result }
+{
+    match read(alloc, content) {
+        Ok(tree) => Ok(tree),
+        Err(ReadFault::NotJson) => Err(end_with(Ending::input(alloc, name, "json"))),
+        Err(ReadFault::TooDeep) => Err(end_with(Ending::input(alloc, name, "deep"))),
+        Err(ReadFault::NotInteger(place)) => {
+            Err(end_with(Ending::number(alloc, name, place.as_str())))
+        }
+        Err(ReadFault::NoMemory) => Err(Ended::NoMemory),
+    }
+}

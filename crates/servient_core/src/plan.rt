@@ -1,0 +1,199 @@
+//! The plan of a servient: which Things it exposes, where, and with which handlers.
+
+ghost use Rattle.std.specs.Prelude.{◌≡◌, ◌⊎◌, ◌++◌, ◌∷◌, [], codes, IfOk, OnErr, OnOk};
+ghost use Rattle.wot_json.specs.Meaning.{json_of};
+ghost use Rattle.servient_core.specs.Plan.{plan_of, Reads};
+ghost use Rattle.servient_core.specs.Plan as spec;
+
+use crate::plan_texts::TextRow;
+use crate::plan_values::{
+    bindings_row, choices_row, exchanges_row, instance_row, models_row, slots_row, text_row,
+};
+use std::alloc::{AllocError, Global};
+use std::marker::Model;
+use thiserror::Error;
+use tm_derive::{Choices, Frame};
+use tm_parts::Bindings;
+use wot_forms::Bases;
+use wot_json::{NoMemory, Text, Tree};
+
+/// A plan (docs/PROFILE.md, "The plan").
+#[derive(Debug, Drop)]
+pub struct Plan {
+    /// The segment and the `id` of the root Thing, what its URLs begin with, and the `instance` of its version.
+    pub frame: Frame,
+    /// The text of the URL of the root's model.
+    pub root: Text,
+    /// The models and their files.
+    pub models: ModelFiles,
+    /// What placeholders are bound to.
+    pub bindings: Bindings,
+    /// The optional affordances that are wanted.
+    pub choices: Choices,
+    /// The slots of the handlers.
+    pub slots: Slots,
+    /// How many CoAP exchanges may live at a time.
+    pub exchanges: u32,
+}
+
+/// Models, each by the text of its URL and the name of its file. Contracts see the list of both.
+#[derive(Debug, Drop)]
+pub struct ModelFiles {
+    list: Vec<(Text, Text)>,
+}
+
+impl Model for ModelFiles {
+    ghost use Rattle.std.specs.Prelude.{List, ℕ};
+
+    ghost Value = { List (List ℕ × List ℕ) };
+
+    ghost view = { λ m. m.list.items };
+}
+
+impl ModelFiles {
+    /// The models of a vector, which is taken over as it is.
+    pub(crate) fn from_vec(list: Vec<(Text, Text)>) -> Self
+        ensures { result ≡ list.items }
+    {
+        ModelFiles { list }
+    }
+
+    /// The URLs and file names.
+    pub fn as_slice(&self) -> &[(Text, Text)]
+        ensures { result.now ≡ self.now }
+    {
+        self.list.as_slice()
+    }
+}
+
+/// Which handler serves which affordance: the segment of a Thing, the pointer to an affordance in its description
+/// (RFC 6901), and a slot of the rack. Contracts see the list of these.
+#[derive(Debug, Drop)]
+pub struct Slots {
+    list: Vec<(Text, Text, u16)>,
+}
+
+impl Model for Slots {
+    ghost use Rattle.std.specs.Prelude.{List, ℕ};
+
+    ghost Value = { List (List ℕ × List ℕ × ℕ) };
+
+    ghost view = { λ s. s.list.items };
+}
+
+impl Slots {
+    /// No entries.
+    pub fn new(alloc: Global) -> Self
+        ensures { result ≡ [] }
+    {
+        Slots {
+            list: Vec::new(alloc),
+        }
+    }
+
+    /// Puts an entry after the others.
+    pub fn push(&mut self, segment: Text, pointer: Text, slot: u16) -> Result<(), NoMemory>
+        ensures ok { OnOk result (self.new ≡ self.old ++ (segment, pointer, slot) ∷ []) }
+        ensures unchanged { OnErr result (self.new ≡ self.old) }
+    {
+        self.list.push((segment, pointer, slot))?;
+        Ok(())
+    }
+
+    /// The entries.
+    pub fn as_slice(&self) -> &[(Text, Text, u16)]
+        ensures { result.now ≡ self.now }
+    {
+        self.list.as_slice()
+    }
+}
+
+/// Why a tree is no plan.
+#[derive(Debug, Drop, Error)]
+pub enum PlanFault {
+    /// The pointer to the first member that isn't as a plan has it, in the order of the table in docs/PROFILE.md; the empty
+    /// one where the tree is no object.
+    #[error("the plan is not as it must be at {0:?}")]
+    At(Text),
+    /// Out of memory.
+    #[error("out of memory")]
+    NoMemory,
+}
+
+impl From<AllocError> for PlanFault {
+    ghost use Rattle.std.specs.Prelude.{◌≡◌};
+    ghost use Rattle.servient_core.specs.declared.plan.PlanFault.TheVariants.{NoMemory};
+
+    ghost from_gives = { λ _ fault. fault ≡ NoMemory };
+
+    fn from(_error: AllocError) -> PlanFault {
+        PlanFault::NoMemory
+    }
+}
+
+impl PlanFault {
+    /// That the member of this name isn't as a plan has it.
+    pub(crate) fn of_member(alloc: Global, name: &str) -> PlanFault
+        ensures { (result ≡ PlanFault.NoMemory) ⊎ (result ≡ PlanFault.At (codes "/" ++ name.now)) }
+    {
+        match member_pointer(alloc, name) {
+            Ok(pointer) => PlanFault::At(pointer),
+            Err(_) => PlanFault::NoMemory,
+        }
+    }
+}
+
+/// The pointer to the member of this name, which has no byte that is escaped.
+fn member_pointer(alloc: Global, name: &str) -> Result<Text, NoMemory>
+    ensures { IfOk result (λ pointer. pointer ≡ codes "/" ++ name.now) }
+{
+    let mut pointer = String::from_str(alloc, "/")?;
+    pointer.push_str(name)?;
+    Ok(Text::from_string(pointer))
+}
+
+/// The tree is an object.
+fn is_object(tree: &Tree) -> bool
+    ensures { result ≡ spec.is_object (json_of tree.now) }
+{
+    matches!(tree, Tree::Obj(_))
+}
+
+impl Plan {
+    /// The plan that a tree is. Members that a plan doesn't have are ignored.
+    #[tactic(auto, using(crate::proofs::PlanLaws::refused_there, crate::proofs::PlanLaws::goes_on_there))]
+    pub fn read(alloc: Global, tree: &Tree) -> Result<Plan, PlanFault>
+        ensures { Reads result (plan_of (json_of tree.now)) }
+    {
+        if !is_object(tree) {
+            return Err(PlanFault::At(Text::copy_of(alloc, "")?));
+        }
+        let segment = text_row(alloc, tree, TextRow::Name)?;
+        let id = text_row(alloc, tree, TextRow::Id)?;
+        let http = text_row(alloc, tree, TextRow::Http)?;
+        let coap = text_row(alloc, tree, TextRow::Coap)?;
+        let root = text_row(alloc, tree, TextRow::Root)?;
+        let models = models_row(alloc, tree)?;
+        let bindings = bindings_row(alloc, tree)?;
+        let choices = choices_row(alloc, tree)?;
+        let instance = instance_row(alloc, tree)?;
+        let slots = slots_row(alloc, tree)?;
+        let exchanges = exchanges_row(alloc, tree)?;
+        let bases = Bases { http, coap };
+        let frame = Frame {
+            segment,
+            id,
+            bases,
+            instance,
+        };
+        Ok(Plan {
+            frame,
+            root,
+            models,
+            bindings,
+            choices,
+            slots,
+            exchanges,
+        })
+    }
+}

@@ -1,0 +1,12 @@
+//! What comes due.
+
+/// What a client is to do at a moment.
+#[derive(Clone, Copy, Debug, PartialEq, Eq)]
+pub enum Due {
+    /// Nothing.
+    Nothing,
+    /// To send the outstanding request again, which has this many bytes.
+    Send(usize),
+    /// The time of the outstanding request is over: it ended without an answer.
+    TimedOut,
+}

@@ -1,0 +1,56 @@
+//! The exchanges of a CoAP client (RFC 7252; RFC 7641): it asks, repeats until it is answered, and observes. The client has
+//! no clock and no socket: moments and datagrams are handed in, and what is to be sent is written into the caller's room. It
+//! takes memory once, when it is made. `Client`, `Ask`, `Delivered` and `Due` carry everything.
+//!
+//! ```
+//! use coap_client::{Ask, Client, Due, News};
+//!
+//! let mut client = Client::new(alloc, 0)?;
+//! let mut room = [0; 1152];
+//! // GET /lamp, to be observed.
+//! let ask = Ask { code: 1, path: &path, observe: Some(true), format: None, payload: b"" };
+//! let size = client.request(now, peer, &ask, &mut room)?;
+//! send(peer, &room[..size]);
+//! // For each datagram that comes:
+//! let delivered = client.deliver(now, from, datagram, &mut room);
+//! if let Some(size) = delivered.reply {
+//!     send(from, &room[..size]);
+//! }
+//! if let News::Value(payload) = delivered.news {
+//!     show(payload);
+//! }
+//! // And from time to time:
+//! if let Due::Send(size) = client.due(now, &mut room) {
+//!     send(peer, &room[..size]);
+//! }
+//! ```
+//!
+//! What a client holds and what its calls do is one machine, `specs/Exchange.antt`. The contract in a sentence: each call does
+//! what the machine does (`Asks` and `IsRefused`, `Delivers`, `ComesDue`), whatever comes in whatever order. The laws: a copy
+//! of a request is sent less than 93 seconds after the first, what is taken comes from a peer that was asked, and an id isn't
+//! used again within 400 seconds.
+#![tactic(auto)]
+
+mod ask;
+mod asking;
+mod client;
+mod delivery;
+mod due;
+mod fault;
+mod ids;
+mod laws;
+mod meaning;
+mod news;
+mod observation;
+mod outstanding;
+mod replies;
+mod sent;
+mod state;
+
+pub use ask::Ask;
+pub use client::Client;
+pub use due::Due;
+pub use fault::ClientFault;
+pub use laws::{copies_end, ids_rest, taken_from_a_peer, taken_from_the_asked};
+pub use news::{Delivered, News};
+pub use servient_base::NoMemory;

@@ -1,0 +1,199 @@
+//! What a message means to a client.
+
+ghost use Rattle.std.specs.Prelude.{◌≡◌, ◌/◌, IsTrue, ◌↔◌};
+ghost use Rattle.coap_msg.specs.MessageOf.{message_of};
+ghost use Rattle.coap_client.specs.Answers.{is_answer_class, number_within, sequence_of};
+
+use crate::observation::Observation;
+use crate::outstanding::Outstanding;
+use crate::state::State;
+use coap_msg::{Endpoint, Message, Options, Type4};
+
+/// What a message means to a client. The first three are said of messages that are taken.
+#[derive(Clone, Copy)]
+pub enum Meaning {
+    /// A value of what is observed, newer than those before it, with its sequence number.
+    Value(u32),
+    /// A value that isn't newer.
+    Old,
+    /// An answer.
+    Answer,
+    /// The outstanding request was rejected.
+    Reset,
+    /// The outstanding request was received; its answer is to come in a message of its own.
+    Received,
+    /// Nothing.
+    Foreign,
+}
+
+/// The number of Observe (RFC 7641, section 2).
+const OBSERVE: u16 = 6;
+
+impl State {
+    ghost use Rattle.std.specs.Prelude.{◌≡◌};
+    ghost use Rattle.coap_msg.specs.MessageOf.{message_of};
+    ghost use Rattle.coap_client.specs.Answers.{takes, meaning, meaning_else, may_carry, is_for_request, is_for_observation, notified, meaning_taken};
+
+    /// Whether a message is taken.
+    pub fn takes(&self, from: Endpoint, message: &Message<'_>) -> bool
+        ensures { result ≡ takes self.now from (message_of message.now) }
+    {
+        is_answer_class(message.code / 32)
+            && self.may_carry(message.kind, message.id)
+            && (self.is_for_request(from, message.token)
+                || self.is_for_observation(from, message.token))
+    }
+
+    /// What a message means.
+    pub fn meaning(&self, from: Endpoint, message: &Message<'_>) -> Meaning
+        ensures { result ≡ meaning self.now from (message_of message.now) }
+    {
+        if self.takes(from, message) {
+            self.meaning_taken(self.notified(from, message))
+        } else {
+            self.meaning_else(from, message)
+        }
+    }
+
+    /// Whether a message of this type and id may carry an answer.
+    fn may_carry(&self, kind: Type4, id: u16) -> bool
+        ensures { result ≡ may_carry self.now.outstanding kind id }
+    {
+        match kind {
+            Type4::Con | Type4::Non => true,
+            Type4::Ack => match &self.outstanding {
+                Some(request) => id == request.id,
+                None => false,
+            },
+            Type4::Rst => false,
+        }
+    }
+
+    /// Whether a message from this endpoint with this token belongs to the outstanding request.
+    pub fn is_for_request(&self, from: Endpoint, token: &[u8]) -> bool
+        ensures { result ≡ is_for_request self.now.outstanding from token.now }
+    {
+        match &self.outstanding {
+            Some(request) => request.is_of(from, token),
+            None => false,
+        }
+    }
+
+    /// Whether a message from this endpoint with this token belongs to what is observed.
+    pub fn is_for_observation(&self, from: Endpoint, token: &[u8]) -> bool
+        ensures { result ≡ is_for_observation self.now.observation from token.now }
+    {
+        match &self.observation {
+            Some(observation) => observation.is_of(from, token),
+            None => false,
+        }
+    }
+
+    /// The sequence number of a message that is a notification.
+    fn notified(&self, from: Endpoint, message: &Message<'_>) -> Option<u32>
+        ensures { result ≡ notified self.now from (message_of message.now) }
+    {
+        if message.code / 32 == 2 && self.is_for_observation(from, message.token) {
+            sequence_of(&message.options)
+        } else {
+            None
+        }
+    }
+
+    /// What a message means that is taken, a notification with this sequence number or else an answer.
+    fn meaning_taken(&self, notified: Option<u32>) -> Meaning
+        ensures { result ≡ meaning_taken self.now notified }
+    {
+        match notified {
+            Some(sequence) => {
+                if self.is_newer(sequence) {
+                    Meaning::Value(sequence)
+                } else {
+                    Meaning::Old
+                }
+            }
+            None => Meaning::Answer,
+        }
+    }
+
+    ghost use Rattle.coap_client.specs.Answers.{is_newer, latest_of};
+
+    /// Whether a value with this sequence number that comes now is newer than the latest.
+    fn is_newer(&self, sequence: u32) -> bool
+        ensures { result ≡ is_newer (latest_of self.now.observation) self.now.moment sequence }
+    {
+        match &self.observation {
+            Some(observation) => observation.is_newer(self.moment, sequence),
+            None => true,
+        }
+    }
+
+    ghost use Rattle.coap_client.specs.Answers.{is_from_server};
+
+    /// What a message means that isn't taken.
+    fn meaning_else(&self, from: Endpoint, message: &Message<'_>) -> Meaning
+        ensures { result ≡ meaning_else self.now from (message_of message.now) message.now.kind }
+    {
+        match message.kind {
+            Type4::Rst => {
+                if self.is_from_server(from, message.id) {
+                    Meaning::Reset
+                } else {
+                    Meaning::Foreign
+                }
+            }
+            Type4::Ack => {
+                if message.code == 0 && self.is_from_server(from, message.id) {
+                    Meaning::Received
+                } else {
+                    Meaning::Foreign
+                }
+            }
+            Type4::Con | Type4::Non => Meaning::Foreign,
+        }
+    }
+
+    /// Whether an endpoint and an id are those of the outstanding request.
+    fn is_from_server(&self, from: Endpoint, id: u16) -> bool
+        ensures { result ≡ is_from_server self.now.outstanding from id }
+    {
+        match &self.outstanding {
+            Some(request) => request.is_named(from, id),
+            None => false,
+        }
+    }
+}
+
+/// Whether messages of a class are answers (RFC 7252, section 5.9).
+fn is_answer_class(class: u8) -> bool
+    ensures { result ≡ is_answer_class class }
+{
+    class == 2 || class == 4 || class == 5
+}
+
+/// The sequence number that the options say.
+fn sequence_of(options: &Options<'_>) -> Option<u32>
+    ensures { result ≡ sequence_of options.now }
+{
+    for (number, value) in options.iter() {
+        if number == OBSERVE {
+            return number_within(value);
+        }
+    }
+    None
+}
+
+/// The number that at most three bytes say, in network byte order (RFC 7252, section 3.2).
+fn number_within(value: &[u8]) -> Option<u32>
+    ensures { result ≡ number_within value.now }
+{
+    match value {
+        [] => Some(0),
+        [low] => Some(u32::from(*low)),
+        [high, low] => Some(256 * u32::from(*high) + u32::from(*low)),
+        [high, middle, low] => {
+            Some(65536 * u32::from(*high) + 256 * u32::from(*middle) + u32::from(*low))
+        }
+        _ => None,
+    }
+}

@@ -1,0 +1,100 @@
+//! The request that is unanswered.
+
+ghost use Rattle.std.specs.Prelude.{◌≡◌, ◌≤◌, ◌<◌};
+ghost use Rattle.coap_client.specs.Times.{first_timeout, repeats_within};
+
+use crate::observation::is_same_endpoint;
+use crate::sent::Sent;
+use coap_msg::Endpoint;
+
+/// A request that is unanswered.
+#[derive(Drop)]
+pub struct Outstanding {
+    /// The server.
+    pub peer: Endpoint,
+    /// The id of the message.
+    pub id: u16,
+    /// The token.
+    pub token: [u8; 8],
+    /// When the message was sent first, in milliseconds.
+    pub first: u64,
+    /// How many of the moments for a repeat have come and were seen to.
+    pub reached: u8,
+    /// Whether an empty acknowledgement came for it.
+    pub is_acknowledged: bool,
+    /// Whether it is the registration of what is observed.
+    pub registers: bool,
+    /// The message.
+    pub sent: Sent,
+}
+
+/// How long after its first sending a request is given up that was acknowledged, in milliseconds.
+const PATIENCE: u64 = 100_000;
+
+impl Outstanding {
+    ghost use Rattle.std.specs.Prelude.{◌≡◌, Some};
+    ghost use Rattle.coap_client.specs.Times.{deadline, repeats_by};
+    ghost use Rattle.coap_client.specs.Answers.{is_for_request, is_request_id, is_from_server};
+
+    /// How long after its first sending it is given up, in milliseconds.
+    pub fn deadline(&self) -> u64
+        ensures { result ≡ deadline self.now }
+    {
+        if self.is_acknowledged {
+            PATIENCE
+        } else {
+            31 * first_timeout(self.id)
+        }
+    }
+
+    /// How many of its moments for a repeat have come so long after its first sending.
+    pub fn repeats_by(&self, age: u64) -> u8
+        ensures { result ≡ repeats_by self.now age }
+    {
+        if self.is_acknowledged {
+            0
+        } else {
+            repeats_within(first_timeout(self.id), age)
+        }
+    }
+
+    /// Whether an answer from this endpoint with this token belongs to it.
+    pub fn is_of(&self, from: Endpoint, token: &[u8]) -> bool
+        ensures { result ≡ is_for_request (Some self.now) from token.now }
+    {
+        is_same_endpoint(from, self.peer) && token == self.token.as_slice()
+    }
+
+    /// Whether a message from this endpoint with this id, an acknowledgement or a reset, is of it.
+    pub fn is_named(&self, from: Endpoint, id: u16) -> bool
+        ensures { result ≡ is_from_server (Some self.now) from id }
+    {
+        is_same_endpoint(from, self.peer) && id == self.id
+    }
+}
+
+/// How long after its first sending a request with this id is repeated first, in milliseconds (RFC 7252, section 4.2).
+fn first_timeout(id: u16) -> u64
+    ensures ok { result ≡ first_timeout id }
+    ensures bound { result ≤ 3000 }
+{
+    2000 + u64::from(id % 1001)
+}
+
+/// How many moments for a repeat have come so long after the first sending.
+fn repeats_within(timeout: u64, age: u64) -> u8
+    requires { timeout ≤ 3000 }
+    ensures { result ≡ repeats_within timeout age }
+{
+    if age < timeout {
+        0
+    } else if age < 3 * timeout {
+        1
+    } else if age < 7 * timeout {
+        2
+    } else if age < 15 * timeout {
+        3
+    } else {
+        4
+    }
+}

@@ -1,0 +1,5 @@
+pub mod Places
+pub mod FoundValues
+pub mod Digits
+pub mod ChunkRows
+pub mod Fronts

@@ -1,0 +1,10 @@
+pub mod Heads
+pub mod Fields
+pub mod Judging
+pub mod Chunks
+pub mod Bodies
+pub mod Stream
+pub mod Scanned
+pub mod Pieces
+pub mod Found
+pub mod BodySeen

@@ -8,3 +8,6 @@ pub mod Scanned
 pub mod Pieces
 pub mod Found
 pub mod BodySeen
+pub mod Targets
+pub mod Writing
+pub mod Replies

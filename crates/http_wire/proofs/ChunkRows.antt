@@ -1,7 +1,6 @@
 -- Rows of chunks: one chunk after another.
-use Rattle.std.proofs.Common.{◌≡◌, ℕ, zero, suc, ◌+◌, ◌-◌, ◌<◌, ◌≤◌, List, [], ◌∷◌, ◌++◌, length, take, drop, refl, sym, ap, subst, ◌∙◌, arith, append_assoc, length-append, Bool, true, false}
+use Rattle.std.proofs.Common.{◌≡◌, ℕ, zero, suc, ◌+◌, ◌-◌, ◌≤◌, List, [], ◌∷◌, ◌++◌, length, take, drop, refl, sym, ap, ◌∙◌, arith, append_assoc, length-append}
 use Rattle.std.proofs.lemmas.List.{append-nil, length-take-le, length-drop, drop-drop}
-use Rattle.http_wire.specs.declared.chunks.Chunk.{Chunk}
 use Rattle.http_wire.specs.declared.chunks.Chunk.TheVariants as chunk
 use Rattle.http_wire.specs.Chunks.{BodyFront, unfinished, faulty, whole, chunk_at, with_chunk, follow, chunks}
 

@@ -1,5 +1,5 @@
 -- Values that are found one after another.
-use Rattle.std.proofs.Common.{◌≡◌, List, [], ◌∷◌, ℕ}
+use Rattle.std.proofs.Common.{List, [], ◌∷◌, ℕ}
 use Rattle.std.specs.Prelude.{Option, Some, None}
 use Rattle.std.specs.Borrow.{Bor}
 

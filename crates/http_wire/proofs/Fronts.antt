@@ -1,7 +1,6 @@
 -- The front of a stream, put together from its head and what is behind that.
 use Rattle.std.proofs.Common.{◌≡◌, ℕ, ◌+◌, ◌-◌, List, length, take, drop, sym, ap, subst, ◌∙◌}
-use Rattle.std.specs.Prelude.{Option, Some, None, Result}
-use Rattle.http_wire.specs.declared.framing.Framing.{Framing}
+use Rattle.std.specs.Prelude.{Some}
 use Rattle.http_wire.specs.Heads.{skipped, length_through, empty_line}
 use Rattle.http_wire.specs.Judging.{IsJudged}
 use Rattle.http_wire.specs.Stream.{Front, IsFront, IsFrontAfter, one_end, with_head, longest_head}

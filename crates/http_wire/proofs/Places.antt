@@ -1,13 +1,13 @@
 -- What the searches of `memchr` find, in the words of the definitions.
-use Rattle.std.proofs.Common.{◌≡◌, ◌≢◌, ℕ, zero, suc, ◌+◌, ◌-◌, ◌<◌, ◌≤◌, ◌&&◌, not, Bool, true, false, true≢false, List, [], ◌∷◌, ◌++◌, length, get_or, take, drop, refl, sym, ap, subst, ◌∙◌, arith, rules, cond}
+use Rattle.std.proofs.Common.{◌≡◌, ℕ, zero, suc, ◌+◌, ◌-◌, ◌<◌, ◌≤◌, ◌&&◌, Bool, true, false, true≢false, List, [], ◌∷◌, length, get_or, take, drop, refl, sym, ap, subst, ◌∙◌, arith, cond}
 use Rattle.std.specs.Prelude.{Option, Some, None, option_map, ◌==◌, nat_eq, slice_index}
-use Rattle.std.specs.List.{All, position_or_len, prefix_len, starts_with, slice_split, before_first, after_first}
+use Rattle.std.specs.List.{position_or_len, starts_with, slice_split}
 use Rattle.std.proofs.lemmas.List.{take_rest}
 use Rattle.std.proofs.lemmas.Bool.{eqb-true, eq-eqb}
 use Rattle.std.proofs.lemmas.List.Sums.{position_or_len_is, fails_before_first}
 use Rattle.std.proofs.lemmas.List.Elements.{All-from_get_or}
 use Rattle.std.proofs.lemmas.List.Splits.{slice_split_first, slice_split_none}
-use Rattle.memchr.specs.Find.{IsFirstByte, is_byte, FindsNeedle, OccursAt, Nowhere, NoneBefore}
+use Rattle.memchr.specs.Find.{IsFirstByte, is_byte, FindsNeedle, OccursAt}
 use Rattle.http_wire.specs.Heads.{length_through}
 
 -- what isn't true is false
@@ -49,7 +49,7 @@ second_of true y h = h
 second_of false y h = absurd (true≢false (sym h))
 
 -- bytes that have those of a mark in front begin with it
-begins : (mark bytes : List ℕ) → length mark ≤ length bytes →
+pub begins : (mark bytes : List ℕ) → length mark ≤ length bytes →
     ((j : ℕ) → j < length mark → get_or bytes j 0 ≡ get_or mark j 0) → starts_with nat_eq bytes mark ≡ true
 begins [] bytes fits reads = refl
 begins (m ∷ mark) [] fits reads = absurd (omega arith)
@@ -58,7 +58,7 @@ begins (m ∷ mark) (b ∷ bytes) fits reads =
     (begins mark bytes (omega arith) (λ j below. reads (suc j) (omega arith)))
 
 -- and the other way round
-begun : (mark bytes : List ℕ) → starts_with nat_eq bytes mark ≡ true →
+pub begun : (mark bytes : List ℕ) → starts_with nat_eq bytes mark ≡ true →
     (length mark ≤ length bytes) × ((j : ℕ) → j < length mark → get_or bytes j 0 ≡ get_or mark j 0)
 begun [] bytes is = (omega arith, λ j below. absurd (omega arith))
 begun (m ∷ mark) [] is = absurd (true≢false (sym is))
@@ -124,12 +124,14 @@ through_by_test mark b bytes later false None is found =
     ap (option_map (λ n. n + 1)) (later None (λ k low high at. found (suc k) (omega arith) (omega arith) (occurs_later mark b bytes k at)))
 through_by_test mark b bytes later false (Some zero) is found = absurd (true≢false (sym (here_begins mark (b ∷ bytes) found.1) ∙ is))
 through_by_test mark b bytes later false (Some (suc k)) is found =
-    ap Some (suc_plus k (length mark)) ∙ ap (option_map (λ n. n + 1)) (later (Some k)
-    (record {
-      low = omega arith;
-      high = omega (arith, found.0.high);
-      before = λ j low high at. found.0.before (suc j) (omega arith) (omega arith) (occurs_later mark b bytes j at);
-    }, occurs_earlier mark b bytes k found.1))
+    ap Some (suc_plus k (length mark)) ∙ ap (option_map (λ n. n + 1)) (later (Some k) (
+      record {
+        low = omega arith;
+        high = omega (arith, found.0.high);
+        before = λ j low high at. found.0.before (suc j) (omega arith) (omega arith) (occurs_later mark b bytes j at);
+      },
+      occurs_earlier mark b bytes k found.1,
+    ))
 
 -- where the mark ends that is found first
 pub through_first : (mark bytes : List ℕ) (r : Option ℕ) → 0 < length mark → FindsNeedle bytes mark 0 r →

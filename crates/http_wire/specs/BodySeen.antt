@@ -1,5 +1,5 @@
 -- What code finds at the front of the bytes after a head, apart from where it lies in memory.
-use Rattle.std.specs.Prelude.{◌≤◌, ◌<◌, ℕ, ◌+◌, List}
+use Rattle.std.specs.Prelude.{◌≤◌, ℕ, ◌+◌}
 use Rattle.http_wire.specs.declared.chunks.BodyScan.{BodyScan}
 use Rattle.http_wire.specs.declared.chunks.BodyScan.TheVariants as scan
 use Rattle.http_wire.specs.declared.chunks.Chunk.{Chunk}

@@ -1,5 +1,5 @@
 -- Bodies at the front of bytes, and bodies in chunks (RFC 9112, section 7.1).
-use Rattle.std.specs.Prelude.{ℕ, zero, suc, ◌+◌, ◌-◌, ◌==◌, List, [], ◌∷◌, ◌++◌, length, take, drop, Bool, true, false, ◌&&◌, nat_lt, nat_le, nat_eq, Option, Some, None, if◌then◌else◌}
+use Rattle.std.specs.Prelude.{ℕ, zero, suc, ◌+◌, ◌-◌, ◌==◌, List, [], ◌∷◌, ◌++◌, length, take, drop, ◌&&◌, nat_lt, nat_le, nat_eq, Option, Some, None, if◌then◌else◌}
 use Rattle.std.specs.List.{list_all, starts_with, before_first}
 use Rattle.std.specs.Char.{is_ascii_hexdigit}
 use Rattle.std.specs.Str.Parse.{digits_value}

@@ -1,6 +1,6 @@
 -- The header lines of a request head (RFC 9112, section 5): their names in any case, and their values.
-use Rattle.std.specs.Prelude.{ℕ, ◌-◌, ◌==◌, List, [], ◌∷◌, length, map, take, drop, codes, Bool, true, false, ◌||◌, nat_le, if◌then◌else◌}
-use Rattle.std.specs.List.{filter, list_any, slice_split, before_first, after_first, flat_map, prefix_len, suffix_len}
+use Rattle.std.specs.Prelude.{ℕ, ◌-◌, ◌==◌, List, [], ◌∷◌, length, map, take, drop, codes, Bool, true, ◌||◌, if◌then◌else◌}
+use Rattle.std.specs.List.{filter, list_any, slice_split, before_first, after_first, prefix_len, suffix_len}
 use Rattle.std.specs.Char.{is_ascii_whitespace}
 use Rattle.std.specs.Str.{str_eq_ignore_ascii_case}
 use Rattle.thing_ops.specs.declared.request.Accept.{Accept}

@@ -1,5 +1,5 @@
 -- Where a request head begins and ends, and its start line (RFC 9112, sections 2.1, 2.2 and 3).
-use Rattle.std.specs.Prelude.{◌≡◌, ◌≤◌, ℕ, ◌+◌, ◌==◌, List, [], ◌∷◌, ◌++◌, length, codes, Bool, true, false, ◌&&◌, not, Option, Some, None, option_map, if◌then◌else◌}
+use Rattle.std.specs.Prelude.{◌≤◌, ℕ, ◌+◌, ◌==◌, List, [], ◌∷◌, ◌++◌, length, codes, Bool, ◌&&◌, not, Option, Some, None, option_map, if◌then◌else◌}
 use Rattle.std.specs.List.{starts_with, before_first, after_first}
 use Rattle.std.specs.Prelude.{nat_eq}
 use Rattle.httparse.specs.Grammar.{ReadsRequest, RequestHead}

@@ -1,5 +1,5 @@
 -- Replies and their lines as code has them.
-use Rattle.std.specs.Prelude.{ℕ, List, Option, option_map}
+use Rattle.std.specs.Prelude.{ℕ, List, option_map}
 use Rattle.http_wire.specs.declared.reply.Reply.{Reply}
 use Rattle.http_wire.specs.declared.reply.Field.{Field}
 use Rattle.http_wire.specs.Writing.{PlainReply, field_line}

@@ -1,6 +1,6 @@
 -- The front of a stream of requests (RFC 9112, sections 2, 6 and 7): whatever pieces a stream comes in, this speaks of the
 -- bytes that have come. Each fault has a place, the number of bytes after which it is seen, and the least place counts.
-use Rattle.std.specs.Prelude.{◌≡◌, ℕ, ◌+◌, ◌-◌, List, [], ◌∷◌, length, take, drop, codes, Bool, true, false, nat_le, Option, Some, None, Result, Ok, Err, if◌then◌else◌}
+use Rattle.std.specs.Prelude.{◌≡◌, ℕ, ◌+◌, ◌-◌, List, length, take, drop, codes, Bool, false, nat_le, Option, Some, None, Result, Ok, Err, if◌then◌else◌}
 use Rattle.thing_ops.specs.declared.request.Accept.{Accept}
 use Rattle.thing_ops.specs.declared.request.Format.{Format}
 use Rattle.http_wire.specs.declared.framing.Framing.{Framing}
@@ -86,3 +86,9 @@ pub data IsFrontAfter (before : ℕ) (bytes : List ℕ) (f : Front) : Type 0 whe
 -- The front of a stream.
 abbrev pub IsFront : List ℕ → Front → Type 0
 IsFront bytes f = IsFrontAfter (length bytes - length (skipped bytes)) (skipped bytes) f
+
+-- the front is a whole message or a fault
+abbrev pub IsSettled : Front → Type 0
+IsSettled (short expect) = ⊥
+IsSettled (message head body used expect) = Unit {0}
+IsSettled (fault status expect) = Unit {0}

@@ -1,6 +1,5 @@
 -- The head of a reply (RFC 9112, sections 2.1, 4 and 5; RFC 9110, sections 8.3, 8.6, 10.2 and 15).
-use Rattle.std.specs.Prelude.{ℕ, ◌==◌, List, [], ◌∷◌, ◌++◌, codes, Bool, true, false, ◌||◌, Option, Some, None, option_map, if◌then◌else◌}
-use Rattle.std.specs.List.{flat_map}
+use Rattle.std.specs.Prelude.{ℕ, ◌==◌, List, [], ◌++◌, codes, Bool, true, false, ◌||◌, Option, Some, None, option_map, if◌then◌else◌}
 use Rattle.std.specs.Fmt.{decimal}
 use Rattle.http_wire.specs.Heads.{line_end}
 

@@ -11,11 +11,11 @@ ghost use Rattle.http_wire.specs.Bodies.{decoded, HoldsBody};
 ghost use Rattle.http_wire.specs.Stream.{body_front, stated_body, within_longest, longest_coded};
 ghost use Rattle.http_wire.specs.BodySeen.{body_seen, IsWithin, IsChunkWithin};
 
+use crate::Body;
 use crate::framing::{Framing, LONGEST_BODY};
 use crate::heads::{front, length_through_mark, rest_from};
-use servient_base::put_bytes;
 use crate::lines::cut;
-use crate::Body;
+use servient_base::put_bytes;
 
 /// The most bytes of a body in chunks, with chunk lines and trailers.
 const LONGEST_CODED: usize = 20480;

@@ -1,6 +1,6 @@
 //! Writing the head of a reply.
 
-ghost use Rattle.std.specs.Prelude.{◌≡◌, ◌≤◌, ◌++◌, length, option_map, IsSome};
+ghost use Rattle.std.specs.Prelude.{◌≡◌, ◌≤◌, ◌++◌, ◌↔◌, length, option_map, IsSome, IsTrue};
 ghost use Rattle.std.specs.List.{flat_map};
 ghost use Rattle.std.specs.Fmt.{decimal};
 ghost use Rattle.http_wire.specs.Heads.{line_end};
@@ -12,9 +12,9 @@ use itoa::Buffer;
 use servient_base::put_bytes;
 
 /// What a reply says before its payload.
-#[derive(Drop)]
+#[derive(Clone, Copy, Debug, Drop)]
 pub struct Reply<'a> {
-    /// The status, one of those that have a phrase.
+    /// The status, one of those that have a reason.
     pub status: u16,
     /// The media type of the payload.
     pub content_type: Option<&'a str>,
@@ -66,7 +66,15 @@ pub fn put_reply(reply: &Reply<'_>, out: &mut [u8]) -> Option<usize>
             value: closing_value(reply.close),
         },
     ];
-    put_head(phrase(reply.status), &fields, out)
+    let phrase = phrase(reply.status).unwrap();
+    put_head(phrase, &fields, out)
+}
+
+/// Whether a status has a reason, so that its reply can be written.
+pub fn has_reason(status: u16) -> bool
+    ensures { IsTrue result ↔ IsSome (phrase_of status) }
+{
+    phrase(status).is_some()
 }
 
 /// Writes the status line with this phrase, the lines of some fields and an empty line.
@@ -163,28 +171,27 @@ fn closing_value(close: bool) -> Option<&'static [u8]>
     if close { Some(b"close") } else { None }
 }
 
-/// The status and its reason.
-fn phrase(status: u16) -> &'static [u8]
-    requires { IsSome (phrase_of status) }
-    ensures { result.now ≡ phrase_text (phrase_of status) }
+/// The status and its reason, if it has one.
+fn phrase(status: u16) -> Option<&'static [u8]>
+    ensures { option_map (λ t. t.now) result ≡ phrase_of status }
 {
     match status {
-        100 => b"100 Continue",
-        200 => b"200 OK",
-        201 => b"201 Created",
-        204 => b"204 No Content",
-        400 => b"400 Bad Request",
-        403 => b"403 Forbidden",
-        404 => b"404 Not Found",
-        405 => b"405 Method Not Allowed",
-        406 => b"406 Not Acceptable",
-        413 => b"413 Content Too Large",
-        415 => b"415 Unsupported Media Type",
-        431 => b"431 Request Header Fields Too Large",
-        500 => b"500 Internal Server Error",
-        501 => b"501 Not Implemented",
-        503 => b"503 Service Unavailable",
-        507 => b"507 Insufficient Storage",
-        _ => b"",
+        100 => Some(b"100 Continue"),
+        200 => Some(b"200 OK"),
+        201 => Some(b"201 Created"),
+        204 => Some(b"204 No Content"),
+        400 => Some(b"400 Bad Request"),
+        403 => Some(b"403 Forbidden"),
+        404 => Some(b"404 Not Found"),
+        405 => Some(b"405 Method Not Allowed"),
+        406 => Some(b"406 Not Acceptable"),
+        413 => Some(b"413 Content Too Large"),
+        415 => Some(b"415 Unsupported Media Type"),
+        431 => Some(b"431 Request Header Fields Too Large"),
+        500 => Some(b"500 Internal Server Error"),
+        501 => Some(b"501 Not Implemented"),
+        503 => Some(b"503 Service Unavailable"),
+        507 => Some(b"507 Insufficient Storage"),
+        _ => None,
     }
 }

@@ -1,6 +1,4 @@
-use Rattle.std.proofs.Common.{rules, subst}
-use Rattle.std.specs.Prelude.{Option}
-use Rattle.memchr.specs.Find.{IsFirstByte, is_byte}
+use Rattle.std.proofs.Common.{rules}
 use Rattle.http_wire.proofs.Places.{place_of_first, place_of_none}
 use Rattle.http_wire.proofs.lines.place_of.Goals as goal
 

@@ -1,4 +1,3 @@
-use Rattle.std.proofs.Common.{arith}
 use Rattle.http_wire.proofs.Fronts.{front_with_head}
 use Rattle.http_wire.proofs.stream.scan.Goals as goal
 

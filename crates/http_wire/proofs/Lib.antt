@@ -6,3 +6,4 @@ pub mod Fronts
 pub mod MoreBytes
 pub mod OneFront
 pub mod MoreOfAStream
+pub mod FewerBytes

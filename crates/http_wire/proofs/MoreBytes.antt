@@ -95,7 +95,7 @@ pub record Stays (c d : Chunk) (n : ℕ) : Type 0 where
   pub fits : (place size : ℕ) → c ≡ chunk.More place size → place + size + 2 ≤ n
 
 -- data whose end is seen
-ended_alike : (place size : ℕ) (old new : List ℕ) → nat_lt (length new) 2 ≡ false → nat_lt (length old) 2 ≡ false →
+pub ended_alike : (place size : ℕ) (old new : List ℕ) → nat_lt (length new) 2 ≡ false → nat_lt (length old) 2 ≡ false →
     starts_with nat_eq new line_end ≡ starts_with nat_eq old line_end → data_before place size new ≡ data_before place size old
 ended_alike place size old new of_b of_a alike = rw (of_b, of_a, alike) refl
 

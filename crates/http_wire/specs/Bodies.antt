@@ -13,7 +13,7 @@ abbrev pub decoded : Bool → List ℕ → List ℕ
 decoded true coded = body_in (chunks 0 0 coded)
 decoded false coded = coded
 
--- the coded bytes begin with a whole body of this many decoded bytes; where it isn't in chunks, they are it
-abbrev pub HoldsBody : Bool → List ℕ → ℕ → Type 0
-HoldsBody true coded n = (body : List ℕ) × (used : ℕ) × (chunks 0 0 coded ≡ whole body used) × (length body ≡ n)
-HoldsBody false coded n = length coded ≡ n
+-- the coded bytes are one whole body of this many decoded bytes
+abbrev pub AreOneBody : Bool → List ℕ → ℕ → Type 0
+AreOneBody true coded n = (body : List ℕ) × (chunks 0 0 coded ≡ whole body (length coded)) × (length body ≡ n)
+AreOneBody false coded n = length coded ≡ n

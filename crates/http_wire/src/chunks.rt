@@ -7,7 +7,7 @@ ghost use Rattle.std.specs.Str.Parse.{digits_value};
 ghost use Rattle.http_wire.specs.Heads.{empty_line, length_through};
 ghost use Rattle.http_wire.specs.Judging.{longest_body};
 ghost use Rattle.http_wire.specs.Chunks.{size_of_digits, chunk_size, trailers_to, data_before, sized_chunk, chunk_at as chunk_of, chunks};
-ghost use Rattle.http_wire.specs.Bodies.{decoded, HoldsBody};
+ghost use Rattle.http_wire.specs.Bodies.{decoded, AreOneBody};
 ghost use Rattle.http_wire.specs.Stream.{body_front, stated_body, within_longest, longest_coded};
 ghost use Rattle.http_wire.specs.BodySeen.{body_seen, IsWithin, IsChunkWithin};
 
@@ -113,9 +113,10 @@ fn chunks_at_front(bytes: &[u8]) -> BodyScan<'_>
             Chunk::Cut => return BodyScan::Unfinished,
             Chunk::Wrong(status) => return BodyScan::Faulty(status),
             Chunk::Last(used) => {
+                let end = place + used;
                 return BodyScan::Whole {
-                    body: Body::in_chunks(bytes, sum),
-                    used: place + used,
+                    body: Body::in_chunks(front(bytes, end), sum),
+                    used: end,
                 };
             }
             Chunk::More { place: after, size } => {
@@ -238,7 +239,7 @@ fn digit(byte: u8) -> usize
 
 /// Writes the data of the chunks into a slice that has just as many bytes.
 pub fn copy_chunks(coded: &[u8], out: &mut [u8])
-    requires { HoldsBody true coded.now (length out.old) }
+    requires { AreOneBody true coded.now (length out.old) }
     ensures { out.new ≡ decoded true coded.now }
 {
     let mut place = 0;

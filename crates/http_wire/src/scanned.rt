@@ -1,7 +1,7 @@
 //! What stands at the front of a stream.
 
 ghost use Rattle.std.specs.Prelude.{◌≡◌, true, length};
-ghost use Rattle.http_wire.specs.Bodies.{decoded, HoldsBody};
+ghost use Rattle.http_wire.specs.Bodies.{decoded, AreOneBody};
 
 use crate::chunks::copy_chunks;
 use std::marker::Model;
@@ -60,13 +60,13 @@ pub struct Body<'a> {
 
 impl<'a> Model for Body<'a> {
     ghost use Rattle.std.specs.Prelude.{List, ℕ};
-    ghost use Rattle.http_wire.specs.Bodies.{decoded, HoldsBody};
+    ghost use Rattle.http_wire.specs.Bodies.{decoded, AreOneBody};
 
     ghost Value = { List ℕ };
 
     ghost view = { λ b. decoded b.chunked b.coded.now };
 
-    ghost invariant = { λ b. HoldsBody b.chunked b.coded.now b.decoded_length };
+    ghost invariant = { λ b. AreOneBody b.chunked b.coded.now b.decoded_length };
 }
 
 impl<'a> Body<'a> {
@@ -81,9 +81,9 @@ impl<'a> Body<'a> {
         }
     }
 
-    /// The body in chunks that these bytes begin with, where it has this many bytes when it is decoded.
+    /// The body that these bytes are in chunks, where it has this many bytes when it is decoded.
     pub(crate) fn in_chunks(bytes: &'a [u8], decoded_length: usize) -> Body<'a>
-        requires { HoldsBody true bytes.now decoded_length }
+        requires { AreOneBody true bytes.now decoded_length }
         ensures { result ≡ decoded true bytes.now }
     {
         Body {

@@ -60,6 +60,11 @@ pub data IsJudged (head : List ℕ) (r : Result Framing ℕ) : Type 0 where
   no_head : line_feeds head ≤ 66 → are_paired 0 head ≡ true → ¬ (IsOneHead head) → r ≡ Err 400 → IsJudged head r
   one_head : line_feeds head ≤ 66 → are_paired 0 head ≡ true → IsOneHead head → r ≡ fields_judged head → IsJudged head r
 
+-- a stated length is no longer than a body may be
+abbrev pub IsBounded : Framing → Type 0
+IsBounded (framing.Stated n) = n ≤ longest_body
+IsBounded framing.Chunked = Unit {0}
+
 -- a body is to come: it is chunked, or its length isn't 0
 abbrev pub has_body : Framing → Bool
 has_body (framing.Stated n) = nat_lt 0 n

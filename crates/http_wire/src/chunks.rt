@@ -5,7 +5,7 @@ ghost use Rattle.std.specs.List.{list_all};
 ghost use Rattle.std.specs.Char.{is_ascii_hexdigit, digit_value};
 ghost use Rattle.std.specs.Str.Parse.{digits_value};
 ghost use Rattle.http_wire.specs.Heads.{empty_line, length_through};
-ghost use Rattle.http_wire.specs.Judging.{longest_body};
+ghost use Rattle.http_wire.specs.Judging.{longest_body, IsBounded};
 ghost use Rattle.http_wire.specs.Chunks.{size_of_digits, chunk_size, trailers_to, data_before, sized_chunk, chunk_at as chunk_of, chunks};
 ghost use Rattle.http_wire.specs.Bodies.{decoded, AreOneBody};
 ghost use Rattle.http_wire.specs.Stream.{body_front, stated_body, within_longest, longest_coded};
@@ -59,6 +59,7 @@ pub enum Chunk {
 
 /// The body at the front of the bytes after a head.
 pub fn body_at_front(framing: Framing, bytes: &[u8]) -> BodyScan<'_>
+    requires { IsBounded framing }
     ensures ok { body_seen result ≡ body_front framing bytes.now }
     ensures within { IsWithin result (length bytes.now) }
 {
@@ -70,6 +71,7 @@ pub fn body_at_front(framing: Framing, bytes: &[u8]) -> BodyScan<'_>
 
 /// The body of a stated length.
 fn stated_at_front(size: usize, bytes: &[u8]) -> BodyScan<'_>
+    requires { size ≤ longest_body }
     ensures ok { body_seen result ≡ stated_body size bytes.now }
     ensures within { IsWithin result (length bytes.now) }
 {

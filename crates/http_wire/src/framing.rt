@@ -1,12 +1,12 @@
 //! How a head is judged, and how the end of the body after it is found.
 
-ghost use Rattle.std.specs.Prelude.{◌≡◌, ◌≤◌, ◌<◌, ◌+◌, ◌*◌, ◌||◌, ◌==◌, not, true, nat_lt, min, length, codes};
+ghost use Rattle.std.specs.Prelude.{◌≡◌, ◌≤◌, ◌<◌, ◌+◌, ◌*◌, ◌||◌, ◌==◌, not, true, nat_lt, min, length, codes, IfOk};
 ghost use Rattle.std.specs.List.{list_all};
 ghost use Rattle.std.specs.Char.{is_ascii_digit, digit_value};
 ghost use Rattle.std.specs.Str.Parse.{digits_value};
 ghost use Rattle.http_wire.specs.Fields.{values_of};
 ghost use Rattle.http_wire.specs.Heads.{is_newer};
-ghost use Rattle.http_wire.specs.Judging.{longest_body, is_length, framing_by, stated_framing, coded_framing, has_right_counts, fields_judged, IsJudged, has_body as brings_body, expects, closes};
+ghost use Rattle.http_wire.specs.Judging.{longest_body, IsBounded, is_length, framing_by, stated_framing, coded_framing, has_right_counts, fields_judged, IsJudged, has_body as brings_body, expects, closes};
 
 use crate::fields::{Found, Item, expects_continue, find, is_alike, names};
 use crate::heads::{count_line_feeds, has_pairs_alone, is_one_head, start_line};
@@ -28,7 +28,8 @@ pub enum Framing {
 
 /// The framing of the body after a head, or the status of what is wrong with the head.
 pub fn judge(head: &[u8]) -> Result<Framing, u16>
-    ensures { IsJudged head.now result }
+    ensures ok { IsJudged head.now result }
+    ensures bound { IfOk result IsBounded }
 {
     if count_line_feeds(head) > MOST_LINE_FEEDS {
         return Err(431);
@@ -44,7 +45,8 @@ pub fn judge(head: &[u8]) -> Result<Framing, u16>
 
 /// The framing by the fields of a head.
 fn judge_fields(head: &[u8]) -> Result<Framing, u16>
-    ensures { result ≡ fields_judged head.now }
+    ensures ok { result ≡ fields_judged head.now }
+    ensures bound { IfOk result IsBounded }
 {
     let (_, _, newer) = start_line(head);
     if has_counts(newer, head) {
@@ -78,7 +80,8 @@ fn stands_often(name: &[u8], head: &[u8]) -> bool
 
 /// The framing by `Content-Length` and `Transfer-Encoding`.
 fn read_framing(newer: bool, head: &[u8]) -> Result<Framing, u16>
-    ensures { result ≡ framing_by newer (values_of (codes "content-length") head.now) (values_of (codes "transfer-encoding") head.now) }
+    ensures ok { result ≡ framing_by newer (values_of (codes "content-length") head.now) (values_of (codes "transfer-encoding") head.now) }
+    ensures bound { IfOk result IsBounded }
 {
     match find(b"content-length", head) {
         Found::Absent => match find(b"transfer-encoding", head) {
@@ -97,7 +100,8 @@ fn read_framing(newer: bool, head: &[u8]) -> Result<Framing, u16>
 
 /// The framing of a body in this coding.
 fn coded(newer: bool, value: &[u8]) -> Result<Framing, u16>
-    ensures { result ≡ coded_framing newer value.now }
+    ensures ok { result ≡ coded_framing newer value.now }
+    ensures bound { IfOk result IsBounded }
 {
     if !newer {
         Err(400)
@@ -110,7 +114,8 @@ fn coded(newer: bool, value: &[u8]) -> Result<Framing, u16>
 
 /// The framing of a body of this length.
 fn stated(value: &[u8]) -> Result<Framing, u16>
-    ensures { result ≡ stated_framing value.now }
+    ensures ok { result ≡ stated_framing value.now }
+    ensures bound { IfOk result IsBounded }
 {
     if !is_number(value) {
         return Err(400);

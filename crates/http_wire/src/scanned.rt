@@ -72,7 +72,8 @@ impl<'a> Model for Body<'a> {
 impl<'a> Body<'a> {
     /// The body that these bytes are as they stand.
     pub(crate) fn stated(bytes: &'a [u8]) -> Body<'a>
-        ensures { result ≡ bytes.now }
+        ensures ok { result ≡ bytes.now }
+        ensures size { length result ≡ length bytes.now }
     {
         Body {
             coded: bytes,
@@ -84,7 +85,8 @@ impl<'a> Body<'a> {
     /// The body that these bytes are in chunks, where it has this many bytes when it is decoded.
     pub(crate) fn in_chunks(bytes: &'a [u8], decoded_length: usize) -> Body<'a>
         requires { AreOneBody true bytes.now decoded_length }
-        ensures { result ≡ decoded true bytes.now }
+        ensures ok { result ≡ decoded true bytes.now }
+        ensures size { length result ≡ decoded_length }
     {
         Body {
             coded: bytes,

@@ -36,5 +36,5 @@ returns-in-Last-clause-ok c =
     let within : end ≤ length c.args.bytes.now =
     omega (arith, c.in-Last.ensures.within, ap length c.rest_from.ensures, inv.2, length-drop_from c.loop-status.place c.args.bytes.now) in
     ap (λ (xs : List ℕ). whole xs end)
-    (c.in_chunks.ensures ∙ ap (decoded true) c.front.ensures.ok ∙ ap body_in (body_alone c.args.bytes.now inv.0 end read within))
+    (c.in_chunks.ensures.ok ∙ ap (decoded true) c.front.ensures.ok ∙ ap body_in (body_alone c.args.bytes.now inv.0 end read within))
     ∙ sym read

@@ -88,6 +88,19 @@ const FAULTY: [(&[u8], u16); 19] = [
     (b"1\r\n9\r\n4000g\r\n", 400),
 ];
 
+/// Whole messages, and their bodies: with no body, with a length, in chunks.
+const MESSAGES: [(&[u8], &[u8]); 3] = [
+    (b"\r\n\r\nGET / HTTP/1.1\r\nHost: h\r\n\r\n", b""),
+    (
+        b"PUT / HTTP/1.1\r\nHost: h\r\nContent-Length: 4\r\n\r\n\r\n\r\n",
+        b"\r\n\r\n",
+    ),
+    (
+        b"PUT / HTTP/1.1\r\nHost: h\r\nTransfer-Encoding: chunked\r\n\r\n1\r\n9\r\n2;a\r\n87\r\n0\r\nA: b\r\n\r\n",
+        b"987",
+    ),
+];
+
 /// The head and a body after it, in a buffer.
 fn stream_with(body: &[u8], out: &mut [u8; 256]) -> Option<usize> {
     let end = HEAD_LENGTH + body.len();
@@ -166,12 +179,16 @@ fn the_first_fault_of_a_body_counts(rt: HostRuntime) {
 
 #[test]
 fn a_message_is_whole_at_its_last_byte(rt: HostRuntime) {
-    let bytes =
-        b"PUT / HTTP/1.1\r\nHost: h\r\nTransfer-Encoding: chunked\r\n\r\n1\r\n9\r\n2;a\r\n87\r\n0\r\nA: b\r\n\r\n";
-    for end in 0..bytes.len() {
-        assert!(rt; look(&bytes[..end]) == Seen::Short(false), "{end}");
+    for (bytes, body) in MESSAGES {
+        for end in 0..bytes.len() {
+            assert!(rt;
+                look(&bytes[..end]) == Seen::Short(false),
+                "{end} of {bytes:?}"
+            );
+        }
+        assert!(rt; look(bytes) == Seen::Whole(bytes.len(), false), "{bytes:?}");
+        assert!(rt; has_body(bytes, body), "{bytes:?}");
     }
-    assert!(rt; has_body(bytes, b"987"));
 }
 
 #[test]

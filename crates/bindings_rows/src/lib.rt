@@ -1,9 +1,20 @@
-//! Tests of what the crates of the bindings offer: CoAP messages, what they ask for, and exchanges.
+//! Tests of what the crates of the bindings offer: CoAP messages, what they ask for, and exchanges; HTTP requests at the
+//! front of a stream, their targets and bodies, and the heads of replies.
 #![tactic(auto)]
 
 #[cfg(test)]
+mod bodies;
+#[cfg(test)]
 mod exchanges;
+#[cfg(test)]
+mod fronts;
+#[cfg(test)]
+mod heads;
 #[cfg(test)]
 mod messages;
 #[cfg(test)]
 mod options;
+#[cfg(test)]
+mod replies;
+#[cfg(test)]
+mod targets;

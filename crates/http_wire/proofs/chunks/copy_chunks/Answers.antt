@@ -1,0 +1,28 @@
+use Rattle.std.proofs.Common.{◌≡◌, ◌++◌, ap, sym, ◌∙◌, arith, length, ◌≤◌, ◌+◌, take, drop, List, ℕ}
+use Rattle.http_wire.specs.Chunks.{chunk_at}
+use Rattle.http_wire.proofs.ChunkRows.{IsRead, read_more, data_at, length-data_at, length-drop_from}
+use Rattle.http_wire.proofs.chunks.copy_chunks.Goals as goal
+
+pub loop-after-preserved : goal.loop-after-preserved
+loop-after-preserved c =
+    let inv = c.loop-after.invariant in
+    let coded = c.args.coded.now in
+    let place = c.loop-after.place in
+    let after = c.in-More.after in
+    let size = c.in-More.size in
+    let within : after + size + 2 ≤ length (drop place coded) =
+    omega (arith, c.in-More.ensures.within.0, ap length c.rest_from.ensures) in
+    let part : c.part.result.now ≡ data_at coded place after size =
+    c.part.ensures ∙ ap (λ (xs : List ℕ). take size (drop after xs)) c.rest_from-in-More.ensures in
+    let sized : length c.part.result.now ≡ size = ap length part ∙ length-data_at coded place after size within in
+    let end : c.put_bytes-sum.result ≡ c.loop-after.sum + size = c.put_bytes-sum.ensures.end ∙ ap (λ (n : ℕ). c.loop-after.sum + n) sized in
+    let read : IsRead coded (inv.0 ++ data_at coded place after size) (place + (after + size + 2)) (c.loop-after.sum + size) =
+    read_more coded inv.0 place c.loop-after.sum after size inv.1
+    (sym (c.in-More.ensures.ok ∙ ap (chunk_at c.loop-after.sum) c.rest_from.ensures)) within in (
+      inv.0 ++ data_at coded place after size,
+      rw end read,
+      c.put_bytes-sum.ensures.bytes ∙ ap (λ (xs : List ℕ). xs ++ c.part.result.now) inv.2 ∙ ap (λ (xs : List ℕ). inv.0 ++ xs) part,
+      c.put_bytes-sum.auto.out ∙ inv.3,
+      omega (arith, within, inv.4, length-drop_from place coded),
+      omega (arith, end, c.in-More.ensures.within.1),
+    )

@@ -1,0 +1,11 @@
+use Rattle.std.proofs.Common.{◌++◌}
+use Rattle.wot_json.proofs.Pieces.{puts_then_if_room}
+use Rattle.http_wire.specs.Heads.{line_end}
+use Rattle.http_wire.proofs.reply.put_line.Goals as goal
+
+pub returns : goal.returns
+returns c =
+    puts_then_if_room c.args.name.now (c.args.value.now ++ line_end) c.args.at c.in_ok-at.at c.args.out.now c.put_piece.new.out c.put_piece-3.new.out c.put_piece-3.result
+    c.put_piece.auto.out c.in_ok-at.ensures
+    (puts_then_if_room c.args.value.now line_end c.in_ok-at.at c.in_ok-at-2.at c.put_piece.new.out c.put_piece-2.new.out c.put_piece-3.new.out c.put_piece-3.result
+    c.put_piece-2.auto.out c.in_ok-at-2.ensures c.put_piece-3.ensures)

@@ -1,0 +1,19 @@
+-- Whole bodies.
+use Rattle.std.specs.Prelude.{◌≡◌, ℕ, List, [], length, Bool, true, false}
+use Rattle.http_wire.specs.Chunks.{BodyFront, unfinished, faulty, whole, chunks}
+
+-- the decoded bytes of a body that is whole
+abbrev pub body_in : BodyFront → List ℕ
+body_in unfinished = []
+body_in (faulty status) = []
+body_in (whole body used) = body
+
+-- the bytes of a whole body that is in chunks, or isn't
+abbrev pub decoded : Bool → List ℕ → List ℕ
+decoded true coded = body_in (chunks 0 0 coded)
+decoded false coded = coded
+
+-- the coded bytes are one whole body of this many decoded bytes
+abbrev pub AreOneBody : Bool → List ℕ → ℕ → Type 0
+AreOneBody true coded n = (body : List ℕ) × (chunks 0 0 coded ≡ whole body (length coded)) × (length body ≡ n)
+AreOneBody false coded n = length coded ≡ n

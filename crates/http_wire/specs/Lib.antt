@@ -1,0 +1,13 @@
+pub mod Heads
+pub mod Fields
+pub mod Judging
+pub mod Chunks
+pub mod Bodies
+pub mod Stream
+pub mod Scanned
+pub mod Pieces
+pub mod Found
+pub mod BodySeen
+pub mod Targets
+pub mod Writing
+pub mod Replies

@@ -1,0 +1,20 @@
+-- Replies and their lines as code has them.
+use Rattle.std.specs.Prelude.{ℕ, List, option_map}
+use Rattle.http_wire.specs.declared.reply.Reply.{Reply}
+use Rattle.http_wire.specs.declared.reply.Field.{Field}
+use Rattle.http_wire.specs.Writing.{PlainReply, field_line}
+
+-- what is to be replied
+abbrev pub plain_reply : Reply → PlainReply
+plain_reply r = record {
+  status = r.status;
+  content_type = option_map (λ t. t.now) r.content_type;
+  location = option_map (λ t. t.now) r.location;
+  allow = option_map (λ t. t.now) r.allow;
+  size = r.length;
+  close = r.close;
+}
+
+-- the line of a field
+abbrev pub line_of : Field → List ℕ
+line_of f = field_line f.name.now (option_map (λ t. t.now) f.value)

@@ -1,0 +1,28 @@
+-- What was scanned, apart from where it lies in memory.
+use Rattle.std.specs.Prelude.{◌≡◌, ◌≤◌, ℕ, List, length, Result}
+use Rattle.http_wire.specs.declared.scanned.Head.{Head}
+use Rattle.http_wire.specs.declared.scanned.Scanned.{Scanned}
+use Rattle.http_wire.specs.declared.scanned.Scanned.TheVariants as scanned
+use Rattle.http_wire.specs.Stream.{PlainHead, Front, short, message, fault, with_head}
+use Rattle.http_wire.specs.Judging.{IsJudged, longest_body}
+use Rattle.http_wire.specs.declared.framing.Framing.{Framing}
+
+-- what a head says
+abbrev pub plain_head : Head → PlainHead
+plain_head h = record { method = h.method.now; target = h.target.now; close = h.close; format = h.format; accept = h.accept }
+
+-- what was found at the front of a stream
+abbrev pub front_of : Scanned → Front
+front_of (scanned.Short expect) = short expect
+front_of (scanned.Whole head body used expect) = message (plain_head head) body used expect
+front_of (scanned.Fault status expect) = fault status expect
+
+-- what is at the front where this head ends after so many bytes
+abbrev pub IsHeadFront : List ℕ → ℕ → List ℕ → Front → Type 0
+IsHeadFront head taken after f = (r : Result Framing ℕ) × IsJudged head r × (f ≡ with_head head taken r after)
+
+-- a whole message takes from low to high bytes, and its body has no more than a body may have
+abbrev pub TakesBetween : ℕ → ℕ → Scanned → Type 0
+TakesBetween low high (scanned.Short expect) = Unit {0}
+TakesBetween low high (scanned.Whole head body used expect) = (low ≤ used) × (used ≤ high) × (length body ≤ longest_body)
+TakesBetween low high (scanned.Fault status expect) = Unit {0}

@@ -1,0 +1,94 @@
+-- The front of a stream of requests (RFC 9112, sections 2, 6 and 7): whatever pieces a stream comes in, this speaks of the
+-- bytes that have come. Each fault has a place, the number of bytes after which it is seen, and the least place counts.
+use Rattle.std.specs.Prelude.{◌≡◌, ℕ, ◌+◌, ◌-◌, List, length, take, drop, codes, Bool, false, nat_le, Option, Some, None, Result, Ok, Err, if◌then◌else◌}
+use Rattle.thing_ops.specs.declared.request.Accept.{Accept}
+use Rattle.thing_ops.specs.declared.request.Format.{Format}
+use Rattle.http_wire.specs.declared.framing.Framing.{Framing}
+use Rattle.http_wire.specs.declared.framing.Framing.TheVariants as framing
+use Rattle.http_wire.specs.Heads.{skipped, length_through, empty_line, method_of, target_of}
+use Rattle.http_wire.specs.Fields.{values_of, format_of, accept_of}
+use Rattle.http_wire.specs.Judging.{IsJudged, expects, closes}
+use Rattle.http_wire.specs.Chunks.{BodyFront, unfinished, faulty, whole, chunks}
+
+-- The most bytes of a head, counted from the first that is no skipped CR LF pair.
+abbrev pub longest_head : ℕ
+longest_head = 8192
+
+-- The most bytes of a body in chunks, with chunk lines and trailers.
+abbrev pub longest_coded : ℕ
+longest_coded = 20480
+
+-- a head that was read, apart from where it lies in memory
+pub record PlainHead : Type 0 where
+  pub method : List ℕ
+  pub target : List ℕ
+  pub close : Bool
+  pub format : Format
+  pub accept : Accept
+
+-- what a head says
+abbrev pub plain_head_of : List ℕ → PlainHead
+plain_head_of head = record {
+  method = method_of head;
+  target = target_of head;
+  close = closes head;
+  format = format_of (values_of (codes "content-type") head);
+  accept = accept_of (values_of (codes "accept") head);
+}
+
+-- What stands at the front of a stream: a message that isn't whole yet, a whole one with its decoded body and how many
+-- bytes of the stream it takes, or a fault with its status; each with whether a 100 reply is asked for.
+pub data Front : Type 0 where
+  short : (expect : Bool) → Front
+  message : (head : PlainHead) (body : List ℕ) (used : ℕ) (expect : Bool) → Front
+  fault : (status : ℕ) (expect : Bool) → Front
+
+-- a body of this length
+abbrev pub stated_body : ℕ → List ℕ → BodyFront
+stated_body n bytes = if nat_le n (length bytes) then whole (take n bytes) n else unfinished
+
+-- a body in chunks that isn't whole where all bytes stand that it may have is too long
+abbrev pub within_longest : List ℕ → BodyFront → BodyFront
+within_longest bytes unfinished = if nat_le longest_coded (length bytes) then faulty 413 else unfinished
+within_longest bytes (faulty status) = faulty status
+within_longest bytes (whole body used) = whole body used
+
+-- the body at the front of the bytes after a head
+abbrev pub body_front : Framing → List ℕ → BodyFront
+body_front (framing.Stated n) bytes = stated_body n bytes
+body_front framing.Chunked bytes = within_longest bytes (chunks 0 0 (take longest_coded bytes))
+
+-- a head and the body after it, where the head takes so many bytes of the stream
+abbrev pub with_body : List ℕ → ℕ → Bool → BodyFront → Front
+with_body head taken expect unfinished = short expect
+with_body head taken expect (faulty status) = fault status expect
+with_body head taken expect (whole body used) = message (plain_head_of head) body (taken + used) expect
+
+-- a head that was judged, and the bytes after it
+abbrev pub with_head : List ℕ → ℕ → Result Framing ℕ → List ℕ → Front
+with_head head taken (Err status) bytes = fault status false
+with_head head taken (Ok f) bytes = with_body head taken (expects head f) (body_front f bytes)
+
+-- where a head doesn't end within the bytes that it may have
+abbrev pub without_head : List ℕ → Front
+without_head bytes = if nat_le longest_head (length bytes) then fault 431 false else short false
+
+-- how many bytes the head has that the bytes begin with
+abbrev pub head_length : List ℕ → Option ℕ
+head_length bytes = length_through empty_line (take longest_head bytes)
+
+-- what stands at the front of bytes behind `before` skipped ones
+pub data IsFrontAfter (before : ℕ) (bytes : List ℕ) (f : Front) : Type 0 where
+  no_end : head_length bytes ≡ None → f ≡ without_head bytes → IsFrontAfter before bytes f
+  one_end : (n : ℕ) (r : Result Framing ℕ) → head_length bytes ≡ Some n → IsJudged (take n bytes) r →
+      f ≡ with_head (take n bytes) (before + n) r (drop n bytes) → IsFrontAfter before bytes f
+
+-- The front of a stream.
+abbrev pub IsFront : List ℕ → Front → Type 0
+IsFront bytes f = IsFrontAfter (length bytes - length (skipped bytes)) (skipped bytes) f
+
+-- the front is a whole message or a fault
+abbrev pub IsSettled : Front → Type 0
+IsSettled (short expect) = ⊥
+IsSettled (message head body used expect) = Unit {0}
+IsSettled (fault status expect) = Unit {0}

@@ -1,0 +1,266 @@
+//! Bodies at the front of bytes, and bodies in chunks (RFC 9112, section 7.1).
+
+ghost use Rattle.std.specs.Prelude.{◌≡◌, ◌≤◌, ◌<◌, ◌+◌, ◌-◌, ◌^◌, true, length, take, drop, Some};
+ghost use Rattle.std.specs.List.{list_all};
+ghost use Rattle.std.specs.Char.{is_ascii_hexdigit, digit_value};
+ghost use Rattle.std.specs.Str.Parse.{digits_value};
+ghost use Rattle.http_wire.specs.Heads.{empty_line, length_through};
+ghost use Rattle.http_wire.specs.Judging.{longest_body, IsBounded};
+ghost use Rattle.http_wire.specs.Chunks.{size_of_digits, chunk_size, trailers_to, data_before, sized_chunk, chunk_at as chunk_of, chunks};
+ghost use Rattle.http_wire.specs.Bodies.{decoded, AreOneBody};
+ghost use Rattle.http_wire.specs.Stream.{body_front, stated_body, within_longest, longest_coded};
+ghost use Rattle.http_wire.specs.BodySeen.{body_seen, IsWithin, IsChunkWithin};
+
+use crate::Body;
+use crate::framing::{Framing, LONGEST_BODY};
+use crate::heads::{front, length_through_mark, rest_from};
+use crate::lines::cut;
+use servient_base::put_bytes;
+
+/// The most bytes of a body in chunks, with chunk lines and trailers.
+const LONGEST_CODED: usize = 20480;
+
+/// The most bytes of a chunk line, with its CR LF.
+const LONGEST_LINE: usize = 64;
+
+/// What stands at the front of the bytes after a head.
+#[derive(Drop)]
+pub enum BodyScan<'a> {
+    /// The body isn't whole yet.
+    Unfinished,
+    /// The body has a fault with this status.
+    Faulty(u16),
+    /// A whole body.
+    Whole {
+        /// The body.
+        body: Body<'a>,
+        /// How many bytes it takes.
+        used: usize,
+    },
+}
+
+/// What stands at the front of bytes where a chunk begins.
+#[derive(Clone, Copy, Drop)]
+pub enum Chunk {
+    /// It isn't whole yet.
+    Cut,
+    /// It is wrong, with this status.
+    Wrong(u16),
+    /// It is the last one, and the body ends after this many bytes.
+    Last(usize),
+    /// It has data.
+    More {
+        /// Where its data begins.
+        place: usize,
+        /// How many bytes of data it has.
+        size: usize,
+    },
+}
+
+/// The body at the front of the bytes after a head.
+pub fn body_at_front(framing: Framing, bytes: &[u8]) -> BodyScan<'_>
+    requires { IsBounded framing }
+    ensures ok { body_seen result ≡ body_front framing bytes.now }
+    ensures within { IsWithin result (length bytes.now) }
+{
+    match framing {
+        Framing::Stated(size) => stated_at_front(size, bytes),
+        Framing::Chunked => chunked_at_front(bytes),
+    }
+}
+
+/// The body of a stated length.
+fn stated_at_front(size: usize, bytes: &[u8]) -> BodyScan<'_>
+    requires { size ≤ longest_body }
+    ensures ok { body_seen result ≡ stated_body size bytes.now }
+    ensures within { IsWithin result (length bytes.now) }
+{
+    if size <= bytes.len() {
+        BodyScan::Whole {
+            body: Body::stated(&bytes[..size]),
+            used: size,
+        }
+    } else {
+        BodyScan::Unfinished
+    }
+}
+
+/// The body in chunks.
+fn chunked_at_front(bytes: &[u8]) -> BodyScan<'_>
+    ensures ok { body_seen result ≡ within_longest bytes.now (chunks 0 0 (take longest_coded bytes.now)) }
+    ensures within { IsWithin result (length bytes.now) }
+{
+    match chunks_at_front(front(bytes, LONGEST_CODED)) {
+        BodyScan::Unfinished => {
+            if bytes.len() >= LONGEST_CODED {
+                BodyScan::Faulty(413)
+            } else {
+                BodyScan::Unfinished
+            }
+        }
+        BodyScan::Faulty(status) => BodyScan::Faulty(status),
+        BodyScan::Whole { body, used } => BodyScan::Whole { body, used },
+    }
+}
+
+/// The chunks at the front of bytes, all of which the body may have.
+fn chunks_at_front(bytes: &[u8]) -> BodyScan<'_>
+    ensures ok { body_seen result ≡ chunks 0 0 bytes.now }
+    ensures within { IsWithin result (length bytes.now) }
+{
+    let mut place = 0;
+    let mut sum = 0;
+    loop {
+        match chunk_at(sum, rest_from(bytes, place)) {
+            Chunk::Cut => return BodyScan::Unfinished,
+            Chunk::Wrong(status) => return BodyScan::Faulty(status),
+            Chunk::Last(used) => {
+                let end = place + used;
+                return BodyScan::Whole {
+                    body: Body::in_chunks(front(bytes, end), sum),
+                    used: end,
+                };
+            }
+            Chunk::More { place: after, size } => {
+                place += after + size + 2;
+                sum += size;
+            }
+        }
+    }
+}
+
+/// The chunk at the front of bytes, after so many bytes of data.
+fn chunk_at(sum: usize, bytes: &[u8]) -> Chunk
+    requires { sum ≤ longest_body }
+    ensures ok { result ≡ chunk_of sum bytes.now }
+    ensures within { IsChunkWithin sum (length bytes.now) result }
+{
+    match length_through_mark(b"\r\n", front(bytes, LONGEST_LINE)) {
+        None => {
+            if bytes.len() >= LONGEST_LINE {
+                Chunk::Wrong(400)
+            } else {
+                Chunk::Cut
+            }
+        }
+        Some(end) => sized_at(sum, bytes, end),
+    }
+}
+
+/// The chunk whose line has this many bytes.
+fn sized_at(sum: usize, bytes: &[u8], end: usize) -> Chunk
+    requires sum { sum ≤ longest_body }
+    requires line { 2 ≤ end }
+    requires within { end ≤ length bytes.now }
+    ensures ok { result ≡ sized_chunk sum bytes.now end (chunk_size (take (end - 2) bytes.now)) }
+    ensures within { IsChunkWithin sum (length bytes.now) result }
+{
+    match size_of(&bytes[..end - 2]) {
+        None => Chunk::Wrong(400),
+        Some(0) => last_at(end - 2, &bytes[end - 2..]),
+        Some(size) => {
+            if size > LONGEST_BODY - sum {
+                Chunk::Wrong(413)
+            } else {
+                data_at(end, size, &bytes[end..])
+            }
+        }
+    }
+}
+
+/// The last chunk, from the CR LF of its line on.
+fn last_at(place: usize, bytes: &[u8]) -> Chunk
+    requires { place + length bytes.now < 2 ^ 64 }
+    ensures ok { result ≡ trailers_to place (length_through empty_line bytes.now) }
+    ensures within { IsChunkWithin 0 (place + length bytes.now) result }
+{
+    match length_through_mark(b"\r\n\r\n", bytes) {
+        None => Chunk::Cut,
+        Some(end) => Chunk::Last(place + end),
+    }
+}
+
+/// A chunk with data, from its data on.
+fn data_at(place: usize, size: usize, bytes: &[u8]) -> Chunk
+    ensures { result ≡ data_before place size (drop size bytes.now) }
+{
+    if bytes.len() < size {
+        return Chunk::Cut;
+    }
+    match &bytes[size..] {
+        [b'\r', b'\n', ..] => Chunk::More { place, size },
+        [_, _, ..] => Chunk::Wrong(400),
+        _ => Chunk::Cut,
+    }
+}
+
+/// The size that a chunk line says.
+fn size_of(line: &[u8]) -> Option<usize>
+    ensures { result ≡ chunk_size line.now }
+{
+    let (digits, _) = cut(b';', line);
+    if !digits.is_empty() && digits.len() <= 8 && are_digits(digits) {
+        Some(hexadecimal(digits))
+    } else {
+        None
+    }
+}
+
+/// Whether all bytes are hexadecimal digits.
+fn are_digits(bytes: &[u8]) -> bool
+    ensures { result ≡ list_all is_ascii_hexdigit bytes.now }
+{
+    bytes.iter().all(|byte| byte.is_ascii_hexdigit())
+}
+
+/// The number that up to 8 hexadecimal digits write.
+fn hexadecimal(digits: &[u8]) -> usize
+    requires digits { list_all is_ascii_hexdigit digits.now ≡ true }
+    requires short { length digits.now ≤ 8 }
+    ensures { result ≡ digits_value 16 digits.now }
+{
+    let mut number = 0;
+    for byte in digits {
+        number = number * 16 + digit(*byte);
+    }
+    number
+}
+
+/// The value of a hexadecimal digit.
+fn digit(byte: u8) -> usize
+    requires { is_ascii_hexdigit byte ≡ true }
+    ensures ok { result ≡ digit_value byte }
+    ensures bound { result ≤ 15 }
+{
+    match byte {
+        b'0'..=b'9' => usize::from(byte - b'0'),
+        b'A'..=b'F' => usize::from(byte - b'A') + 10,
+        _ => usize::from(byte - b'a') + 10,
+    }
+}
+
+/// Writes the data of the chunks into a slice that has just as many bytes.
+pub fn copy_chunks(coded: &[u8], out: &mut [u8])
+    requires { AreOneBody true coded.now (length out.old) }
+    ensures { out.new ≡ decoded true coded.now }
+{
+    let mut place = 0;
+    let mut sum = 0;
+    loop {
+        match chunk_at(sum, rest_from(coded, place)) {
+            Chunk::Cut | Chunk::Wrong(_) | Chunk::Last(_) => return,
+            Chunk::More { place: after, size } => {
+                sum = put_bytes(out, sum, part(rest_from(coded, place), after, size));
+                place += after + size + 2;
+            }
+        }
+    }
+}
+
+/// So many bytes from a place on.
+fn part(bytes: &[u8], place: usize, size: usize) -> &[u8]
+    requires { place + size ≤ length bytes.now }
+    ensures { result.now ≡ take size (drop place bytes.now) }
+{
+    &bytes[place..place + size]
+}

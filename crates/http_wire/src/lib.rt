@@ -1,0 +1,45 @@
+//! HTTP/1.1 requests at the front of a stream (RFC 9112), and the heads of replies, as bytes. Nothing here knows a
+//! connection or a Thing: `scan` judges the bytes that have come, however they were cut, and says whether a message is
+//! whole, is to be awaited or has a fault; `segments` reads a request target, and `put_reply` writes the head of a reply.
+//!
+//! ```text
+//! let bytes = b"PUT /lamp/properties/status HTTP/1.1\r\nHost: h\r\nContent-Length: 1\r\n\r\n9";
+//! let Scanned::Whole { head, body, used, expect: _ } = scan(bytes) else { .. };
+//! assert!(head.method == b"PUT" && used == bytes.len());
+//!
+//! let (path, query) = segments(alloc, head.target)?;
+//! assert!(path.get(0) == Some(b"lamp".as_slice()) && query == head.target.len());
+//!
+//! let mut value = [0; 1];
+//! body.copy_to(&mut value);
+//! assert_eq!(value, *b"9");
+//!
+//! let reply = Reply { status: 204, content_type: None, location: None, allow: None, length: None, close: false };
+//! let mut out = [0; 64];
+//! assert_eq!(put_reply(&reply, &mut out), Some(27));
+//! assert_eq!(&out[..27], b"HTTP/1.1 204 No Content\r\n\r\n");
+//! ```
+//!
+//! The contract in a sentence: `scan` says of any bytes exactly what `IsFront` of `specs/Stream.antt` does, `segments`
+//! gives exactly `segments_of` and `query_place` of `specs/Targets.antt`, and `put_reply` writes exactly `http_reply` of
+//! `specs/Writing.antt`. The laws: bytes have one front at most, and one that is a whole message or a fault stays the
+//! same whatever comes behind it. What a request head is, the grammar of `httparse` says, and nothing else here rests
+//! on that crate: what a head says is read from its lines. Memory is taken by `segments` alone.
+#![tactic(auto)]
+
+mod chunks;
+mod fields;
+mod framing;
+mod heads;
+mod laws;
+mod lines;
+mod reply;
+mod scanned;
+mod stream;
+mod target;
+
+pub use laws::{front_is_stable, one_front};
+pub use reply::{Reply, has_reason, put_reply};
+pub use scanned::{Body, Head, Scanned};
+pub use stream::scan;
+pub use target::{TargetFault, segments};

@@ -1,0 +1,197 @@
+//! Writing the head of a reply.
+
+ghost use Rattle.std.specs.Prelude.{◌≡◌, ◌≤◌, ◌++◌, ◌↔◌, length, option_map, IsSome, IsTrue};
+ghost use Rattle.std.specs.List.{flat_map};
+ghost use Rattle.std.specs.Fmt.{decimal};
+ghost use Rattle.http_wire.specs.Heads.{line_end};
+ghost use Rattle.wot_json.specs.Writing.{Puts, PutsIfRoom};
+ghost use Rattle.http_wire.specs.Writing.{http_reply, head_text, phrase_of, phrase_text, field_line, closing, written_length};
+ghost use Rattle.http_wire.specs.Replies.{plain_reply, line_of};
+
+use itoa::Buffer;
+use servient_base::put_bytes;
+
+/// What a reply says before its payload.
+#[derive(Clone, Copy, Debug, Drop)]
+pub struct Reply<'a> {
+    /// The status, one of those that have a reason.
+    pub status: u16,
+    /// The media type of the payload.
+    pub content_type: Option<&'a str>,
+    /// The place of what was made.
+    pub location: Option<&'a [u8]>,
+    /// The verbs that are taken.
+    pub allow: Option<&'a str>,
+    /// How many bytes the payload has. It isn't written in 100 and 204.
+    pub length: Option<usize>,
+    /// The connection is closed after the reply.
+    pub close: bool,
+}
+
+/// A field, and its value if it is to be written.
+#[derive(Clone, Copy, Drop)]
+pub struct Field<'a> {
+    /// The name, with a colon and a space.
+    pub name: &'a [u8],
+    /// The value.
+    pub value: Option<&'a [u8]>,
+}
+
+/// Writes the head of a reply to the beginning of `out`, and returns its length; there is no answer where it is longer
+/// than `out`, and part of it may then have been written. It takes no memory.
+pub fn put_reply(reply: &Reply<'_>, out: &mut [u8]) -> Option<usize>
+    requires { IsSome (phrase_of reply.now.status) }
+    ensures { PutsIfRoom (http_reply (plain_reply reply.now)) 0 out.old out.new result }
+{
+    let mut digits = Buffer::new();
+    let fields = [
+        Field {
+            name: b"Content-Type: ",
+            value: bytes_of(reply.content_type),
+        },
+        Field {
+            name: b"Location: ",
+            value: reply.location,
+        },
+        Field {
+            name: b"Allow: ",
+            value: bytes_of(reply.allow),
+        },
+        Field {
+            name: b"Content-Length: ",
+            value: decimal_of(length_of(reply), &mut digits),
+        },
+        Field {
+            name: b"Connection: ",
+            value: closing_value(reply.close),
+        },
+    ];
+    let phrase = phrase(reply.status).unwrap();
+    put_head(phrase, &fields, out)
+}
+
+/// Whether a status has a reason, so that its reply can be written.
+pub fn has_reason(status: u16) -> bool
+    ensures { IsTrue result ↔ IsSome (phrase_of status) }
+{
+    phrase(status).is_some()
+}
+
+/// Writes the status line with this phrase, the lines of some fields and an empty line.
+fn put_head(phrase: &[u8], fields: &[Field<'_>], out: &mut [u8]) -> Option<usize>
+    ensures { PutsIfRoom (head_text phrase.now (flat_map line_of fields.now)) 0 out.old out.new result }
+{
+    let at = put_line(b"HTTP/1.1 ", phrase, out, 0)?;
+    let at = put_fields(fields, out, at)?;
+    put_piece(out, at, b"\r\n")
+}
+
+/// Writes the lines of fields.
+fn put_fields(fields: &[Field<'_>], out: &mut [u8], at: usize) -> Option<usize>
+    requires { at ≤ length out.old }
+    ensures { PutsIfRoom (flat_map line_of fields.now) at out.old out.new result }
+{
+    let mut end = at;
+    for field in fields {
+        match put_field(field, out, end) {
+            Some(next) => end = next,
+            None => return None,
+        }
+    }
+    Some(end)
+}
+
+/// Writes the line of a field, if it has a value.
+fn put_field(field: &Field<'_>, out: &mut [u8], at: usize) -> Option<usize>
+    requires { at ≤ length out.old }
+    ensures { PutsIfRoom (line_of field.now) at out.old out.new result }
+{
+    match field.value {
+        None => Some(at),
+        Some(value) => put_line(field.name, value, out, at),
+    }
+}
+
+/// Writes the line of a field with this value.
+fn put_line(name: &[u8], value: &[u8], out: &mut [u8], at: usize) -> Option<usize>
+    requires { at ≤ length out.old }
+    ensures { PutsIfRoom (name.now ++ (value.now ++ line_end)) at out.old out.new result }
+{
+    let at = put_piece(out, at, name)?;
+    let at = put_piece(out, at, value)?;
+    put_piece(out, at, b"\r\n")
+}
+
+/// Writes bytes at a place where there is room for them, and returns the place after them.
+fn put_piece(out: &mut [u8], at: usize, bytes: &[u8]) -> Option<usize>
+    requires { at ≤ length out.old }
+    ensures { PutsIfRoom bytes.now at out.old out.new result }
+{
+    if out.len() - at < bytes.len() {
+        return None;
+    }
+    Some(put_bytes(out, at, bytes))
+}
+
+/// The bytes of a text, if there is one.
+fn bytes_of(text: Option<&str>) -> Option<&[u8]>
+    ensures { option_map (λ t. t.now) result ≡ option_map (λ t. t.now) text.entry }
+{
+    match text {
+        Some(text) => Some(text.as_bytes()),
+        None => None,
+    }
+}
+
+/// A number in decimal, if there is one.
+fn decimal_of<'a>(number: Option<usize>, digits: &'a mut Buffer) -> Option<&'a [u8]>
+    ensures { option_map (λ t. t.now) result ≡ option_map decimal number }
+{
+    match number {
+        Some(number) => Some(digits.format(number).as_bytes()),
+        None => None,
+    }
+}
+
+/// The length that is written.
+fn length_of(reply: &Reply<'_>) -> Option<usize>
+    ensures { result ≡ written_length (plain_reply reply.now) }
+{
+    if reply.status == 100 || reply.status == 204 {
+        None
+    } else {
+        reply.length
+    }
+}
+
+/// The value of `Connection`.
+fn closing_value(close: bool) -> Option<&'static [u8]>
+    ensures { option_map (λ t. t.now) result ≡ closing close }
+{
+    if close { Some(b"close") } else { None }
+}
+
+/// The status and its reason, if it has one.
+fn phrase(status: u16) -> Option<&'static [u8]>
+    ensures { option_map (λ t. t.now) result ≡ phrase_of status }
+{
+    match status {
+        100 => Some(b"100 Continue"),
+        200 => Some(b"200 OK"),
+        201 => Some(b"201 Created"),
+        204 => Some(b"204 No Content"),
+        400 => Some(b"400 Bad Request"),
+        403 => Some(b"403 Forbidden"),
+        404 => Some(b"404 Not Found"),
+        405 => Some(b"405 Method Not Allowed"),
+        406 => Some(b"406 Not Acceptable"),
+        413 => Some(b"413 Content Too Large"),
+        415 => Some(b"415 Unsupported Media Type"),
+        431 => Some(b"431 Request Header Fields Too Large"),
+        500 => Some(b"500 Internal Server Error"),
+        501 => Some(b"501 Not Implemented"),
+        503 => Some(b"503 Service Unavailable"),
+        507 => Some(b"507 Insufficient Storage"),
+        _ => None,
+    }
+}

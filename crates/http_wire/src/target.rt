@@ -1,0 +1,112 @@
+//! The path and the query of a request target.
+
+ghost use Rattle.std.specs.Prelude.{◌≡◌, ◌<◌, ◌++◌, ◌∷◌, ◌⊎◌, [], length, Some, None, IsSome, IfSome, IfOk, IfErr, OnOk, option_map};
+ghost use Rattle.percent_encoding.specs.Percent.{percent_decode as decoded_part};
+ghost use Rattle.http_wire.specs.Targets.{path_behind_authority, path_in, path_of, segments_behind, segments_of, query_place};
+ghost use Rattle.http_wire.specs.declared.target.TargetFault.TheVariants.{BadTarget, NoMemory as no_memory};
+
+use crate::lines::{cut, cut_at_each, place_of};
+use percent_encoding::percent_decode;
+use std::alloc::{AllocError, Global};
+use thing_ops::{NoMemory, Segments};
+use thiserror::Error;
+
+/// Why the path of a target isn't read.
+#[derive(Clone, Copy, Debug, PartialEq, Eq, Drop, Error)]
+pub enum TargetFault {
+    /// The target has neither the origin form nor `http://` with an authority and a path.
+    #[error("the request target has no path that is taken")]
+    BadTarget,
+    /// Out of memory.
+    #[error("out of memory")]
+    NoMemory,
+}
+
+impl From<AllocError> for TargetFault {
+    ghost use Rattle.std.specs.Prelude.{◌≡◌};
+    ghost use Rattle.http_wire.specs.declared.target.TargetFault.TheVariants.{NoMemory};
+
+    ghost from_gives = { λ _ fault. fault ≡ NoMemory };
+
+    fn from(_error: AllocError) -> TargetFault {
+        TargetFault::NoMemory
+    }
+}
+
+/// The segments of the path of a target, percent-encoding taken away, and the place where its query begins, which is
+/// the end where it has none (RFC 9112, section 3.2).
+pub fn segments(alloc: Global, target: &[u8]) -> Result<(Segments, usize), TargetFault>
+    ensures ok { IfOk result (λ r. (segments_of target.now ≡ Some r.0) × (r.1 ≡ query_place target.now)) }
+    ensures fault { IfErr result (λ e. ((e ≡ BadTarget) × (segments_of target.now ≡ None))
+        ⊎ ((e ≡ no_memory) × IsSome (segments_of target.now))) }
+{
+    match path(target) {
+        Some(path) => {
+            let segments = decoded(alloc, &path[1..])?;
+            Ok((segments, place_of_query(target)))
+        }
+        None => Err(TargetFault::BadTarget),
+    }
+}
+
+/// The place where the query begins.
+fn place_of_query(target: &[u8]) -> usize
+    ensures { result ≡ query_place target.now }
+{
+    let mark = place_of(b'?', target);
+    if mark < target.len() {
+        mark + 1
+    } else {
+        target.len()
+    }
+}
+
+/// The path of a target.
+fn path(target: &[u8]) -> Option<&[u8]>
+    ensures ok { option_map (λ p. p.now) result ≡ path_of target.now }
+    ensures begins { IfSome result (λ p. 0 < length p.now) }
+{
+    let (before, _) = cut(b'?', target);
+    if before.starts_with(b"/") {
+        Some(before)
+    } else if before.starts_with(b"http://") {
+        behind_authority(&before[7..])
+    } else {
+        None
+    }
+}
+
+/// The path behind an authority.
+fn behind_authority(bytes: &[u8]) -> Option<&[u8]>
+    ensures ok { option_map (λ p. p.now) result ≡ path_behind_authority bytes.now }
+    ensures begins { IfSome result (λ p. 0 < length p.now) }
+{
+    let slash = place_of(b'/', bytes);
+    if slash > 0 && slash < bytes.len() {
+        Some(&bytes[slash..])
+    } else {
+        None
+    }
+}
+
+/// The segments behind the first `/` of a path.
+fn decoded(alloc: Global, path: &[u8]) -> Result<Segments, NoMemory>
+    ensures { IfOk result (λ s. s ≡ segments_behind path.now) }
+{
+    if path.is_empty() {
+        return Ok(Segments::new(alloc));
+    }
+    let mut segments = Segments::with_capacity(alloc, path.len())?;
+    for part in cut_at_each(b'/', path) {
+        push_decoded(alloc, &mut segments, part)?;
+    }
+    Ok(segments)
+}
+
+/// Puts a part of a path at the end, percent-encoding taken away.
+fn push_decoded(alloc: Global, segments: &mut Segments, part: &[u8]) -> Result<(), NoMemory>
+    ensures { OnOk result (segments.new ≡ segments.old ++ decoded_part part.now ∷ []) }
+{
+    let decoded = percent_decode(part).into_cow(alloc)?;
+    segments.push(&decoded)
+}

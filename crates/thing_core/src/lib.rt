@@ -1,0 +1,15 @@
+//! Things as they are exposed: which handler serves which affordance.
+#![tactic(auto)]
+
+mod exposed;
+mod fault;
+mod placing;
+mod site;
+mod slots;
+mod state;
+mod wanted;
+
+pub use exposed::{Accounts, Exposed};
+pub use fault::ExposeFault;
+pub use servient_base::NoMemory;
+pub use slots::Slots;

@@ -1,3 +1,4 @@
 pub mod Fitting
 pub mod Judging
+pub mod PlaceLaws
 pub mod PlacedLists

@@ -21,10 +21,6 @@ pub record Kept : Type 0 where
   pub state : State
   pub pending : List ℕ
 
--- how many turns a run may have
-abbrev pub most_turns : ℕ
-most_turns = 4294967295
-
 -- the state that the code keeps
 abbrev pub state_in : Machine → State
 state_in m = record { invocations = m.invocations.items; next_invocation = m.next_invocation; last = m.last.items; turns = m.turns }

@@ -5,9 +5,11 @@ ghost use Rattle.std.specs.List.{AllByRecursion};
 ghost use Rattle.wot_terms.specs.Faults.{IsValid};
 ghost use Rattle.thing_core.specs.Site.{site_of, expose_faults};
 ghost use Rattle.thing_core.specs.State.{start, last_of};
+ghost use Rattle.thing_core.specs.Places.{target_of as target_of_path};
 ghost use Rattle.thing_core.specs.Exposing.{kinds_of, IsFirst};
 ghost use Rattle.thing_core.specs.Kept.{Fits};
 
+use crate::place::{place_of, target_at};
 use crate::placing::place_all;
 use crate::site::{HeldThing, silent_all};
 use crate::state::{Latest, Machine};
@@ -16,6 +18,7 @@ use std::alloc::Global;
 use std::collections::VecDeque;
 use std::marker::Model;
 use thing_handler::Handlers;
+use thing_ops::Segments;
 use wot_terms::Things;
 
 /// Things, their affordances and the handlers of these, with the state of the Thing machine.
@@ -28,7 +31,8 @@ pub struct Exposed {
 
 impl Model for Exposed {
     ghost use Rattle.std.specs.Prelude.{◌≤◌, length};
-    ghost use Rattle.thing_core.specs.Kept.{Kept, kept_code, most_turns};
+    ghost use Rattle.thing_core.specs.Kept.{Kept, kept_code};
+    ghost use Rattle.thing_core.specs.Thing.{most_turns};
     ghost use Rattle.thing_core.specs.State.{most_invocations};
     ghost use Rattle.thing_core.specs.Kept.{state_in};
     ghost use Rattle.thing_core.specs.Exposing.{held_site};
@@ -82,6 +86,18 @@ impl Exposed {
             },
             pending,
         })
+    }
+
+    /// The target of the own path of an observable property or an event: the slot of its affordance.
+    pub fn target_of(&self, path: &Segments) -> Option<u32>
+        ensures { result ≡ target_of_path path.now self.now.site self.now.state }
+    {
+        let place = place_of(
+            self.things.as_slice(),
+            self.machine.invocations.as_slice(),
+            path,
+        );
+        target_at(place)
     }
 
     /// The target of the next emission that wasn't handed out yet, in order: the slot of its affordance.

@@ -3,6 +3,7 @@
 
 mod exposed;
 mod fault;
+mod place;
 mod placing;
 mod site;
 mod slots;

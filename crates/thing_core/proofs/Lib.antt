@@ -1,4 +1,6 @@
+pub mod ActingLaws
 pub mod Fitting
 pub mod Judging
 pub mod PlaceLaws
 pub mod PlacedLists
+pub mod RefusalLaws

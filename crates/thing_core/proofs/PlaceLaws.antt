@@ -1,11 +1,25 @@
 -- A place by its parts.
-use Rattle.std.proofs.Common.{◌≡◌, ℕ, List, refl}
+use Rattle.std.proofs.Common.{◌≡◌, ℕ, ◌<◌, List, [], ◌∷◌, length, Bool, true, false, cond, refl, sym, ap, subst, ◌∙◌}
+use Rattle.std.specs.Prelude.{Option, Some, None, option_map, option_and_then, slice_get, ◌&&◌}
+use Rattle.std.specs.List.{AllByRecursion}
+use Rattle.std.specs.Str.{bytes_eq}
+use Rattle.std.proofs.lemmas.Option.{same_Some, slice_get_within}
+use Rattle.wot_terms.specs.declared.kind.Kind.{Kind}
+use Rattle.thing_ops.specs.Requests.{PlainRequest}
+use Rattle.thing_ops.specs.Routes.{route_of}
+use Rattle.thing_ops.specs.declared.verb.Verb.{Verb}
+use Rattle.thing_ops.specs.declared.verb.Verb.TheVariants as verb
+use Rattle.thing_handler.specs.Handler.{Seen}
 use Rattle.thing_ops.specs.declared.routing.RouteKind.{RouteKind}
 use Rattle.thing_ops.specs.declared.routing.RouteKind.TheVariants as route
-use Rattle.thing_core.specs.Site.{Site}
-use Rattle.thing_core.specs.State.{State}
-use Rattle.thing_core.specs.Places.{place_at}
-use Rattle.thing_core.specs.Found.{place_by, spot_by, thing_by, with_invocations_alone}
+use Rattle.thing_core.specs.declared.state.Invocation.{Invocation}
+use Rattle.thing_core.specs.Site.{Placed, ExposedThing, Site, is_kind, affordance_named, thing_named}
+use Rattle.thing_core.specs.State.{State, invocation_named}
+use Rattle.thing_core.specs.Places.{Place, description, all_properties, property, observed, action, invocation, event, subscribed, thing_in, affordance_in, place_at, place_of, Act, describes, reads_all, writes_many, reads, writes, invokes, queries, cancels, reads_event, waits, act_at}
+use Rattle.thing_core.specs.Refusals.{Asked, act_asked, place_asked}
+use Rattle.thing_core.specs.Kept.{FitsSlot, ThingFits, Fits}
+use Rattle.thing_core.specs.Performing.{SlotStands}
+use Rattle.thing_core.specs.Found.{kind_by, place_by, spot_by, thing_by, with_invocations_alone}
 
 -- what is at a path is what its Thing or its affordance makes of its form
 pub place_by_parts : (form : RouteKind) (path : List (List ℕ)) (site : Site) (s : State) → place_by form (thing_by form path site) (spot_by form path site) s ≡ place_at form path site s
@@ -36,3 +50,12 @@ place_by_invocations route.Event path site s = refl
 place_by_invocations route.Things path site s = refl
 place_by_invocations route.Entry path site s = refl
 place_by_invocations route.Nowhere path site s = refl
+
+-- the act that the code found is the one that is asked for
+pub is_asked : (site : Site) (s : State) (q : PlainRequest) (invocations : List Invocation) (place : Place) (act : Act) → s.invocations ≡ invocations
+    → Some place ≡ place_of q.path site (with_invocations_alone invocations) → Some act ≡ act_at place q.verb
+    → act_asked (record { site = site; state = s; request = q }) ≡ Some act
+is_asked site s q invocations place act same found asked =
+    let there : place_of q.path site s ≡ Some place =
+    sym (place_by_invocations (route_of q.path) q.path site s) ∙ ap (λ (i : List Invocation). place_of q.path site (with_invocations_alone i)) same ∙ sym found in
+    ap (option_and_then (λ p. act_at p q.verb)) there ∙ sym asked

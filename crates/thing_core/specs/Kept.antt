@@ -22,8 +22,8 @@ pub record Kept : Type 0 where
   pub pending : List ℕ
 
 -- the state that the code keeps
-abbrev pub state_in : Machine → State
-state_in m = record { invocations = m.invocations.items; next_invocation = m.next_invocation; last = m.last.items; turns = m.turns }
+abbrev pub state_in : List Invocation → Machine → State
+state_in invocations m = record { invocations = invocations; next_invocation = m.next_invocation; last = m.last.items; turns = m.turns }
 
 -- a site fits a rack: each affordance's slot is one of the rack's, and the handler in it is of the affordance's kind
 abbrev pub FitsSlot : List Seen → Placed → Type 0

@@ -6,3 +6,4 @@ pub mod Thing
 pub mod Exposing
 pub mod Kept
 pub mod Found
+pub mod Performing

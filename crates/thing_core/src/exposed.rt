@@ -12,7 +12,7 @@ ghost use Rattle.thing_core.specs.Kept.{Fits};
 use crate::place::{place_of, target_at};
 use crate::placing::place_all;
 use crate::site::{HeldThing, silent_all};
-use crate::state::{Latest, Machine};
+use crate::state::{Invocation, Latest, Machine};
 use crate::{ExposeFault, Slots};
 use std::alloc::Global;
 use std::collections::VecDeque;
@@ -24,7 +24,10 @@ use wot_terms::Things;
 /// Things, their affordances and the handlers of these, with the state of the Thing machine.
 #[derive(Drop)]
 pub struct Exposed {
+    alloc: Global,
     things: Vec<HeldThing>,
+    /// The oldest first.
+    invocations: Vec<Invocation>,
     machine: Machine,
     pending: VecDeque<u32>,
 }
@@ -43,11 +46,11 @@ impl Model for Exposed {
 
     ghost view = { λ e. record {
       site = held_site e.things.items;
-      state = state_in e.machine;
+      state = state_in e.invocations.items e.machine;
       pending = e.pending.items;
     } };
 
-    ghost invariant = { λ e. (e.machine.turns ≤ most_turns) × (length e.machine.invocations.items ≤ most_invocations) };
+    ghost invariant = { λ e. (e.machine.turns ≤ most_turns) × (length e.invocations.items ≤ most_invocations) };
 }
 
 /// How much the machine has done and keeps.
@@ -77,9 +80,10 @@ impl Exposed {
         let last = silent_all(alloc, held.as_slice())?;
         let pending = VecDeque::with_capacity(alloc, last.len())?;
         Ok(Exposed {
+            alloc,
             things: held,
+            invocations: Vec::new(alloc),
             machine: Machine {
-                invocations: Vec::new(alloc),
                 next_invocation: 1,
                 last,
                 turns: 0,
@@ -92,11 +96,7 @@ impl Exposed {
     pub fn target_of(&self, path: &Segments) -> Option<u32>
         ensures { result ≡ target_of_path path.now self.now.site self.now.state }
     {
-        let place = place_of(
-            self.things.as_slice(),
-            self.machine.invocations.as_slice(),
-            path,
-        );
+        let place = place_of(self.things.as_slice(), self.invocations.as_slice(), path);
         target_at(place)
     }
 
@@ -123,13 +123,13 @@ impl Exposed {
     {
         Accounts {
             calls: self.machine.turns,
-            invocations: self.machine.invocations.len() as u32,
+            invocations: self.invocations.len() as u32,
         }
     }
 }
 
 /// The text of the last emission of this target, among these.
-fn last_in(last: &[Latest], target: u32) -> Option<&[u8]>
+pub(crate) fn last_in(last: &[Latest], target: u32) -> Option<&[u8]>
     ensures { option_map (λ t. t.now) result ≡ last_of target last.now }
 {
     for latest in last {

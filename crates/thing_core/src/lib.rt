@@ -1,6 +1,8 @@
 //! Things as they are exposed: which handler serves which affordance.
 #![tactic(auto)]
 
+mod acting;
+mod admitting;
 mod exposed;
 mod fault;
 mod place;

@@ -28,12 +28,10 @@ pub struct Latest {
     pub text: Option<Bytes>,
 }
 
-/// What the machine keeps.
+/// What the machine keeps beside the invocations.
 #[derive(Drop)]
 pub struct Machine {
-    /// The oldest first.
-    pub invocations: Vec<Invocation>,
-    /// The id of the next one, counted over all actions.
+    /// The id of the next invocation, counted over all actions.
     pub next_invocation: u32,
     /// One for each affordance that may emit.
     pub last: Vec<Latest>,

@@ -8,7 +8,11 @@ ghost use Rattle.thing_core.specs.State.{start, last_of};
 ghost use Rattle.thing_core.specs.Places.{target_of as target_of_path};
 ghost use Rattle.thing_core.specs.Exposing.{kinds_of, IsFirst};
 ghost use Rattle.thing_core.specs.Kept.{Fits};
+ghost use Rattle.thing_core.specs.Performing.{AsksForBuilt, MakesAct};
+ghost use Rattle.thing_ops.specs.Requests.{plain_request};
 
+use crate::acting::act;
+use crate::admitting::admitted;
 use crate::place::{place_of, target_at};
 use crate::placing::place_all;
 use crate::site::{HeldThing, silent_all};
@@ -18,7 +22,7 @@ use std::alloc::Global;
 use std::collections::VecDeque;
 use std::marker::Model;
 use thing_handler::Handlers;
-use thing_ops::Segments;
+use thing_ops::{Outcome, Request, Segments};
 use wot_terms::Things;
 
 /// Things, their affordances and the handlers of these, with the state of the Thing machine.
@@ -90,6 +94,22 @@ impl Exposed {
             },
             pending,
         })
+    }
+
+    /// Does what a request asks. So far it is said of requests whose act hands nothing in, but for reading all properties
+    /// and what asks an invocation; for others nothing is done, and the outcome is NotFound or a refusal.
+    pub fn perform<R: Handlers>(&mut self, rack: &mut R, request: &Request<'_>) -> Outcome
+        requires fits { Fits self.old.site (R.slots rack.old) }
+        requires pending { self.old.pending ≡ [] }
+        ensures act { AsksForBuilt (record { site = self.old.site; state = self.old.state; request = plain_request request.now })
+            → MakesAct self.old self.new (plain_request request.now) result (R.slots rack.old) (R.slots rack.new) }
+        ensures site { self.new.site ≡ self.old.site }
+    {
+        let td = request.accept.td;
+        match admitted(self.things.as_slice(), self.invocations.as_slice(), request) {
+            Ok(asked) => act(self.alloc, asked, td, &mut self.machine, rack),
+            Err(outcome) => outcome,
+        }
     }
 
     /// The target of the own path of an observable property or an event: the slot of its affordance.

@@ -1,13 +1,11 @@
 -- Calls of handlers, and acts that hand nothing in, as moves of the Thing machine.
-use Rattle.std.proofs.Common.{◌≡◌, ℕ, ◌+◌, ◌<◌, List, [], ◌∷◌, ◌++◌, refl, sym, ap, subst, ◌∙◌, inl, inr, Bool}
-use Rattle.std.specs.Prelude.{Option, Some, None, Result, Ok, Err}
+use Rattle.std.proofs.Common.{◌≡◌, ℕ, ◌+◌, ◌<◌, List, [], ◌∷◌, refl, sym, ap, inl, inr, Bool}
+use Rattle.std.specs.Prelude.{Option, Result, Ok, Err}
 use Rattle.std.specs.declared.alloc.AllocError.{AllocError}
 use Rattle.std.proofs.lemmas.List.{append-nil}
 use Rattle.servient_base.specs.Moves.{Makes}
 use Rattle.wot_json.specs.Tree.{Json}
-use Rattle.wot_json.specs.Json.{json_text}
 use Rattle.wot_json.specs.Meaning.{json_of}
-use Rattle.wot_json.specs.declared.tree.Tree.{Tree}
 use Rattle.thing_ops.specs.declared.outcome.Outcome.{Outcome}
 use Rattle.thing_ops.specs.declared.outcome.Outcome.TheVariants as outcome
 use Rattle.thing_handler.specs.declared.handler.CallKind.{CallKind}
@@ -15,13 +13,13 @@ use Rattle.thing_handler.specs.declared.handler.CallKind.TheVariants as call
 use Rattle.thing_handler.specs.declared.handler.Answer.{Answer}
 use Rattle.thing_handler.specs.declared.handler.Answer.TheVariants as answer
 use Rattle.thing_handler.specs.Handler.{Seen, CallsHandler}
-use Rattle.thing_handler.specs.Turns.{HandlerCall, answered, missed, RackShows}
+use Rattle.thing_handler.specs.Turns.{answered, missed, RackShows}
 use Rattle.thing_handler.proofs.RackLaws.{rack_shows_in_order, rack_shows_answer, rack_shows_miss}
 use Rattle.thing_core.specs.declared.state.Machine.{Machine}
-use Rattle.thing_core.specs.Site.{Placed, ExposedThing}
+use Rattle.thing_core.specs.Site.{Placed}
 use Rattle.thing_core.specs.State.{State}
-use Rattle.thing_core.specs.Places.{Act, describes, reads, reads_event, waits}
-use Rattle.thing_core.specs.Thing.{Move, Done, Called, no_number, no_memory, gives, only, most_turns, Calls, Decides, IsTaken, GivesValue, content_of, Answers}
+use Rattle.thing_core.specs.Places.{Act}
+use Rattle.thing_core.specs.Thing.{Done, Called, no_number, no_memory, gives, only, most_turns, Calls, GivesValue, content_of, Answers}
 use Rattle.thing_core.specs.Kept.{state_in}
 use Rattle.thing_core.specs.Performing.{DoesEmpty, IsOrMemory, MakesOn, PerformsEmpty, ReadsOrNot, ValueComesTo}
 

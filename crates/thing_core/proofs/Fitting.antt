@@ -1,5 +1,5 @@
 -- Things whose affordances have no fault fit the rack.
-use Rattle.std.proofs.Common.{◌≡◌, ℕ, List, [], ◌∷◌, ◌++◌, map, Bool, true, false, cond, refl, sym, ap, subst, ◌∙◌, append_assoc}
+use Rattle.std.proofs.Common.{◌≡◌, ℕ, List, [], ◌∷◌, ◌++◌, map, Bool, true, false, cond, refl, ap, subst, ◌∙◌}
 use Rattle.std.specs.Prelude.{slice_get, Option, Some, None, option_map, unwrap_or, is_none, if◌then◌else◌}
 use Rattle.std.specs.List.{AllByRecursion}
 use Rattle.std.proofs.lemmas.Option.{slice_get-map}
@@ -16,9 +16,9 @@ use Rattle.thing_handler.specs.Handler.{Seen}
 use Rattle.thing_core.specs.declared.fault.ExposeFault.{ExposeFault}
 use Rattle.thing_core.specs.declared.fault.ExposeFault.TheVariants.{NoSlot, KindDiffers, SlotTwice}
 use Rattle.thing_core.specs.declared.wanted.Wanted.{Wanted}
-use Rattle.thing_core.specs.Site.{Slots, slot_named, pointer_of, placed, exposed, site_of, wanted_by, wanted_of_thing, wanted_of, is_kind, has_kind, is_among, fault_of, faults_from, slots_in, expose_faults}
+use Rattle.thing_core.specs.Site.{Slots, slot_named, pointer_of, placed, site_of, wanted_by, wanted_of, is_kind, has_kind, is_among, fault_of, faults_from, slots_in, expose_faults}
 use Rattle.thing_core.specs.Exposing.{kinds_of}
-use Rattle.thing_core.specs.Kept.{FitsSlot, ThingFits, Fits}
+use Rattle.thing_core.specs.Kept.{FitsSlot, Fits}
 
 -- descriptions of Things are valid as the code keeps them
 pub valid_things : (things : List Thing) → AllByRecursion (λ t. IsValid t.1) (kept_things things) → AllByRecursion (λ t. IsValid (json_of t.tree)) things

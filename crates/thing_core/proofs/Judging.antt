@@ -1,7 +1,7 @@
 -- Judging affordances one after another.
-use Rattle.std.proofs.Common.{◌≡◌, ℕ, ◌+◌, ◌<◌, List, [], ◌∷◌, ◌++◌, map, drop, length, get_or, Bool, true, false, cond, refl, sym, ap, subst, ◌∙◌, append_assoc}
-use Rattle.std.specs.Prelude.{slice_get, Option, Some, None, Result, Ok, Err}
-use Rattle.std.proofs.lemmas.List.{append-nil, at_drop_more}
+use Rattle.std.proofs.Common.{◌≡◌, ℕ, ◌+◌, ◌<◌, List, [], ◌∷◌, ◌++◌, map, drop, length, get_or, refl, sym, ap, subst, ◌∙◌}
+use Rattle.std.specs.Prelude.{slice_get, Some, Ok, Err}
+use Rattle.std.proofs.lemmas.List.{at_drop_more}
 use Rattle.wot_json.specs.Tree.{Json}
 use Rattle.wot_json.specs.Meaning.{json_of}
 use Rattle.wot_terms.specs.Affordances.{affordances_of}
@@ -13,7 +13,7 @@ use Rattle.thing_core.specs.declared.fault.ExposeFault.{ExposeFault}
 use Rattle.thing_core.specs.declared.fault.ExposeFault.TheVariants.{NoSlot, KindDiffers, SlotTwice, NoMemory}
 use Rattle.thing_core.specs.declared.wanted.Wanted.{Wanted}
 use Rattle.thing_core.specs.declared.site.HeldThing.{HeldThing}
-use Rattle.thing_core.specs.Site.{Slots, Placed, placed, wanted_by, wanted_of_thing, wanted_of, expose_faults, fault_of, faults_from, slots_in}
+use Rattle.thing_core.specs.Site.{Slots, placed, wanted_by, wanted_of_thing, wanted_of, expose_faults, faults_from, slots_in}
 use Rattle.thing_core.specs.Exposing.{placed_all, IsFirst, IsJudged, IsPlaced, HaveNoFault, HaveFault, slot_or_0}
 
 -- the head of a list of faults is their first

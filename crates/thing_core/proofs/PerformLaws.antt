@@ -1,5 +1,5 @@
 -- A request that was admitted or refused, and what was done, are a move of the Thing machine.
-use Rattle.std.proofs.Common.{◌≡◌, ℕ, List, [], ◌∷◌, refl, sym, ap, subst, ◌∙◌, inl, inr}
+use Rattle.std.proofs.Common.{◌≡◌, ℕ, List, [], refl, inl, inr}
 use Rattle.std.specs.Prelude.{Some}
 use Rattle.servient_base.specs.Moves.{Makes}
 use Rattle.thing_ops.specs.declared.outcome.Outcome.{Outcome}
@@ -9,12 +9,12 @@ use Rattle.thing_handler.specs.Turns.{HandlerCall, RackShows}
 use Rattle.thing_handler.proofs.RackLaws.{rack_shows_in_order}
 use Rattle.thing_core.specs.declared.state.Invocation.{Invocation}
 use Rattle.thing_core.specs.declared.state.Machine.{Machine}
-use Rattle.thing_core.specs.Site.{Placed, Site}
+use Rattle.thing_core.specs.Site.{Site}
 use Rattle.thing_core.specs.State.{State}
 use Rattle.thing_core.specs.Places.{Act, describes, reads_all, writes_many, reads, writes, invokes, queries, cancels, reads_event, waits}
-use Rattle.thing_core.specs.Refusals.{Asked, act_asked, refusals, IsRefusedBy}
+use Rattle.thing_core.specs.Refusals.{act_asked, refusals, IsRefusedBy}
 use Rattle.thing_core.specs.Thing.{Done, only, Performs, Acts, refuses, has_no_memory, performs}
-use Rattle.thing_core.specs.Kept.{Kept, state_in}
+use Rattle.thing_core.specs.Kept.{state_in}
 use Rattle.thing_core.specs.Performing.{DoesEmpty, IsBuilt, MakesAct, MakesOn, PerformsEmpty, TakesEmpty}
 use Rattle.thing_core.proofs.RefusalLaws.{no_input, takes_empty}
 

@@ -1,25 +1,16 @@
 -- A place by its parts.
-use Rattle.std.proofs.Common.{◌≡◌, ℕ, ◌<◌, List, [], ◌∷◌, length, Bool, true, false, cond, refl, sym, ap, subst, ◌∙◌}
-use Rattle.std.specs.Prelude.{Option, Some, None, option_map, option_and_then, slice_get, ◌&&◌}
-use Rattle.std.specs.List.{AllByRecursion}
-use Rattle.std.specs.Str.{bytes_eq}
-use Rattle.std.proofs.lemmas.Option.{same_Some, slice_get_within}
-use Rattle.wot_terms.specs.declared.kind.Kind.{Kind}
+use Rattle.std.proofs.Common.{◌≡◌, ℕ, List, refl, sym, ap, ◌∙◌}
+use Rattle.std.specs.Prelude.{Some, option_and_then}
 use Rattle.thing_ops.specs.Requests.{PlainRequest}
 use Rattle.thing_ops.specs.Routes.{route_of}
-use Rattle.thing_ops.specs.declared.verb.Verb.{Verb}
-use Rattle.thing_ops.specs.declared.verb.Verb.TheVariants as verb
-use Rattle.thing_handler.specs.Handler.{Seen}
 use Rattle.thing_ops.specs.declared.routing.RouteKind.{RouteKind}
 use Rattle.thing_ops.specs.declared.routing.RouteKind.TheVariants as route
 use Rattle.thing_core.specs.declared.state.Invocation.{Invocation}
-use Rattle.thing_core.specs.Site.{Placed, ExposedThing, Site, is_kind, affordance_named, thing_named}
-use Rattle.thing_core.specs.State.{State, invocation_named}
-use Rattle.thing_core.specs.Places.{Place, description, all_properties, property, observed, action, invocation, event, subscribed, thing_in, affordance_in, place_at, place_of, Act, describes, reads_all, writes_many, reads, writes, invokes, queries, cancels, reads_event, waits, act_at}
-use Rattle.thing_core.specs.Refusals.{Asked, act_asked, place_asked}
-use Rattle.thing_core.specs.Kept.{FitsSlot, ThingFits, Fits}
-use Rattle.thing_core.specs.Performing.{SlotStands}
-use Rattle.thing_core.specs.Found.{kind_by, place_by, spot_by, thing_by, with_invocations_alone}
+use Rattle.thing_core.specs.Site.{Site}
+use Rattle.thing_core.specs.State.{State}
+use Rattle.thing_core.specs.Places.{Place, place_at, place_of, Act, act_at}
+use Rattle.thing_core.specs.Refusals.{act_asked}
+use Rattle.thing_core.specs.Found.{place_by, spot_by, thing_by, with_invocations_alone}
 
 -- what is at a path is what its Thing or its affordance makes of its form
 pub place_by_parts : (form : RouteKind) (path : List (List ℕ)) (site : Site) (s : State) → place_by form (thing_by form path site) (spot_by form path site) s ≡ place_at form path site s

@@ -1,11 +1,11 @@
 -- The refusals of requests whose acts hand nothing in.
-use Rattle.std.proofs.Common.{◌≡◌, ◌≢◌, ℕ, List, [], ◌∷◌, refl, sym, ap, subst, ◌∙◌, inl, inr, Bool, true, false}
+use Rattle.std.proofs.Common.{◌≡◌, ◌≢◌, ℕ, List, [], ◌∷◌, refl, sym, ap, subst, inl, inr, true, false}
 use Rattle.std.specs.Prelude.{Option, Some, None, option_and_then}
 use Rattle.thing_ops.specs.declared.outcome.Outcome.{Outcome}
 use Rattle.thing_core.specs.State.{State}
 use Rattle.thing_core.specs.Places.{Act, describes, reads_all, writes_many, reads, writes, invokes, queries, cancels, reads_event, waits, act_at}
 use Rattle.thing_core.specs.Refusals.{Asked, Input, act_asked, place_asked, refusals, inputs_of, is_acceptable, is_taken_format, Holding, HasNoInvocationLeft, IsEmptyBody, IsLong, IsRefusedBy, IsRefusedBySchema, NoneStands, SomeInput}
-use Rattle.thing_core.specs.Performing.{AsksForBuilt, IsBuilt, RefusesEmpty, isnt_acceptable, has_other_format, has_body, TakesEmpty}
+use Rattle.thing_core.specs.Performing.{IsBuilt, RefusesEmpty, isnt_acceptable, has_other_format, has_body, TakesEmpty}
 
 -- what holds of the act that is asked for
 holds_there : (P : Act → Type 0) (o : Option Act) (act : Act) → o ≡ Some act → P act → Holding P o

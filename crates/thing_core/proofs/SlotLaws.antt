@@ -1,5 +1,5 @@
 -- The slot of an affordance that a request asks for stands in a rack that the site fits.
-use Rattle.std.proofs.Common.{◌≡◌, ℕ, ◌<◌, List, [], ◌∷◌, length, Bool, true, false, cond, refl, sym, ap, subst, ◌∙◌}
+use Rattle.std.proofs.Common.{◌≡◌, ℕ, List, [], ◌∷◌, length, Bool, true, false, cond, refl, ap, subst, ◌∙◌}
 use Rattle.std.specs.Prelude.{Option, Some, None, option_map, option_and_then, slice_get, ◌&&◌}
 use Rattle.std.specs.List.{AllByRecursion}
 use Rattle.std.specs.Str.{bytes_eq}
@@ -14,7 +14,7 @@ use Rattle.thing_handler.specs.Handler.{Seen}
 use Rattle.thing_core.specs.declared.state.Invocation.{Invocation}
 use Rattle.thing_core.specs.Site.{Placed, ExposedThing, Site, is_kind, affordance_named, thing_named}
 use Rattle.thing_core.specs.State.{State, invocation_named}
-use Rattle.thing_core.specs.Places.{Place, description, all_properties, property, observed, action, invocation, event, subscribed, thing_in, affordance_in, where_observable, where_invoked, place_at, Act, describes, reads_all, writes_many, reads, writes, invokes, queries, cancels, reads_event, waits, act_at, unless}
+use Rattle.thing_core.specs.Places.{Place, description, all_properties, property, observed, action, invocation, event, subscribed, thing_in, affordance_in, Act, reads, writes, act_at, unless}
 use Rattle.thing_core.specs.Refusals.{Asked, act_asked, place_asked}
 use Rattle.thing_core.specs.Kept.{FitsSlot, ThingFits, Fits}
 use Rattle.thing_core.specs.Performing.{SlotStands}

@@ -1,5 +1,5 @@
 -- What performing a request promises: a move of the Thing machine, which the rack shows.
-use Rattle.std.specs.Prelude.{◌≡◌, ◌≢◌, ◌≤◌, ◌<◌, ◌⊎◌, ℕ, List, [], ◌∷◌, map, Bool, true, false, Option, Some, None, Result, Ok, Err}
+use Rattle.std.specs.Prelude.{◌≡◌, ◌≢◌, ◌<◌, ◌⊎◌, ℕ, List, [], map, Bool, true, false, Option, Some, None, Result, Ok, Err}
 use Rattle.servient_base.specs.Moves.{Makes}
 use Rattle.wot_json.specs.Tree.{Json}
 use Rattle.wot_json.specs.Json.{json_text, text_of}
@@ -9,17 +9,17 @@ use Rattle.thing_ops.specs.declared.outcome.Outcome.TheVariants as outcome
 use Rattle.thing_ops.specs.Requests.{PlainRequest}
 use Rattle.thing_handler.specs.declared.handler.Answer.TheVariants as answer
 use Rattle.thing_handler.specs.Handler.{Seen}
-use Rattle.thing_handler.specs.Turns.{HandlerCall, RackShows}
+use Rattle.thing_handler.specs.Turns.{RackShows}
 use Rattle.thing_core.specs.declared.acting.Called.{Called as CalledInCode}
 use Rattle.thing_core.specs.declared.acting.Called.TheVariants as code
 use Rattle.thing_core.specs.declared.place.Act.{Act as FoundAct}
 use Rattle.thing_core.specs.declared.state.Invocation.{Invocation}
 use Rattle.thing_core.specs.declared.state.Machine.{Machine}
-use Rattle.thing_core.specs.Site.{Placed, ExposedThing, Site}
-use Rattle.thing_core.specs.State.{State, Emission, last_of}
+use Rattle.thing_core.specs.Site.{Placed}
+use Rattle.thing_core.specs.State.{last_of}
 use Rattle.thing_core.specs.Places.{Act, describes, reads_all, writes_many, reads, writes, invokes, queries, cancels, reads_event, waits}
-use Rattle.thing_core.specs.Refusals.{Asked, act_asked, refusals, inputs_of, is_acceptable, is_taken_format, no_inputs, IsEmptyBody, IsRefusedBy, NoneStands}
-use Rattle.thing_core.specs.Thing.{Move, Done, Called, no_number, no_memory, gives, only, Calls, Decides, IsTaken, event_outcome, failure_of, Reads, Performs, Answers, Acts}
+use Rattle.thing_core.specs.Refusals.{Asked, act_asked, refusals, is_acceptable, is_taken_format, IsRefusedBy}
+use Rattle.thing_core.specs.Thing.{Move, Done, Called, no_number, no_memory, gives, Decides, IsTaken, event_outcome, failure_of, Reads, Answers, Acts}
 use Rattle.thing_core.specs.Found.{found_act}
 use Rattle.thing_core.specs.Kept.{Kept, state_in}
 

@@ -1,5 +1,5 @@
 -- What the path of a request leads to, and which act its verb asks for there.
-use Rattle.std.specs.Prelude.{ℕ, List, [], ◌∷◌, slice_get, Bool, true, false, Option, Some, None, option_map, option_and_then, if◌then◌else◌}
+use Rattle.std.specs.Prelude.{ℕ, List, slice_get, Bool, true, false, Option, Some, None, option_map, option_and_then, if◌then◌else◌}
 use Rattle.wot_terms.specs.declared.kind.Kind.TheVariants as kind
 use Rattle.wot_terms.specs.declared.kind.Kind.{Kind}
 use Rattle.thing_ops.specs.declared.verb.Verb.{Verb}

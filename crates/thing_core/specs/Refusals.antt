@@ -1,6 +1,6 @@
 -- Why a request is refused before any handler is called.
-use Rattle.std.specs.Prelude.{◌≡◌, ◌<◌, ◌≤◌, ◌⊎◌, ℕ, List, [], ◌∷◌, ◌++◌, length, Bool, true, false, ◌||◌, not, IsTrue, IfSome, Option, Some, None, option_map, option_and_then, if◌then◌else◌}
-use Rattle.wot_json.specs.Tree.{Json, null, boolean, integer, string, array, object, Members, no_members, member}
+use Rattle.std.specs.Prelude.{◌≡◌, ◌<◌, ◌≤◌, ◌⊎◌, ℕ, List, [], ◌∷◌, ◌++◌, length, Bool, true, false, ◌||◌, IfSome, Option, Some, None, option_map, option_and_then, if◌then◌else◌}
+use Rattle.wot_json.specs.Tree.{Json, object, Members, no_members, member}
 use Rattle.wot_json.specs.Json.{text_of}
 use Rattle.wot_json.specs.Reading.{tree_of}
 use Rattle.wot_schema.specs.Acceptance.{Accepts}

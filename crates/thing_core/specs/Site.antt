@@ -1,6 +1,6 @@
 -- Things as they are exposed: each with its description, its affordances and the slots of their handlers. This is what is
 -- constant in a run.
-use Rattle.std.specs.Prelude.{ℕ, List, [], ◌∷◌, ◌++◌, map, slice_get, Bool, true, false, ◌==◌, ◌&&◌, is_none, Option, Some, None, option_map, option_and_then, unwrap_or, codes, if◌then◌else◌}
+use Rattle.std.specs.Prelude.{ℕ, List, [], ◌∷◌, ◌++◌, map, slice_get, Bool, true, false, ◌==◌, ◌&&◌, is_none, Option, Some, None, option_and_then, unwrap_or, if◌then◌else◌}
 use Rattle.std.specs.List.{flat_map, filter}
 use Rattle.std.specs.Str.{bytes_eq}
 use Rattle.wot_json.specs.Tree.{Json}

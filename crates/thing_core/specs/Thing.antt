@@ -1,7 +1,7 @@
 -- The Thing machine: what a request to Things does and comes to, and what polling their events does, as moves over a state
 -- (servient_base/specs/Moves.antt). What is seen of a move are the calls of device handlers: those that were answered, which
 -- are turns, and those for which a handler was out of memory.
-use Rattle.std.specs.Prelude.{◌≡◌, ◌<◌, ◌≤◌, ◌+◌, ◌⊎◌, ℕ, List, [], ◌∷◌, ◌++◌, length, decimal, Bool, true, false, not, Option, Some, None, Result, Ok, Err, if◌then◌else◌}
+use Rattle.std.specs.Prelude.{◌≡◌, ◌<◌, ◌≤◌, ◌+◌, ◌⊎◌, ℕ, List, [], ◌∷◌, ◌++◌, length, decimal, Bool, not, Option, Some, None, Result, Ok, Err, if◌then◌else◌}
 use Rattle.std.specs.List.{filter}
 use Rattle.servient_base.specs.Moves.{Becomes, Stays, Then, Passing}
 use Rattle.wot_json.specs.Tree.{Json, object, members_of}
@@ -23,7 +23,7 @@ use Rattle.thing_core.specs.declared.state.Status.TheVariants.{Running, Complete
 use Rattle.thing_core.specs.declared.state.Invocation.{Invocation}
 use Rattle.thing_core.specs.State.{State, Emission, without_invocation, with_completed, with_running, status_text, last_of, last_after}
 use Rattle.thing_core.specs.Places.{Act, describes, reads_all, writes_many, reads, writes, invokes, queries, cancels, reads_event, waits}
-use Rattle.thing_core.specs.Refusals.{Input, IsAccepted, longest_value, inputs_of, Asked, act_asked, refusals, IsRefusedBy, NoneStands}
+use Rattle.thing_core.specs.Refusals.{Input, IsAccepted, longest_value, inputs_of, act_asked, refusals, IsRefusedBy, NoneStands}
 
 -- a move of this machine
 abbrev pub Move : Type 1

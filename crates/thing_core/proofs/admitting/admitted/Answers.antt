@@ -1,7 +1,6 @@
 use Rattle.std.proofs.Common.{◌≡◌}
 use Rattle.std.specs.Prelude.{Some}
 use Rattle.thing_ops.specs.Requests.{plain_request}
-use Rattle.thing_core.specs.State.{State}
 use Rattle.thing_core.specs.Refusals.{act_asked}
 use Rattle.thing_core.specs.Exposing.{held_site}
 use Rattle.thing_core.specs.Found.{found_act, found_place}

@@ -1,4 +1,4 @@
-use Rattle.std.proofs.Common.{◌≡◌, ◌++◌, [], drop, map}
+use Rattle.std.proofs.Common.{◌≡◌, ◌++◌, [], drop}
 use Rattle.std.specs.List.{AllByRecursion}
 use Rattle.wot_json.specs.Meaning.{json_of}
 use Rattle.wot_terms.specs.Faults.{IsValid}

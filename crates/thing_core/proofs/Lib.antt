@@ -6,3 +6,4 @@ pub mod PlaceLaws
 pub mod PlacedLists
 pub mod RefusalLaws
 pub mod SlotLaws
+pub mod ThingLaws

@@ -23,6 +23,7 @@ mod acting;
 mod admitting;
 mod exposed;
 mod fault;
+mod laws;
 mod place;
 mod placing;
 mod site;
@@ -32,5 +33,6 @@ mod wanted;
 
 pub use exposed::{Accounts, Exposed};
 pub use fault::ExposeFault;
+pub use laws::{a_rack_fits_on, refused_values_reach_no_handler};
 pub use servient_base::NoMemory;
 pub use slots::Slots;

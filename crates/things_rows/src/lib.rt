@@ -1,8 +1,11 @@
-//! Tests of what the crates of requests on Things offer: routes, verbs, outcomes, the directory.
+//! Tests of what the crates of requests on Things offer: routes, verbs, outcomes, the directory, and
+//! Things as they are exposed.
 #![tactic(auto)]
 
 #[cfg(test)]
 mod directory;
+#[cfg(test)]
+mod exposed;
 #[cfg(test)]
 mod outcomes;
 #[cfg(test)]

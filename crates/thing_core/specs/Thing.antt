@@ -1,0 +1,269 @@
+-- The Thing machine: what a request to Things does and comes to, and what polling their events does, as moves over a state
+-- (servient_base/specs/Moves.antt). What is seen of a move are the calls of device handlers: those that were answered, which
+-- are turns, and those for which a handler was out of memory.
+use Rattle.std.specs.Prelude.{◌≡◌, ◌<◌, ◌≤◌, ◌+◌, ◌⊎◌, ℕ, List, [], ◌∷◌, ◌++◌, length, decimal, Bool, not, Option, Some, None, Result, Ok, Err, if◌then◌else◌}
+use Rattle.std.specs.List.{filter}
+use Rattle.servient_base.specs.Moves.{Becomes, Stays, Then, Passing}
+use Rattle.wot_json.specs.Tree.{Json, object, members_of}
+use Rattle.wot_json.specs.Json.{text_of}
+use Rattle.wot_json.specs.Meaning.{json_of}
+use Rattle.wot_json.specs.declared.tree.Tree.{Tree}
+use Rattle.wot_terms.specs.declared.kind.Kind.TheVariants as kind
+use Rattle.thing_ops.specs.declared.outcome.Outcome.{Outcome}
+use Rattle.thing_ops.specs.declared.outcome.Outcome.TheVariants as outcome
+use Rattle.thing_ops.specs.Requests.{PlainRequest}
+use Rattle.thing_handler.specs.declared.handler.CallKind.{CallKind}
+use Rattle.thing_handler.specs.declared.handler.CallKind.TheVariants as call
+use Rattle.thing_handler.specs.declared.handler.Answer.{Answer}
+use Rattle.thing_handler.specs.declared.handler.Answer.TheVariants as answer
+use Rattle.thing_handler.specs.Turns.{HandlerCall, answered, missed}
+use Rattle.thing_core.specs.Site.{Placed, ExposedThing, Site, those_of, events_of}
+use Rattle.thing_core.specs.declared.state.Status.{Status}
+use Rattle.thing_core.specs.declared.state.Status.TheVariants.{Running, Completed}
+use Rattle.thing_core.specs.declared.state.Invocation.{Invocation}
+use Rattle.thing_core.specs.State.{State, Emission, without_invocation, with_completed, with_running, status_text, last_of, last_after}
+use Rattle.thing_core.specs.Places.{Act, describes, reads_all, writes_many, reads, writes, invokes, queries, cancels, reads_event, waits}
+use Rattle.thing_core.specs.Refusals.{Input, IsAccepted, longest_value, inputs_of, act_asked, refusals, IsRefusedBy, NoneStands}
+
+-- a move of this machine
+abbrev pub Move : Type 1
+Move = State → List HandlerCall → State → Type 0
+
+-- what a request comes to, and what is emitted meanwhile, in order
+pub record Done : Type 0 where
+  pub outcome : Outcome
+  pub emissions : List Emission
+
+abbrev pub only : Outcome → Done
+only o = record { outcome = o; emissions = [] }
+
+-- ---- one call of a handler
+
+-- how many turns a run may have
+abbrev pub most_turns : ℕ
+most_turns = 4294967295
+
+-- what comes of it: the run has no number left for a turn, the handler is out of memory, or it answers
+pub data Called : Type 0 where
+  no_number no_memory : Called
+  gives : Answer → Called
+
+abbrev pub Calls : ℕ → CallKind → Called → Move
+Calls slot what no_number s seen t = (s.turns ≡ most_turns) × Stays s seen t
+Calls slot what no_memory s seen t = (s.turns < most_turns) × Becomes s (missed slot ∷ []) seen t
+Calls slot what (gives a) s seen t =
+    (s.turns < most_turns)
+    × Becomes (record s { turns = s.turns + 1 }) (answered (record { number = s.turns; slot = slot; what = what; answer = a }) ∷ []) seen t
+
+-- what it comes to where that isn't a success of its act: a refusal and a fault of the device as they are; any other
+-- answer is one that it mustn't give
+abbrev pub failure_of : Called → Outcome
+failure_of no_number = outcome.CallsUsed
+failure_of no_memory = outcome.Memory
+failure_of (gives (answer.Refused n)) = outcome.Refused n
+failure_of (gives (answer.DeviceFault n)) = outcome.DeviceFault n
+failure_of (gives a) = outcome.BadAnswer
+
+-- a value of a device is taken where its schema, if it has one, accepts it, and its text is at most so long
+abbrev pub IsTaken : Option Json → Json → Type 0
+IsTaken schema value = IsAccepted schema value × (length (text_of value) ≤ longest_value)
+
+-- the one where this holds, and else the other
+abbrev pub Decides : {A : Type 0} → Type 0 → A → A → A → Type 0
+Decides P one otherwise result = (P × (result ≡ one)) ⊎ ((¬ P) × (result ≡ otherwise))
+
+-- ---- properties
+
+-- the value that a call for one gives, or what it comes to instead
+abbrev pub GivesValue : Option Json → Called → Result Json Outcome → Type 0
+GivesValue schema (gives (answer.Value tree)) r = Decides (IsTaken schema (json_of tree)) (Ok (json_of tree)) (Err outcome.BadAnswer) r
+GivesValue schema called r = r ≡ Err (failure_of called)
+
+-- a property is read: one call
+abbrev pub ReadsValue : Placed → Result Json Outcome → Move
+ReadsValue p r = Passing (Calls p.slot call.Read) (λ called s seen t. GivesValue p.affordance.output called r × Stays s seen t)
+
+abbrev pub content_of : Result Json Outcome → Outcome
+content_of (Ok value) = outcome.Content (text_of value)
+content_of (Err o) = o
+
+abbrev pub Reads : Placed → Done → Move
+Reads p done s seen t = (r : Result Json Outcome) × (done ≡ only (content_of r)) × ReadsValue p r s seen t
+
+-- those of a Thing that aren't write-only
+abbrev pub is_readable : Placed → Bool
+is_readable p = not p.affordance.write_only
+
+abbrev pub readable : ExposedThing → List Placed
+readable thing = filter is_readable (those_of kind.Property thing)
+
+-- several are read, one after another, until one fails; beside those that were read so far
+abbrev pub ReadsEach : List Placed → List (List ℕ × Json) → Done → Move
+ReadsEach [] got done s seen t = (done ≡ only (outcome.Content (text_of (object (members_of got))))) × Stays s seen t
+ReadsEach (p ∷ ps) got done s seen t =
+    Passing (ReadsValue p)
+    (λ r. elim r as (λ _. Move) [
+      | Ok value ↦ ReadsEach ps (got ++ (p.affordance.name, value) ∷ []) done
+      | Err o ↦ λ u after v. (done ≡ only o) × Stays u after v
+    ]) s seen t
+
+-- what is emitted becomes the last value of its affordance
+abbrev pub Emits : List Emission → Move
+Emits emissions s = Becomes (record s { last = last_after emissions s.last }) []
+
+abbrev pub emission : Placed → Json → Emission
+emission p value = record { target = p.slot; text = text_of value }
+
+-- an observable property emits what is written to it (TD 1.1, section 5.3.1.3)
+abbrev pub emissions_of_write : Input → List Emission
+emissions_of_write i = if i.affordance.affordance.observable then emission i.affordance i.value ∷ [] else []
+
+-- it comes to this, with what was emitted so far
+abbrev pub Stops : Outcome → List Emission → Done → Move
+Stops o emitted done s seen t = (done ≡ record { outcome = o; emissions = emitted }) × Stays s seen t
+
+-- one move where the device did what it was asked, and else another
+abbrev pub IfDone : Called → Move → Move → Move
+IfDone (gives answer.Done) further otherwise = further
+IfDone called further otherwise = otherwise
+
+-- several values are written, one after another, until one isn't done; beside what was emitted so far. What was written stays and was
+-- emitted.
+abbrev pub WritesEach : List Input → List Emission → Done → Move
+WritesEach [] emitted done s seen t = Stops outcome.Changed emitted done s seen t
+WritesEach (i ∷ inputs) emitted done s seen t =
+    (tree : Tree) × (json_of tree ≡ i.value)
+    × Passing (Calls i.affordance.slot (call.Write tree))
+    (λ called. IfDone called (Then (Emits (emissions_of_write i)) (WritesEach inputs (emitted ++ emissions_of_write i) done))
+    (Stops (failure_of called) emitted done)) s seen t
+
+-- ---- actions
+
+-- the value that is handed in to an action: that of its input, or none
+abbrev pub IsHandedIn : List Input → Option Tree → Type 0
+IsHandedIn [] handed = handed ≡ None
+IsHandedIn (i ∷ inputs) handed = (tree : Tree) × (json_of tree ≡ i.value) × (handed ≡ Some tree)
+
+-- an invocation that was answered uses its id, whatever the answer
+abbrev pub with_id_used : State → State
+with_id_used s = record s { next_invocation = s.next_invocation + 1 }
+
+abbrev pub with_invocations : List Invocation → State → State
+with_invocations invocations s = record s { invocations = invocations }
+
+-- the path of an invocation: that of its action, and the id
+abbrev pub place_of_invocation : List (List ℕ) → ℕ → List (List ℕ)
+place_of_invocation path id = path ++ decimal id ∷ []
+
+-- what the answer to an invocation of this id brings about
+abbrev pub IsInvoked : Placed → List (List ℕ) → ℕ → Done → Called → Move
+IsInvoked p path id done (gives answer.Started) s seen t =
+    (done ≡ only (outcome.Started (place_of_invocation path id) (status_text id Running)))
+    × Becomes (with_id_used (with_invocations (with_running id p.slot s.invocations) s)) [] seen t
+IsInvoked p path id done (gives (answer.Finished None)) s seen t = (done ≡ only outcome.Changed) × Becomes (with_id_used s) [] seen t
+IsInvoked p path id done (gives (answer.Finished (Some tree))) s seen t =
+    Decides (IsTaken p.affordance.output (json_of tree)) (only (outcome.Output (text_of (json_of tree)))) (only outcome.BadAnswer) done
+    × Becomes (with_id_used s) [] seen t
+IsInvoked p path id done (gives a) s seen t = (done ≡ only (failure_of (gives a))) × Becomes (with_id_used s) [] seen t
+IsInvoked p path id done called s seen t = (done ≡ only (failure_of called)) × Stays s seen t
+
+abbrev pub Invokes : Placed → List (List ℕ) → List Input → Done → Move
+Invokes p path inputs done s seen t =
+    (handed : Option Tree) × IsHandedIn inputs handed
+    × Passing (Calls p.slot (call.Invoke s.next_invocation handed)) (IsInvoked p path s.next_invocation done) s seen t
+
+-- an invocation is asked about that runs no more: its status, and no call
+abbrev pub Tells : Invocation → Status → Done → Move
+Tells i status done s seen t = (done ≡ only (outcome.Content (status_text i.id status))) × Stays s seen t
+
+-- it finishes with this output
+abbrev pub Completes : Invocation → Option (List ℕ) → Done → Move
+Completes i output done s seen t =
+    (done ≡ only (outcome.Content (status_text i.id (Completed output))))
+    × Becomes (with_invocations (with_completed i.id output s.invocations) s) [] seen t
+
+abbrev pub Fails : Called → Done → Move
+Fails called done s seen t = (done ≡ only (failure_of called)) × Stays s seen t
+
+-- what the answer to a query brings about; where it is no success the invocation is as it was
+abbrev pub IsQueried : Placed → Invocation → Done → Called → Move
+IsQueried p i done (gives answer.Running) s seen t = Tells i Running done s seen t
+IsQueried p i done (gives (answer.Finished None)) s seen t = Completes i None done s seen t
+IsQueried p i done (gives (answer.Finished (Some tree))) s seen t =
+    (IsTaken p.affordance.output (json_of tree) × Completes i (Some (text_of (json_of tree))) done s seen t)
+    ⊎ ((¬ (IsTaken p.affordance.output (json_of tree))) × Fails (gives (answer.Finished (Some tree))) done s seen t)
+IsQueried p i done called s seen t = Fails called done s seen t
+
+abbrev pub Queries : Placed → Invocation → Status → Done → Move
+Queries p i Running done s seen t = Passing (Calls p.slot (call.Query i.id)) (IsQueried p i done) s seen t
+Queries p i (Completed output) done s seen t = Tells i (Completed output) done s seen t
+
+-- an invocation goes
+abbrev pub Removes : Invocation → Done → Move
+Removes i done s seen t =
+    (done ≡ only outcome.Deleted) × Becomes (with_invocations (without_invocation i.id s.invocations) s) [] seen t
+
+abbrev pub IsCancelled : Invocation → Done → Called → Move
+IsCancelled i done (gives answer.Cancelled) s seen t = Removes i done s seen t
+IsCancelled i done called s seen t = Fails called done s seen t
+
+abbrev pub Cancels : Placed → Invocation → Status → Done → Move
+Cancels p i Running done s seen t = Passing (Calls p.slot (call.Cancel i.id)) (IsCancelled i done) s seen t
+Cancels p i (Completed output) done s seen t = Removes i done s seen t
+
+-- ---- requests
+
+-- the last emission of an event, where there was one
+abbrev pub event_outcome : Option (List ℕ) → Outcome
+event_outcome None = outcome.Empty
+event_outcome (Some text) = outcome.Content text
+
+-- nothing is done but to answer
+abbrev pub Answers : Outcome → Done → Move
+Answers o done s seen t = (done ≡ only o) × Stays s seen t
+
+-- What each act does, with these inputs: the table of acts.
+abbrev pub Performs : Act → PlainRequest → List Input → Done → Move
+Performs (describes thing) q inputs done s seen t = Answers (outcome.Description (text_of thing.description) q.accept.td) done s seen t
+Performs (reads_all thing) q inputs done s seen t = ReadsEach (readable thing) [] done s seen t
+Performs (writes_many thing) q inputs done s seen t = WritesEach inputs [] done s seen t
+Performs (reads p) q inputs done s seen t = Reads p done s seen t
+Performs (writes p) q inputs done s seen t = WritesEach inputs [] done s seen t
+Performs (invokes p) q inputs done s seen t = Invokes p q.path inputs done s seen t
+Performs (queries p i) q inputs done s seen t = Queries p i i.status done s seen t
+Performs (cancels p i) q inputs done s seen t = Cancels p i i.status done s seen t
+Performs (reads_event p) q inputs done s seen t = Answers (event_outcome (last_of p.slot s.last)) done s seen t
+Performs (waits p) q inputs done s seen t = Answers (outcome.Wait p.slot) done s seen t
+
+-- A request to Things: what it comes to.
+pub data Acts (site : Site) (q : PlainRequest) (done : Done) (s : State) (seen : List HandlerCall) (t : State) : Type 0 where
+  -- the first refusal that stands decides, and no handler is called
+  refuses : (o : Outcome) → IsRefusedBy refusals (record { site = site; state = s; request = q }) o → Answers o done s seen t
+      → Acts site q done s seen t
+  -- memory may be out before the first call of a handler
+  has_no_memory : Answers outcome.Memory done s seen t → Acts site q done s seen t
+  -- none stands, and the act is done
+  performs : (act : Act) → (inputs : List Input) → NoneStands refusals (record { site = site; state = s; request = q })
+      → act_asked (record { site = site; state = s; request = q }) ≡ Some act → inputs_of act q.body ≡ Some inputs
+      → Performs act q inputs done s seen t → Acts site q done s seen t
+
+-- ---- polls
+
+-- what the answer to a poll emits: a value that is taken
+abbrev pub IsPolled : Placed → List Emission → Called → Type 0
+IsPolled p emissions (gives (answer.Fired tree)) = Decides (IsTaken p.affordance.output (json_of tree)) (emission p (json_of tree) ∷ []) [] emissions
+IsPolled p emissions called = emissions ≡ []
+
+-- an event is polled: one call
+abbrev pub PollsEvent : Placed → List Emission → Move
+PollsEvent p emissions = Passing (Calls p.slot call.Poll) (λ called s seen t. IsPolled p emissions called × Emits emissions s seen t)
+
+-- several are, one after another
+abbrev pub PollsEach : List Placed → List Emission → Move
+PollsEach [] emissions s seen t = (emissions ≡ []) × Stays s seen t
+PollsEach (p ∷ ps) emissions s seen t =
+    (one rest : List Emission) × (emissions ≡ one ++ rest) × Then (PollsEvent p one) (PollsEach ps rest) s seen t
+
+-- All events are polled, in the order of Things and names.
+abbrev pub Polls : Site → List Emission → Move
+Polls site = PollsEach (events_of site)

@@ -1,0 +1,38 @@
+//! Things as they are exposed: which handler serves which affordance, and what a request to Things does.
+//!
+//! `Exposed::new` gives the affordances of Things the handlers of a rack, by a list of slots, or names the first that has none,
+//! one of another kind, or one that is taken. `perform` does what a request asks: it goes through the refusals in their
+//! order, and then does the act.
+//!
+//! ```text
+//! let mut slots = Slots::new(alloc);
+//! slots.push(segment, pointer, 0)?; // `lamp` and `/properties/status`
+//! let mut lamp = Exposed::new(alloc, things, &slots, &rack)?;
+//! let outcome = lamp.perform(&mut rack, &request); // GET /lamp/properties/status
+//! assert!(matches!(outcome, Outcome::Content(_)));
+//! assert_eq!(lamp.accounts().calls, 1);
+//! ```
+//!
+//! Contracts see the site, which is constant (`specs/Site.antt`), and the state of the Thing machine (`specs/State.antt`). The
+//! contract in a sentence: what `perform` answers, calls and leaves is a move of that machine (`Acts` of `specs/Thing.antt`),
+//! and the rack shows the calls of it. So far that is said of requests whose act hands nothing in: descriptions, reads of one
+//! property, reads of events and waits, and of all that lead to no act (`AsksForBuilt` of `specs/Performing.antt`).
+#![tactic(auto)]
+
+mod acting;
+mod admitting;
+mod exposed;
+mod fault;
+mod laws;
+mod place;
+mod placing;
+mod site;
+mod slots;
+mod state;
+mod wanted;
+
+pub use exposed::{Accounts, Exposed};
+pub use fault::ExposeFault;
+pub use laws::{a_rack_fits_on, refused_values_reach_no_handler};
+pub use servient_base::NoMemory;
+pub use slots::Slots;

@@ -18,10 +18,11 @@ mod serving;
 
 pub use laws::{each_stands_for_a_state, failing_is_exact, replies_come_next, turns_are_numbered};
 pub use outcome::Outcome;
-pub use plan::{ModelFiles, Plan, PlanFault, Slots};
+pub use plan::{ModelFiles, Plan, PlanFault};
 pub use servient::Servient;
 pub use servient_edge::{
     Act, Calls, Event, EventWithBytes, Events, FileRead, Files, FilesMemory, FilesReal, Got, Held,
     HeldFile, Net, NetMemory, Next, Out, OutMemory, OutReal, Put, What,
 };
 pub use serving::{Served, serve};
+pub use thing_core::Slots;

@@ -11,6 +11,7 @@ use crate::plan_values::{
 };
 use std::alloc::{AllocError, Global};
 use std::marker::Model;
+use thing_core::Slots;
 use thiserror::Error;
 use tm_derive::{Choices, Frame};
 use tm_parts::Bindings;
@@ -60,48 +61,6 @@ impl ModelFiles {
 
     /// The URLs and file names.
     pub fn as_slice(&self) -> &[(Text, Text)]
-        ensures { result.now ≡ self.now }
-    {
-        self.list.as_slice()
-    }
-}
-
-/// Which handler serves which affordance: the segment of a Thing, the pointer to an affordance in its description
-/// (RFC 6901), and a slot of the rack. Contracts see the list of these.
-#[derive(Debug, Drop)]
-pub struct Slots {
-    list: Vec<(Text, Text, u16)>,
-}
-
-impl Model for Slots {
-    ghost use Rattle.std.specs.Prelude.{List, ℕ};
-
-    ghost Value = { List (List ℕ × List ℕ × ℕ) };
-
-    ghost view = { λ s. s.list.items };
-}
-
-impl Slots {
-    /// No entries.
-    pub fn new(alloc: Global) -> Self
-        ensures { result ≡ [] }
-    {
-        Slots {
-            list: Vec::new(alloc),
-        }
-    }
-
-    /// Puts an entry after the others.
-    pub fn push(&mut self, segment: Text, pointer: Text, slot: u16) -> Result<(), NoMemory>
-        ensures ok { OnOk result (self.new ≡ self.old ++ (segment, pointer, slot) ∷ []) }
-        ensures unchanged { OnErr result (self.new ≡ self.old) }
-    {
-        self.list.push((segment, pointer, slot))?;
-        Ok(())
-    }
-
-    /// The entries.
-    pub fn as_slice(&self) -> &[(Text, Text, u16)]
         ensures { result.now ≡ self.now }
     {
         self.list.as_slice()

@@ -7,15 +7,19 @@ ghost use Rattle.wot_json.specs.Merge.{members_under};
 ghost use Rattle.servient_core.specs.Plan.{Reads};
 ghost use Rattle.servient_core.specs.Plan as spec;
 
-use crate::plan::{ModelFiles, PlanFault, Slots};
+use crate::plan::{ModelFiles, PlanFault};
 use crate::plan_texts::TextRow;
 use std::alloc::Global;
+use thing_core::Slots;
 use tm_derive::Choices;
 use tm_parts::Bindings;
 use wot_json::{Items, NoMemory, Text, Tree, copy};
 
 /// The most models of a plan.
 const MOST_MODELS: usize = 256;
+
+/// The greatest number of a slot.
+const LAST_SLOT: u32 = 65_535;
 
 /// The least and the most exchanges, and how many they are where a plan doesn't say.
 const LEAST_EXCHANGES: u32 = 16;
@@ -270,13 +274,13 @@ fn number_of(tree: &Tree, least: u32, most: u32) -> Option<u32>
 }
 
 /// The entry of a slot: the segment of a Thing, the pointer to an affordance, and the slot of its handler.
-fn slot_entry(alloc: Global, entry: &Tree) -> Result<Option<(Text, Text, u16)>, NoMemory>
+fn slot_entry(alloc: Global, entry: &Tree) -> Result<Option<(Text, Text, usize)>, NoMemory>
     ensures { IfOk result (λ o. o ≡ spec.slot_entry (json_of entry.now)) }
 {
     let named = two_texts(alloc, entry, "thing", "pointer")?;
-    let slot = number_in(entry.member("slot"), 0, u32::from(u16::MAX));
+    let slot = number_in(entry.member("slot"), 0, LAST_SLOT);
     match (named, slot) {
-        (Some((segment, pointer)), Some(slot)) => Ok(Some((segment, pointer, slot as u16))),
+        (Some((segment, pointer)), Some(slot)) => Ok(Some((segment, pointer, slot as usize))),
         _ => Ok(None),
     }
 }

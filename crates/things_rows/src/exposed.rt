@@ -73,14 +73,13 @@ fn asked<R: Handlers>(
 }
 
 #[test]
-fn what_is_asked_of_a_lamp(rt: HostRuntime) -> Result<(), Fail> {
+fn a_property_is_read(rt: HostRuntime) -> Result<(), Fail> {
     let alloc = rt.alloc();
     let mut list: Vec<Box<dyn Handler>> = Vec::new(alloc);
     list.push(Box::new(alloc, Cell::new(alloc, Tree::Int(7)))?)?;
     list.push(Box::new(alloc, Cell::new(alloc, Tree::Bool(true)))?)?;
     list.push(Box::new(alloc, Pulse::new(alloc, 1))?)?;
     let mut rack = Rack::new(alloc, list);
-
     match asked(
         alloc,
         &mut rack,
@@ -90,30 +89,55 @@ fn what_is_asked_of_a_lamp(rt: HostRuntime) -> Result<(), Fail> {
         Outcome::Content(text) => assert_eq!(rt; text.as_slice(), b"7".as_slice()),
         _other => assert!(rt; false),
     }
-    let described = asked(alloc, &mut rack, Verb::Head, &["lamp"])?;
-    assert!(rt; matches!(described, Outcome::Description(_, false)));
-    let hidden = asked(alloc, &mut rack, Verb::Get, &["lamp", "properties", "key"])?;
-    assert!(rt; matches!(hidden, Outcome::NotAllowed(_)));
-    let nothing = asked(alloc, &mut rack, Verb::Get, &["lamp", "properties", "none"])?;
-    assert!(rt; matches!(nothing, Outcome::NotFound));
-    let quiet = asked(alloc, &mut rack, Verb::Get, &["lamp", "events", "beat"])?;
-    assert!(rt; matches!(quiet, Outcome::Empty));
-    let subscribed = asked(
-        alloc,
-        &mut rack,
-        Verb::Get,
-        &["lamp", "events", "beat", "subscribe"],
-    )?;
-    assert!(rt; matches!(subscribed, Outcome::Wait(2)));
-    let observed = asked(
-        alloc,
-        &mut rack,
-        Verb::Get,
-        &["lamp", "properties", "status", "observe"],
-    )?;
-    assert!(rt; matches!(observed, Outcome::Wait(0)));
+    assert_eq!(rt; rack.len(), 3);
     assert_eq!(rt; rack.turns(0).len(), 1);
     assert_eq!(rt; rack.turns(1).len(), 0);
+    Ok(())
+}
+
+/// What a request is answered with: a word for each kind of outcome that the lamp gives without a call.
+fn answer(outcome: &Outcome) -> &'static str {
+    match outcome {
+        Outcome::Description(_, false) => "description",
+        Outcome::NotAllowed(_) => "method",
+        Outcome::NotFound => "missing",
+        Outcome::Empty => "empty",
+        Outcome::Wait(0) => "wait 0",
+        Outcome::Wait(2) => "wait 2",
+        _ => "other",
+    }
+}
+
+/// Requests that call no handler, and what they are answered with.
+const ROWS: [(Verb, &[&str], &str); 6] = [
+    (Verb::Head, &["lamp"], "description"),
+    (Verb::Get, &["lamp", "properties", "key"], "method"),
+    (Verb::Get, &["lamp", "properties", "none"], "missing"),
+    (Verb::Get, &["lamp", "events", "beat"], "empty"),
+    (
+        Verb::Get,
+        &["lamp", "events", "beat", "subscribe"],
+        "wait 2",
+    ),
+    (
+        Verb::Get,
+        &["lamp", "properties", "status", "observe"],
+        "wait 0",
+    ),
+];
+
+#[test]
+fn requests_that_call_no_handler(rt: HostRuntime) -> Result<(), Fail> {
+    let alloc = rt.alloc();
+    let mut list: Vec<Box<dyn Handler>> = Vec::new(alloc);
+    list.push(Box::new(alloc, Cell::new(alloc, Tree::Int(7)))?)?;
+    list.push(Box::new(alloc, Cell::new(alloc, Tree::Bool(true)))?)?;
+    list.push(Box::new(alloc, Pulse::new(alloc, 1))?)?;
+    let mut rack = Rack::new(alloc, list);
+    for (verb, path, word) in ROWS {
+        let outcome = asked(alloc, &mut rack, verb, path)?;
+        assert_eq!(rt; answer(&outcome), word);
+    }
     Ok(())
 }
 
@@ -132,6 +156,7 @@ fn values_that_the_schema_refuses_are_no_answer(rt: HostRuntime) -> Result<(), F
         &["lamp", "properties", "status"],
     )?;
     assert!(rt; matches!(outcome, Outcome::BadAnswer));
+    assert_eq!(rt; rack.len(), 3);
     assert_eq!(rt; rack.turns(0).len(), 1);
     Ok(())
 }

@@ -4,6 +4,7 @@ ghost use Rattle.std.specs.Prelude.{◌≡◌, ◌++◌, [], List, IfOk, OnOk};
 ghost use Rattle.thing_handler.specs.Handler.{Seen};
 ghost use Rattle.wot_terms.specs.ThingLists.{kept_thing, kept_things};
 ghost use Rattle.servient_cli.specs.Stages.{Around, around, files_seen};
+ghost use Rattle.servient_cli.specs.Reading.{ReadsFile, longest_json};
 ghost use Rattle.servient_cli.specs.Deriving.{AddsModel, Derives, DerivesPlan, ReadsPlan, TakesModel, TakesModels, thing_text, things_text};
 ghost use Rattle.servient_cli.specs.Ending.{EndsBy, Finishes, Performs};
 
@@ -78,9 +79,19 @@ fn take_model<F: Files>(
     ensures held { F.held files.new ≡ F.held files.old }
 {
     let (url, file) = (model.0.as_str(), model.1.as_str());
-    let content = read_file(alloc, file, LONGEST_JSON, files)?;
+    let content = read_model(alloc, file, files)?;
     let tree = read_tree(alloc, file, content.as_slice())?;
     add_model(alloc, url, file, tree, library)
+}
+
+/// Reads the whole file of a model.
+fn read_model<F: Files>(alloc: Global, file: &str, files: &mut F) -> Result<Bytes, Ended>
+    ensures stage { let before = files_seen (F.held files.old) (F.reads files.old) (F.faults files.old) in
+        let now = files_seen (F.held files.new) (F.reads files.new) (F.faults files.new) in
+        (slots : List Seen) → Performs (ReadsFile (F.held files.old) longest_json file.now) (around before slots) (around now slots) result }
+    ensures held { F.held files.new ≡ F.held files.old }
+{
+    read_file(alloc, file, LONGEST_JSON, files)
 }
 
 /// Puts a model into a library.

@@ -38,7 +38,7 @@ fn plan(alloc: Global, members: &str, further: &str) -> Result<String, Fail> {
 }
 
 /// Asserts the status and the output of deriving this plan, beside the lamp's models and a further file.
-fn derives<R: Abort + AllocGlobal>(
+pub fn derives<R: Abort + AllocGlobal>(
     rt: &R,
     plan: &str,
     further: (&str, &str),

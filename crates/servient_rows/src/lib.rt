@@ -5,6 +5,8 @@
 #[cfg(test)]
 mod checks;
 #[cfg(test)]
+mod derivation_lines;
+#[cfg(test)]
 mod derivations;
 #[cfg(test)]
 mod edges;

@@ -5,10 +5,6 @@
 #[cfg(test)]
 mod checks;
 #[cfg(test)]
-mod derivation_lines;
-#[cfg(test)]
-mod derivations;
-#[cfg(test)]
 mod edges;
 #[cfg(test)]
 mod handlers;

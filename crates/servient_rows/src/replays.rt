@@ -40,28 +40,15 @@ pub fn run_on(
     file: (&str, &[u8]),
     faults: &Faults,
 ) -> Result<(u8, Vec<u8>), Fail> {
-    run_over(alloc, handler, words, &[file], faults)
-}
-
-/// The status and the output of these words over some files, on the property of this handler.
-pub fn run_over(
-    alloc: Global,
-    handler: Box<dyn Handler>,
-    words: &[&str],
-    files: &[(&str, &[u8])],
-    faults: &Faults,
-) -> Result<(u8, Vec<u8>), Fail> {
     let mut given = Vec::new(alloc);
     for word in words {
         given.push(Text::copy_of(alloc, word)?)?;
     }
     let mut held = Held::new(alloc);
-    for (name, bytes) in files {
-        held.push(HeldFile {
-            name: Text::copy_of(alloc, name)?,
-            bytes: Bytes::copy_of(alloc, bytes)?,
-        })?;
-    }
+    held.push(HeldFile {
+        name: Text::copy_of(alloc, file.0)?,
+        bytes: Bytes::copy_of(alloc, file.1)?,
+    })?;
     let mut files = FilesMemory::new(alloc, held, calls(alloc, faults.read)?)?;
     let mut net = NetMemory::new(alloc, Events::new(alloc), Calls::new(alloc))?;
     let mut out = OutMemory::new(alloc, 1_048_576, calls(alloc, faults.put)?)?;

@@ -1,7 +1,7 @@
 //! Scripts that are read, and the lines that are refused.
 
 ghost use Rattle.std.specs.Prelude.{◌≤◌, length};
-ghost use Rattle.servient_cli.specs.Command.{longest_script};
+ghost use Rattle.servient_cli.specs.Reading.{longest_script};
 
 use coap_msg::Endpoint;
 use servient_cli::{Script, ScriptFault};

@@ -1,11 +1,12 @@
 //! Plans and their derivation: what `derive` prints.
 
-use crate::replays::{NONE, run_over};
+use servient_cli::servient_main;
+use servient_edge::{Calls, Events, FilesMemory, Held, HeldFile, NetMemory, OutMemory};
 use std::alloc::Global;
 use std::process::Abort;
 use std::test::Fail;
-use thing_handler::Cell;
-use wot_json::Tree;
+use thing_handler::{Cell, Handler, Rack};
+use wot_json::{Bytes, Text, Tree};
 
 /// The models of the lamp.
 const DIM: &str =
@@ -37,6 +38,48 @@ fn plan(alloc: Global, members: &str, further: &str) -> Result<String, Fail> {
     Ok(format!(in alloc; "{{{members}{further}}}")?)
 }
 
+/// The files of a derivation: the plan, a further file that goes before the lamp's models, and those.
+fn files_of(alloc: Global, plan: &str, further: (&str, &str)) -> Result<Held, Fail> {
+    let mut held = Held::new(alloc);
+    hold(alloc, &mut held, "p.json", plan)?;
+    hold(alloc, &mut held, further.0, further.1)?;
+    hold(alloc, &mut held, "lamp", LAMP)?;
+    hold(alloc, &mut held, "onoff", ONOFF)?;
+    hold(alloc, &mut held, "dim", DIM)?;
+    Ok(held)
+}
+
+/// Puts a file after the others.
+fn hold(alloc: Global, held: &mut Held, name: &str, text: &str) -> Result<(), Fail> {
+    held.push(HeldFile {
+        name: Text::copy_of(alloc, name)?,
+        bytes: Bytes::copy_of(alloc, text.as_bytes())?,
+    })?;
+    Ok(())
+}
+
+/// The status and the output of `derive p.json` over these files.
+fn derived(alloc: Global, held: Held) -> Result<(u8, Vec<u8>), Fail> {
+    let mut words = Vec::new(alloc);
+    words.push(Text::copy_of(alloc, "derive")?)?;
+    words.push(Text::copy_of(alloc, "p.json")?)?;
+    let mut files = FilesMemory::new(alloc, held, Calls::new(alloc))?;
+    let mut net = NetMemory::new(alloc, Events::new(alloc), Calls::new(alloc))?;
+    let mut out = OutMemory::new(alloc, 65_536, Calls::new(alloc))?;
+    let mut list: Vec<Box<dyn Handler>> = Vec::new(alloc);
+    list.push(Box::new(alloc, Cell::new(alloc, Tree::Int(7)))?)?;
+    let mut rack = Rack::new(alloc, list);
+    let status = servient_main(
+        alloc,
+        words.as_slice(),
+        &mut files,
+        &mut net,
+        &mut rack,
+        &mut out,
+    );
+    Ok((status, Vec::from_slice(alloc, out.written())?))
+}
+
 /// Asserts the status and the output of deriving this plan, beside the lamp's models and a further file.
 pub fn derives<R: Abort + AllocGlobal>(
     rt: &R,
@@ -45,16 +88,8 @@ pub fn derives<R: Abort + AllocGlobal>(
     status: u8,
     output: &str,
 ) -> Result<(), Fail> {
-    let alloc = rt.alloc();
-    let files: [(&str, &[u8]); 5] = [
-        ("p.json", plan.as_bytes()),
-        (further.0, further.1.as_bytes()),
-        ("lamp", LAMP.as_bytes()),
-        ("onoff", ONOFF.as_bytes()),
-        ("dim", DIM.as_bytes()),
-    ];
-    let cell = Box::new(alloc, Cell::new(alloc, Tree::Int(7)))?;
-    let (found, shown) = run_over(alloc, cell, &["derive", "p.json"], &files, &NONE)?;
+    let held = files_of(rt.alloc(), plan, further)?;
+    let (found, shown) = derived(rt.alloc(), held)?;
     assert_eq!(rt; found, status, "{output}");
     assert_eq!(rt; shown.as_slice(), output.as_bytes(), "{output}");
     Ok(())
@@ -91,6 +126,38 @@ const FAULTS: [(&str, &str, &str); 5] = [
         r#""lamp" circular "https://models.example/lamp.tm.json" "/links/1""#,
     ),
 ];
+
+/// The lamp's model where its dimmed level is optional.
+const OPTIONAL_LAMP: &str =
+    r#"{"@context":"https://www.w3.org/2022/wot/td/v1.1","@type":["Light","tm:ThingModel"],"title":"Lamp {{SERIAL}}","links":[{"rel":"tm:extends","href":"onoff.tm.json"},{"rel":"tm:submodel","href":"dim.tm.json","instanceName":"ring"}],"properties":{"dim":{"tm:ref":"dim.tm.json#/properties/level","maximum":null,"title":"Dim"}},"tm:optional":["/properties/dim"]}"#;
+
+#[test]
+fn an_optional_property_that_is_chosen_stays(rt: HostRuntime) -> Result<(), Fail> {
+    let text = plan(
+        rt.alloc(),
+        PLAN,
+        r#","bindings":{"SERIAL":"7"},"optional":[{"thing":"lamp","pointer":"/properties/dim"}]"#,
+    )?;
+    let output = format!(in rt.alloc(); "{LAMP_THING}\n{RING_THING}\n")?;
+    derives(
+        &rt,
+        text.as_str(),
+        ("lamp", OPTIONAL_LAMP),
+        0,
+        output.as_str(),
+    )
+}
+
+#[test]
+fn a_plan_without_a_base(rt: HostRuntime) -> Result<(), Fail> {
+    derives(
+        &rt,
+        r#"{"name":"a","id":"i","coap":"coap://h:1"}"#,
+        ("x", ""),
+        4,
+        "servient: input \"p.json\" plan \"/http\"\n",
+    )
+}
 
 #[test]
 fn derivations_that_are_refused(rt: HostRuntime) -> Result<(), Fail> {

@@ -88,7 +88,8 @@ impl Exchanges {
     /// The reply that is kept in this slot.
     pub fn reply(&self, slot: u32) -> &[u8]
         requires { HasReply slot self.now }
-        ensures { HoldsReply slot result.now self.now }
+        ensures ok { HoldsReply slot result.now self.now }
+        ensures bound { length result.now ≤ LONGEST_REPLY }
     {
         match &self.replies[slot as usize] {
             Some(reply) => reply.as_bytes(),

@@ -40,7 +40,8 @@ impl Reply {
 
     /// Its bytes.
     pub fn as_bytes(&self) -> &[u8]
-        ensures { result.now ≡ self.now }
+        ensures ok { result.now ≡ self.now }
+        ensures bound { length result.now ≤ LONGEST_REPLY }
     {
         &self.room[..self.length]
     }

@@ -13,8 +13,8 @@ index-requires c =
     let place : c.args.slot < length c.self.inside.replies.items = slot_is_place c.self.inside c.self.invariant c.args.slot e there in
     omega (arith, c.self.inside.replies.ok.0)
 
-pub returns-in-Some : goal.returns-in-Some
-returns-in-Some c =
+pub returns-in-Some-clause-ok : goal.returns-in-Some-clause-ok
+returns-in-Some-clause-ok c =
     let e : Exchange = c.requires.1.0 in
     let there : exchange_in c.args.slot (table_of c.self.inside) ≡ Some e = ap (exchange_in c.args.slot) c.self.view_is ∙ c.requires.1.1 in
     let place : c.args.slot < length c.self.inside.replies.items = slot_is_place c.self.inside c.self.invariant c.args.slot e there in
@@ -22,10 +22,10 @@ returns-in-Some c =
     let same : get_or c.self.inside.replies.items c.args.slot None ≡ get_or c.self.inside.replies.items c.args.slot c.index.result.now
     = read_within c.self.inside.replies.items c.args.slot None c.index.result.now place in
     let read : e.reply ≡ c.index.result.now = is ∙ (same ∙ sym c.index.ensures) in
-    (e, c.requires.1.1, read ∙ (c.in-Some.is ∙ ap (λ b. Some b) (sym c.as_bytes.ensures)))
+    (e, c.requires.1.1, read ∙ (c.in-Some.is ∙ ap (λ b. Some b) (sym c.as_bytes.ensures.ok)))
 
-pub returns-in-None : goal.returns-in-None
-returns-in-None c =
+pub returns-in-None-clause-ok : goal.returns-in-None-clause-ok
+returns-in-None-clause-ok c =
     let e : Exchange = c.requires.1.0 in
     let there : exchange_in c.args.slot (table_of c.self.inside) ≡ Some e = ap (exchange_in c.args.slot) c.self.view_is ∙ c.requires.1.1 in
     let place : c.args.slot < length c.self.inside.replies.items = slot_is_place c.self.inside c.self.invariant c.args.slot e there in

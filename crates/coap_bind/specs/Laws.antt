@@ -1,0 +1,57 @@
+-- Laws of the server, over all that it does from its beginning.
+use Rattle.std.specs.Prelude.{◌≡◌, ◌≤◌, ℕ, true, false, List, [], ◌∷◌, ◌++◌, length, Contains, All}
+use Rattle.coap_msg.specs.declared.endpoint.Endpoint.{Endpoint}
+use Rattle.coap_msg.specs.Grammar.{CoapMessage, Spells, spelling}
+use Rattle.coap_exchange.specs.Admission.{Arrival, is_repeat_of, admitted_among}
+use Rattle.coap_exchange.specs.Table.{StandsFor}
+use Rattle.thing_ops.specs.declared.outcome.Outcome.{Outcome}
+use Rattle.thing_ops.specs.declared.outcome.Outcome.TheVariants.{Started}
+use Rattle.coap_opts.specs.Reading.{PlainAsk}
+use Rattle.coap_bind.specs.declared.head.RequestHead.{RequestHead}
+use Rattle.coap_bind.specs.declared.head.OpenRequest.{OpenRequest}
+use Rattle.coap_bind.specs.declared.server.Server.{Server}
+use Rattle.coap_bind.specs.Writing.{reply_of, coap_reply}
+use Rattle.coap_bind.specs.Server.{start, is_request, arrival, Heard, asked, Hears, Answers}
+
+-- these are the requests of a datagram: one, if it is a request, and else none
+abbrev pub AreArrivals : Endpoint → List ℕ → ℕ → List Arrival → Type 0
+AreArrivals from bytes now [] = (m : CoapMessage) → Spells m bytes → is_request m ≡ false
+AreArrivals from bytes now (a ∷ []) = (m : CoapMessage) × Spells m bytes × (is_request m ≡ true) × (a ≡ arrival from now m)
+AreArrivals from bytes now (a ∷ b ∷ more) = ⊥
+
+-- What a server in which so many exchanges may live did so far: the requests that came, in their order, and what it holds now.
+pub data Did (capacity : ℕ) : List Arrival → Server → Type 0 where
+  nothing : Did capacity [] (start capacity)
+  -- a datagram came
+  heard_of : (history new : List Arrival) (s t : Server) (from : Endpoint) (bytes : List ℕ) (now : ℕ) (heard : Heard)
+      → Did capacity history s → s.exchanges.moment ≤ now → Hears from bytes now heard s t → AreArrivals from bytes now new
+      → Did capacity (history ++ new) t
+  -- a request was answered
+  answered : (history : List Arrival) (s t : Server) (request : OpenRequest) (o : Outcome) (bytes : List ℕ)
+      → Did capacity history s → Answers request o bytes s t → Did capacity history t
+
+-- The exchanges of a server are those of the admitted requests that live (RFC 7252, section 4.5).
+abbrev pub ExchangesAreOfTheHistory : Type 0
+ExchangesAreOfTheHistory =
+    (capacity : ℕ) (history : List Arrival) (s : Server) → Did capacity history s
+    → StandsFor s.exchanges history × (s.exchanges.capacity ≡ capacity)
+
+-- A repeat of a request that was admitted and lives asks for nothing (RFC 7252, section 4.5).
+abbrev pub RepeatsAskNothing : Type 0
+RepeatsAskNothing =
+    (capacity : ℕ) (history : List Arrival) (s t : Server) (from : Endpoint) (bytes : List ℕ) (now : ℕ) (m : CoapMessage) (earlier : Arrival)
+    → Did capacity history s → s.exchanges.moment ≤ now → Spells m bytes → Contains (admitted_among capacity history) earlier
+    → is_repeat_of (arrival from now m) earlier ≡ true
+    → (what : PlainAsk) (request : OpenRequest) → ¬ (Hears from bytes now (asked what request) s t)
+
+-- The place of what was started has at most four segments, each of at most 255 bytes (section 5.10), and its status at most
+-- 100 bytes.
+abbrev pub HasShortPlace : Outcome → Type 0
+HasShortPlace (Started place status) = (length place ≤ 4) × All (λ segment. length segment ≤ 255) place × (length status ≤ 100)
+HasShortPlace _ = Unit {0}
+
+-- A reply has at most 1,152 bytes (RFC 7252, section 4.6), unless the place of what was started is long.
+abbrev pub RepliesFit : Type 0
+RepliesFit =
+    (o : Outcome) (head : RequestHead) (next : ℕ) → length head.token ≤ 8 → HasShortPlace o
+    → length (spelling (coap_reply (reply_of o) head next)) ≤ 1152

@@ -1,0 +1,120 @@
+//! What a server holds, and what is done with each datagram.
+
+ghost use Rattle.std.specs.Prelude.{◌≡◌, ◌&&◌, nat_lt};
+ghost use Rattle.coap_bind.specs.Server.{may_ask};
+
+use crate::head::{OpenRequest, RequestHead};
+use crate::next::{CoapNext, Ticket};
+use crate::rejecting::{answer_unasked, put_again, reject};
+use crate::settled::Settled;
+use coap_exchange::{Exchanges, Met};
+use coap_msg::{Endpoint, Message, Type4, decode};
+use coap_opts::{AskFault, request_of};
+use std::alloc::Global;
+use thing_ops::Outcome;
+
+/// What a server holds. What is done to it is specs/Server.antt.
+#[derive(Drop)]
+pub struct Server {
+    /// The exchanges that live, with the replies that are kept.
+    pub exchanges: Exchanges,
+    /// The id of the next message that isn't an acknowledgement.
+    pub next_id: u16,
+}
+
+/// The code 5.03.
+const SERVICE_UNAVAILABLE: u8 = 32 * 5 + 3;
+
+/// The code 5.05.
+const PROXYING_NOT_SUPPORTED: u8 = 32 * 5 + 5;
+
+impl Server {
+    ghost use Rattle.std.specs.Prelude.{◌≡◌, ◌≤◌, ℕ, true, length, Some, option_map};
+    ghost use Rattle.coap_msg.specs.MessageOf.{message_of};
+    ghost use Rattle.coap_exchange.specs.Table.{Exchange, exchange_in, HasReply, IsAwaited};
+    ghost use Rattle.coap_bind.specs.Server.{is_request, again};
+    ghost use Rattle.coap_bind.specs.Telling.{TellsDone, SettlesOrAdmits, ReadsAs, TicketIsOpen};
+
+    /// Judges a datagram as far as that takes no memory.
+    pub fn settle<'a>(
+        &mut self,
+        from: Endpoint,
+        bytes: &'a [u8],
+        now: u64,
+        out: &mut [u8; 1152],
+    ) -> Settled<'a>
+        requires { self.old.exchanges.moment ≤ now }
+        ensures ok { SettlesOrAdmits from bytes.now now result out.old out.new self.old self.new }
+        ensures moment { self.new.exchanges.moment ≤ now }
+    {
+        let message = match decode(bytes) {
+            Ok(message) => message,
+            Err(_fault) => return Settled::Done(reject(bytes, out)),
+        };
+        if !is_request(message.kind, message.code) {
+            return Settled::Done(answer_unasked(message.kind, message.id, out));
+        }
+        match self.exchanges.meet(from, message.id, message.kind, now) {
+            Met::Fresh(slot) => Settled::Admitted(message, slot),
+            Met::Repeat(kept) => Settled::Done(self.repeat(message.kind, kept, out)),
+            Met::Full => {
+                let head = RequestHead::of(&message);
+                Settled::Done(Some(self.send(SERVICE_UNAVAILABLE, b"full", &head, out)))
+            }
+        }
+    }
+
+    /// Answers a repeat of an exchange by the reply in this slot, if it is answered: gives how many bytes are to be sent.
+    fn repeat(&self, kind: Type4, kept: Option<u32>, out: &mut [u8; 1152]) -> Option<usize>
+        requires { (slot : ℕ) → kept ≡ Some slot → HasReply slot self.now.exchanges }
+        ensures { (e : Exchange) → exchange_in e.slot self.now.exchanges ≡ Some e → kept ≡ option_map (λ _. e.slot) e.reply →
+            TellsDone (again kind e.reply) result out.old out.new }
+    {
+        match kind {
+            Type4::Con => match kept {
+                Some(slot) => Some(put_again(self.exchanges.reply(slot), out)),
+                None => None,
+            },
+            Type4::Non | Type4::Ack | Type4::Rst => None,
+        }
+    }
+
+    /// Reads a request that was admitted and got this slot.
+    pub fn read<'a>(
+        &mut self,
+        alloc: Global,
+        message: &Message<'a>,
+        slot: u32,
+        out: &mut [u8; 1152],
+    ) -> CoapNext<'a>
+        requires request { is_request (message_of message.now) ≡ true }
+        requires token { length message.now.token.now ≤ 8 }
+        requires slot { IsAwaited slot self.old.exchanges }
+        ensures ok { ReadsAs (message_of message.now) slot result out.old out.new self.old self.new }
+        ensures ticket { TicketIsOpen result self.new }
+        ensures moment { self.new.exchanges.moment ≡ self.old.exchanges.moment }
+    {
+        let request = OpenRequest {
+            head: RequestHead::of(message),
+            slot,
+        };
+        match request_of(alloc, message) {
+            Ok(ask) => CoapNext::Ask(ask, Ticket::of(request)),
+            Err(AskFault::BadOption(number)) => self.refuse_option(&request, number, out),
+            Err(AskFault::Proxy) => {
+                CoapNext::Send(self.refuse(&request, PROXYING_NOT_SUPPORTED, b"proxy", out))
+            }
+            Err(AskFault::NoMemory) => CoapNext::Send(self.answer(&request, &Outcome::Memory, out)),
+        }
+    }
+}
+
+/// Whether a message of this type and code is a request.
+fn is_request(kind: Type4, code: u8) -> bool
+    ensures { result ≡ (may_ask kind && (nat_lt 0 code && nat_lt code 32)) }
+{
+    match kind {
+        Type4::Con | Type4::Non => code > 0 && code < 32,
+        Type4::Ack | Type4::Rst => false,
+    }
+}

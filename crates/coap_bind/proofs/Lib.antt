@@ -1,1 +1,5 @@
+pub mod HistoryLaws
+pub mod LengthLaws
 pub mod OptionParts
+pub mod ReadingLaws
+pub mod TellingLaws

@@ -19,7 +19,6 @@ use Rattle.thing_ops.specs.declared.outcome.Outcome.{Outcome}
 use Rattle.thing_ops.specs.declared.outcome.Outcome.TheVariants.{Memory}
 use Rattle.coap_opts.specs.Reading.{PlainAsk, faults_of, asked as what_is_asked}
 use Rattle.coap_opts.specs.declared.fault.AskFault.TheVariants.{BadOption, Proxy}
-use Rattle.coap_bind.specs.declared.head.RequestHead.{RequestHead}
 use Rattle.coap_bind.specs.declared.head.OpenRequest.{OpenRequest}
 use Rattle.coap_bind.specs.declared.server.Server.{Server}
 use Rattle.coap_bind.specs.Writing.{Reply, full_reply, proxy_reply, option_reply, reply_of, head_of, coap_reply, reset}

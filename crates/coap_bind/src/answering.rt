@@ -82,13 +82,7 @@ impl Server {
     }
 
     /// Writes a reply that is a word, which isn't kept, and returns how many bytes are to be sent.
-    pub fn send(
-        &mut self,
-        code: u8,
-        word: &[u8],
-        head: &RequestHead,
-        out: &mut [u8; 1152],
-    ) -> usize
+    pub fn send(&mut self, code: u8, word: &[u8], head: &RequestHead, out: &mut [u8; 1152]) -> usize
         requires code { (code / 32 ≡ 4) ⊎ (code / 32 ≡ 5) }
         requires word { length word.now ≤ 64 }
         ensures bytes { IsWritten (spelling (coap_reply (word_reply code word.now) head.now self.old.next_id)) result out.old out.new }

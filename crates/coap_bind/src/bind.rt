@@ -2,10 +2,10 @@
 
 ghost use Rattle.std.specs.Prelude.{IfOk};
 
+use crate::NoMemory;
 use crate::next::{CoapNext, Ticket};
 use crate::server::Server;
 use crate::settled::Settled;
-use crate::NoMemory;
 use coap_exchange::Exchanges;
 use coap_msg::Endpoint;
 use std::alloc::Global;

@@ -1,4 +1,4 @@
-//! Tests of what the crates of the bindings offer: CoAP messages, what they ask for, and exchanges; HTTP requests at the
+//! Tests of what the crates of the bindings offer: CoAP messages, what they ask for, exchanges, and the server; HTTP requests at the
 //! front of a stream, their targets and bodies, and the heads of replies.
 #![tactic(auto)]
 
@@ -16,5 +16,7 @@ mod messages;
 mod options;
 #[cfg(test)]
 mod replies;
+#[cfg(test)]
+mod server;
 #[cfg(test)]
 mod targets;

@@ -32,10 +32,11 @@ impl Model for CoapBind {
 impl CoapBind {
     ghost use Rattle.std.specs.Prelude.{◌≡◌, ◌≤◌, ◌⊎◌, length, IfOk};
     ghost use Rattle.coap_msg.specs.Grammar.{spelling};
+    ghost use Rattle.coap_exchange.specs.Table.{IsAwaited};
     ghost use Rattle.thing_ops.specs.Outcomes.{HasCode};
     ghost use Rattle.coap_bind.specs.Writing.{reply_of, coap_reply};
     ghost use Rattle.coap_bind.specs.Server.{start};
-    ghost use Rattle.coap_bind.specs.Telling.{HearsAs, SettlesAs, IsAdmitted, TicketIsOpen, MayAnswer, RepliesAs};
+    ghost use Rattle.coap_bind.specs.Telling.{HearsAs, SettlesAs, IsAdmitted, TicketIsOpen, RepliesAs};
 
     /// A server in which so many exchanges may live. The memory of its exchanges is taken here.
     pub fn new(alloc: Global, exchanges: u32) -> Result<CoapBind, NoMemory>
@@ -83,7 +84,7 @@ impl CoapBind {
     /// Answers what was asked: the reply is written to the beginning of `out`, is to be sent to where the request came from, and
     /// has as many bytes as are returned. It takes no memory.
     pub fn answer(&mut self, ticket: Ticket, outcome: &Outcome, out: &mut [u8; 1152]) -> usize
-        requires ticket { MayAnswer ticket self.old }
+        requires ticket { IsAwaited ticket.slot self.old.exchanges }
         requires code { HasCode outcome.now }
         requires room { length (spelling (coap_reply (reply_of outcome.now) ticket.head self.old.next_id)) ≤ 1152 }
         ensures ok { RepliesAs (reply_of outcome.now) ticket result out.old out.new self.old self.new }

@@ -13,14 +13,12 @@ use thing_ops::Outcome;
 const BAD_OPTION: u8 = 32 * 4 + 2;
 
 impl Server {
-    ghost use Rattle.std.specs.Prelude.{◌≡◌, ◌≤◌, ◌/◌, ◌⊎◌, ℕ, length, take, Some, codes, ◌++◌};
-    ghost use Rattle.std.specs.Fmt.{decimal};
+    ghost use Rattle.std.specs.Prelude.{◌≡◌, ◌≤◌, ◌/◌, ◌⊎◌, length};
     ghost use Rattle.coap_msg.specs.Grammar.{spelling};
-    ghost use Rattle.coap_msg.specs.declared.message.Type4.TheVariants.{Con, Non};
     ghost use Rattle.coap_exchange.specs.Table.{IsAwaited};
     ghost use Rattle.thing_ops.specs.Outcomes.{HasCode};
-    ghost use Rattle.coap_bind.specs.Writing.{word_reply, option_reply, reply_of, coap_reply};
-    ghost use Rattle.coap_bind.specs.Server.{with_id_used, with_kept, Replies};
+    ghost use Rattle.coap_bind.specs.Writing.{word_reply, reply_of, coap_reply};
+    ghost use Rattle.coap_bind.specs.Server.{with_id_used, with_kept};
     ghost use Rattle.coap_bind.specs.Telling.{IsWritten, RepliesAs, RefusesOption};
 
     /// Answers a request with an outcome, and returns how many bytes are to be sent.

@@ -1,7 +1,5 @@
 //! The server.
 
-ghost use Rattle.std.specs.Prelude.{IfOk};
-
 use crate::NoMemory;
 use crate::next::{CoapNext, Ticket};
 use crate::server::Server;

@@ -1,6 +1,6 @@
 //! What is sent back to what is no request, and to repeats.
 
-ghost use Rattle.std.specs.Prelude.{◌≡◌, ◌≤◌, length};
+ghost use Rattle.std.specs.Prelude.{◌≤◌, length};
 ghost use Rattle.coap_msg.specs.Grammar.{spelling};
 ghost use Rattle.coap_bind.specs.Writing.{reset};
 ghost use Rattle.coap_bind.specs.Server.{rejected, unasked};

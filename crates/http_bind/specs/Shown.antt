@@ -1,0 +1,37 @@
+-- What is found at the front of one connection, and what taking it leaves.
+use Rattle.std.specs.Prelude.{◌≡◌, ℕ, Bool, true, false, length, drop, Option, Some, None, if◌then◌else◌}
+use Rattle.std.specs.Prelude.{List}
+use Rattle.http_wire.specs.Heads.{skipped}
+use Rattle.http_bind.specs.declared.looking.Found.{Found}
+use Rattle.http_bind.specs.declared.looking.Found.TheVariants as seen
+use Rattle.http_bind.specs.Looking.{Shows, IsWithin}
+use Rattle.http_bind.specs.Slots.{Held, without_pairs}
+
+-- what was found at the front of a connection; nothing, where it isn't open
+abbrev pub ShowsIfOpen : Option Held → Found → List ℕ → Type 0
+ShowsIfOpen None what room = what ≡ seen.Nothing
+ShowsIfOpen (Some h) what room = Shows h.continued h.rest what room
+
+-- a message that was found has no more bytes than are held
+abbrev pub MayPass : Found → Option Held → Type 0
+MayPass what None = Unit {0}
+MayPass what (Some h) = IsWithin (length h.rest) what
+
+-- what is held after this was taken
+abbrev pub after_finding : Found → Held → Held
+after_finding seen.Nothing h = h
+after_finding seen.Continue h = record h { continued = true }
+after_finding (seen.Fault status) h = h
+after_finding (seen.Message step parts) h = record h { rest = drop step.used h.rest; continued = false; bodiless = step.bodiless; closes = step.closes }
+
+-- what is at the front, behind CR LF pairs, was found and taken
+abbrev pub Passes : Option Held → Found → Option Held → List ℕ → Type 0
+Passes None what after room = (what ≡ seen.Nothing) × (after ≡ None)
+Passes (Some h) what after room = Shows h.continued (skipped h.rest) what room × (after ≡ Some (after_finding what (without_pairs h)))
+
+-- the message taken last is replied to: whether the reply has no payload and whether the connection is closed is said,
+-- and it is activity
+abbrev pub Answers : ℕ → Option Held → Bool × Bool → Option Held → Type 0
+Answers now None said after = after ≡ None
+Answers now (Some h) said after =
+    (said.0 ≡ h.bodiless) × (said.1 ≡ h.closes) × (after ≡ (if h.closes then None else Some (record h { active = now })))

@@ -1,0 +1,212 @@
+//! What is at the front of the bytes that are held, with the request that it asks for.
+
+ghost use Rattle.std.specs.Prelude.{◌≡◌, ◌≤◌, ◌+◌, ◌-◌, ◌⊎◌, length, take, drop, Some, None, IfOk, IfErr, IsSome};
+ghost use Rattle.http_wire.specs.Heads.{skipped};
+ghost use Rattle.http_wire.specs.Judging.{longest_body};
+ghost use Rattle.http_wire.specs.Stream.{longest_head};
+ghost use Rattle.http_wire.specs.Reading.{verb_of as verb_named, asked};
+ghost use Rattle.http_wire.specs.Scanned.{plain_head};
+ghost use Rattle.http_wire.specs.declared.target.TargetFault.TheVariants.{BadTarget, NoMemory as no_memory};
+ghost use Rattle.http_bind.specs.Looking.{room_size, request_in, Shows, ShowsMessage, IsWithin};
+
+use http_wire::{Body, Head, Scanned, TargetFault, scan, segments};
+use std::alloc::Global;
+use thing_ops::{Accept, Format, Request, Segments, Verb};
+
+/// The parts of a request, but for its query and its body, which lie in a buffer, one after the other.
+#[derive(Drop)]
+pub struct Parts {
+    /// Its verb.
+    pub verb: Verb,
+    /// Its path.
+    pub path: Segments,
+    /// What its sender takes.
+    pub accept: Accept,
+    /// The format of its body.
+    pub format: Format,
+    /// How many bytes its query has.
+    pub query_length: usize,
+    /// How many bytes its body has.
+    pub body_length: usize,
+}
+
+/// What taking a message does to its connection.
+#[derive(Clone, Copy, Drop)]
+pub struct Step {
+    /// How many bytes the message has.
+    pub used: usize,
+    /// It is a HEAD request.
+    pub bodiless: bool,
+    /// It asks that the connection be closed.
+    pub closes: bool,
+}
+
+/// What is at the front of the bytes that are held.
+#[derive(Drop)]
+pub enum Found {
+    /// Nothing that can be taken.
+    Nothing,
+    /// A message that asks for a 100 reply, which wasn't sent.
+    Continue,
+    /// A fault with this status.
+    Fault(u16),
+    /// A request, if there is memory for its path.
+    Message(Step, Option<Parts>),
+}
+
+/// The bytes after the CR LF pairs in front.
+pub fn without_pairs(bytes: &[u8]) -> &[u8]
+    ensures ok { result.now ≡ skipped bytes.now }
+    ensures bound { length result.now ≤ length bytes.now }
+    ensures end { result.now ≡ drop (length bytes.now - length result.now) bytes.now }
+{
+    let mut rest = bytes;
+    while let [b'\r', b'\n', after @ ..] = rest {
+        rest = after;
+    }
+    rest
+}
+
+/// What is at the front of these bytes, where the 100 reply was sent or wasn't. The query and the body of a request are
+/// written into `room`.
+pub fn look(alloc: Global, bytes: &[u8], continued: bool, room: &mut [u8]) -> Found
+    requires { length room.old ≡ room_size }
+    ensures shows { Shows continued bytes.now result room.new }
+    ensures within { IsWithin (length bytes.now) result }
+{
+    match scan(bytes) {
+        Scanned::Short { expect } => {
+            if expect && !continued {
+                Found::Continue
+            } else {
+                Found::Nothing
+            }
+        }
+        Scanned::Fault { status, expect } => {
+            if expect && !continued {
+                Found::Continue
+            } else {
+                Found::Fault(status)
+            }
+        }
+        Scanned::Whole {
+            head,
+            body,
+            used,
+            expect,
+        } => {
+            if expect && !continued {
+                Found::Continue
+            } else {
+                look_at_message(alloc, &head, &body, used, room)
+            }
+        }
+    }
+}
+
+/// What a whole message of this many bytes is taken for.
+fn look_at_message(
+    alloc: Global,
+    head: &Head<'_>,
+    body: &Body<'_>,
+    used: usize,
+    room: &mut [u8],
+) -> Found
+    requires room { length room.old ≡ room_size }
+    requires target { length head.now.target.now ≤ longest_head }
+    requires body { length body.now ≤ longest_body }
+    ensures { ShowsMessage (plain_head head.now) body.now used result room.new }
+{
+    let step = Step {
+        used,
+        bodiless: verb_of(head.method) == Verb::Head,
+        closes: head.close,
+    };
+    match read(alloc, head, body, room) {
+        Ok(parts) => Found::Message(step, Some(parts)),
+        Err(TargetFault::BadTarget) => Found::Fault(400),
+        Err(TargetFault::NoMemory) => Found::Message(step, None),
+    }
+}
+
+/// Reads a request, whose query and body are written into `room`.
+fn read(
+    alloc: Global,
+    head: &Head<'_>,
+    body: &Body<'_>,
+    room: &mut [u8],
+) -> Result<Parts, TargetFault>
+    requires room { length room.old ≡ room_size }
+    requires target { length head.now.target.now ≤ longest_head }
+    requires body { length body.now ≤ longest_body }
+    ensures ok { IfOk result (λ p. asked (plain_head head.now) body.now ≡ Some (request_in p room.new)) }
+    ensures fault { IfErr result (λ e. ((e ≡ BadTarget) × (asked (plain_head head.now) body.now ≡ None))
+        ⊎ ((e ≡ no_memory) × IsSome (asked (plain_head head.now) body.now))) }
+{
+    let (path, place) = segments(alloc, head.target)?;
+    let (query_length, body_length) = lay_out(&head.target[place..], body, room);
+    Ok(Parts {
+        verb: verb_of(head.method),
+        path,
+        accept: head.accept,
+        format: head.format,
+        query_length,
+        body_length,
+    })
+}
+
+/// Writes a query and the body after it to the beginning of `room`, and returns their lengths.
+fn lay_out(query: &[u8], body: &Body<'_>, room: &mut [u8]) -> (usize, usize)
+    requires room { length query.now + length body.now ≤ length room.old }
+    ensures query { take result.0 room.new ≡ query.now }
+    ensures body { take result.1 (drop result.0 room.new) ≡ body.now }
+{
+    let place = query.len();
+    room[..place].copy_from_slice(query);
+    body.copy_to(&mut room[place..place + body.length()]);
+    (place, body.length())
+}
+
+/// The verb of a method.
+fn verb_of(method: &[u8]) -> Verb
+    ensures { result ≡ verb_named method.now }
+{
+    match method {
+        b"GET" => Verb::Get,
+        b"HEAD" => Verb::Head,
+        b"PUT" => Verb::Put,
+        b"POST" => Verb::Post,
+        b"PATCH" => Verb::Patch,
+        b"DELETE" => Verb::Delete,
+        _ => Verb::Other,
+    }
+}
+
+impl Parts {
+    ghost use Rattle.http_bind.specs.Looking.{request_in};
+    ghost use Rattle.thing_ops.specs.Requests.{plain_request};
+
+    /// The request with its query and body, which lie at the beginning of `room`.
+    pub fn request_in(self, room: &[u8]) -> Request<'_>
+        requires { self.query_length + self.body_length ≤ length room.now }
+        ensures { plain_request result ≡ request_in self room.now }
+    {
+        let Parts {
+            verb,
+            path,
+            accept,
+            format,
+            query_length,
+            body_length,
+        } = self;
+        let (query, behind) = room.split_at(query_length);
+        Request {
+            verb,
+            path,
+            query,
+            accept,
+            format,
+            body: &behind[..body_length],
+        }
+    }
+}

@@ -1,0 +1,5 @@
+pub mod Skipping
+pub mod FrontsBehindPairs
+pub mod Holding
+pub mod Standing
+pub mod Calls

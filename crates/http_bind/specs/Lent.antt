@@ -1,7 +1,7 @@
 -- What `next` gives, and what is held once the request that it lends has been given back.
-use Rattle.std.specs.Prelude.{◌≡◌, ℕ, Option, Some, None, IsSome}
-use Rattle.std.specs.Borrow.{MutBor, Fml}
-use Rattle.std.specs.Io.BufRead.{Rests}
+use Rattle.std.specs.Prelude.{◌≡◌, ℕ, ⊤, Option, Some, None, IsSome}
+use Rattle.std.specs.Borrow.{MutBor, Fml, follows_so}
+use mathlib.Core.Option.{none}
 use Rattle.thing_ops.specs.Requests.{PlainRequest, plain_request}
 use Rattle.http_bind.specs.declared.next.HttpNext.{HttpNext}
 use Rattle.http_bind.specs.declared.next.HttpNext.TheVariants as next
@@ -29,4 +29,4 @@ Gives c next.Memory b d = (request : PlainRequest) × AsksFor c request b d
 
 -- What is held once nothing is lent any more.
 abbrev pub Ends : MutBor Slots → ℕ → HttpNext → Fml
-Ends s c r = Rests the_row s (λ d. Gives c r s.now d × OthersStay c s.now d)
+Ends s c r = follows_so the_row the_row s.ghost_name none (λ _ _. ⊤) (λ d. Gives c r s.now d × OthersStay c s.now d)

@@ -5,7 +5,7 @@ use Rattle.http_wire.specs.Heads.{skipped}
 use Rattle.http_bind.specs.declared.looking.Found.{Found}
 use Rattle.http_bind.specs.declared.looking.Found.TheVariants as seen
 use Rattle.http_bind.specs.Looking.{Shows, IsWithin}
-use Rattle.http_bind.specs.Slots.{Held, without_pairs}
+use Rattle.http_bind.specs.Slots.{Held, Slots, held_at, with_held, without_pairs}
 
 -- what was found at the front of a connection; nothing, where it isn't open
 abbrev pub ShowsIfOpen : Option Held → Found → List ℕ → Type 0
@@ -35,3 +35,7 @@ abbrev pub Answers : ℕ → Option Held → Bool × Bool → Option Held → Ty
 Answers now None said after = after ≡ None
 Answers now (Some h) said after =
     (said.0 ≡ h.bodiless) × (said.1 ≡ h.closes) × (after ≡ (if h.closes then None else Some (record h { active = now })))
+
+-- what was found at the front of a connection was taken from it, and all others are as they were
+abbrev pub TakesAt : ℕ → Slots → Found → Slots → Type 0
+TakesAt c b what d = (x : Option Held) × (room : List ℕ) × Passes (held_at c b) what x room × (d ≡ with_held c x b)

@@ -47,6 +47,7 @@ impl HttpBind {
     ghost use Rattle.http_bind.specs.Streams.{Streams, Opened, Ended, Lengthened, Replies, Refuses, IsIdle, NoneIdle, none_open};
     ghost use Rattle.http_bind.specs.Slots.{StandsFor, Leads, OthersStay, HasRoom, IsBounded, IsOpen, IsAskedBy, longest_piece};
     ghost use Rattle.http_bind.specs.Lent.{Ends};
+    ghost use Rattle.http_bind.specs.Shown.{TakesAt};
 
     /// No connection is open. All memory but that for paths is taken here.
     pub fn new(alloc: Global) -> Result<HttpBind, NoMemory>
@@ -94,7 +95,22 @@ impl HttpBind {
         requires { c < 64 }
         ensures* ends { sem 𝓛 (Ends self.entry c result) }
     {
-        match self.slots[c as usize].next(self.alloc, self.room.as_mut_slice()) {
+        let found = self.take(c);
+        self.lend(found)
+    }
+
+    /// Takes what is at the front of a connection.
+    fn take(&mut self, c: u32) -> Found
+        requires { c < 64 }
+        ensures { TakesAt c self.old result self.new }
+    {
+        self.slots[c as usize].next(self.alloc, self.room.as_mut_slice())
+    }
+
+    /// What was found, with the query and the body of a request lent.
+    fn lend(&self, found: Found) -> HttpNext<'_>
+    {
+        match found {
             Found::Nothing => HttpNext::Idle,
             Found::Continue => HttpNext::Continue,
             Found::Fault(status) => HttpNext::Refuse(status),

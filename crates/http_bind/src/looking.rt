@@ -1,6 +1,7 @@
 //! What is at the front of the bytes that are held, with the request that it asks for.
 
 ghost use Rattle.std.specs.Prelude.{◌≡◌, ◌≤◌, ◌+◌, ◌-◌, ◌⊎◌, length, take, drop, Some, None, IfOk, IfErr, IsSome};
+ghost use Rattle.std.specs.Str.{bytes_eq};
 ghost use Rattle.http_wire.specs.Heads.{skipped};
 ghost use Rattle.http_wire.specs.Judging.{longest_body};
 ghost use Rattle.http_wire.specs.Stream.{longest_head};
@@ -56,9 +57,7 @@ pub enum Found {
 
 /// The bytes after the CR LF pairs in front.
 pub fn without_pairs(bytes: &[u8]) -> &[u8]
-    ensures ok { result.now ≡ skipped bytes.now }
-    ensures bound { length result.now ≤ length bytes.now }
-    ensures end { result.now ≡ drop (length bytes.now - length result.now) bytes.now }
+    ensures { result.now ≡ skipped bytes.now }
 {
     let mut rest = bytes;
     while let [b'\r', b'\n', after @ ..] = rest {
@@ -171,15 +170,28 @@ fn lay_out(query: &[u8], body: &Body<'_>, room: &mut [u8]) -> (usize, usize)
 fn verb_of(method: &[u8]) -> Verb
     ensures { result ≡ verb_named method.now }
 {
-    match method {
-        b"GET" => Verb::Get,
-        b"HEAD" => Verb::Head,
-        b"PUT" => Verb::Put,
-        b"POST" => Verb::Post,
-        b"PATCH" => Verb::Patch,
-        b"DELETE" => Verb::Delete,
-        _ => Verb::Other,
+    if is(method, b"GET") {
+        Verb::Get
+    } else if is(method, b"HEAD") {
+        Verb::Head
+    } else if is(method, b"PUT") {
+        Verb::Put
+    } else if is(method, b"POST") {
+        Verb::Post
+    } else if is(method, b"PATCH") {
+        Verb::Patch
+    } else if is(method, b"DELETE") {
+        Verb::Delete
+    } else {
+        Verb::Other
     }
+}
+
+/// Whether a method has this name.
+fn is(method: &[u8], name: &[u8]) -> bool
+    ensures { result ≡ bytes_eq method.now name.now }
+{
+    method == name
 }
 
 impl Parts {

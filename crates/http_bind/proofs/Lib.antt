@@ -2,4 +2,8 @@ pub mod Skipping
 pub mod FrontsBehindPairs
 pub mod Holding
 pub mod Standing
+pub mod ShortFronts
+pub mod FaultWords
+pub mod Messages
+pub mod SlotViews
 pub mod Calls

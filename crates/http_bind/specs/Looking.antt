@@ -31,6 +31,10 @@ pub record AreParts (q : PlainRequest) (room : List ℕ) (p : Parts) : Type 0 wh
   pub request : request_in p room ≡ q
   pub within : p.query_length + p.body_length ≤ room_size
 
+-- the parts are those of the request of this message
+abbrev pub IsRead : PlainHead → List ℕ → List ℕ → Parts → Type 0
+IsRead h body room p = (q : PlainRequest) × (asked h body ≡ Some q) × AreParts q room p
+
 -- a step takes the message at a front, which asks for this
 pub record IsStep (f : Front) (q : PlainRequest) (step : Step) : Type 0 where
   pub used : step.used ≡ bytes_used f

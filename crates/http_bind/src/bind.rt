@@ -3,6 +3,8 @@
 ghost use Rattle.std.specs.Prelude.{◌≡◌, ◌≤◌, ◌<◌, ◌++◌, ◌⊎◌, ℕ, length, Some, None, IfOk, IsSome};
 ghost use Rattle.thing_ops.specs.Requests.{PlainRequest};
 ghost use Rattle.http_bind.specs.Slots.{nothing_held};
+ghost use Rattle.http_bind.specs.Looking.{room_size};
+ghost use Rattle.http_bind.specs.Shown.{TakesAt, MayLend, Lends};
 
 use crate::looking::Found;
 use crate::slot::Slot;
@@ -47,7 +49,6 @@ impl HttpBind {
     ghost use Rattle.http_bind.specs.Streams.{Streams, Opened, Ended, Lengthened, Replies, Refuses, IsIdle, NoneIdle, none_open};
     ghost use Rattle.http_bind.specs.Slots.{StandsFor, Leads, OthersStay, HasRoom, IsBounded, IsOpen, IsAskedBy, longest_piece};
     ghost use Rattle.http_bind.specs.Lent.{Ends};
-    ghost use Rattle.http_bind.specs.Shown.{TakesAt};
 
     /// No connection is open. All memory but that for paths is taken here.
     pub fn new(alloc: Global) -> Result<HttpBind, NoMemory>
@@ -95,30 +96,8 @@ impl HttpBind {
         requires { c < 64 }
         ensures* ends { sem 𝓛 (Ends self.entry c result) }
     {
-        let found = self.take(c);
-        self.lend(found)
-    }
-
-    /// Takes what is at the front of a connection.
-    fn take(&mut self, c: u32) -> Found
-        requires { c < 64 }
-        ensures { TakesAt c self.old result self.new }
-    {
-        self.slots[c as usize].next(self.alloc, self.room.as_mut_slice())
-    }
-
-    /// What was found, with the query and the body of a request lent.
-    fn lend(&self, found: Found) -> HttpNext<'_>
-    {
-        match found {
-            Found::Nothing => HttpNext::Idle,
-            Found::Continue => HttpNext::Continue,
-            Found::Fault(status) => HttpNext::Refuse(status),
-            Found::Message(_, None) => HttpNext::Memory,
-            Found::Message(_, Some(parts)) => {
-                HttpNext::Ask(parts.request_in(self.room.as_slice()))
-            }
-        }
+        let found = take(&mut self.slots, c, self.alloc, self.room.as_mut_slice());
+        lend(found, self.room.as_slice())
     }
 
     /// The reply to the message that was taken last from a connection. Its head is in `out`; its payload is the outcome's
@@ -198,4 +177,27 @@ fn free_slots(alloc: Global) -> Result<Vec<Slot>, NoMemory>
         slots.push(Slot::new(alloc)?)?;
     }
     Ok(slots)
+}
+
+/// Takes what is at the front of a connection. The query and the body of a request are written into `room`.
+fn take(slots: &mut Vec<Slot>, c: u32, alloc: Global, room: &mut [u8]) -> Found
+    requires connection { c < length slots.old.items }
+    requires room { length room.old ≡ room_size }
+    ensures { TakesAt c slots.old.items result slots.new.items room.new }
+{
+    slots[c as usize].next(alloc, room)
+}
+
+/// What was found, with the query and the body of a request, which lie in `room`.
+fn lend(found: Found, room: &[u8]) -> HttpNext<'_>
+    requires { MayLend found room.now }
+    ensures { Lends found room.now result }
+{
+    match found {
+        Found::Nothing => HttpNext::Idle,
+        Found::Continue => HttpNext::Continue,
+        Found::Fault(status) => HttpNext::Refuse(status),
+        Found::Message(_, None) => HttpNext::Memory,
+        Found::Message(_, Some(parts)) => HttpNext::Ask(parts.request_in(room)),
+    }
 }

@@ -1,14 +1,16 @@
 //! What is at the front of the bytes that are held, with the request that it asks for.
 
-ghost use Rattle.std.specs.Prelude.{◌≡◌, ◌≤◌, ◌+◌, ◌-◌, ◌⊎◌, length, take, drop, Some, None, IfOk, IfErr, IsSome};
+ghost use Rattle.std.specs.Prelude.{◌≡◌, ◌≤◌, ◌+◌, ◌⊎◌, ◌&&◌, not, length, take, drop, None, IfOk, IfErr, IsSome};
 ghost use Rattle.std.specs.Str.{bytes_eq};
 ghost use Rattle.http_wire.specs.Heads.{skipped};
 ghost use Rattle.http_wire.specs.Judging.{longest_body};
 ghost use Rattle.http_wire.specs.Stream.{longest_head};
 ghost use Rattle.http_wire.specs.Reading.{verb_of as verb_named, asked};
-ghost use Rattle.http_wire.specs.Scanned.{plain_head};
+ghost use Rattle.http_wire.specs.Scanned.{plain_head, front_of};
 ghost use Rattle.http_wire.specs.declared.target.TargetFault.TheVariants.{BadTarget, NoMemory as no_memory};
-ghost use Rattle.http_bind.specs.Looking.{room_size, request_in, Shows, ShowsMessage, IsWithin};
+ghost use Rattle.http_bind.specs.Replying.{is_head as is_head_verb};
+ghost use Rattle.http_bind.specs.Streams.{expected};
+ghost use Rattle.http_bind.specs.Looking.{room_size, request_in, Shows, ShowsMessage, IsWithin, IsRead};
 
 use http_wire::{Body, Head, Scanned, TargetFault, scan, segments};
 use std::alloc::Global;
@@ -73,33 +75,35 @@ pub fn look(alloc: Global, bytes: &[u8], continued: bool, room: &mut [u8]) -> Fo
     ensures shows { Shows continued bytes.now result room.new }
     ensures within { IsWithin (length bytes.now) result }
 {
-    match scan(bytes) {
-        Scanned::Short { expect } => {
-            if expect && !continued {
-                Found::Continue
-            } else {
-                Found::Nothing
-            }
-        }
-        Scanned::Fault { status, expect } => {
-            if expect && !continued {
-                Found::Continue
-            } else {
-                Found::Fault(status)
-            }
-        }
+    let scanned = scan(bytes);
+    if wants_continue(&scanned, continued) {
+        return Found::Continue;
+    }
+    match scanned {
+        Scanned::Short { expect: _ } => Found::Nothing,
+        Scanned::Fault { status, expect: _ } => Found::Fault(status),
         Scanned::Whole {
             head,
             body,
             used,
+            expect: _,
+        } => look_at_message(alloc, &head, &body, used, room),
+    }
+}
+
+/// Whether the 100 reply is to be sent.
+fn wants_continue(scanned: &Scanned<'_>, continued: bool) -> bool
+    ensures { result ≡ (expected (front_of scanned.now) && not continued) }
+{
+    match scanned {
+        Scanned::Short { expect }
+        | Scanned::Fault { status: _, expect }
+        | Scanned::Whole {
+            head: _,
+            body: _,
+            used: _,
             expect,
-        } => {
-            if expect && !continued {
-                Found::Continue
-            } else {
-                look_at_message(alloc, &head, &body, used, room)
-            }
-        }
+        } => *expect && !continued,
     }
 }
 
@@ -118,7 +122,7 @@ fn look_at_message(
 {
     let step = Step {
         used,
-        bodiless: verb_of(head.method) == Verb::Head,
+        bodiless: is_head(verb_of(head.method)),
         closes: head.close,
     };
     match read(alloc, head, body, room) {
@@ -138,7 +142,7 @@ fn read(
     requires room { length room.old ≡ room_size }
     requires target { length head.now.target.now ≤ longest_head }
     requires body { length body.now ≤ longest_body }
-    ensures ok { IfOk result (λ p. asked (plain_head head.now) body.now ≡ Some (request_in p room.new)) }
+    ensures ok { IfOk result (λ p. IsRead (plain_head head.now) body.now room.new p) }
     ensures fault { IfErr result (λ e. ((e ≡ BadTarget) × (asked (plain_head head.now) body.now ≡ None))
         ⊎ ((e ≡ no_memory) × IsSome (asked (plain_head head.now) body.now))) }
 {
@@ -159,6 +163,7 @@ fn lay_out(query: &[u8], body: &Body<'_>, room: &mut [u8]) -> (usize, usize)
     requires room { length query.now + length body.now ≤ length room.old }
     ensures query { take result.0 room.new ≡ query.now }
     ensures body { take result.1 (drop result.0 room.new) ≡ body.now }
+    ensures within { result.0 + result.1 ≤ length room.old }
 {
     let place = query.len();
     room[..place].copy_from_slice(query);
@@ -187,6 +192,13 @@ fn verb_of(method: &[u8]) -> Verb
     }
 }
 
+/// Whether a verb is HEAD.
+fn is_head(verb: Verb) -> bool
+    ensures { result ≡ is_head_verb verb }
+{
+    matches!(verb, Verb::Head)
+}
+
 /// Whether a method has this name.
 fn is(method: &[u8], name: &[u8]) -> bool
     ensures { result ≡ bytes_eq method.now name.now }
@@ -195,7 +207,6 @@ fn is(method: &[u8], name: &[u8]) -> bool
 }
 
 impl Parts {
-    ghost use Rattle.http_bind.specs.Looking.{request_in};
     ghost use Rattle.thing_ops.specs.Requests.{plain_request};
 
     /// The request with its query and body, which lie at the beginning of `room`.

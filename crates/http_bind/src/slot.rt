@@ -116,7 +116,7 @@ impl Slot {
     fn skip_pairs(&mut self)
         ensures { self.new ≡ option_map without_pairs self.old }
     {
-        let rest = without_pairs(&self.bytes[self.start..]).len();
+        let rest = without_pairs(behind(&self.bytes, self.start)).len();
         self.start = self.bytes.len() - rest;
     }
 
@@ -128,7 +128,7 @@ impl Slot {
     {
         match self.state {
             None => Found::Nothing,
-            Some(state) => look(alloc, &self.bytes[self.start..], state.continued, room),
+            Some(state) => look(alloc, behind(&self.bytes, self.start), state.continued, room),
         }
     }
 
@@ -189,6 +189,14 @@ impl Slot {
             Some(state) => now.saturating_sub(state.active) >= IDLE_AFTER,
         }
     }
+}
+
+/// The bytes from a place on.
+fn behind(bytes: &[u8], place: usize) -> &[u8]
+    requires { place ≤ length bytes.now }
+    ensures { result.now ≡ drop place bytes.now }
+{
+    &bytes[place..]
 }
 
 /// Moves the bytes from a place on to the front, and gives up those before it.

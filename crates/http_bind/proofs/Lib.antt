@@ -7,3 +7,4 @@ pub mod FaultWords
 pub mod Messages
 pub mod SlotViews
 pub mod Calls
+pub mod Giving

@@ -6,7 +6,7 @@ use Rattle.http_wire.specs.declared.framing.Framing.{Framing}
 use Rattle.http_wire.specs.declared.framing.Framing.TheVariants as framing
 use Rattle.http_wire.specs.declared.chunks.Chunk.{Chunk}
 use Rattle.http_wire.specs.declared.chunks.Chunk.TheVariants as chunk
-use Rattle.std.specs.List.{before_first, after_first}
+use Rattle.std.specs.List.{before_first, after_first, position_or_len}
 use Rattle.std.specs.Prelude.{◌==◌}
 use Rattle.std.specs.Str.{str_eq_ignore_ascii_case}
 use Rattle.std.specs.Prelude.{codes}
@@ -108,10 +108,10 @@ short_front before bytes expect (one_end n r found judged is) = headed_short byt
 -- ---- the target of a message is within its head
 
 before_within : (p : ℕ → Bool) (bytes : List ℕ) → length (before_first p bytes) ≤ length bytes
-before_within p bytes = ?
+before_within p bytes = omega (arith, length-take (position_or_len p bytes) bytes)
 
 after_within : (p : ℕ → Bool) (bytes : List ℕ) → length (after_first p bytes) ≤ length bytes
-after_within p bytes = ?
+after_within p bytes = omega (arith, length-drop (position_or_len p bytes + 1) bytes)
 
 target_of_within : (head : List ℕ) → length (target_of head) ≤ length head
 target_of_within head =

@@ -5,6 +5,6 @@ pub mod Slots
 pub mod Looking
 pub mod Shown
 pub mod Kept
-pub mod Lent
+pub mod Given
 pub mod Cutting
 pub mod Written

@@ -30,7 +30,8 @@ after_finding (seen.Message step parts) h = record h { rest = drop step.used h.r
 -- what is at the front, behind CR LF pairs, was found and taken
 abbrev pub Passes : Option Held → Found → Option Held → List ℕ → Type 0
 Passes None what after room = (what ≡ seen.Nothing) × (after ≡ None)
-Passes (Some h) what after room = Shows h.continued (skipped h.rest) what room × (after ≡ Some (after_finding what (without_pairs h)))
+Passes (Some h) what after room =
+    Shows h.continued (skipped h.rest) what room × IsWithin (length (skipped h.rest)) what × (after ≡ Some (after_finding what (without_pairs h)))
 
 -- the message taken last is replied to: whether the reply has no payload and whether the connection is closed is said,
 -- and it is activity

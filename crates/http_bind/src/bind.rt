@@ -18,8 +18,8 @@ use thing_ops::{NoMemory, Outcome};
 /// How many connections may be open.
 const CONNECTIONS: usize = 64;
 
-/// How many bytes a query and a body have at most.
-const ROOM: usize = 24576;
+/// How many bytes the query and the body of a request have together at most.
+pub const ROOM: usize = 24576;
 
 /// The connections of an HTTP server, numbered from 0 to 63. Contracts see what is held of each (`Slots` of
 /// specs/Slots.antt). A connection is given up by `ended`, by the reply to a message that asks for it, and by the reply to
@@ -28,35 +28,31 @@ const ROOM: usize = 24576;
 pub struct HttpBind {
     alloc: Global,
     slots: Vec<Slot>,
-    room: Vec<u8>,
 }
 
 impl Model for HttpBind {
     ghost use Rattle.std.specs.Prelude.{◌≡◌, length};
     ghost use Rattle.http_bind.specs.Slots.{Slots};
-    ghost use Rattle.http_bind.specs.Looking.{room_size};
 
     ghost Value = { Slots };
 
     ghost view = { λ b. b.slots.items };
 
-    ghost invariant = { λ b. (length b.slots.items ≡ 64) × (length b.room.items ≡ room_size) };
+    ghost invariant = { λ b. length b.slots.items ≡ 64 };
 }
 
 impl HttpBind {
-    ghost use Rattle.std.specs.Borrow.{sem};
     ghost use Rattle.http_bind.specs.Replying.{fault_word as word_of_fault, reply_head, reply_body, refusal_head, refusal_body};
     ghost use Rattle.http_bind.specs.Streams.{Streams, Opened, Ended, Lengthened, Replies, Refuses, IsIdle, NoneIdle, none_open};
     ghost use Rattle.http_bind.specs.Slots.{StandsFor, Leads, OthersStay, HasRoom, IsBounded, IsOpen, IsAskedBy, longest_piece};
-    ghost use Rattle.http_bind.specs.Lent.{Ends};
+    ghost use Rattle.http_bind.specs.Given.{Gives};
 
     /// No connection is open. All memory but that for paths is taken here.
     pub fn new(alloc: Global) -> Result<HttpBind, NoMemory>
         ensures { IfOk result (λ b. StandsFor b none_open) }
     {
         let slots = free_slots(alloc)?;
-        let room = vec![in alloc; 0u8; ROOM]?;
-        Ok(HttpBind { alloc, slots, room })
+        Ok(HttpBind { alloc, slots })
     }
 
     /// A connection is opened; what was held of an earlier one of this number is given up.
@@ -91,13 +87,16 @@ impl HttpBind {
         self.slots[c as usize].free();
     }
 
-    /// What is to be done next on a connection. A message is taken, also where there is no memory for its path.
-    pub fn next(&mut self, c: u32) -> HttpNext<'_>
-        requires { c < 64 }
-        ensures* ends { sem 𝓛 (Ends self.entry c result) }
+    /// What is to be done next on a connection. A message is taken, also where there is no memory for its path. The query
+    /// and the body of a request are written into `room` and lent from there.
+    pub fn next<'a>(&mut self, c: u32, room: &'a mut [u8]) -> HttpNext<'a>
+        requires connection { c < 64 }
+        requires room { ROOM ≤ length room.old }
+        ensures gives { Gives c result self.old self.new }
+        ensures others { OthersStay c self.old self.new }
     {
-        let found = take(&mut self.slots, c, self.alloc, self.room.as_mut_slice());
-        lend(found, self.room.as_slice())
+        let found = take(&mut self.slots, c, self.alloc, room);
+        lend(found, room)
     }
 
     /// The reply to the message that was taken last from a connection. Its head is in `out`; its payload is the outcome's
@@ -182,7 +181,7 @@ fn free_slots(alloc: Global) -> Result<Vec<Slot>, NoMemory>
 /// Takes what is at the front of a connection. The query and the body of a request are written into `room`.
 fn take(slots: &mut Vec<Slot>, c: u32, alloc: Global, room: &mut [u8]) -> Found
     requires connection { c < length slots.old.items }
-    requires room { length room.old ≡ room_size }
+    requires room { room_size ≤ length room.old }
     ensures { TakesAt c slots.old.items result slots.new.items room.new }
 {
     slots[c as usize].next(alloc, room)

@@ -7,7 +7,7 @@
 //! http.opened(0, now);
 //! http.bytes(0, b"GET /lamp/properties/status HTTP/1.1\r\nHost: h\r\n\r\n", now);
 //! loop {
-//!     let outcome = match http.next(0) {
+//!     let outcome = match http.next(0, &mut room) {
 //!         HttpNext::Idle => break,
 //!         HttpNext::Ask(request) => perform(&request),
 //!         HttpNext::Memory => Outcome::Memory,
@@ -34,7 +34,7 @@ mod place;
 mod slot;
 mod writing;
 
-pub use bind::HttpBind;
+pub use bind::{HttpBind, ROOM};
 pub use laws::each_connection_takes_its_stream;
 pub use next::HttpNext;
 pub use out::HttpOut;

@@ -71,7 +71,7 @@ pub fn without_pairs(bytes: &[u8]) -> &[u8]
 /// What is at the front of these bytes, where the 100 reply was sent or wasn't. The query and the body of a request are
 /// written into `room`.
 pub fn look(alloc: Global, bytes: &[u8], continued: bool, room: &mut [u8]) -> Found
-    requires { length room.old ≡ room_size }
+    requires { room_size ≤ length room.old }
     ensures shows { Shows continued bytes.now result room.new }
     ensures within { IsWithin (length bytes.now) result }
 {
@@ -115,7 +115,7 @@ fn look_at_message(
     used: usize,
     room: &mut [u8],
 ) -> Found
-    requires room { length room.old ≡ room_size }
+    requires room { room_size ≤ length room.old }
     requires target { length head.now.target.now ≤ longest_head }
     requires body { length body.now ≤ longest_body }
     ensures { ShowsMessage (plain_head head.now) body.now used result room.new }
@@ -139,7 +139,7 @@ fn read(
     body: &Body<'_>,
     room: &mut [u8],
 ) -> Result<Parts, TargetFault>
-    requires room { length room.old ≡ room_size }
+    requires room { room_size ≤ length room.old }
     requires target { length head.now.target.now ≤ longest_head }
     requires body { length body.now ≤ longest_body }
     ensures ok { IfOk result (λ p. IsRead (plain_head head.now) body.now room.new p) }

@@ -103,7 +103,7 @@ impl Slot {
 
     /// Takes what is at the front: a message, or the request for a 100 reply. A fault stays there.
     pub fn next(&mut self, alloc: Global, room: &mut [u8]) -> Found
-        requires { length room.old ≡ room_size }
+        requires { room_size ≤ length room.old }
         ensures { Passes self.old result self.new room.new }
     {
         self.skip_pairs();
@@ -122,7 +122,7 @@ impl Slot {
 
     /// What is at the front.
     fn look(&self, alloc: Global, room: &mut [u8]) -> Found
-        requires { length room.old ≡ room_size }
+        requires { room_size ≤ length room.old }
         ensures shows { ShowsIfOpen self.now result room.new }
         ensures may { MayPass result self.now }
     {

@@ -8,3 +8,5 @@ pub mod Messages
 pub mod SlotViews
 pub mod Calls
 pub mod Giving
+pub mod ShortReplies
+pub mod AllowLines

@@ -1,8 +1,8 @@
 //! The connections of a server.
 
-ghost use Rattle.std.specs.Prelude.{◌≡◌, ◌≤◌, ◌<◌, ◌++◌, ◌⊎◌, ℕ, length, Some, None, IfOk, IsSome};
+ghost use Rattle.std.specs.Prelude.{◌≡◌, ◌≤◌, ◌<◌, ◌++◌, ◌⊎◌, ℕ, [], length, position, None, IfOk, IfSome, IsSome, if◌then◌else◌};
 ghost use Rattle.thing_ops.specs.Requests.{PlainRequest};
-ghost use Rattle.http_bind.specs.Slots.{nothing_held};
+ghost use Rattle.http_bind.specs.Slots.{nothing_held, with_held, is_idle};
 ghost use Rattle.http_bind.specs.Looking.{room_size};
 ghost use Rattle.http_bind.specs.Shown.{TakesAt, MayLend, Lends};
 
@@ -121,7 +121,7 @@ impl HttpBind {
         let length = put_answer(outcome, payload.len(), close, out);
         HttpOut {
             head: &out[..length],
-            body: if bodiless { &[] } else { payload },
+            body: body_of(bodiless, payload),
             close,
         }
     }
@@ -142,9 +142,7 @@ impl HttpBind {
         ensures body { result.body.now ≡ refusal_body status }
         ensures others { OthersStay c self.old self.new }
     {
-        if status != 100 {
-            self.slots[c as usize].free();
-        }
+        self.free_unless(c, status == 100);
         let length = put_refusal(status, out);
         let end = put_bytes(word, 0, fault_word(status));
         HttpOut {
@@ -160,11 +158,34 @@ impl HttpBind {
         ensures none { result ≡ None → (s : Streams) → StandsFor self.now s → NoneIdle now s }
         ensures bound { (c : ℕ) → result ≡ Some c → c < 64 }
     {
-        match self.slots.iter().position(|slot| slot.is_idle(now)) {
-            Some(place) => Some(place as u32),
-            None => None,
+        let place = first_idle(self.slots.as_slice(), now)?;
+        Some(place as u32)
+    }
+
+    /// Gives up a connection that doesn't go on.
+    fn free_unless(&mut self, c: u32, goes_on: bool)
+        requires { c < 64 }
+        ensures { self.new ≡ (if goes_on then self.old else with_held c None self.old) }
+    {
+        if !goes_on {
+            self.slots[c as usize].free();
         }
     }
+}
+
+/// The place of the first connection that is idle.
+fn first_idle(slots: &[Slot], now: u64) -> Option<usize>
+    ensures first { result ≡ position (is_idle now) slots.now }
+    ensures bound { IfSome result (λ place. place < length slots.now) }
+{
+    slots.iter().position(|slot| slot.is_idle(now))
+}
+
+/// The payload, where there is one.
+fn body_of(bodiless: bool, payload: &[u8]) -> &[u8]
+    ensures { result.now ≡ (if bodiless then [] else payload.now) }
+{
+    if bodiless { &[] } else { payload }
 }
 
 /// A slot for each connection.

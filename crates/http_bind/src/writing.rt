@@ -203,7 +203,10 @@ fn allow<'a>(outcome: &Outcome, room: &'a mut [u8; LONGEST_LINE]) -> Option<&'a 
     match outcome {
         Outcome::NotAllowed(verbs) => {
             let length = verbs.write(room);
-            str::from_utf8(&room[..length]).ok()
+            match str::from_utf8(&room[..length]) {
+                Ok(names) => Some(names),
+                Err(_) => None,
+            }
         }
         _ => None,
     }

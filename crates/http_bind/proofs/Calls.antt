@@ -1,13 +1,14 @@
 -- What calls lead to, by what they put in place of what was held of one connection.
-use Rattle.std.proofs.Common.{◌≡◌, ◌≢◌, ℕ, ◌+◌, ◌<◌, ◌≤◌, Bool, true, false, List, [], length, get_or, refl, sym, ap, subst, ◌∙◌, arith, cond, eqb}
+use Rattle.std.proofs.Common.{◌≡◌, ℕ, zero, suc, ◌<◌, Bool, true, false, List, [], ◌∷◌, ◌++◌, length, get_or, refl, sym, ap, subst, ◌∙◌, cond}
 use Rattle.std.specs.Prelude.{Option, Some, None, option_map, if◌then◌else◌, ◌==◌}
 use Rattle.std.proofs.lemmas.List.{get_or_read}
 use Rattle.thing_ops.specs.declared.outcome.Outcome.{Outcome}
 use Rattle.thing_ops.specs.Requests.{PlainRequest}
 use Rattle.http_bind.specs.Replying.{reply, reply_head, reply_body, refusal}
+use Rattle.thing_ops.specs.Outcomes.{payload_of}
 use Rattle.http_bind.specs.Shown.{Answers}
 use Rattle.http_bind.specs.Streams.{Connection, Streams, connection_at, with_connection, opened_at, lengthened, Opened, Ended, Lengthened, Replies, Refuses, after_reply}
-use Rattle.http_bind.specs.Slots.{Held, Slots, HoldsIfOpen, StandsFor, Leads, held_at, with_held, held_at_opening, longer, IsAskedBy, AwaitsReply}
+use Rattle.http_bind.specs.Slots.{Held, Slots, HoldsIfOpen, StandsFor, Leads, held_at, with_held, held_at_opening, longer, IsAskedBy, AwaitsReply, OthersStay}
 use Rattle.http_bind.proofs.Holding.{holds_opening, holds_longer, holds_reply}
 use Rattle.http_bind.proofs.Standing.{leads_at, same_with}
 
@@ -77,17 +78,33 @@ replies c q o now bytes said b items (Some h) g a asked answers written =
     (λ s holds. replied c q o now bytes said h g s (connection_at c s) refl holds answers
     (written h refl (sym answers.0) (subst (AwaitsReply q) (held_is c b items (Some h) a) asked)))
 
--- a fault is refused
-pub refuses : (c status : ℕ) (bytes : List ℕ) (b items : Slots) (h g : Option Held) → IsAt c b items h → g ≡ None → eqb status 100 ≡ false → bytes ≡ refusal status →
-    Leads (Refuses c status bytes) b (with_held c g items)
-refuses c status bytes b items h g a is fault written =
-    puts_lead c b items h g (Refuses c status bytes) a
-    (λ s holds. (None, subst (λ (k : Option Held). HoldsIfOpen k None) (sym is) tt,
-    (written, sym (ap (λ (t : Bool). cond t s (with_connection c None s)) fault))))
+-- what is written of a reply
+pub written : (head body payload : List ℕ) (closes bodiless t : Bool) (o : Outcome) → head ≡ reply_head closes o → body ≡ cond bodiless [] payload → payload ≡ payload_of o →
+    bodiless ≡ t → head ++ body ≡ reply_head closes o ++ reply_body t o
+written head body payload closes bodiless t o is_head is_body is_payload same =
+    ap (λ (xs : List ℕ). xs ++ body) is_head
+    ∙ ap (λ (xs : List ℕ). reply_head closes o ++ xs) (is_body ∙ ap (λ (u : Bool). cond u [] payload) same ∙ body_by t)
+  where
+    body_by : (u : Bool) → cond u [] payload ≡ reply_body u o
+    body_by true = refl
+    body_by false = is_payload
 
--- the 100 reply is sent
-pub continues : (c status : ℕ) (bytes : List ℕ) (b items : Slots) → items ≡ b → eqb status 100 ≡ true → bytes ≡ refusal status →
-    Leads (Refuses c status bytes) b items
-continues c status bytes b items all go_on written =
-    subst (Leads (Refuses c status bytes) b) (sym all)
-    (λ s stands. (s, stands, (written, sym (ap (λ (t : Bool). cond t s (with_connection c None s)) go_on))))
+-- what is put back is as it was
+same_held : (c : ℕ) (b : Slots) → with_held c (held_at c b) b ≡ b
+same_held c [] = refl
+same_held zero (x ∷ b) = refl
+same_held (suc c) (x ∷ b) = ap (λ (d : Slots). x ∷ d) (same_held c b)
+
+-- a connection goes on, or isn't open any more
+pub refused_leads : (c status : ℕ) (bytes : List ℕ) (b d : Slots) (t : Bool) → (status == 100) ≡ t → d ≡ cond t b (with_held c None b) → bytes ≡ refusal status →
+    Leads (Refuses c status bytes) b d
+refused_leads c status bytes b d true is put said =
+    subst (Leads (Refuses c status bytes) b) (sym put)
+    (λ s stands. (s, stands, (said, sym (ap (λ (t : Bool). cond t s (with_connection c None s)) is))))
+refused_leads c status bytes b d false is put said =
+    subst (Leads (Refuses c status bytes) b) (sym put)
+    (leads_at c b None (Refuses c status bytes) (λ s holds. (None, tt, (said, sym (ap (λ (t : Bool). cond t s (with_connection c None s)) is)))))
+
+pub others_stay : (c : ℕ) (b d : Slots) (t : Bool) → d ≡ cond t b (with_held c None b) → OthersStay c b d
+others_stay c b d true put = (held_at c b, put ∙ sym (same_held c b))
+others_stay c b d false put = (None, put)

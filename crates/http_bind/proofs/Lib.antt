@@ -10,3 +10,4 @@ pub mod Calls
 pub mod Giving
 pub mod ShortReplies
 pub mod AllowLines
+pub mod Requests

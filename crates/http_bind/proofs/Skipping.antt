@@ -16,7 +16,7 @@ end_by a b bytes true later = record { place = later.place + 2; within = omega (
     two k = let e : k + 2 ≡ suc (suc k) = omega arith in rw e refl
 end_by a b bytes false later = record { place = 0; within = omega arith; is = refl }
 
-skipped_is_end : (bytes : List ℕ) → IsEnd bytes (skipped bytes)
+pub skipped_is_end : (bytes : List ℕ) → IsEnd bytes (skipped bytes)
 skipped_is_end [] = record { place = 0; within = omega arith; is = refl }
 skipped_is_end (a ∷ []) = record { place = 0; within = omega arith; is = refl }
 skipped_is_end (a ∷ b ∷ bytes) = end_by a b bytes ((a == 13) && (b == 10)) (skipped_is_end bytes)

@@ -61,3 +61,9 @@ lengths_alike (h ∷ b) (x ∷ s) a = let rest = lengths_alike b s a.1 in omega 
 
 pub idle_first : (now : ℕ) (b : Slots) (s : Streams) → StandsFor b s → position (is_idle_held now) b ≡ position (is_idle now) s
 idle_first now b s a = rw (first_alike now b s a, lengths_alike b s a) refl
+
+-- what the code finds among its slots
+pub idle_is : (now : ℕ) (b items : Slots) (s : Streams) (r : Option ℕ) {found : Slots} → items ≡ b → found ≡ items → r ≡ position (is_idle_held now) found → StandsFor b s →
+    position (is_idle now) s ≡ r
+idle_is now b items s r {found} all same first stands =
+    sym (idle_first now b s stands) ∙ ap (position (is_idle_held now)) (sym all ∙ sym same) ∙ sym first

@@ -158,8 +158,10 @@ impl HttpBind {
         ensures none { result ≡ None → (s : Streams) → StandsFor self.now s → NoneIdle now s }
         ensures bound { (c : ℕ) → result ≡ Some c → c < 64 }
     {
-        let place = first_idle(self.slots.as_slice(), now)?;
-        Some(place as u32)
+        match first_idle(self.slots.as_slice(), now) {
+            Some(place) => Some(place as u32),
+            None => None,
+        }
     }
 
     /// Gives up a connection that doesn't go on.

@@ -113,6 +113,7 @@ asks_for : (c : ℕ) (b d : Slots) (h : Held) (f : Front) (q : PlainRequest) (st
 asks_for c b d h f q step parts p front is by within = record {
   takes = put_leads c b d (Some h) _ (Takes c (asks q)) p (λ s holds. open_request c h f q step parts s (connection_at c s) refl holds front is by within);
   asked = subst (AwaitsReply q) (sym (put_is c b d (Some h) _ p)) by.bodiless;
+  is_open = open_after c b d (Some h) _ p;
 }
 
 gives_request : (c : ℕ) (b d : Slots) (q : PlainRequest) (given : HttpNext) → LendsRequest q given → AsksFor c q b d → Gives c given b d

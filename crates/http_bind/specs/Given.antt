@@ -15,6 +15,7 @@ StaysDry c s t = (t ≡ s) × IsDry c t
 pub record AsksFor (c : ℕ) (request : PlainRequest) (b d : Slots) : Type 0 where
   pub takes : Leads (Takes c (asks request)) b d
   pub asked : IsAskedBy c request d
+  pub is_open : IsOpen c d
 
 -- What was given, and what is held after it.
 abbrev pub Gives : ℕ → HttpNext → Slots → Slots → Type 0

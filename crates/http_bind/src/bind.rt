@@ -1,6 +1,6 @@
 //! The connections of a server.
 
-ghost use Rattle.std.specs.Prelude.{◌≡◌, ◌≤◌, ◌<◌, ◌++◌, ◌⊎◌, ℕ, [], length, position, None, IfOk, IfSome, IsSome, if◌then◌else◌};
+ghost use Rattle.std.specs.Prelude.{◌≡◌, ◌≤◌, ◌<◌, ◌++◌, ◌⊎◌, ℕ, [], length, position, None, not, ◌==◌, IfOk, IfSome, IsSome, if◌then◌else◌};
 ghost use Rattle.thing_ops.specs.Requests.{PlainRequest};
 ghost use Rattle.http_bind.specs.Slots.{nothing_held, with_held, is_idle};
 ghost use Rattle.http_bind.specs.Looking.{room_size};
@@ -140,6 +140,7 @@ impl HttpBind {
         ensures leads { Leads (Refuses c status (result.head.now ++ result.body.now)) self.old self.new }
         ensures head { result.head.now ≡ refusal_head status }
         ensures body { result.body.now ≡ refusal_body status }
+        ensures close { result.close ≡ not (status == 100) }
         ensures others { OthersStay c self.old self.new }
     {
         self.free_unless(c, status == 100);

@@ -8,7 +8,7 @@ use http_bind::{HttpBind, HttpNext, HttpOut, ROOM};
 use std::alloc::AllocGlobal;
 use std::process::Abort;
 use thing_ops::{Allow, Outcome, Request, Segments, Verb};
-use wot_json::Bytes;
+use wot_json::{Bytes, Text};
 
 /// What stands behind what is sent where the connection is closed after it.
 const CLOSED: &[u8] = b"<closed>";
@@ -210,5 +210,106 @@ fn each_stream_is_answered_whatever_its_pieces(rt: HostRuntime) {
             let sent = talk(&rt, stream, size);
             assert!(rt; sent.as_slice() == wanted, "{stream:?} in pieces of {size}: {sent:?}");
         }
+    }
+}
+
+/// What is sent for this outcome of a request.
+fn reply_of<R: Abort + AllocGlobal>(rt: &R, outcome: &Outcome) -> Vec<u8> {
+    let mut http = HttpBind::new(rt.alloc()).expect(rt, "memory");
+    let mut room = vec![in rt.alloc(); 0u8; ROOM].expect(rt, "memory");
+    let mut out = [0; 4096];
+    let mut word = [0; 32];
+    let mut sent = Vec::new(rt.alloc());
+    http.opened(0, 0);
+    http.bytes(0, b"POST /a HTTP/1.1\r\nHost: h\r\n\r\n", 0);
+    match http.next(0, room.as_mut_slice()) {
+        HttpNext::Ask(_) => {
+            let reply = http.answered(0, outcome, 0, &mut out, &mut word);
+            put_down(rt, &reply, &mut sent);
+        }
+        _ => panic!(rt; "no request"),
+    }
+    sent
+}
+
+/// The outcome of an action whose invocation is at the path of one segment.
+fn started_at<R: Abort + AllocGlobal>(rt: &R, segment: &[u8]) -> Outcome {
+    let mut place = Segments::new(rt.alloc());
+    place.push(segment).expect(rt, "memory");
+    let status = Bytes::copy_of(rt.alloc(), b"1").expect(rt, "memory");
+    Outcome::Started(place, status)
+}
+
+#[test]
+fn places_are_written_where_they_fit(rt: HostRuntime) {
+    let sent = reply_of(&rt, &started_at(&rt, b"a b/%~\xff"));
+    assert!(rt; sent.as_slice() == b"HTTP/1.1 201 Created\r\nContent-Type: application/json\r\nLocation: /a%20b%2F%25~%FF\r\nContent-Length: 1\r\n\r\n1".as_slice());
+
+    // A head of 4,096 bytes, and one that would have a byte more.
+    let letters = [b'a'; 4009];
+    let sent = reply_of(&rt, &started_at(&rt, &letters[..4008]));
+    assert!(rt; sent.len() == 4097);
+    let sent = reply_of(&rt, &started_at(&rt, &letters));
+    assert!(rt; sent.as_slice() == b"HTTP/1.1 201 Created\r\nContent-Type: application/json\r\nContent-Length: 1\r\n\r\n1".as_slice());
+
+    let id = Text::copy_of(rt.alloc(), "local:1").expect(&rt, "memory");
+    let sent = reply_of(&rt, &Outcome::Created(Some(id)));
+    assert!(rt; sent.as_slice() == b"HTTP/1.1 201 Created\r\nLocation: /things/local%3A1\r\nContent-Length: 0\r\n\r\n".as_slice());
+
+    // Nothing waits yet.
+    let sent = reply_of(&rt, &Outcome::Wait(0));
+    assert!(rt; sent.as_slice() == b"HTTP/1.1 404 Not Found\r\nContent-Type: text/plain;charset=utf-8\r\nContent-Length: 7\r\n\r\nmissing".as_slice());
+
+    let description = Bytes::copy_of(rt.alloc(), b"{}").expect(&rt, "memory");
+    let sent = reply_of(&rt, &Outcome::Description(description, true));
+    assert!(rt; sent.as_slice() == b"HTTP/1.1 200 OK\r\nContent-Type: application/td+json\r\nContent-Length: 2\r\n\r\n{}".as_slice());
+}
+
+#[test]
+fn connections_are_idle_after_120_seconds(rt: HostRuntime) {
+    let mut http = HttpBind::new(rt.alloc()).expect(&rt, "memory");
+    let mut room = vec![in rt.alloc(); 0u8; ROOM].expect(&rt, "memory");
+    let mut out = [0; 4096];
+    let mut word = [0; 32];
+    assert!(rt; http.idle(1_000_000).is_none());
+
+    // The last activity counts: the opening, bytes, a reply.
+    http.opened(3, 1000);
+    assert!(rt; http.idle(120_999).is_none());
+    assert!(rt; http.idle(121_000) == Some(3));
+    http.bytes(3, b"POST /a HTTP/1.1\r\nHost: h\r\n\r\n", 2000);
+    assert!(rt; http.idle(121_999).is_none());
+    assert!(rt; http.idle(122_000) == Some(3));
+    match http.next(3, room.as_mut_slice()) {
+        HttpNext::Ask(_) => {
+            let _reply = http.answered(3, &Outcome::Changed, 5000, &mut out, &mut word);
+        }
+        _ => panic!(rt; "no request"),
+    }
+    assert!(rt; http.idle(124_999).is_none());
+    assert!(rt; http.idle(125_000) == Some(3));
+
+    // The lowest of several.
+    http.opened(1, 5000);
+    assert!(rt; http.idle(125_000) == Some(1));
+    http.ended(1);
+    assert!(rt; http.idle(125_000) == Some(3));
+}
+
+#[test]
+fn connections_know_nothing_of_one_another(rt: HostRuntime) {
+    let mut http = HttpBind::new(rt.alloc()).expect(&rt, "memory");
+    let mut value = vec![in rt.alloc(); b'7'].expect(&rt, "memory");
+    for c in 0..64 {
+        http.opened(c, 0);
+        http.bytes(c, b"GET /a?b HTTP/1.1\r\nHo", 0);
+    }
+    for c in 0..64 {
+        let mut sent = Vec::new(rt.alloc());
+        handle(&rt, &mut http, c, &mut value, &mut sent);
+        assert!(rt; sent.is_empty());
+        http.bytes(c, b"st: h\r\n\r\n", 0);
+        handle(&rt, &mut http, c, &mut value, &mut sent);
+        assert!(rt; sent.as_slice() == b"HTTP/1.1 200 OK\r\nContent-Type: application/json\r\nContent-Length: 1\r\n\r\nb".as_slice());
     }
 }

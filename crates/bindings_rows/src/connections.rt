@@ -4,7 +4,7 @@
 ghost use Rattle.std.specs.Prelude.{◌<◌, ◌≤◌};
 ghost use Rattle.http_bind.specs.Slots.{HasRoom};
 
-use http_bind::{HttpBind, HttpNext, HttpOut, ROOM};
+use http_bind::{HttpBind, HttpNext, HttpOut, new_room};
 use std::alloc::AllocGlobal;
 use std::process::Abort;
 use thing_ops::{Allow, Outcome, Request, Segments, Verb};
@@ -161,11 +161,12 @@ fn handle<R: Abort + AllocGlobal>(
     requires { c < 64 }
     ensures { HasRoom c http.new }
 {
-    let mut room = vec![in rt.alloc(); 0u8; ROOM].expect(rt, "memory");
+    let mut room = new_room(rt.alloc()).expect(rt, "memory");
+    let room = room.as_mut_slice();
     let mut out = [0; 4096];
     let mut word = [0; 32];
     for _ in 0..16 {
-        match http.next(c, room.as_mut_slice()) {
+        match http.next(c, room) {
             HttpNext::Idle => return,
             HttpNext::Continue => {
                 put_down(rt, &http.refused(c, 100, &mut out, &mut word), sent);
@@ -216,7 +217,7 @@ fn each_stream_is_answered_whatever_its_pieces(rt: HostRuntime) {
 /// What is sent for this outcome of a request.
 fn reply_of<R: Abort + AllocGlobal>(rt: &R, outcome: &Outcome) -> Vec<u8> {
     let mut http = HttpBind::new(rt.alloc()).expect(rt, "memory");
-    let mut room = vec![in rt.alloc(); 0u8; ROOM].expect(rt, "memory");
+    let mut room = new_room(rt.alloc()).expect(rt, "memory");
     let mut out = [0; 4096];
     let mut word = [0; 32];
     let mut sent = Vec::new(rt.alloc());
@@ -268,7 +269,7 @@ fn places_are_written_where_they_fit(rt: HostRuntime) {
 #[test]
 fn connections_are_idle_after_120_seconds(rt: HostRuntime) {
     let mut http = HttpBind::new(rt.alloc()).expect(&rt, "memory");
-    let mut room = vec![in rt.alloc(); 0u8; ROOM].expect(&rt, "memory");
+    let mut room = new_room(rt.alloc()).expect(&rt, "memory");
     let mut out = [0; 4096];
     let mut word = [0; 32];
     assert!(rt; http.idle(1_000_000).is_none());

@@ -191,6 +191,13 @@ fn body_of(bodiless: bool, payload: &[u8]) -> &[u8]
     if bodiless { &[] } else { payload }
 }
 
+/// The room for the query and the body of a request, which `next` asks for.
+pub fn new_room(alloc: Global) -> Result<Vec<u8>, NoMemory>
+    ensures { IfOk result (λ room. length room.items ≡ ROOM) }
+{
+    vec![in alloc; 0u8; ROOM]
+}
+
 /// A slot for each connection.
 fn free_slots(alloc: Global) -> Result<Vec<Slot>, NoMemory>
     ensures { IfOk result (λ slots. slots.items ≡ nothing_held) }

@@ -4,6 +4,7 @@
 //!
 //! ```text
 //! let mut http = HttpBind::new(alloc)?;
+//! let mut room = new_room(alloc)?;
 //! http.opened(0, now);
 //! http.bytes(0, b"GET /lamp/properties/status HTTP/1.1\r\nHost: h\r\n\r\n", now);
 //! loop {
@@ -22,7 +23,8 @@
 //! stream, at most 32,768 bytes of it, and stands for them (`StandsFor` of `specs/Slots.antt`). The contract in a sentence:
 //! whatever streams it stood for before a call, it stands afterwards for some to which the relation of that call leads,
 //! and what it writes are the bytes of that relation. The law: the requests taken from a connection are those of its whole
-//! stream, one after another, whatever pieces it came in. All memory is taken by `new`, but for the paths of requests.
+//! stream, one after another, whatever pieces it came in. All memory is taken by `new` and
+//! `new_room`, but for the paths of requests.
 #![tactic(auto)]
 
 mod bind;
@@ -34,7 +36,7 @@ mod place;
 mod slot;
 mod writing;
 
-pub use bind::{HttpBind, ROOM};
+pub use bind::{HttpBind, ROOM, new_room};
 pub use laws::each_connection_takes_its_stream;
 pub use next::HttpNext;
 pub use out::HttpOut;

@@ -1,6 +1,5 @@
 -- The line of verbs that are taken: it is a text, and it is short.
-use Rattle.std.proofs.Common.{◌≡◌, ℕ, ◌+◌, ◌*◌, ◌≤◌, ◌&&◌, Bool, true, false, List, [], ◌∷◌, ◌++◌, length, refl, arith, cond, codes, length-append}
-use Rattle.std.specs.List.{filter}
+use Rattle.std.proofs.Common.{◌≡◌, ℕ, ◌&&◌, Bool, true, false, List, [], ◌∷◌, ◌++◌, refl, codes}
 use Rattle.std.specs.Prelude.{nat_lt}
 use Rattle.std.specs.Str.{IsUtf8, IsAscii}
 use Rattle.std.proofs.lemmas.Bool.{ltb-true}
@@ -8,8 +7,7 @@ use Rattle.std.proofs.lemmas.Str.{IsUtf8-from_ascii, IsAscii-append}
 use Rattle.std.proofs.lemmas.Str.Ascii.{IsAscii-nil, IsAscii-cons}
 use Rattle.thing_ops.specs.declared.verb.Verb.{Verb}
 use Rattle.thing_ops.specs.declared.verb.Verb.TheVariants as verb
-use Rattle.thing_ops.specs.declared.allow.Allow.{Allow}
-use Rattle.thing_ops.specs.Verbs.{verb_name, takes, in_order, verbs_in, further_names, names_of}
+use Rattle.thing_ops.specs.Verbs.{verb_name, further_names, names_of}
 
 -- all bytes are ASCII
 are_ascii : List ℕ → Bool

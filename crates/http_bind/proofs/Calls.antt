@@ -1,6 +1,6 @@
 -- What calls lead to, by what they put in place of what was held of one connection.
 use Rattle.std.proofs.Common.{◌≡◌, ℕ, zero, suc, ◌<◌, Bool, true, false, List, [], ◌∷◌, ◌++◌, length, get_or, refl, sym, ap, subst, ◌∙◌, cond}
-use Rattle.std.specs.Prelude.{Option, Some, None, option_map, if◌then◌else◌, ◌==◌}
+use Rattle.std.specs.Prelude.{Option, Some, None, option_map, ◌==◌}
 use Rattle.std.proofs.lemmas.List.{get_or_read}
 use Rattle.thing_ops.specs.declared.outcome.Outcome.{Outcome}
 use Rattle.thing_ops.specs.Requests.{PlainRequest}
@@ -8,9 +8,9 @@ use Rattle.http_bind.specs.Replying.{reply, reply_head, reply_body, refusal}
 use Rattle.thing_ops.specs.Outcomes.{payload_of}
 use Rattle.http_bind.specs.Shown.{Answers}
 use Rattle.http_bind.specs.Streams.{Connection, Streams, connection_at, with_connection, opened_at, lengthened, Opened, Ended, Lengthened, Replies, Refuses, after_reply}
-use Rattle.http_bind.specs.Slots.{Held, Slots, HoldsIfOpen, StandsFor, Leads, held_at, with_held, held_at_opening, longer, IsAskedBy, AwaitsReply, OthersStay}
+use Rattle.http_bind.specs.Slots.{Held, Slots, HoldsIfOpen, Leads, held_at, with_held, held_at_opening, longer, IsAskedBy, AwaitsReply, OthersStay}
 use Rattle.http_bind.proofs.Holding.{holds_opening, holds_longer, holds_reply}
-use Rattle.http_bind.proofs.Standing.{leads_at, same_with}
+use Rattle.http_bind.proofs.Standing.{leads_at}
 
 -- what is held of a connection, as the code found it among its slots
 pub record IsAt (c : ℕ) (b items : Slots) (h : Option Held) : Type 0 where
@@ -49,9 +49,11 @@ pub lengthens : (c : ℕ) (piece : List ℕ) (now : ℕ) (b items : Slots) (h g 
     Leads (Lengthened c piece now) b (with_held c g items)
 lengthens c piece now b items h g a is =
     puts_lead c b items h g (Lengthened c piece now) a
-    (λ s holds. (option_map (lengthened piece now) (connection_at c s),
-    subst (λ (k : Option Held). HoldsIfOpen k (option_map (lengthened piece now) (connection_at c s))) (sym is) (longer_holds piece now h (connection_at c s) holds),
-    refl))
+    (λ s holds. (
+      option_map (lengthened piece now) (connection_at c s),
+      subst (λ (k : Option Held). HoldsIfOpen k (option_map (lengthened piece now) (connection_at c s))) (sym is) (longer_holds piece now h (connection_at c s) holds),
+      refl,
+    ))
 
 -- ---- replies
 
@@ -61,11 +63,12 @@ replied : (c : ℕ) (q : PlainRequest) (o : Outcome) (now : ℕ) (bytes : List �
     (x : Option Connection) × HoldsIfOpen g x × Replies c q o now bytes said.1 s (with_connection c x s)
 replied c q o now bytes said h g s None at holds answers written = absurd holds
 replied c q o now bytes said h g s (Some x) at holds answers written =
-    let closes : said.1 ≡ x.closes = answers.1 ∙ holds.closes in
-    (after_reply said.1 now x,
-    subst (λ (k : Option Held). HoldsIfOpen k (after_reply said.1 now x)) (sym answers.2)
-    (subst (λ (t : Bool). HoldsIfOpen (cond h.closes None (Some (record h { active = now }))) (after_reply t now x)) (sym answers.1) (holds_reply h x now h.closes holds)),
-    (x, at, closes, written, refl))
+    let closes : said.1 ≡ x.closes = answers.1 ∙ holds.closes in (
+      after_reply said.1 now x,
+      subst (λ (k : Option Held). HoldsIfOpen k (after_reply said.1 now x)) (sym answers.2)
+          (subst (λ (t : Bool). HoldsIfOpen (cond h.closes None (Some (record h { active = now }))) (after_reply t now x)) (sym answers.1) (holds_reply h x now h.closes holds)),
+      (x, at, closes, written, refl),
+    )
 
 pub replies : (c : ℕ) (q : PlainRequest) (o : Outcome) (now : ℕ) (bytes : List ℕ) (said : Bool × Bool) (b items : Slots) (h g : Option Held) →
     IsAt c b items h → IsAskedBy c q b → Answers now h said g →

@@ -1,5 +1,5 @@
 -- Each fault at the front of a stream has a word.
-use Rattle.std.proofs.Common.{◌≡◌, ℕ, zero, suc, ◌+◌, ◌-◌, Bool, true, false, List, [], ◌∷◌, length, take, drop, refl, sym, ap, subst, ◌∙◌, cond}
+use Rattle.std.proofs.Common.{◌≡◌, ℕ, zero, suc, ◌+◌, ◌-◌, Bool, true, false, List, [], ◌∷◌, length, take, drop, refl, subst, cond}
 use Rattle.std.specs.Prelude.{Option, Some, None, Result, Ok, Err, not, nat_le, nat_lt, nat_eq, IsSome, codes}
 use Rattle.std.specs.List.{starts_with}
 use Rattle.std.specs.Str.{str_eq_ignore_ascii_case}
@@ -11,8 +11,8 @@ use Rattle.http_wire.specs.declared.chunks.Chunk.TheVariants as chunk
 use Rattle.http_wire.specs.Heads.{skipped, empty_line, line_end, length_through, is_newer}
 use Rattle.http_wire.specs.Fields.{values_of}
 use Rattle.http_wire.specs.Judging.{IsJudged, too_many_lines, bare_line_end, no_head, one_head, expects, longest_body, is_length, framing_by, has_right_counts}
-use Rattle.http_wire.specs.Chunks.{BodyFront, unfinished, faulty, whole, chunks, chunk_at, lined_chunk, sized_chunk, chunk_size, trailers_to, data_before, follow, with_chunk}
-use Rattle.http_wire.specs.Stream.{Front, short, message, fault, IsFront, IsFrontAfter, no_end, one_end, with_body, with_head, longest_head, longest_coded, body_front, within_longest}
+use Rattle.http_wire.specs.Chunks.{BodyFront, unfinished, faulty, whole, chunks, chunk_at, lined_chunk, sized_chunk, chunk_size, trailers_to, follow, with_chunk}
+use Rattle.http_wire.specs.Stream.{Front, short, fault, IsFront, IsFrontAfter, no_end, one_end, with_body, with_head, longest_head, longest_coded, body_front, within_longest}
 use Rattle.http_bind.specs.Replying.{fault_word}
 
 -- the status has a word

@@ -1,14 +1,13 @@
 -- The front of a stream, and that of what is left of it without the CR LF pairs in front.
 use Rattle.std.proofs.Common.{◌≡◌, ℕ, ◌+◌, ◌-◌, ◌&&◌, Bool, true, false, List, length, take, drop, refl, sym, ap, subst, ◌∙◌, arith, cond}
-use Rattle.std.specs.Prelude.{Option, Some, None, Result, Ok, Err, not, nat_le}
+use Rattle.std.specs.Prelude.{Some, None, Result, Ok, Err, not, nat_le}
 use Rattle.thing_ops.specs.Requests.{PlainRequest}
 use Rattle.http_wire.specs.declared.framing.Framing.{Framing}
 use Rattle.http_wire.specs.Heads.{skipped}
 use Rattle.http_wire.specs.Judging.{expects}
 use Rattle.http_wire.specs.Chunks.{BodyFront, unfinished, faulty, whole}
-use Rattle.http_wire.specs.Reading.{asked}
-use Rattle.http_wire.specs.Stream.{plain_head_of, Front, short, message, fault, IsFront, IsFrontAfter, no_end, one_end, with_body, with_head, without_head, longest_head, body_front}
-use Rattle.http_bind.specs.Streams.{Taken, asks, wants_continue, is_faulty, read_as, to_take, bytes_used, asks_to_close}
+use Rattle.http_wire.specs.Stream.{plain_head_of, Front, short, message, fault, IsFront, IsFrontAfter, no_end, one_end, with_body, with_head, longest_head, body_front}
+use Rattle.http_bind.specs.Streams.{asks, wants_continue, is_faulty, to_take, bytes_used, asks_to_close}
 use Rattle.http_bind.proofs.Skipping.{skipped_twice}
 
 -- a front behind so many bytes more

@@ -1,7 +1,7 @@
 -- What is given of a connection, by what was found at its front.
-use Rattle.std.proofs.Common.{◌≡◌, ℕ, zero, suc, ◌+◌, ◌-◌, ◌<◌, ◌≤◌, ◌&&◌, Bool, true, false, List, [], ◌∷◌, length, drop, refl, sym, ap, subst, ◌∙◌, arith, cond}
+use Rattle.std.proofs.Common.{◌≡◌, ℕ, zero, suc, ◌-◌, ◌<◌, ◌≤◌, ◌&&◌, Bool, true, false, List, [], ◌∷◌, length, refl, sym, ap, subst, ◌∙◌, arith, cond}
 use Rattle.std.specs.Prelude.{Option, Some, None, not, IsSome}
-use Rattle.thing_ops.specs.Requests.{PlainRequest, plain_request}
+use Rattle.thing_ops.specs.Requests.{PlainRequest}
 use Rattle.http_wire.specs.Heads.{skipped}
 use Rattle.http_wire.specs.Stream.{Front, short, message, fault, IsFront}
 use Rattle.http_wire.specs.Reading.{asked}
@@ -11,10 +11,9 @@ use Rattle.http_bind.specs.declared.looking.Step.{Step}
 use Rattle.http_bind.specs.declared.looking.Parts.{Parts}
 use Rattle.http_bind.specs.declared.next.HttpNext.{HttpNext}
 use Rattle.http_bind.specs.declared.next.HttpNext.TheVariants as next
-use Rattle.http_bind.specs.Replying.{is_head, fault_word}
-use Rattle.http_bind.specs.Streams.{Connection, Streams, connection_at, with_connection, Taken, asks, wants_continue, is_faulty, read_as, found, to_take, Takes, LetsTake, HasNothing, IsDry}
-use Rattle.http_bind.specs.Slots.{Held, Slots, Holds, HoldsIfOpen, StandsFor, Leads, held_at, with_held, without_pairs, longest_rest, longest_piece, HasRoomFor, HasRoom, IsOpen, AwaitsReply, IsAskedBy, OthersStay}
-use Rattle.http_bind.specs.Looking.{Fits, IsStep, AreParts, IsWithin, request_in}
+use Rattle.http_bind.specs.Streams.{Connection, Streams, connection_at, with_connection, Taken, asks, wants_continue, is_faulty, read_as, to_take, Takes, HasNothing, IsDry}
+use Rattle.http_bind.specs.Slots.{Held, Slots, HoldsIfOpen, Leads, held_at, with_held, without_pairs, longest_piece, HasRoomFor, IsOpen, AwaitsReply, OthersStay}
+use Rattle.http_bind.specs.Looking.{Fits, IsStep, IsWithin}
 use Rattle.http_bind.specs.Shown.{after_finding, Passes, TakesAt, Lends, LendsRequest}
 use Rattle.http_bind.specs.Given.{StaysDry, AsksFor, Gives}
 use Rattle.http_bind.proofs.Skipping.{skipped_twice}
@@ -67,9 +66,11 @@ open_continue : (c : ℕ) (h : Held) (f : Front) (s : Streams) (y : Option Conne
 open_continue c h f s None at holds front is = absurd holds
 open_continue c h f s (Some x) at holds front is =
     let less = holds_less h x holds in
-    let y : Connection = record x { continued = true } in
-    (Some y, record { rest = less.rest; within = less.within; continued = refl; closes = less.closes; active = less.active },
-    (x, y, at, lets_continue h x f holds front is, refl))
+    let y : Connection = record x { continued = true } in (
+      Some y,
+      record { rest = less.rest; within = less.within; continued = refl; closes = less.closes; active = less.active },
+      (x, y, at, lets_continue h x f holds front is, refl),
+    )
 
 open_fault : (c : ℕ) (h : Held) (f : Front) (status : ℕ) (s : Streams) (y : Option Connection) → connection_at c s ≡ y → HoldsIfOpen (Some h) y →
     IsFront (skipped h.rest) f → to_take h.continued f ≡ Some (is_faulty status) →
@@ -128,17 +129,21 @@ gives_open : (c : ℕ) (b d : Slots) (h : Held) (f : Front) (what : Found) (room
 gives_open c b d h f seen.Nothing room given p front fits within lends =
     let few = none_is_short h.continued f (skipped h.rest) fits front in
     let least : length (skipped (skipped h.rest)) ≡ length (skipped h.rest) = ap length (skipped_twice h.rest) in
-    subst (λ (n : HttpNext). Gives c n b d) (sym lends)
-    (put_leads c b d (Some h) _ (StaysDry c) p (λ s holds. open_dry c h f s (connection_at c s) refl holds front fits),
-    subst (HasRoomFor longest_piece) (sym (put_is c b d (Some h) _ p)) (omega (arith, few, least)))
+    subst (λ (n : HttpNext). Gives c n b d) (sym lends) (
+      put_leads c b d (Some h) _ (StaysDry c) p (λ s holds. open_dry c h f s (connection_at c s) refl holds front fits),
+      subst (HasRoomFor longest_piece) (sym (put_is c b d (Some h) _ p)) (omega (arith, few, least)),
+    )
 gives_open c b d h f seen.Continue room given p front fits within lends =
-    subst (λ (n : HttpNext). Gives c n b d) (sym lends)
-    (put_leads c b d (Some h) _ (Takes c wants_continue) p (λ s holds. open_continue c h f s (connection_at c s) refl holds front fits),
-    open_after c b d (Some h) _ p)
+    subst (λ (n : HttpNext). Gives c n b d) (sym lends) (
+      put_leads c b d (Some h) _ (Takes c wants_continue) p (λ s holds. open_continue c h f s (connection_at c s) refl holds front fits),
+      open_after c b d (Some h) _ p,
+    )
 gives_open c b d h f (seen.Fault status) room given p front fits within lends =
-    subst (λ (n : HttpNext). Gives c n b d) (sym lends)
-    (put_leads c b d (Some h) _ (Takes c (is_faulty status)) p (λ s holds. open_fault c h f status s (connection_at c s) refl holds front fits.0),
-    open_after c b d (Some h) _ p, fits.1)
+    subst (λ (n : HttpNext). Gives c n b d) (sym lends) (
+      put_leads c b d (Some h) _ (Takes c (is_faulty status)) p (λ s holds. open_fault c h f status s (connection_at c s) refl holds front fits.0),
+      open_after c b d (Some h) _ p,
+      fits.1,
+    )
 gives_open c b d h f (seen.Message step None) room given p front fits within lends =
     subst (λ (n : HttpNext). Gives c n b d) (sym lends)
     (fits.0, asks_for c b d h f fits.0 step None p front fits.1 fits.2 within)
@@ -149,9 +154,10 @@ gives_open c b d h f (seen.Message step (Some parts)) room given p front fits wi
 gives_closed : (c : ℕ) (b d : Slots) (what : Found) (room : List ℕ) (given : HttpNext) → Puts c b d None None → what ≡ seen.Nothing → Lends what room given → Gives c given b d
 gives_closed c b d what room given p is lends =
     let idle : given ≡ next.Idle = subst (λ (w : Found). Lends w room given) is lends in
-    subst (λ (n : HttpNext). Gives c n b d) (sym idle)
-    (put_leads c b d None None (StaysDry c) p (λ s holds. closed_dry c s (connection_at c s) refl holds),
-    subst (HasRoomFor longest_piece) (sym (put_is c b d None None p)) tt)
+    subst (λ (n : HttpNext). Gives c n b d) (sym idle) (
+      put_leads c b d None None (StaysDry c) p (λ s holds. closed_dry c s (connection_at c s) refl holds),
+      subst (HasRoomFor longest_piece) (sym (put_is c b d None None p)) tt,
+    )
 
 gives_by : (c : ℕ) (b d : Slots) (h x : Option Held) (what : Found) (room : List ℕ) (given : HttpNext) → Puts c b d h x → Passes h what x room → Lends what room given → Gives c given b d
 gives_by c b d None x what room given p passes lends =

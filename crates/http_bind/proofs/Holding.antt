@@ -1,13 +1,13 @@
 -- What is held of one connection, and the connection that it stands for.
-use Rattle.std.proofs.Common.{◌≡◌, ℕ, ◌+◌, ◌-◌, ◌≤◌, Bool, true, false, List, [], ◌++◌, length, take, drop, refl, sym, ap, subst, ◌∙◌, arith, cond, length-append}
-use Rattle.std.specs.Prelude.{Option, Some, None}
+use Rattle.std.proofs.Common.{◌≡◌, ℕ, ◌+◌, ◌-◌, ◌≤◌, Bool, true, false, List, length, drop, refl, sym, ap, subst, ◌∙◌, arith, cond, length-append}
+use Rattle.std.specs.Prelude.{Some, None}
 use Rattle.std.proofs.lemmas.List.{drop-append-le, length-drop, drop-drop}
 use Rattle.thing_ops.specs.Requests.{PlainRequest}
 use Rattle.http_wire.specs.Heads.{skipped}
 use Rattle.http_wire.specs.Stream.{Front, IsFront}
 use Rattle.http_bind.specs.declared.looking.Step.{Step}
 use Rattle.http_bind.specs.Looking.{IsStep}
-use Rattle.http_bind.specs.Streams.{Connection, opened_at, lengthened, rest_of, Taken, asks, wants_continue, is_faulty, to_take, bytes_used, asks_to_close, after_taking, LetsTake, HasNothing, after_reply}
+use Rattle.http_bind.specs.Streams.{Connection, opened_at, lengthened, rest_of, asks, wants_continue, is_faulty, to_take, bytes_used, asks_to_close, LetsTake, HasNothing, after_reply}
 use Rattle.http_bind.specs.Slots.{Held, Holds, HoldsIfOpen, held_at_opening, without_pairs, longer}
 use Rattle.http_bind.proofs.Skipping.{skipped_twice, skipped_alike, skipped_from}
 use Rattle.http_bind.proofs.FrontsBehindPairs.{later, front_of_all, to_take_later, closes_later, used_later}

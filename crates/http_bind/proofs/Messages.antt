@@ -5,7 +5,6 @@ use Rattle.thing_ops.specs.Requests.{PlainRequest}
 use Rattle.http_wire.specs.Targets.{segments_of}
 use Rattle.http_wire.specs.Stream.{PlainHead, Front, message}
 use Rattle.http_wire.specs.Reading.{verb_of, request_at, asked}
-use Rattle.http_bind.specs.declared.looking.Step.{Step}
 use Rattle.http_bind.specs.declared.looking.Found.{Found}
 use Rattle.http_bind.specs.declared.looking.Found.TheVariants as seen
 use Rattle.http_bind.specs.Replying.{is_head, fault_word}
@@ -42,9 +41,13 @@ pub shows_message : (continued : Bool) (h : PlainHead) (body : List ℕ) (used :
     Fits continued (message h body used expect) what room
 shows_message continued h body used expect seen.Nothing room is shows = absurd shows
 shows_message continued h body used expect seen.Continue room is shows = absurd shows
-shows_message continued h body used expect (seen.Fault status) room is shows =
-    (is ∙ ap (λ (r : Option PlainRequest). Some (read_as r)) shows.0 ∙ ap (λ (n : ℕ). Some (is_faulty n)) (sym shows.1),
-    subst (λ (n : ℕ). IsSome (fault_word n)) (sym shows.1) refl)
-shows_message continued h body used expect (seen.Message step parts) room is shows =
-    (shows.0, is ∙ ap (λ (r : Option PlainRequest). Some (read_as r)) shows.1,
-    record { used = shows.2.used; bodiless = shows.2.bodiless; closes = shows.2.closes }, shows.3)
+shows_message continued h body used expect (seen.Fault status) room is shows = (
+  is ∙ ap (λ (r : Option PlainRequest). Some (read_as r)) shows.0 ∙ ap (λ (n : ℕ). Some (is_faulty n)) (sym shows.1),
+  subst (λ (n : ℕ). IsSome (fault_word n)) (sym shows.1) refl,
+)
+shows_message continued h body used expect (seen.Message step parts) room is shows = (
+  shows.0,
+  is ∙ ap (λ (r : Option PlainRequest). Some (read_as r)) shows.1,
+  record { used = shows.2.used; bodiless = shows.2.bodiless; closes = shows.2.closes },
+  shows.3,
+)

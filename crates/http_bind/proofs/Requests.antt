@@ -1,5 +1,5 @@
 -- The requests of a stream, one after another.
-use Rattle.std.proofs.Common.{◌≡◌, ℕ, zero, suc, ◌+◌, ◌-◌, ◌<◌, ◌≤◌, ◌&&◌, Bool, true, false, List, [], ◌∷◌, ◌++◌, length, take, drop, refl, sym, ap, subst, ◌∙◌, arith, cond, length-append}
+use Rattle.std.proofs.Common.{◌≡◌, ℕ, zero, suc, ◌+◌, ◌-◌, ◌≤◌, ◌&&◌, Bool, true, false, List, [], ◌∷◌, ◌++◌, length, take, drop, refl, sym, ap, subst, ◌∙◌, arith, cond, length-append}
 use Rattle.std.specs.Prelude.{Option, Some, None, Result, Ok, Err, not, nat_le, nat_lt, nat_eq}
 use Rattle.std.specs.List.{starts_with}
 use Rattle.std.proofs.lemmas.Bool.{leb-true}
@@ -12,15 +12,14 @@ use Rattle.http_wire.specs.declared.chunks.Chunk.TheVariants as chunk
 use Rattle.http_wire.specs.Heads.{skipped, empty_line, line_end, length_through}
 use Rattle.http_wire.specs.Judging.{expects, longest_body}
 use Rattle.http_wire.specs.Chunks.{BodyFront, unfinished, faulty, whole, chunks, chunk_at, lined_chunk, sized_chunk, chunk_size, trailers_to, data_before, follow, with_chunk}
-use Rattle.http_wire.specs.Reading.{asked}
 use Rattle.http_wire.specs.Stream.{Front, short, message, fault, IsFront, IsFrontAfter, no_end, one_end, IsSettled, with_body, with_head, longest_head, longest_coded, body_front, within_longest}
 use Rattle.http_wire.proofs.MoreBytes.{is_through}
 use Rattle.http_wire.proofs.MoreOfAStream.{front_stays}
 use Rattle.http_wire.proofs.OneFront.{at_most_one_front}
-use Rattle.http_bind.specs.Streams.{Connection, opened_at, lengthened, rest_of, Taken, asks, wants_continue, is_faulty, read_as, expected, found, to_take, bytes_used, asks_to_close, LetsTake, HasNothing}
-use Rattle.http_bind.specs.Cutting.{IsFirst, AreFirst, IsNoRequest, EndsThere, AreRequests, HasTaken, at_opening, with_piece, with_request, with_continue, with_fault, with_reply, TakesTheFirst, TakesAll, HasOneList}
+use Rattle.http_bind.specs.Streams.{Connection, rest_of, Taken, asks, wants_continue, expected, found, bytes_used, LetsTake}
+use Rattle.http_bind.specs.Cutting.{IsFirst, AreFirst, IsNoRequest, EndsThere, HasTaken, at_opening, with_piece, with_request, with_continue, with_fault, with_reply, TakesTheFirst, TakesAll, HasOneList}
 use Rattle.http_bind.proofs.Skipping.{skipped_is_end}
-use Rattle.http_bind.proofs.ShortFronts.{EndsWithin, head_within}
+use Rattle.http_bind.proofs.ShortFronts.{head_within}
 
 -- ---- a message has no more bytes than there are
 
@@ -151,17 +150,25 @@ first_stays bytes more q used first = (first.0, front_stays bytes more first.0 f
 
 first_stay : (bytes more : List ℕ) (qs : List PlainRequest) (n : ℕ) → AreFirst bytes qs n → AreFirst (bytes ++ more) qs n
 first_stay bytes more [] n are = are
-first_stay bytes more (q ∷ qs) n (used, behind, first, others, is) =
-    (used, behind, first_stays bytes more q used first,
-    subst (λ (xs : List ℕ). AreFirst xs qs behind) (sym (drop-append-le used bytes more (first_within bytes q used first))) (first_stay (drop used bytes) more qs behind others), is)
+first_stay bytes more (q ∷ qs) n (used, behind, first, others, is) = (
+  used,
+  behind,
+  first_stays bytes more q used first,
+  subst (λ (xs : List ℕ). AreFirst xs qs behind) (sym (drop-append-le used bytes more (first_within bytes q used first))) (first_stay (drop used bytes) more qs behind others),
+  is,
+)
 
 first_more : (bytes : List ℕ) (qs : List PlainRequest) (n : ℕ) (q : PlainRequest) (used : ℕ) → AreFirst bytes qs n → IsFirst (drop n bytes) q used → AreFirst bytes (qs ++ q ∷ []) (n + used)
 first_more bytes [] n q used is next =
     (used, 0, subst (λ (k : ℕ). IsFirst (drop k bytes) q used) is next, refl, omega (arith, is))
 first_more bytes (p ∷ qs) n q used (one, behind, first, others, is) next =
-    let there : drop n bytes ≡ drop behind (drop one bytes) = ap (λ (k : ℕ). drop k bytes) is ∙ sym (drop-drop behind one bytes) in
-    (one, behind + used, first,
-    first_more (drop one bytes) qs behind q used others (subst (λ (xs : List ℕ). IsFirst xs q used) there next), omega (arith, is))
+    let there : drop n bytes ≡ drop behind (drop one bytes) = ap (λ (k : ℕ). drop k bytes) is ∙ sym (drop-drop behind one bytes) in (
+      one,
+      behind + used,
+      first,
+      first_more (drop one bytes) qs behind q used others (subst (λ (xs : List ℕ). IsFirst xs q used) there next),
+      omega (arith, is),
+    )
 
 -- what is taken is what is found
 asked_found : (t : Bool) (r : Option Taken) (q : PlainRequest) → cond t (Some wants_continue) r ≡ Some (asks q) → r ≡ Some (asks q)
@@ -200,9 +207,11 @@ pub takes_the_first : TakesTheFirst
 takes_the_first x qs taken = (follows x qs taken).first
 
 pub takes_all : TakesAll
-takes_all x qs taken (f, front, none) =
-    (x.taken, (follows x qs taken).first,
-    (f, front, subst IsNoRequest (sym (none_found (expected f && not x.continued) (found f) none)) tt))
+takes_all x qs taken (f, front, none) = (
+  x.taken,
+  (follows x qs taken).first,
+  (f, front, subst IsNoRequest (sym (none_found (expected f && not x.continued) (found f) none)) tt),
+)
 
 -- ---- a stream has one list of requests
 

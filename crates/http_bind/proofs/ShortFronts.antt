@@ -1,23 +1,20 @@
 -- Bounds on what is at the front of a stream.
-use Rattle.std.proofs.Common.{◌≡◌, ℕ, zero, suc, ◌+◌, ◌-◌, ◌*◌, ◌<◌, ◌≤◌, ◌&&◌, ◌||◌, Bool, true, false, List, [], ◌∷◌, length, take, drop, refl, sym, ap, subst, ◌∙◌, arith, cond, length-drop, length-take}
-use Rattle.std.specs.Prelude.{Option, Some, None, Result, Ok, Err, not, nat_le, nat_lt, IsSome}
-use Rattle.std.proofs.lemmas.Bool.{leb-true, leb-false, ltb-false}
+use Rattle.std.proofs.Common.{◌≡◌, ℕ, ◌+◌, ◌<◌, ◌≤◌, Bool, true, false, List, [], ◌∷◌, length, take, drop, refl, sym, subst, arith, cond, length-drop, length-take}
+use Rattle.std.specs.Prelude.{Some, Result, Ok, Err, not, nat_le, nat_lt}
+use Rattle.std.proofs.lemmas.Bool.{leb-false, ltb-false}
 use Rattle.http_wire.specs.declared.framing.Framing.{Framing}
 use Rattle.http_wire.specs.declared.framing.Framing.TheVariants as framing
-use Rattle.http_wire.specs.declared.chunks.Chunk.{Chunk}
-use Rattle.http_wire.specs.declared.chunks.Chunk.TheVariants as chunk
 use Rattle.std.specs.List.{before_first, after_first, position_or_len}
 use Rattle.std.specs.Prelude.{◌==◌}
 use Rattle.std.specs.Str.{str_eq_ignore_ascii_case}
 use Rattle.std.specs.Prelude.{codes}
 use Rattle.std.specs.Str.Parse.{digits_value}
-use Rattle.http_wire.specs.Heads.{skipped, empty_line, line_end, length_through, is_newer, line_feeds, target_of}
+use Rattle.http_wire.specs.Heads.{skipped, empty_line, is_newer, target_of}
 use Rattle.http_wire.specs.Fields.{values_of}
-use Rattle.http_wire.specs.Judging.{IsJudged, too_many_lines, bare_line_end, no_head, one_head, expects, IsBounded, longest_body, is_length, stated_framing, coded_framing, framing_by, has_right_counts, fields_judged}
-use Rattle.http_wire.specs.Chunks.{BodyFront, unfinished, faulty, whole, chunks, chunk_at, lined_chunk, sized_chunk, chunk_size, trailers_to, data_before, follow, with_chunk}
-use Rattle.http_wire.specs.Stream.{PlainHead, plain_head_of, Front, short, message, fault, IsFront, IsFrontAfter, no_end, one_end, with_body, with_head, without_head, longest_head, longest_coded, head_length, body_front, stated_body, within_longest}
+use Rattle.http_wire.specs.Judging.{IsJudged, too_many_lines, bare_line_end, no_head, one_head, expects, IsBounded, longest_body, is_length, framing_by, has_right_counts}
+use Rattle.http_wire.specs.Chunks.{BodyFront, unfinished, faulty, whole, chunks}
+use Rattle.http_wire.specs.Stream.{PlainHead, plain_head_of, short, message, fault, IsFront, IsFrontAfter, no_end, one_end, with_body, with_head, longest_head, longest_coded, head_length, body_front, within_longest}
 use Rattle.http_wire.proofs.MoreBytes.{is_through}
-use Rattle.http_bind.specs.Replying.{fault_word}
 
 -- ---- how a head is judged
 

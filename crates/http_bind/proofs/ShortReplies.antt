@@ -1,5 +1,5 @@
 -- How long the heads of replies are that have no place.
-use Rattle.std.proofs.Common.{◌≡◌, ℕ, ◌+◌, ◌*◌, ◌<◌, ◌≤◌, ◌^◌, ◌||◌, Bool, true, false, List, [], ◌∷◌, ◌++◌, length, refl, sym, ap, subst, ◌∙◌, arith, cond, codes, length-append}
+use Rattle.std.proofs.Common.{ℕ, ◌<◌, ◌≤◌, ◌^◌, ◌||◌, Bool, true, false, List, [], ◌++◌, length, sym, ap, subst, arith, cond, codes, length-append}
 use Rattle.std.specs.Prelude.{Option, Some, None, option_map, IfSome, ◌==◌}
 use Rattle.std.specs.Fmt.{decimal}
 use Rattle.std.proofs.lemmas.Fmt.{length-decimal-le}
@@ -46,13 +46,31 @@ closing_short false = tt
 
 lines_short : (a b d e f : List ℕ) → length a ≤ 130 → length b ≤ 130 → length d ≤ 130 → length e ≤ 130 → length f ≤ 130 → length (a ++ (b ++ (d ++ (e ++ (f ++ []))))) ≤ 650
 lines_short a b d e f one two three four five =
-    omega (arith, one, two, three, four, five, length-append a (b ++ (d ++ (e ++ (f ++ [])))), length-append b (d ++ (e ++ (f ++ []))), length-append d (e ++ (f ++ [])),
-    length-append e (f ++ []), ap length (append-nil f))
+    omega (
+      arith,
+      one,
+      two,
+      three,
+      four,
+      five,
+      length-append a (b ++ (d ++ (e ++ (f ++ [])))),
+      length-append b (d ++ (e ++ (f ++ []))),
+      length-append d (e ++ (f ++ [])),
+      length-append e (f ++ []),
+      ap length (append-nil f),
+    )
 
 head_short : (phrase lines : List ℕ) → length phrase ≤ 64 → length lines ≤ 650 → length (head_text phrase lines) ≤ 4096
 head_short phrase lines few short =
-    omega (arith, few, short, length-append (status_line phrase) (lines ++ line_end), length-append lines line_end,
-    length-append (codes "HTTP/1.1 ") (phrase ++ line_end), length-append phrase line_end)
+    omega (
+      arith,
+      few,
+      short,
+      length-append (status_line phrase) (lines ++ line_end),
+      length-append lines line_end,
+      length-append (codes "HTTP/1.1 ") (phrase ++ line_end),
+      length-append phrase line_end,
+    )
 
 pub short_reply : (r : PlainReply) → IsShortReply r → length (http_reply r) ≤ 4096
 short_reply r short =

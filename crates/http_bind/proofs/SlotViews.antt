@@ -5,7 +5,6 @@ use Rattle.std.proofs.lemmas.List.{length-drop, drop-drop}
 use Rattle.http_wire.specs.Heads.{skipped}
 use Rattle.http_bind.specs.declared.slot.State.{State}
 use Rattle.http_bind.specs.declared.looking.Found.{Found}
-use Rattle.http_bind.specs.declared.looking.Found.TheVariants as seen
 use Rattle.http_bind.specs.Kept.{held_with}
 use Rattle.http_bind.specs.Slots.{Held, without_pairs}
 use Rattle.http_bind.specs.Shown.{ShowsIfOpen, MayPass, after_finding, Passes}

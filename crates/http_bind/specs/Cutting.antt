@@ -3,7 +3,7 @@
 use Rattle.std.specs.Prelude.{◌≡◌, ℕ, ◌+◌, List, [], ◌∷◌, ◌++◌, drop, Option, Some, None}
 use Rattle.thing_ops.specs.Requests.{PlainRequest}
 use Rattle.http_wire.specs.Stream.{Front, IsFront}
-use Rattle.http_bind.specs.Streams.{Connection, opened_at, lengthened, rest_of, LetsTake, HasNothing, Taken, asks, wants_continue, is_faulty, found, bytes_used}
+use Rattle.http_bind.specs.Streams.{Connection, opened_at, lengthened, LetsTake, HasNothing, Taken, asks, wants_continue, is_faulty, found, bytes_used}
 
 -- a whole message at the front asks for this, and has so many bytes
 abbrev pub IsFirst : List ℕ → PlainRequest → ℕ → Type 0

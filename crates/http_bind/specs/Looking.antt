@@ -1,8 +1,7 @@
 -- What the code finds at the front of the bytes that it holds, in the words of the streams.
-use Rattle.std.specs.Prelude.{◌≡◌, ◌≤◌, ℕ, ◌+◌, Bool, List, drop, take, Option, Some, None, IfSome, IsSome}
+use Rattle.std.specs.Prelude.{◌≡◌, ◌≤◌, ℕ, ◌+◌, Bool, List, drop, take, Some, None, IfSome, IsSome}
 use Rattle.thing_ops.specs.Requests.{PlainRequest}
-use Rattle.http_wire.specs.Judging.{longest_body}
-use Rattle.http_wire.specs.Stream.{PlainHead, Front, IsFront, longest_head}
+use Rattle.http_wire.specs.Stream.{PlainHead, Front, IsFront}
 use Rattle.http_wire.specs.Reading.{asked}
 use Rattle.http_bind.specs.declared.looking.Parts.{Parts}
 use Rattle.http_bind.specs.declared.looking.Step.{Step}

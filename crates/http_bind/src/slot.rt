@@ -26,6 +26,18 @@ pub struct State {
     pub active: u64,
 }
 
+impl State {
+    /// The same, with its last activity at this moment.
+    fn active_at(self, now: u64) -> State
+        ensures { result ≡ record self { active = now } }
+    {
+        State {
+            active: now,
+            ..self
+        }
+    }
+}
+
 /// What is held of a connection, if it is open. Contracts see the bytes that weren't taken and what is known beside them
 /// (`Held` of specs/Slots.antt).
 ///
@@ -97,7 +109,7 @@ impl Slot {
             move_to_front(&mut self.bytes, self.start);
             self.start = 0;
             self.bytes.extend_from_slice(piece).unwrap();
-            self.state = Some(State { active: now, ..state });
+            self.state = Some(state.active_at(now));
         }
     }
 
@@ -128,7 +140,12 @@ impl Slot {
     {
         match self.state {
             None => Found::Nothing,
-            Some(state) => look(alloc, behind(&self.bytes, self.start), state.continued, room),
+            Some(state) => look(
+                alloc,
+                behind(&self.bytes, self.start),
+                state.continued,
+                room,
+            ),
         }
     }
 
@@ -170,10 +187,7 @@ impl Slot {
                 self.state = if state.closes {
                     None
                 } else {
-                    Some(State {
-                        active: now,
-                        ..state
-                    })
+                    Some(state.active_at(now))
                 };
                 (state.bodiless, state.closes)
             }

@@ -15,5 +15,5 @@ returns-in-Err-NoMemory c =
     elim c.in-Err-NoMemory.ensures.fault [
       | inl bad ↦ absurd (let same = sym c.in-Err-NoMemory.field-0-is ∙ bad.0 in cc)
       | inr none ↦ let q = something (asked (plain_head c.args.head.now) c.args.body.now) none.1 in
-      (q.0, q.1, message_step (plain_head c.args.head.now) c.args.body.now c.args.used q.0 c.is_head.result q.1 (c.is_head.ensures ∙ ap is_head c.verb_of.ensures), tt)
+          (q.0, q.1, message_step (plain_head c.args.head.now) c.args.body.now c.args.used q.0 c.is_head.result q.1 (c.is_head.ensures ∙ ap is_head c.verb_of.ensures), tt)
     ]

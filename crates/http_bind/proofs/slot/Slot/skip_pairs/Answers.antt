@@ -1,4 +1,4 @@
-use Rattle.std.proofs.Common.{ap, ◌∙◌, sym, arith, ◌≡◌, drop, length, ◌-◌, ℕ}
+use Rattle.std.proofs.Common.{ap, ◌∙◌, arith, ◌≡◌, drop, length, ◌-◌, ℕ}
 use Rattle.std.specs.Prelude.{option_map}
 use Rattle.http_wire.specs.Heads.{skipped}
 use Rattle.http_bind.specs.Slots.{without_pairs}

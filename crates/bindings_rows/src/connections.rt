@@ -108,11 +108,7 @@ const STREAMS: [(&[u8], &[u8]); 21] = [
 ];
 
 /// What the one value is asked.
-fn perform<R: Abort + AllocGlobal>(
-    rt: &R,
-    request: &Request<'_>,
-    value: &mut Vec<u8>,
-) -> Outcome {
+fn perform<R: Abort + AllocGlobal>(rt: &R, request: &Request<'_>, value: &mut Vec<u8>) -> Outcome {
     match request.verb {
         Verb::Get | Verb::Head => {
             let text = if request.query.is_empty() {
@@ -124,9 +120,7 @@ fn perform<R: Abort + AllocGlobal>(
         }
         Verb::Put => {
             value.clear();
-            value
-                .extend_from_slice(request.body)
-                .expect(rt, "memory");
+            value.extend_from_slice(request.body).expect(rt, "memory");
             Outcome::Changed
         }
         Verb::Post => Outcome::Changed,
@@ -209,7 +203,10 @@ fn each_stream_is_answered_whatever_its_pieces(rt: HostRuntime) {
     for (stream, wanted) in STREAMS {
         for size in [1, 7, 4096] {
             let sent = talk(&rt, stream, size);
-            assert!(rt; sent.as_slice() == wanted, "{stream:?} in pieces of {size}: {sent:?}");
+            assert!(rt;
+                sent.as_slice() == wanted,
+                "{stream:?} in pieces of {size}: {sent:?}"
+            );
         }
     }
 }
@@ -244,26 +241,41 @@ fn started_at<R: Abort + AllocGlobal>(rt: &R, segment: &[u8]) -> Outcome {
 #[test]
 fn places_are_written_where_they_fit(rt: HostRuntime) {
     let sent = reply_of(&rt, &started_at(&rt, b"a b/%~\xff"));
-    assert!(rt; sent.as_slice() == b"HTTP/1.1 201 Created\r\nContent-Type: application/json\r\nLocation: /a%20b%2F%25~%FF\r\nContent-Length: 1\r\n\r\n1".as_slice());
+    assert!(rt;
+        sent.as_slice()
+            == b"HTTP/1.1 201 Created\r\nContent-Type: application/json\r\nLocation: /a%20b%2F%25~%FF\r\nContent-Length: 1\r\n\r\n1".as_slice()
+    );
 
     // A head of 4,096 bytes, and one that would have a byte more.
     let letters = [b'a'; 4009];
     let sent = reply_of(&rt, &started_at(&rt, &letters[..4008]));
     assert!(rt; sent.len() == 4097);
     let sent = reply_of(&rt, &started_at(&rt, &letters));
-    assert!(rt; sent.as_slice() == b"HTTP/1.1 201 Created\r\nContent-Type: application/json\r\nContent-Length: 1\r\n\r\n1".as_slice());
+    assert!(rt;
+        sent.as_slice()
+            == b"HTTP/1.1 201 Created\r\nContent-Type: application/json\r\nContent-Length: 1\r\n\r\n1".as_slice()
+    );
 
     let id = Text::copy_of(rt.alloc(), "local:1").expect(&rt, "memory");
     let sent = reply_of(&rt, &Outcome::Created(Some(id)));
-    assert!(rt; sent.as_slice() == b"HTTP/1.1 201 Created\r\nLocation: /things/local%3A1\r\nContent-Length: 0\r\n\r\n".as_slice());
+    assert!(rt;
+        sent.as_slice()
+            == b"HTTP/1.1 201 Created\r\nLocation: /things/local%3A1\r\nContent-Length: 0\r\n\r\n".as_slice()
+    );
 
     // Nothing waits yet.
     let sent = reply_of(&rt, &Outcome::Wait(0));
-    assert!(rt; sent.as_slice() == b"HTTP/1.1 404 Not Found\r\nContent-Type: text/plain;charset=utf-8\r\nContent-Length: 7\r\n\r\nmissing".as_slice());
+    assert!(rt;
+        sent.as_slice()
+            == b"HTTP/1.1 404 Not Found\r\nContent-Type: text/plain;charset=utf-8\r\nContent-Length: 7\r\n\r\nmissing".as_slice()
+    );
 
     let description = Bytes::copy_of(rt.alloc(), b"{}").expect(&rt, "memory");
     let sent = reply_of(&rt, &Outcome::Description(description, true));
-    assert!(rt; sent.as_slice() == b"HTTP/1.1 200 OK\r\nContent-Type: application/td+json\r\nContent-Length: 2\r\n\r\n{}".as_slice());
+    assert!(rt;
+        sent.as_slice()
+            == b"HTTP/1.1 200 OK\r\nContent-Type: application/td+json\r\nContent-Length: 2\r\n\r\n{}".as_slice()
+    );
 }
 
 #[test]
@@ -311,6 +323,9 @@ fn connections_know_nothing_of_one_another(rt: HostRuntime) {
         assert!(rt; sent.is_empty());
         http.bytes(c, b"st: h\r\n\r\n", 0);
         handle(&rt, &mut http, c, &mut value, &mut sent);
-        assert!(rt; sent.as_slice() == b"HTTP/1.1 200 OK\r\nContent-Type: application/json\r\nContent-Length: 1\r\n\r\nb".as_slice());
+        assert!(rt;
+            sent.as_slice()
+                == b"HTTP/1.1 200 OK\r\nContent-Type: application/json\r\nContent-Length: 1\r\n\r\nb".as_slice()
+        );
     }
 }

@@ -9,5 +9,6 @@ pub mod Pieces
 pub mod Found
 pub mod BodySeen
 pub mod Targets
+pub mod Reading
 pub mod Writing
 pub mod Replies

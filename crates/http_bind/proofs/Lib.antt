@@ -1,0 +1,13 @@
+pub mod Skipping
+pub mod FrontsBehindPairs
+pub mod Holding
+pub mod Standing
+pub mod ShortFronts
+pub mod FaultWords
+pub mod Messages
+pub mod SlotViews
+pub mod Calls
+pub mod Giving
+pub mod ShortReplies
+pub mod AllowLines
+pub mod Requests

@@ -1,0 +1,53 @@
+-- What is taken at a front, and the request of a whole message.
+use Rattle.std.proofs.Common.{◌≡◌, ℕ, ◌&&◌, Bool, true, false, List, refl, sym, ap, subst, ◌∙◌, cond}
+use Rattle.std.specs.Prelude.{Option, Some, None, option_map, not, is_some, IsSome}
+use Rattle.thing_ops.specs.Requests.{PlainRequest}
+use Rattle.http_wire.specs.Targets.{segments_of}
+use Rattle.http_wire.specs.Stream.{PlainHead, Front, message}
+use Rattle.http_wire.specs.Reading.{verb_of, request_at, asked}
+use Rattle.http_bind.specs.declared.looking.Found.{Found}
+use Rattle.http_bind.specs.declared.looking.Found.TheVariants as seen
+use Rattle.http_bind.specs.Replying.{is_head, fault_word}
+use Rattle.http_bind.specs.Streams.{wants_continue, is_faulty, read_as, expected, found, to_take}
+use Rattle.http_bind.specs.Looking.{IsMessageStep, ShowsMessage, Fits}
+
+pub takes_continue : (continued : Bool) (f : Front) (t : Bool) → t ≡ (expected f && not continued) → t ≡ true → to_take continued f ≡ Some wants_continue
+takes_continue continued f t is holds = ap (λ (u : Bool). cond u (Some wants_continue) (found f)) (sym is ∙ holds)
+
+pub takes_found : (continued : Bool) (f : Front) (t : Bool) → t ≡ (expected f && not continued) → t ≡ false → to_take continued f ≡ found f
+takes_found continued f t is holds = ap (λ (u : Bool). cond u (Some wants_continue) (found f)) (sym is ∙ holds)
+
+verb_at : (h : PlainHead) (body : List ℕ) (r : Option (List (List ℕ))) (q : PlainRequest) → option_map (request_at h body) r ≡ Some q → q.verb ≡ verb_of h.method
+verb_at h body None q is = absurd cc
+verb_at h body (Some path) q is = let same : request_at h body path ≡ q = cc in ap (λ (p : PlainRequest). p.verb) (sym same)
+
+-- a step takes a message
+pub message_step : (h : PlainHead) (body : List ℕ) (n : ℕ) (q : PlainRequest) (bodiless : Bool) → asked h body ≡ Some q → bodiless ≡ is_head (verb_of h.method) →
+    IsMessageStep h n q (record { used = n; bodiless = bodiless; closes = h.close })
+message_step h body n q bodiless is head = record {
+  used = refl;
+  bodiless = head ∙ ap is_head (sym (verb_at h body (segments_of h.target) q is));
+  closes = refl;
+}
+
+-- what stands, is something
+pub something : {A : Type 0} (r : Option A) → is_some r ≡ true → (x : A) × (r ≡ Some x)
+something None is = absurd cc
+something (Some x) is = (x, refl)
+
+-- what a whole message is taken for is what is to be taken where it is at the front
+pub shows_message : (continued : Bool) (h : PlainHead) (body : List ℕ) (used : ℕ) (expect : Bool) (what : Found) (room : List ℕ) →
+    to_take continued (message h body used expect) ≡ found (message h body used expect) → ShowsMessage h body used what room →
+    Fits continued (message h body used expect) what room
+shows_message continued h body used expect seen.Nothing room is shows = absurd shows
+shows_message continued h body used expect seen.Continue room is shows = absurd shows
+shows_message continued h body used expect (seen.Fault status) room is shows = (
+  is ∙ ap (λ (r : Option PlainRequest). Some (read_as r)) shows.0 ∙ ap (λ (n : ℕ). Some (is_faulty n)) (sym shows.1),
+  subst (λ (n : ℕ). IsSome (fault_word n)) (sym shows.1) refl,
+)
+shows_message continued h body used expect (seen.Message step parts) room is shows = (
+  shows.0,
+  is ∙ ap (λ (r : Option PlainRequest). Some (read_as r)) shows.1,
+  record { used = shows.2.used; bodiless = shows.2.bodiless; closes = shows.2.closes },
+  shows.3,
+)

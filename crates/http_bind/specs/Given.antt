@@ -1,0 +1,26 @@
+-- What `next` gives, and what is held afterwards.
+use Rattle.std.specs.Prelude.{◌≡◌, ℕ, IsSome}
+use Rattle.thing_ops.specs.Requests.{PlainRequest, plain_request}
+use Rattle.http_bind.specs.declared.next.HttpNext.{HttpNext}
+use Rattle.http_bind.specs.declared.next.HttpNext.TheVariants as next
+use Rattle.http_bind.specs.Replying.{fault_word}
+use Rattle.http_bind.specs.Streams.{Streams, Takes, IsDry, asks, wants_continue, is_faulty}
+use Rattle.http_bind.specs.Slots.{Slots, Leads, HasRoom, IsOpen, IsAskedBy}
+
+-- nothing is to be taken, and the streams stay
+abbrev pub StaysDry : ℕ → Streams → Streams → Type 0
+StaysDry c s t = (t ≡ s) × IsDry c t
+
+-- a request was taken
+pub record AsksFor (c : ℕ) (request : PlainRequest) (b d : Slots) : Type 0 where
+  pub takes : Leads (Takes c (asks request)) b d
+  pub asked : IsAskedBy c request d
+  pub is_open : IsOpen c d
+
+-- What was given, and what is held after it.
+abbrev pub Gives : ℕ → HttpNext → Slots → Slots → Type 0
+Gives c next.Idle b d = Leads (StaysDry c) b d × HasRoom c d
+Gives c next.Continue b d = Leads (Takes c wants_continue) b d × IsOpen c d
+Gives c (next.Ask request) b d = AsksFor c (plain_request request) b d
+Gives c (next.Refuse status) b d = Leads (Takes c (is_faulty status)) b d × IsOpen c d × IsSome (fault_word status)
+Gives c next.Memory b d = (request : PlainRequest) × AsksFor c request b d

@@ -1,0 +1,20 @@
+-- How the code keeps what it holds of a connection.
+use Rattle.std.specs.Prelude.{◌≤◌, length, drop, Option, option_map, vec_capacity}
+use Rattle.http_bind.specs.declared.slot.State.{State}
+use Rattle.http_bind.specs.declared.slot.Slot.TheInside.{Inside}
+use Rattle.http_bind.specs.Slots.{Held, longest_rest}
+use Rattle.std.specs.Prelude.{List, ℕ}
+
+-- these bytes are held, in this state
+abbrev pub held_with : List ℕ → State → Held
+held_with rest st = record { rest = rest; continued = st.continued; bodiless = st.bodiless; closes = st.closes; active = st.active }
+
+-- what is seen: the bytes behind those that were taken
+abbrev pub seen : Inside → Option Held
+seen x = option_map (held_with (drop x.start x.bytes.items)) x.state
+
+-- what always holds: the bytes are within the memory that was taken at first
+pub record IsKept (x : Inside) : Type 0 where
+  pub start : x.start ≤ length x.bytes.items
+  pub bound : length x.bytes.items ≤ longest_rest
+  pub capacity : longest_rest ≤ vec_capacity x.bytes

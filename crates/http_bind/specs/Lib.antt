@@ -1,0 +1,10 @@
+pub mod Places
+pub mod Replying
+pub mod Streams
+pub mod Slots
+pub mod Looking
+pub mod Shown
+pub mod Kept
+pub mod Given
+pub mod Cutting
+pub mod Written

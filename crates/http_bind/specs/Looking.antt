@@ -1,0 +1,74 @@
+-- What the code finds at the front of the bytes that it holds, in the words of the streams.
+use Rattle.std.specs.Prelude.{◌≡◌, ◌≤◌, ℕ, ◌+◌, Bool, List, drop, take, Some, None, IfSome, IsSome}
+use Rattle.thing_ops.specs.Requests.{PlainRequest}
+use Rattle.http_wire.specs.Stream.{PlainHead, Front, IsFront}
+use Rattle.http_wire.specs.Reading.{asked}
+use Rattle.http_bind.specs.declared.looking.Parts.{Parts}
+use Rattle.http_bind.specs.declared.looking.Step.{Step}
+use Rattle.http_bind.specs.declared.looking.Found.{Found}
+use Rattle.http_bind.specs.declared.looking.Found.TheVariants as seen
+use Rattle.http_bind.specs.Replying.{is_head, fault_word}
+use Rattle.http_bind.specs.Streams.{asks, wants_continue, is_faulty, to_take, bytes_used, asks_to_close}
+
+-- How many bytes a query and a body have at most.
+abbrev pub room_size : ℕ
+room_size = 24576
+
+-- the request of these parts, whose query and body are at the beginning of some bytes
+abbrev pub request_in : Parts → List ℕ → PlainRequest
+request_in p room = record {
+  verb = p.verb;
+  path = p.path;
+  query = take p.query_length room;
+  accept = p.accept;
+  format = p.format;
+  body = take p.body_length (drop p.query_length room);
+}
+
+-- the parts are those of this request
+pub record AreParts (q : PlainRequest) (room : List ℕ) (p : Parts) : Type 0 where
+  pub request : request_in p room ≡ q
+  pub within : p.query_length + p.body_length ≤ room_size
+
+-- the parts are those of the request of this message
+abbrev pub IsRead : PlainHead → List ℕ → List ℕ → Parts → Type 0
+IsRead h body room p = (q : PlainRequest) × (asked h body ≡ Some q) × AreParts q room p
+
+-- a step takes the message at a front, which asks for this
+pub record IsStep (f : Front) (q : PlainRequest) (step : Step) : Type 0 where
+  pub used : step.used ≡ bytes_used f
+  pub bodiless : step.bodiless ≡ is_head q.verb
+  pub closes : step.closes ≡ asks_to_close f
+
+-- what was found is what is to be taken at this front
+abbrev pub Fits : Bool → Front → Found → List ℕ → Type 0
+Fits continued f seen.Nothing room = to_take continued f ≡ None
+Fits continued f seen.Continue room = to_take continued f ≡ Some wants_continue
+Fits continued f (seen.Fault status) room = (to_take continued f ≡ Some (is_faulty status)) × IsSome (fault_word status)
+Fits continued f (seen.Message step parts) room =
+    (q : PlainRequest) × (to_take continued f ≡ Some (asks q)) × IsStep f q step × IfSome parts (AreParts q room)
+
+-- what was found is what is to be taken at the front of these bytes
+abbrev pub Shows : Bool → List ℕ → Found → List ℕ → Type 0
+Shows continued bytes what room = (f : Front) × IsFront bytes f × Fits continued f what room
+
+-- a message that is taken has no more bytes than there are
+abbrev pub IsWithin : ℕ → Found → Type 0
+IsWithin n seen.Nothing = Unit {0}
+IsWithin n seen.Continue = Unit {0}
+IsWithin n (seen.Fault status) = Unit {0}
+IsWithin n (seen.Message step parts) = step.used ≤ n
+
+-- a step takes a message with this head and so many bytes, which asks for this
+pub record IsMessageStep (h : PlainHead) (n : ℕ) (q : PlainRequest) (step : Step) : Type 0 where
+  pub used : step.used ≡ n
+  pub bodiless : step.bodiless ≡ is_head q.verb
+  pub closes : step.closes ≡ h.close
+
+-- what was found is what a whole message is taken for
+abbrev pub ShowsMessage : PlainHead → List ℕ → ℕ → Found → List ℕ → Type 0
+ShowsMessage h body used seen.Nothing room = ⊥
+ShowsMessage h body used seen.Continue room = ⊥
+ShowsMessage h body used (seen.Fault status) room = (asked h body ≡ None) × (status ≡ 400)
+ShowsMessage h body used (seen.Message step parts) room =
+    (q : PlainRequest) × (asked h body ≡ Some q) × IsMessageStep h used q step × IfSome parts (AreParts q room)

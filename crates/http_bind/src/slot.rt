@@ -1,0 +1,227 @@
+//! What is held of one connection.
+
+ghost use Rattle.std.specs.Prelude.{◌≡◌, ◌≤◌, length, drop, option_map, vec_capacity, IfOk};
+
+use crate::looking::{Found, look, without_pairs};
+use std::alloc::Global;
+use std::marker::Model;
+use thing_ops::NoMemory;
+
+/// The most bytes that are held of a connection: those of a message that isn't whole, and a piece.
+pub const LONGEST_REST: usize = 32768;
+
+/// How long a connection may be without activity before it is idle, in milliseconds.
+const IDLE_AFTER: u64 = 120_000;
+
+/// What is known of an open connection beside its bytes.
+#[derive(Clone, Copy, Drop)]
+pub struct State {
+    /// The 100 reply was sent for the message at the front.
+    pub continued: bool,
+    /// The message taken last is a HEAD request.
+    pub bodiless: bool,
+    /// The message taken last asks that the connection be closed.
+    pub closes: bool,
+    /// The moment of the last activity.
+    pub active: u64,
+}
+
+impl State {
+    /// The same, with its last activity at this moment.
+    fn active_at(self, now: u64) -> State
+        ensures { result ≡ record self { active = now } }
+    {
+        State {
+            active: now,
+            ..self
+        }
+    }
+}
+
+/// What is held of a connection, if it is open. Contracts see the bytes that weren't taken and what is known beside them
+/// (`Held` of specs/Slots.antt).
+///
+/// Taking a message moves no bytes: `start` is behind it. The bytes in front of `start` go when more come.
+#[derive(Drop)]
+pub struct Slot {
+    bytes: Vec<u8>,
+    start: usize,
+    state: Option<State>,
+}
+
+impl Model for Slot {
+    ghost use Rattle.std.specs.Prelude.{Option};
+    ghost use Rattle.http_bind.specs.Slots.{Held};
+
+    ghost Value = { Option Held };
+
+    ghost use Rattle.http_bind.specs.Kept.{seen, IsKept};
+
+    ghost view = { seen };
+
+    ghost invariant = { IsKept };
+}
+
+impl Slot {
+    ghost use Rattle.http_bind.specs.Slots.{held_at_opening, without_pairs, longer, is_idle, HasRoomFor};
+    ghost use Rattle.http_bind.specs.Looking.{room_size};
+    ghost use Rattle.http_bind.specs.Shown.{ShowsIfOpen, after_finding, MayPass, Passes, Answers};
+
+    /// A connection that isn't open. Its memory is taken here.
+    pub fn new(alloc: Global) -> Result<Slot, NoMemory>
+        ensures { IfOk result (λ s. s ≡ None) }
+    {
+        let bytes = Vec::with_capacity(alloc, LONGEST_REST)?;
+        Ok(Slot {
+            bytes,
+            start: 0,
+            state: None,
+        })
+    }
+
+    /// The connection is opened.
+    pub fn open(&mut self, now: u64)
+        ensures { self.new ≡ Some (held_at_opening now) }
+    {
+        self.bytes.clear();
+        self.start = 0;
+        self.state = Some(State {
+            continued: false,
+            bodiless: false,
+            closes: false,
+            active: now,
+        });
+    }
+
+    /// The connection isn't open any more.
+    pub fn free(&mut self)
+        ensures { self.new ≡ None }
+    {
+        self.state = None;
+    }
+
+    /// Bytes came.
+    pub fn append(&mut self, piece: &[u8], now: u64)
+        requires { HasRoomFor (length piece.now) self.old }
+        ensures { self.new ≡ option_map (longer piece.now now) self.old }
+    {
+        if let Some(state) = self.state {
+            move_to_front(&mut self.bytes, self.start);
+            self.start = 0;
+            self.bytes.extend_from_slice(piece).unwrap();
+            self.state = Some(state.active_at(now));
+        }
+    }
+
+    /// Takes what is at the front: a message, or the request for a 100 reply. A fault stays there.
+    pub fn next(&mut self, alloc: Global, room: &mut [u8]) -> Found
+        requires { room_size ≤ length room.old }
+        ensures { Passes self.old result self.new room.new }
+    {
+        self.skip_pairs();
+        let found = self.look(alloc, room);
+        self.pass(&found);
+        found
+    }
+
+    /// Leaves out CR LF pairs in front of the next message.
+    fn skip_pairs(&mut self)
+        ensures { self.new ≡ option_map without_pairs self.old }
+    {
+        let rest = without_pairs(behind(&self.bytes, self.start)).len();
+        self.start = self.bytes.len() - rest;
+    }
+
+    /// What is at the front.
+    fn look(&self, alloc: Global, room: &mut [u8]) -> Found
+        requires { room_size ≤ length room.old }
+        ensures shows { ShowsIfOpen self.now result room.new }
+        ensures may { MayPass result self.now }
+    {
+        match self.state {
+            None => Found::Nothing,
+            Some(state) => look(
+                alloc,
+                behind(&self.bytes, self.start),
+                state.continued,
+                room,
+            ),
+        }
+    }
+
+    /// Takes what was found.
+    fn pass(&mut self, found: &Found)
+        requires { MayPass found.now self.old }
+        ensures { self.new ≡ option_map (after_finding found.now) self.old }
+    {
+        if let Some(state) = self.state {
+            match found {
+                Found::Nothing | Found::Fault(_) => {}
+                Found::Continue => {
+                    self.state = Some(State {
+                        continued: true,
+                        ..state
+                    });
+                }
+                Found::Message(step, _) => {
+                    self.start += step.used;
+                    self.state = Some(State {
+                        continued: false,
+                        bodiless: step.bodiless,
+                        closes: step.closes,
+                        active: state.active,
+                    });
+                }
+            }
+        }
+    }
+
+    /// The message taken last is replied to. Returns whether the reply has no payload, and whether the connection is
+    /// closed after it.
+    pub fn answer(&mut self, now: u64) -> (bool, bool)
+        ensures { Answers now self.old result self.new }
+    {
+        match self.state {
+            None => (false, false),
+            Some(state) => {
+                self.state = if state.closes {
+                    None
+                } else {
+                    Some(state.active_at(now))
+                };
+                (state.bodiless, state.closes)
+            }
+        }
+    }
+
+    /// Whether there was no activity for so long that the connection may be closed.
+    pub fn is_idle(&self, now: u64) -> bool
+        ensures { result ≡ is_idle now self.now }
+    {
+        match self.state {
+            None => false,
+            Some(state) => now.saturating_sub(state.active) >= IDLE_AFTER,
+        }
+    }
+}
+
+/// The bytes from a place on.
+fn behind(bytes: &[u8], place: usize) -> &[u8]
+    requires { place ≤ length bytes.now }
+    ensures { result.now ≡ drop place bytes.now }
+{
+    &bytes[place..]
+}
+
+/// Moves the bytes from a place on to the front, and gives up those before it.
+fn move_to_front(bytes: &mut Vec<u8>, start: usize)
+    requires { start ≤ length bytes.old.items }
+    ensures items { bytes.new.items ≡ drop start bytes.old.items }
+    ensures room { vec_capacity bytes.new ≡ vec_capacity bytes.old }
+{
+    if start > 0 {
+        let rest = bytes.len() - start;
+        bytes.copy_within(start.., 0);
+        bytes.truncate(rest);
+    }
+}

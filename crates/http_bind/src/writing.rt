@@ -1,0 +1,256 @@
+//! How replies are written.
+
+ghost use Rattle.std.specs.Prelude.{◌≡◌, ◌≤◌, ◌⊎◌, ◌∷◌, [], codes, length, option_map, take, Some, None, IsSome};
+ghost use Rattle.thing_ops.specs.Outcomes.{payload_of};
+ghost use Rattle.http_wire.specs.Writing.{http_reply, phrase_of};
+ghost use Rattle.http_wire.specs.Replies.{plain_reply};
+ghost use Rattle.http_bind.specs.Places.{path_text};
+ghost use Rattle.http_bind.specs.Replying.{status_of, media_type_of, location_of, allow_of, head_of, reply_head, longest_reply_head, fault_word as word_of_fault, refusal_head, refusal_body};
+ghost use Rattle.http_bind.specs.Written.{PutsPlaced, IsShortReply};
+
+use crate::place::{put_entry, put_path};
+use http_wire::{Reply, put_reply};
+use thing_ops::{LONGEST_LINE, LONGEST_WORD, Outcome, Segments, http_status, word};
+use wot_json::Text;
+
+/// The most bytes of the head of a reply.
+pub const LONGEST_HEAD: usize = 4096;
+
+/// The media type of words (RFC 9110, section 8.3.1).
+const PLAIN_TEXT: &str = "text/plain;charset=utf-8";
+
+/// The payload of an outcome: its text, or its word, which is written into `out`.
+pub fn payload<'a>(outcome: &'a Outcome, out: &'a mut [u8; LONGEST_WORD]) -> &'a [u8]
+    ensures { result.now ≡ payload_of outcome.now }
+{
+    match outcome.text() {
+        Some(text) => text,
+        None => {
+            let length = word(outcome, out);
+            &out[..length]
+        }
+    }
+}
+
+/// Writes the head of the reply of an outcome to the beginning of `out`, and returns its length. The payload has this many
+/// bytes.
+pub fn put_answer(
+    outcome: &Outcome,
+    size: usize,
+    close: bool,
+    out: &mut [u8; LONGEST_HEAD],
+) -> usize
+    requires { size ≡ length (payload_of outcome.now) }
+    ensures text { take result out.new ≡ reply_head close outcome.now }
+    ensures within { result ≤ 4096 }
+{
+    match put_placed(outcome, size, close, out) {
+        Some(end) => end,
+        None => put_plain(outcome, size, close, out),
+    }
+}
+
+/// Writes the head of a reply with its place, if it has one and there is room.
+fn put_placed(outcome: &Outcome, size: usize, close: bool, out: &mut [u8]) -> Option<usize>
+    requires size { size ≡ length (payload_of outcome.now) }
+    requires room { length out.old ≡ longest_reply_head }
+    ensures { PutsPlaced close outcome.now out.new result }
+{
+    match outcome {
+        Outcome::Started(place, _) => put_started(outcome, place, size, close, out),
+        Outcome::Created(Some(id)) => put_created(outcome, id, size, close, out),
+        _ => None,
+    }
+}
+
+/// Writes the head of a reply with the path of these segments as its place, if there is room.
+fn put_started(
+    outcome: &Outcome,
+    place: &Segments,
+    size: usize,
+    close: bool,
+    out: &mut [u8],
+) -> Option<usize>
+    requires size { size ≡ length (payload_of outcome.now) }
+    requires room { length out.old ≡ longest_reply_head }
+    requires place { location_of outcome.now ≡ Some (path_text place.now) }
+    ensures { PutsPlaced close outcome.now out.new result }
+{
+    let mut path = [0; LONGEST_HEAD];
+    let end = put_path(place, &mut path)?;
+    put_at(outcome, &path[..end], size, close, out)
+}
+
+/// Writes the head of a reply with the path of an entry of the directory as its place, if there is room.
+fn put_created(
+    outcome: &Outcome,
+    id: &Text,
+    size: usize,
+    close: bool,
+    out: &mut [u8],
+) -> Option<usize>
+    requires size { size ≡ length (payload_of outcome.now) }
+    requires room { length out.old ≡ longest_reply_head }
+    requires place { location_of outcome.now ≡ Some (path_text (codes "things" ∷ id.now ∷ [])) }
+    ensures { PutsPlaced close outcome.now out.new result }
+{
+    let mut path = [0; LONGEST_HEAD];
+    let end = put_entry(id.as_str().as_bytes(), &mut path)?;
+    put_at(outcome, &path[..end], size, close, out)
+}
+
+/// Writes the head of a reply with this place, if there is room.
+fn put_at(
+    outcome: &Outcome,
+    place: &[u8],
+    size: usize,
+    close: bool,
+    out: &mut [u8],
+) -> Option<usize>
+    requires size { size ≡ length (payload_of outcome.now) }
+    requires room { length out.old ≡ longest_reply_head }
+    requires place { location_of outcome.now ≡ Some place.now }
+    ensures { PutsPlaced close outcome.now out.new result }
+{
+    let reply = Reply {
+        status: status(outcome),
+        content_type: media_type(outcome),
+        location: Some(place),
+        allow: None,
+        length: Some(size),
+        close,
+    };
+    put_reply(&reply, out)
+}
+
+/// Writes the head of a reply without its place.
+fn put_plain(outcome: &Outcome, size: usize, close: bool, out: &mut [u8]) -> usize
+    requires size { size ≡ length (payload_of outcome.now) }
+    requires room { length out.old ≡ longest_reply_head }
+    ensures text { take result out.new ≡ http_reply (head_of close None outcome.now) }
+    ensures within { result ≤ longest_reply_head }
+{
+    let mut room = [0; LONGEST_LINE];
+    let reply = Reply {
+        status: status(outcome),
+        content_type: media_type(outcome),
+        location: None,
+        allow: allow(outcome, &mut room),
+        length: Some(size),
+        close,
+    };
+    put_short(&reply, out)
+}
+
+/// Writes the head of a reply that is short.
+fn put_short(reply: &Reply<'_>, out: &mut [u8]) -> usize
+    requires phrase { IsSome (phrase_of reply.now.status) }
+    requires short { IsShortReply (plain_reply reply.now) }
+    requires room { length out.old ≡ longest_reply_head }
+    ensures text { take result out.new ≡ http_reply (plain_reply reply.now) }
+    ensures within { result ≤ longest_reply_head }
+{
+    put_reply(reply, out).unwrap()
+}
+
+/// The status of an outcome. Nothing waits yet: what is to wait is answered as if there was nothing at its path.
+fn status(outcome: &Outcome) -> u16
+    ensures status { result ≡ status_of outcome.now }
+    ensures phrase { IsSome (phrase_of result) }
+{
+    match outcome {
+        Outcome::Wait(_) => 404,
+        _ => http_status(outcome),
+    }
+}
+
+/// The media type of the payload of an outcome.
+fn media_type(outcome: &Outcome) -> Option<&'static str>
+    ensures { option_map (λ t. t.now) result ≡ media_type_of outcome.now }
+{
+    match outcome {
+        Outcome::Description(_, true) => Some("application/td+json"),
+        Outcome::Description(_, false)
+        | Outcome::Content(_)
+        | Outcome::Output(_)
+        | Outcome::Started(_, _)
+        | Outcome::Listed(_) => Some("application/json"),
+        Outcome::Empty | Outcome::Changed | Outcome::Deleted | Outcome::Created(_) => None,
+        Outcome::Wait(_)
+        | Outcome::NotFound
+        | Outcome::NotAllowed(_)
+        | Outcome::NotAcceptable
+        | Outcome::Format
+        | Outcome::BadValue
+        | Outcome::TooLarge
+        | Outcome::Refused(_)
+        | Outcome::DeviceFault(_)
+        | Outcome::BadAnswer
+        | Outcome::InvocationsFull
+        | Outcome::CallsUsed
+        | Outcome::Invalid(_)
+        | Outcome::IdDiffers
+        | Outcome::HasId
+        | Outcome::DirectoryFull
+        | Outcome::Memory => Some(PLAIN_TEXT),
+    }
+}
+
+/// The names of the verbs that are taken, where the outcome says them. They are written into `room`.
+fn allow<'a>(outcome: &Outcome, room: &'a mut [u8; LONGEST_LINE]) -> Option<&'a str>
+    ensures { option_map (λ t. t.now) result ≡ allow_of outcome.now }
+{
+    match outcome {
+        Outcome::NotAllowed(verbs) => {
+            let length = verbs.write(room);
+            match str::from_utf8(&room[..length]) {
+                Ok(names) => Some(names),
+                Err(_) => None,
+            }
+        }
+        _ => None,
+    }
+}
+
+/// Writes the head of the 100 reply, or of the reply to a fault with this status, and returns its length.
+pub fn put_refusal(status: u16, out: &mut [u8]) -> usize
+    requires status { (status ≡ 100) ⊎ IsSome (word_of_fault status) }
+    requires room { length out.old ≡ longest_reply_head }
+    ensures text { take result out.new ≡ refusal_head status }
+    ensures within { result ≤ longest_reply_head }
+{
+    let reply = if status == 100 {
+        Reply {
+            status,
+            content_type: None,
+            location: None,
+            allow: None,
+            length: None,
+            close: false,
+        }
+    } else {
+        Reply {
+            status,
+            content_type: Some(PLAIN_TEXT),
+            location: None,
+            allow: None,
+            length: Some(fault_word(status).len()),
+            close: true,
+        }
+    };
+    put_short(&reply, out)
+}
+
+/// The word of a fault.
+pub fn fault_word(status: u16) -> &'static [u8]
+    ensures text { result.now ≡ refusal_body status }
+    ensures short { length result.now ≤ 6 }
+{
+    match status {
+        400 => b"bad",
+        413 => b"body",
+        431 => b"head",
+        501 => b"coding",
+        _ => b"",
+    }
+}

@@ -1,0 +1,38 @@
+-- What the message of a request asks for (RFC 9110, sections 7.1 and 9; RFC 9112, section 3).
+use Rattle.std.specs.Prelude.{ℕ, List, drop, codes, Option, option_map, if◌then◌else◌}
+use Rattle.std.specs.Str.{bytes_eq}
+use Rattle.thing_ops.specs.declared.verb.Verb.{Verb}
+use Rattle.thing_ops.specs.declared.verb.Verb.TheVariants as verb
+use Rattle.thing_ops.specs.Requests.{PlainRequest}
+use Rattle.http_wire.specs.Stream.{PlainHead}
+use Rattle.http_wire.specs.Targets.{segments_of, query_place}
+
+-- the verb of a method, whose name is taken in the case in which it came (RFC 9110, section 9.1)
+abbrev pub verb_of : List ℕ → Verb
+verb_of method =
+    if bytes_eq method (codes "GET") then verb.Get
+    else if bytes_eq method (codes "HEAD") then verb.Head
+    else if bytes_eq method (codes "PUT") then verb.Put
+    else if bytes_eq method (codes "POST") then verb.Post
+    else if bytes_eq method (codes "PATCH") then verb.Patch
+    else if bytes_eq method (codes "DELETE") then verb.Delete
+    else verb.Other
+
+-- what is behind the `?` of a target
+abbrev pub query_of : List ℕ → List ℕ
+query_of target = drop (query_place target) target
+
+-- the request of a message whose target has this path
+abbrev pub request_at : PlainHead → List ℕ → List (List ℕ) → PlainRequest
+request_at h body path = record {
+  verb = verb_of h.method;
+  path = path;
+  query = query_of h.target;
+  accept = h.accept;
+  format = h.format;
+  body = body;
+}
+
+-- The request of a message with this head and this decoded body; there is none where its target isn't taken.
+abbrev pub asked : PlainHead → List ℕ → Option PlainRequest
+asked h body = option_map (request_at h body) (segments_of h.target)

@@ -16,9 +16,9 @@ use Rattle.clap.specs.Matches.{found_of}
 use Rattle.clap.specs.declared.error.Error.{Error}
 use Rattle.clap.specs.declared.error.kind.ErrorKind.TheVariants as kind
 use Rattle.clap.specs.declared.parser.matches.ArgMatches.{ArgMatches}
-use Rattle.clap.proofs.WalkLemmas.{first_value-rows}
+use Rattle.clap.specs.declared.parser.matches.Found.{Found}
 use Rattle.command_words.specs.Words.{Form, Values, has_name, value_at, values_given}
-use Rattle.command_words.specs.Line.{Holds, app_for, are_distinct, is_form, long_rule}
+use Rattle.command_words.specs.Line.{EachHasValue, app_for, are_distinct, has_text, is_form, long_rule, values_in, values_in_rows}
 use Rattle.command_words.proofs.ClapRules.{HasRoom, Places, Serves, by_long, by_long_unknown, by_short, each_serves, filled_rules, held, option_named, or_else-nil, place_at, places_hold, rules_from}
 use Rattle.command_words.proofs.ClapWalk.{Ends, Knows, last_rows, rows_of_values, shape_with, walk_at, walk_faults}
 use Rattle.command_words.proofs.ClapValues.{Left, and_left, at_rest, ends, or_right}
@@ -50,8 +50,12 @@ in_order n i [] (o ∷ options) = in_order n i [] options
 in_order n i (p ∷ places) options = in_order n (i + 1) places options
 
 pub form_is_simple : (form : Form) → HasRoom 1 form.places → is_simple (app_for form) ≡ true
-form_is_simple form room = rw (raw_simple form.places form.options, filled_rules 1 form.places form.options room, built_simple 1 form.places form.options,
-    in_order _ 1 form.places form.options) refl
+form_is_simple form room = rw (
+  raw_simple form.places form.options,
+  filled_rules 1 form.places form.options room,
+  built_simple 1 form.places form.options,
+  in_order _ 1 form.places form.options,
+) refl
 
 pub form_is_free : (form : Form) → HasRoom 1 form.places → is_simple_and_free (app_for form) ≡ true
 form_is_free form room = rw (form_is_simple form room, filled_rules 1 form.places form.options room, built_free 1 form.places form.options) refl
@@ -178,10 +182,13 @@ form_comes_out form words is text = go (values_given form words) (ends rules for
   where
     parts : (are_distinct (form.places ++ form.options) ≡ true) × (nat_lt (length form.places) 100 ≡ true)
     parts = and_left (are_distinct (form.places ++ form.options)) (nat_lt (length form.places) 100) is
+
     room : HasRoom 1 form.places
     room = form_room form is
+
     rules : List Rule
     rules = rules_from 1 form.places form.options
+
     knows : Knows rules form.options
     knows = record {
       known = λ name has. by_long 1 form.places form.options name has;
@@ -189,8 +196,10 @@ form_comes_out form words is text = go (values_given form words) (ends rules for
       no_short = λ x. by_short 1 form.places form.options x;
       serves = λ name has. each_serves rules 1 form.places form.options name refl (or_right (has_name name form.places) (has_name name form.options) has);
     }
+
     places : Places rules 1 form.places
     places = places_hold rules 1 form.places form.options room (λ k le. refl) (λ name has. each_serves rules 1 form.places form.options name refl (rw has refl))
+
     left : Left [] form.options form.places form.options
     left = record {
       free_place = λ x has. refl;
@@ -200,42 +209,68 @@ form_comes_out form words is text = go (values_given form words) (ends rules for
       distinct = places_distinct form.places form.options parts.0;
       apart = no_option form.places form.options parts.0;
     }
+
     faults : fault_of (app_for form) words ≡ walk_faults rules (walk_at (held [] None) idle 1 false) words
     faults = ap (λ (r : List Rule). faults_by r words) (filled_rules 1 form.places form.options room) ∙ faults_are form.places form.options words
+
     rows : matches_of (app_for form) words ≡ last_rows rules (walk_at (held [] None) idle 1 false) words
     rows = ap (λ (r : List Rule). rows_after r [] words) (filled_rules 1 form.places form.options room)
         ∙ no_defaults 1 form.places form.options (last_rows rules (walk_at (held [] None) idle 1 false) words)
+
     go : (o : Option Values) → Ends rules (walk_at (held [] None) idle 1 false) words [] o → ComesOut (app_for form) words o
     go None h = λ none. h (sym faults ∙ none)
     go (Some values) h = (faults ∙ h.0, rows ∙ h.1)
 
--- the first value of a name among the rows
-pub first_value_at : (name : Text) (values : Values) → first_of name (rows_of_values values) ≡ value_at name values
-first_value_at name [] = refl
-first_value_at name (v ∷ values) = go (bytes_eq v.0 name) refl (first_value_at name values)
+-- ---- rows as values
+
+-- the values of the rows of values
+values_again : (values : Values) → values_in_rows (rows_of_values values) ≡ values
+values_again [] = refl
+values_again (v ∷ values) = ap (λ (more : Values). v ∷ more) (values_again values)
+
+values_there : (values : Values) → list_all (λ (row : Row). has_text row.values) (rows_of_values values) ≡ true
+values_there [] = refl
+values_there (v ∷ values) = values_there values
+
+-- the first value of a name
+pub first_value_at : (name : Text) (rows : List Row) → list_all (λ (row : Row). has_text row.values) rows ≡ true
+    → first_of name rows ≡ value_at name (values_in_rows rows)
+first_value_at name [] each = refl
+first_value_at name (r ∷ rows) each = go (bytes_eq r.id name) refl r.values refl (first_value_at name rows)
   where
-    go : (t : Bool) → bytes_eq v.0 name ≡ t → first_of name (rows_of_values values) ≡ value_at name values
-        → first_of name (rows_of_values (v ∷ values)) ≡ value_at name (v ∷ values)
-    go true e more = rw e refl
-    go false e more = rw e more
+    go : (t : Bool) → bytes_eq r.id name ≡ t → (texts : List Text) → r.values ≡ texts
+        → (list_all (λ (row : Row). has_text row.values) rows ≡ true → first_of name rows ≡ value_at name (values_in_rows rows))
+        → first_of name (r ∷ rows) ≡ value_at name (values_in_rows (r ∷ rows))
+    go t e [] is more = let bad : false ≡ true = rw is at each in cc
+    go true e (text ∷ texts) is more = rw (e, is) refl
+    go false e (text ∷ texts) is more = rw e (more (rw is at each))
 
 -- ---- the answer of a parse
 
--- matches hold the values
+-- what matches hold
+pub record Holds (form : Form) (words : List Text) (found : Found) : Type 0 where
+  pub values : values_given form words ≡ Some (values_in found)
+  pub each : EachHasValue found
+
 pub parsed : (app : App) (form : Form) (words : List Text) (m : ArgMatches) → app ≡ app_for form → is_form form ≡ true → All IsUtf8 words
-    → (is_simple_and_free app ≡ true → fault_of app words ≡ []) → HasMatchesOf app words m → Holds (values_given form words) m
-parsed app form words m same is text no_fault matches = go (values_given form words) (form_comes_out form words is text)
+    → (is_simple_and_free app ≡ true → fault_of app words ≡ []) → HasMatchesOf app words m → Holds form words (found_of m)
+parsed app form words m same is text no_fault matches = go (values_given form words) refl (form_comes_out form words is text)
   where
     room : HasRoom 1 form.places
     room = form_room form is
+
     rows : rows_of (found_of m) ≡ matches_of (app_for form) words
     rows = subst (λ (a : App). rows_of (found_of m) ≡ matches_of a words) same (matches (ap is_simple same ∙ form_is_simple form room)).0
+
     passes : fault_of (app_for form) words ≡ []
     passes = subst (λ (a : App). fault_of a words ≡ []) same (no_fault (ap is_simple_and_free same ∙ form_is_free form room))
-    go : (o : Option Values) → ComesOut (app_for form) words o → Holds o m
-    go None h = absurd (h passes)
-    go (Some values) h =
-        λ name. first_value-rows (found_of m) name ∙ ap (first_of name) (rows ∙ h.1) ∙ first_value_at name values
+
+    go : (o : Option Values) → values_given form words ≡ o → ComesOut (app_for form) words o → Holds form words (found_of m)
+    go None e h = absurd (h passes)
+    go (Some values) e h = record {
+      values = e ∙ ap (λ (v : Values). Some v) (sym (ap values_in_rows (rows ∙ h.1) ∙ values_again values));
+      each = ap (list_all (λ (row : Row). has_text row.values)) (rows ∙ h.1) ∙ values_there values;
+    }
 
 -- an error that isn't being out of memory means that there are none
 pub not_parsed : (app : App) (form : Form) (words : List Text) (e : Error) → app ≡ app_for form → is_form form ≡ true → All IsUtf8 words
@@ -244,8 +279,10 @@ not_parsed app form words e same is text has_kind no_memory = go (values_given f
   where
     room : HasRoom 1 form.places
     room = form_room form is
+
     fails : HasKind (fault_of (app_for form) words) e
     fails = subst (λ (a : App). HasKind (fault_of a words) e) same (has_kind (ap is_simple_and_free same ∙ form_is_free form room))
+
     go : (o : Option Values) → ComesOut (app_for form) words o → o ≡ None
     go None h = refl
     go (Some values) h = absurd (elim (subst (λ (kinds : Kinds). HasKind kinds e) h.0 fails) [ inl memory ↦ no_memory memory | inr among ↦ among ])

@@ -155,12 +155,13 @@ places_hold rules i [] options room same serves = same i (omega arith) ∙ no_in
 places_hold rules i (p ∷ places) options room same serves =
     let here : (i == i) ≡ true = grind arith in
     let later : (k : ℕ) → i + 1 ≤ k → (i == k) ≡ false = λ k le. grind (arith, le) in
-    let itself : bytes_eq p p ≡ true = (bytes_eq-Decides p p).1 refl in
-    ( same i (omega arith) ∙ rw here refl
-    , serves p (rw itself refl)
-    , omega (arith, room)
-    , places_hold rules (i + 1) places options (omega (arith, room)) (λ k le. same k (omega (arith, le)) ∙ rw (later k le) refl)
-      (λ name has. serves name (or_true (bytes_eq p name) (has_name name places) has)) )
+    let itself : bytes_eq p p ≡ true = (bytes_eq-Decides p p).1 refl in (
+      same i (omega arith) ∙ rw here refl,
+      serves p (rw itself refl),
+      omega (arith, room),
+      places_hold rules (i + 1) places options (omega (arith, room)) (λ k le. same k (omega (arith, le)) ∙ rw (later k le) refl)
+          (λ name has. serves name (or_true (bytes_eq p name) (has_name name places) has)),
+    )
   where
     or_true : (a b : Bool) → b ≡ true → (a || b) ≡ true
     or_true true b e = refl

@@ -29,6 +29,7 @@ other_names other name (n ∷ names) =
     same_left false false false is = refl
     same_left h true false is = cc
     same_left h false true is = cc
+
     go : (t : Bool) → bytes_eq n name ≡ t → (u : Bool) → bytes_eq n other ≡ u → (v : Bool) → bytes_eq name other ≡ v
         → has_name other (names_without name names) ≡ (has_name other names && not (bytes_eq name other))
         → has_name other (names_without name (n ∷ names)) ≡ (has_name other (n ∷ names) && not (bytes_eq name other))
@@ -169,7 +170,7 @@ at_place : (rules : List Rule) (options left : List Text) (rows : List Row) (pen
     (position : ℕ) (trailing : Bool) (word : Text) (words : List Text) (places : List Text) (o : Option Arguments) → GoesToPlace word waiting trailing
     → Clean rules (held rows pending) now → Left now options places left → Places rules position places
     → ((filled : Option (Text × List Text)) (later : List Row) (more : List Text) → Clean rules (held now filled) later → Left later options more left
-        → Places rules (position + 1) more → Ends rules (walk_at (held now filled) idle (position + 1) trailing) words later (given more left o))
+    → Places rules (position + 1) more → Ends rules (walk_at (held now filled) idle (position + 1) trailing) words later (given more left o))
     → Ends rules (walk_at (held rows pending) waiting position trailing) (word ∷ words) now (given places left (with_argument (word_given word) o))
 at_place rules options left rows pending now waiting position trailing word words [] o goes clean free hold next =
     subst (Ends rules (walk_at (held rows pending) waiting position trailing) (word ∷ words) now) (sym (given_nowhere word left o))
@@ -212,8 +213,10 @@ again_fails rules options knows now position name (word ∷ words) places is_kno
   where
     serves : Serves rules name
     serves = knows.serves name is_known
+
     waits : Waiting
     waits = waits_for name
+
     go : (what : WordKind) → LooksLike word what → Ends rules (walk_at (held now (Some (name, []))) waits position false) (word ∷ words) now None
     go what (as_end dashes) =
         let step = end_passes rules (held now (Some (name, []))) waits position word dashes (inr (name, refl)) in
@@ -244,7 +247,7 @@ at_new_option : (rules : List Rule) (options : List Text) → Knows rules option
     → Clean rules (held rows pending) now → Left now options places left → Places rules position places → All IsUtf8 words → EndsWell rules options words
     → IsDashes word false → long_of word ≡ Some (name, value) → (t : Bool) → has_name name left ≡ t → (u : Bool) → has_name name options ≡ u
     → Ends rules (walk_at (held rows pending) idle position false) (word ∷ words) now
-        (given places left (from_word (option name value) word words (arguments_after words)))
+    (given places left (from_word (option name value) word words (arguments_after words)))
 at_new_option rules options knows word words places left now rows pending position name (Some value) clean free hold text next dashes long true e u f =
     let step = option_with_value rules rows pending now position word name value dashes long (knows.known name (free.are_options name e)) clean (free.free_option name e) in
     let later = now ++ row_of_value name value ∷ [] in
@@ -299,7 +302,7 @@ at_option_ends : (rules : List Rule) (options : List Text) → Knows rules optio
     (position : ℕ) (name : Text) → has_name name left ≡ true → Left now options places left → Places rules position places → All IsUtf8 (word ∷ words)
     → EndsWell rules options words → (what : WordKind) → LooksLike word what
     → Ends rules (walk_at (held now (Some (name, []))) (waits_for name) position false) (word ∷ words) now
-        (given places left (from_value name what word (arguments_after words)))
+    (given places left (from_value name what word (arguments_after words)))
 at_option_ends rules options knows word words places left now position name has free hold text next what (as_end dashes) =
     let wants = (knows.serves name (free.are_options name has)).wants now in
     let step = end_passes rules (held now (Some (name, []))) (waits_for name) position word dashes (inr (name, refl)) in

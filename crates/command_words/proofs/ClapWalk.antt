@@ -69,8 +69,10 @@ goes_on rules w next word words rows o passes is h = go o (subst (λ (x : Walk).
     after : Kinds → Kinds
     after turn = or_else (or_else turn (walk_fault (shape_with rules) [] (walked rules [] w word) words))
         (settle_fault rules false (fold (walked rules []) (walked rules [] w word) words).held)
+
     same : walk_faults rules w (word ∷ words) ≡ after []
     same = ap after passes
+
     go : (p : Option Values) → Ends rules (walked rules [] w word) words rows p → Ends rules w (word ∷ words) rows p
     go None k = λ none. k (sym same ∙ none)
     go (Some values) k = (same ∙ k.0, k.1)
@@ -109,11 +111,12 @@ pub option_with_value : (rules : List Rule) (rows : List Row) (pending : Option 
     → Clean rules (held rows pending) now → has_row name now ≡ false
     → (turn_fault (shape_with rules) [] (walk_at (held rows pending) idle position false) word ≡ [])
     × (walked rules [] (walk_at (held rows pending) idle position false) word
-        ≡ walk_at (held (now ++ row_of_value name value ∷ []) None) idle position false)
+    ≡ walk_at (held (now ++ row_of_value name value ∷ []) None) idle position false)
 unfolding walked
-option_with_value rules rows pending now position word name value dashes long known clean fresh =
-    ( rw (dashes, long, known, clean.passes, clean.comes_to, fresh) refl
-    , rw (dashes, long, known, clean.comes_to, fresh_value name value now fresh) refl )
+option_with_value rules rows pending now position word name value dashes long known clean fresh = (
+  rw (dashes, long, known, clean.passes, clean.comes_to, fresh) refl,
+  rw (dashes, long, known, clean.comes_to, fresh_value name value now fresh) refl,
+)
 
 -- an option whose value is the next word
 pub option_without_value : (rules : List Rule) (rows : List Row) (pending : Option (Text × List Text)) (now : List Row) (position : ℕ) (word name : Text)
@@ -121,11 +124,12 @@ pub option_without_value : (rules : List Rule) (rows : List Row) (pending : Opti
     → Clean rules (held rows pending) now
     → (turn_fault (shape_with rules) [] (walk_at (held rows pending) idle position false) word ≡ [])
     × (walked rules [] (walk_at (held rows pending) idle position false) word
-        ≡ walk_at (held now (Some (name, []))) (waits_for name) position false)
+    ≡ walk_at (held now (Some (name, []))) (waits_for name) position false)
 unfolding walked
-option_without_value rules rows pending now position word name dashes long known clean =
-    ( rw (dashes, long, known, clean.passes) refl
-    , rw (dashes, long, known, clean.comes_to) refl )
+option_without_value rules rows pending now position word name dashes long known clean = (
+  rw (dashes, long, known, clean.passes) refl,
+  rw (dashes, long, known, clean.comes_to) refl,
+)
 
 -- an option that has a value already
 pub option_again : (rules : List Rule) (rows : List Row) (pending : Option (Text × List Text)) (now : List Row) (position : ℕ) (word name value : Text)
@@ -181,17 +185,18 @@ pub place_filled : (rules : List Rule) (rows : List Row) (pending : Option (Text
     → arg_by_index rules position ≡ Some (place_at position place) → position < usize_max → Clean rules (held rows pending) now
     → (turn_fault (shape_with rules) [] (walk_at (held rows pending) waiting position trailing) word ≡ [])
     × (walked rules [] (walk_at (held rows pending) waiting position trailing) word
-        ≡ walk_at (held now (Some (place, word ∷ []))) idle (position + 1) trailing)
+    ≡ walk_at (held now (Some (place, word ∷ []))) idle (position + 1) trailing)
 unfolding walked
 place_filled rules rows pending now waiting position trailing word place goes found less clean =
     go (is_pending (place_at position place) pending) refl waiting trailing goes
   where
     next : min (position + 1) usize_max ≡ position + 1
     next = omega (arith, less)
+
     go : (t : Bool) → is_pending (place_at position place) pending ≡ t → (w : Waiting) (b : Bool) → GoesToPlace word w b
         → (turn_fault (shape_with rules) [] (walk_at (held rows pending) w position b) word ≡ [])
         × (walked rules [] (walk_at (held rows pending) w position b) word
-            ≡ walk_at (held now (Some (place, word ∷ []))) idle (position + 1) b)
+        ≡ walk_at (held now (Some (place, word ∷ []))) idle (position + 1) b)
     go true e w b (before dashes long short) =
         (rw (dashes, long, short, found, e, clean.passes) refl, rw (dashes, long, short, found, e, clean.comes_to, next) refl)
     go false e w b (before dashes long short) =
@@ -226,7 +231,7 @@ pub value_filled : (rules : List Rule) (rows : List Row) (position : ℕ) (word 
     → Serves rules name
     → (turn_fault (shape_with rules) [] (walk_at (held rows (Some (name, []))) (waits_for name) position false) word ≡ [])
     × (walked rules [] (walk_at (held rows (Some (name, []))) (waits_for name) position false) word
-        ≡ walk_at (held rows (Some (name, word ∷ []))) idle position false)
+    ≡ walk_at (held rows (Some (name, word ∷ []))) idle position false)
 unfolding walked
 value_filled rules rows position word name dashes long short serves =
     (rw (dashes, long, short) refl, rw (dashes, long, short, serves.fills word rows) refl)
@@ -276,6 +281,7 @@ fails_before rules options knows rows pending position (word ∷ words) now k ks
         (option_after_fault rules (held rows pending) idle position word name value k ks dashes long (knows.known name e) (inl refl) fails)
     option_fails name value dashes long false e = stops rules _ word words now _ _
         (option_unknown rules (held rows pending) idle position word name value dashes long (knows.unknown_name name e) (inl refl))
+
     go : (what : WordKind) → LooksLike word what → Ends rules (walk_at (held rows pending) idle position false) (word ∷ words) now None
     go what (as_end dashes) =
         let step = end_passes rules (held rows pending) idle position word dashes (inl refl) in

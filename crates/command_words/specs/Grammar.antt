@@ -152,6 +152,6 @@ meaning_after name words =
     else None
 
 -- What the words of the command line mean, or that they mean nothing.
-abbrev pub meaning_of : List (List ℕ) → Option Command
+unfoldable pub meaning_of : List (List ℕ) → Option Command
 meaning_of [] = None
 meaning_of (name ∷ words) = meaning_after name words

@@ -1,20 +1,18 @@
--- How `clap` is used: the command that is made for a form, and what its matches hold.
-use Rattle.std.specs.Prelude.{◌≡◌, ◌&&◌, ◌++◌, not, nat_lt, ℕ, Bool, true, List, [], ◌∷◌, map, length, codes, Option, Some, None, Result, Ok, Err}
+-- How `clap` is used: the command that is made for a form, and the values that its matches hold.
+use Rattle.std.specs.Prelude.{◌≡◌, ◌&&◌, ◌++◌, not, nat_lt, ℕ, Bool, true, false, List, [], ◌∷◌, map, length, codes, Option, Some}
 use Rattle.std.specs.Borrow.{Bor}
-use Rattle.std.specs.List.{All}
+use Rattle.std.specs.List.{All, list_all}
 use Rattle.std.specs.Str.{IsUtf8}
-use Rattle.clap.specs.Words.{App, Rule, first_value, found_of, new_app, new_rule}
-use Rattle.clap.specs.declared.parser.matches.ArgMatches.{ArgMatches}
-use Rattle.command_words.specs.Words.{Form, Values, has_name, value_at, values_given}
-use Rattle.command_words.specs.declared.fault.WordsFault.{WordsFault}
-use Rattle.command_words.specs.declared.fault.WordsFault.TheVariants.{Usage, NoMemory}
-
-abbrev pub texts : List (Bor (List ℕ)) → List (List ℕ)
-texts = map (λ s. s.now)
+use Rattle.clap.specs.Words.{App, Row, Rule, new_app, new_rule, rows_of}
+use Rattle.clap.specs.declared.parser.matches.Found.{Found}
+use Rattle.command_words.specs.Words.{Form, Values, has_name}
+use Rattle.command_words.specs.Parts.{texts}
 
 -- each word is a text in UTF-8, as a `str` is
 abbrev pub AreTexts : List (List ℕ) → Type 0
 AreTexts = All IsUtf8
+
+-- ---- the command
 
 -- the form of these places and options
 abbrev pub form_of : List (Bor (List ℕ)) → List (Bor (List ℕ)) → Form
@@ -40,13 +38,23 @@ app_with rules = let app = new_app (codes "servient") in
 abbrev pub app_for : Form → App
 app_for form = app_with (map new_rule form.places ++ map long_rule form.options)
 
--- The matches hold these values, if there are any.
-abbrev pub Holds : Option Values → ArgMatches → Type 0
-Holds (Some values) matches = (name : List ℕ) → first_value (found_of matches) name ≡ value_at name values
-Holds None matches = ⊥
+-- ---- its matches
 
--- A success has matches that hold the values of the form, and the words are refused only where there are none.
-abbrev pub GivesValues : Form → List (List ℕ) → Result ArgMatches WordsFault → Type 0
-GivesValues form words (Ok matches) = Holds (values_given form words) matches
-GivesValues form words (Err Usage) = values_given form words ≡ None
-GivesValues form words (Err NoMemory) = Unit {0}
+-- the first of some texts, and whether there is one
+abbrev pub first_text : List (List ℕ) → List ℕ
+first_text [] = []
+first_text (text ∷ texts) = text
+
+abbrev pub has_text : List (List ℕ) → Bool
+has_text [] = false
+has_text (text ∷ texts) = true
+
+-- each row is a name with its value
+abbrev pub values_in_rows : List Row → Values
+values_in_rows = map (λ row. (row.id, first_text row.values))
+
+abbrev pub values_in : Found → Values
+values_in found = values_in_rows (rows_of found)
+
+abbrev pub EachHasValue : Found → Type 0
+EachHasValue found = list_all (λ row. has_text row.values) (rows_of found) ≡ true

@@ -2,12 +2,12 @@
 
 ghost use Rattle.std.specs.Prelude.{◌≡◌, IfOk, OnOk};
 ghost use Rattle.command_words.specs.Grammar.{check_form, check_of, consume_form, consume_of, derive_form, derive_of, meaning_after, meaning_by, meaning_of, replay_form, replay_of, serve_form, serve_of, storm_form, storm_of};
-ghost use Rattle.command_words.specs.Parts.{Reads};
-ghost use Rattle.command_words.specs.Line.{AreTexts, texts};
+ghost use Rattle.command_words.specs.Parts.{Reads, texts};
+ghost use Rattle.command_words.specs.Line.{AreTexts};
 
 use crate::fault::WordsFault;
 use crate::parts::{events, file, name, number, number_or, operation, optional, required, scheme};
-use crate::values::read_values;
+use crate::values::Given;
 use servient_base::NoMemory;
 use std::alloc::Global;
 use wot_json::Text;
@@ -22,15 +22,26 @@ pub enum Command {
         events: u32,
     },
     /// Serves the Things of the plan for so many events, or until so many seconds pass without traffic; 0 seconds is no such end.
-    Serve { plan: Text, events: u32, idle: u32 },
+    Serve {
+        plan: Text,
+        events: u32,
+        idle: u32,
+    },
     /// Derives the descriptions of the plan's Things.
-    Derive { plan: Text },
+    Derive {
+        plan: Text,
+    },
     /// Checks a description.
-    Check { description: Text },
+    Check {
+        description: Text,
+    },
     /// Does an operation on another Thing.
     Consume(Consumption),
     /// Runs the generated script of this seed and this number of events.
-    Storm { seed: u32, events: u32 },
+    Storm {
+        seed: u32,
+        events: u32,
+    },
 }
 
 /// An operation on the Thing of a description.
@@ -68,6 +79,7 @@ pub enum Scheme {
 
 impl Command {
     /// The command that the words after the program's name say.
+    #[tactic(auto, unfolding(crate::specs::Grammar::meaning_of))]
     pub fn read(alloc: Global, words: &[Text]) -> Result<Command, WordsFault>
         ensures { Reads (meaning_of words.now) result }
     {
@@ -113,10 +125,10 @@ fn replay(alloc: Global, words: &[&str]) -> Result<Command, WordsFault>
     requires { AreTexts (texts words.now) }
     ensures { Reads (meaning_by replay_form replay_of (texts words.now)) result }
 {
-    let values = read_values(alloc, &["script", "plan"], &["events"], words)?;
-    let script = required(alloc, values.get_str("script"))?;
-    let events = events(values.get_str("events"))?;
-    let plan = optional(alloc, values.get_str("plan"))?;
+    let values = Given::read(alloc, &["script", "plan"], &["events"], words)?;
+    let script = required(alloc, values.get("script"))?;
+    let events = events(values.get("events"))?;
+    let plan = optional(alloc, values.get("plan"))?;
     Ok(Command::Replay {
         script,
         plan,
@@ -128,10 +140,10 @@ fn serve(alloc: Global, words: &[&str]) -> Result<Command, WordsFault>
     requires { AreTexts (texts words.now) }
     ensures { Reads (meaning_by serve_form serve_of (texts words.now)) result }
 {
-    let values = read_values(alloc, &["plan"], &["events", "idle"], words)?;
-    let plan = required(alloc, values.get_str("plan"))?;
-    let events = events(values.get_str("events"))?;
-    let idle = number_or(0, values.get_str("idle"), 0, 86_400)?;
+    let values = Given::read(alloc, &["plan"], &["events", "idle"], words)?;
+    let plan = required(alloc, values.get("plan"))?;
+    let events = events(values.get("events"))?;
+    let idle = number_or(0, values.get("idle"), 0, 86_400)?;
     Ok(Command::Serve { plan, events, idle })
 }
 
@@ -139,8 +151,8 @@ fn derive(alloc: Global, words: &[&str]) -> Result<Command, WordsFault>
     requires { AreTexts (texts words.now) }
     ensures { Reads (meaning_by derive_form derive_of (texts words.now)) result }
 {
-    let values = read_values(alloc, &["plan"], &[], words)?;
-    let plan = required(alloc, values.get_str("plan"))?;
+    let values = Given::read(alloc, &["plan"], &[], words)?;
+    let plan = required(alloc, values.get("plan"))?;
     Ok(Command::Derive { plan })
 }
 
@@ -148,8 +160,8 @@ fn check(alloc: Global, words: &[&str]) -> Result<Command, WordsFault>
     requires { AreTexts (texts words.now) }
     ensures { Reads (meaning_by check_form check_of (texts words.now)) result }
 {
-    let values = read_values(alloc, &["description"], &[], words)?;
-    let description = required(alloc, values.get_str("description"))?;
+    let values = Given::read(alloc, &["description"], &[], words)?;
+    let description = required(alloc, values.get("description"))?;
     Ok(Command::Check { description })
 }
 
@@ -157,18 +169,18 @@ fn consume(alloc: Global, words: &[&str]) -> Result<Command, WordsFault>
     requires { AreTexts (texts words.now) }
     ensures { Reads (meaning_by consume_form consume_of (texts words.now)) result }
 {
-    let values = read_values(
+    let values = Given::read(
         alloc,
         &["description", "operation", "name"],
         &["scheme", "input", "count"],
         words,
     )?;
-    let description = required(alloc, values.get_str("description"))?;
-    let operation = operation(values.get_str("operation"))?;
-    let name = name(alloc, operation, values.get_str("name"))?;
-    let scheme = scheme(values.get_str("scheme"))?;
-    let input = file(alloc, values.get_str("input"))?;
-    let count = number_or(1, values.get_str("count"), 1, 100)?;
+    let description = required(alloc, values.get("description"))?;
+    let operation = operation(values.get("operation"))?;
+    let name = name(alloc, operation, values.get("name"))?;
+    let scheme = scheme(values.get("scheme"))?;
+    let input = file(alloc, values.get("input"))?;
+    let count = number_or(1, values.get("count"), 1, 100)?;
     Ok(Command::Consume(Consumption {
         description,
         operation,
@@ -183,8 +195,8 @@ fn storm(alloc: Global, words: &[&str]) -> Result<Command, WordsFault>
     requires { AreTexts (texts words.now) }
     ensures { Reads (meaning_by storm_form storm_of (texts words.now)) result }
 {
-    let values = read_values(alloc, &["seed", "events"], &[], words)?;
-    let seed = number(values.get_str("seed"), 0, 999_999_999)?;
-    let events = number(values.get_str("events"), 1, 100_000)?;
+    let values = Given::read(alloc, &["seed", "events"], &[], words)?;
+    let seed = number(values.get("seed"), 0, 999_999_999)?;
+    let events = number(values.get("events"), 1, 100_000)?;
     Ok(Command::Storm { seed, events })
 }

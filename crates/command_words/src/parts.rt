@@ -1,9 +1,9 @@
 //! The parts of a command: texts, numbers and names, each as the words give it.
 
-ghost use Rattle.std.specs.Prelude.{◌≡◌, ◌≤◌, Some, None, option_map, option_and_then};
+ghost use Rattle.std.specs.Prelude.{◌≡◌, ◌≤◌, Some, None, option_and_then};
 ghost use Rattle.std.specs.Option.{option_map_or};
 ghost use Rattle.command_words.specs.Grammar.{file_of, is_file_name as names_file, name_of, number_between, operation_of, scheme_of};
-ghost use Rattle.command_words.specs.Parts.{Reads};
+ghost use Rattle.command_words.specs.Parts.{Reads, text_in};
 
 use crate::command::{Operation, Scheme};
 use crate::fault::WordsFault;
@@ -13,7 +13,7 @@ use wot_json::Text;
 
 /// The text of a word that has to be there.
 pub fn required(alloc: Global, word: Option<&str>) -> Result<Text, WordsFault>
-    ensures { Reads (option_map (λ s. s.now) word) result }
+    ensures { Reads (text_in word.entry) result }
 {
     match word {
         Some(text) => Ok(Text::copy_of(alloc, text)?),
@@ -23,7 +23,7 @@ pub fn required(alloc: Global, word: Option<&str>) -> Result<Text, WordsFault>
 
 /// The text of a word that may be there.
 pub fn optional(alloc: Global, word: Option<&str>) -> Result<Option<Text>, WordsFault>
-    ensures { Reads (Some (option_map (λ s. s.now) word)) result }
+    ensures { Reads (Some (text_in word.entry)) result }
 {
     match word {
         Some(text) => Ok(Some(Text::copy_of(alloc, text)?)),
@@ -33,7 +33,7 @@ pub fn optional(alloc: Global, word: Option<&str>) -> Result<Option<Text>, Words
 
 /// The name of a file that an option may give.
 pub fn file(alloc: Global, word: Option<&str>) -> Result<Option<Text>, WordsFault>
-    ensures { Reads (option_map_or file_of (option_map (λ s. s.now) word) (Some None)) result }
+    ensures { Reads (option_map_or file_of (text_in word.entry) (Some None)) result }
 {
     match word {
         Some(text) if !is_file_name(text) => Err(WordsFault::Usage),
@@ -60,7 +60,7 @@ fn number_of(word: &str, least: u32, most: u32) -> Result<u32, WordsFault>
 
 /// The number of a word that has to be there.
 pub fn number(word: Option<&str>, least: u32, most: u32) -> Result<u32, WordsFault>
-    ensures { Reads (option_and_then (number_between least most) (option_map (λ s. s.now) word)) result }
+    ensures { Reads (option_and_then (number_between least most) (text_in word.entry)) result }
 {
     match word {
         Some(text) => number_of(text, least, most),
@@ -70,7 +70,7 @@ pub fn number(word: Option<&str>, least: u32, most: u32) -> Result<u32, WordsFau
 
 /// The number of a word that may be there, or the default.
 pub fn number_or(default: u32, word: Option<&str>, least: u32, most: u32) -> Result<u32, WordsFault>
-    ensures { Reads (option_map_or (number_between least most) (option_map (λ s. s.now) word) (Some default)) result }
+    ensures { Reads (option_map_or (number_between least most) (text_in word.entry) (Some default)) result }
 {
     match word {
         Some(text) => number_of(text, least, most),
@@ -80,14 +80,14 @@ pub fn number_or(default: u32, word: Option<&str>, least: u32, most: u32) -> Res
 
 /// How many events a run may take.
 pub fn events(word: Option<&str>) -> Result<u32, WordsFault>
-    ensures { Reads (option_map_or (number_between 1 1000000) (option_map (λ s. s.now) word) (Some 100000)) result }
+    ensures { Reads (option_map_or (number_between 1 1000000) (text_in word.entry) (Some 100000)) result }
 {
     number_or(100_000, word, 1, 1_000_000)
 }
 
 /// The scheme that an option may give.
 pub fn scheme(word: Option<&str>) -> Result<Option<Scheme>, WordsFault>
-    ensures { Reads (option_map_or scheme_of (option_map (λ s. s.now) word) (Some None)) result }
+    ensures { Reads (option_map_or scheme_of (text_in word.entry) (Some None)) result }
 {
     match word {
         Some("http") => Ok(Some(Scheme::Http)),
@@ -99,7 +99,7 @@ pub fn scheme(word: Option<&str>) -> Result<Option<Scheme>, WordsFault>
 
 /// The operation of this name.
 pub fn operation(word: Option<&str>) -> Result<Operation, WordsFault>
-    ensures { Reads (option_and_then operation_of (option_map (λ s. s.now) word)) result }
+    ensures { Reads (option_and_then operation_of (text_in word.entry)) result }
 {
     match word {
         Some(text) => operation_named(text),
@@ -122,7 +122,7 @@ fn operation_named(name: &str) -> Result<Operation, WordsFault>
 
 /// The name of what the operation is done on; for all properties it is `-`.
 pub fn name(alloc: Global, operation: Operation, word: Option<&str>) -> Result<Text, WordsFault>
-    ensures { Reads (option_and_then (name_of operation) (option_map (λ s. s.now) word)) result }
+    ensures { Reads (option_and_then (name_of operation) (text_in word.entry)) result }
 {
     let text = required(alloc, word)?;
     match operation {

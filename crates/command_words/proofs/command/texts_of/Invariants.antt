@@ -1,5 +1,6 @@
 use Rattle.std.proofs.Common.{◌≡◌, map, take}
-use Rattle.command_words.specs.Line.{AreTexts, texts}
+use Rattle.command_words.specs.Line.{AreTexts}
+use Rattle.command_words.specs.Parts.{texts}
 use Rattle.command_words.proofs.command.texts_of.Given as goal
 
 -- the texts so far

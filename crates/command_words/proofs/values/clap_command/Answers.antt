@@ -2,7 +2,8 @@ use Rattle.std.proofs.Common.{rules, ◌≡◌, ◌∙◌, ◌<◌, ◌+◌, ap,
 use Rattle.std.proofs.lemmas.List.{take_more, map-append}
 use Rattle.clap.specs.Words.{Rule, app_of, new_rule, rule_of, with_rule}
 use Rattle.clap.specs.declared.builder.arg.Arg.{Arg}
-use Rattle.command_words.specs.Line.{app_with, long_rule, texts}
+use Rattle.command_words.specs.Line.{app_with, long_rule}
+use Rattle.command_words.specs.Parts.{texts}
 use Rattle.command_words.proofs.values.clap_command.Goals as goal
 
 -- the rules of one more name

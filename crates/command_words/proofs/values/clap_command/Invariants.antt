@@ -1,6 +1,7 @@
 use Rattle.std.proofs.Common.{◌≡◌, map, ◌++◌, take}
 use Rattle.clap.specs.Words.{app_of, new_rule}
-use Rattle.command_words.specs.Line.{app_with, long_rule, texts}
+use Rattle.command_words.specs.Line.{app_with, long_rule}
+use Rattle.command_words.specs.Parts.{texts}
 use Rattle.command_words.proofs.values.clap_command.Given as goal
 
 -- the command has the places so far

@@ -1,6 +1,6 @@
 //! The commands, and the words that say them.
 
-ghost use Rattle.std.specs.Prelude.{◌≡◌, IfOk, OnOk};
+ghost use Rattle.std.specs.Prelude.{◌≡◌, IfOk};
 ghost use Rattle.command_words.specs.Grammar.{check_form, check_of, consume_form, consume_of, derive_form, derive_of, meaning_after, meaning_by, meaning_of, replay_form, replay_of, serve_form, serve_of, storm_form, storm_of};
 ghost use Rattle.command_words.specs.Parts.{Reads, texts};
 ghost use Rattle.command_words.specs.Line.{AreTexts};
@@ -96,7 +96,7 @@ impl Command {
 /// The texts of some words.
 fn texts_of<'a>(alloc: Global, words: &'a [Text]) -> Result<Vec<&'a str>, NoMemory>
     ensures same { IfOk result (λ all. texts all.items ≡ words.now) }
-    ensures text { OnOk result (AreTexts words.now) }
+    ensures text { IfOk result (λ all. AreTexts (texts all.items)) }
 {
     let mut all = Vec::new(alloc);
     for word in words {

@@ -230,7 +230,7 @@ command_well held words seen o fine quiet (is_no_command none end) =
     let bad : is_built fine.command ≡ false = rw fine.meaning at none in
     let no : true ≡ false = sym fine.built ∙ bad in cc
 command_well held words seen o fine quiet (is_command command meaning built does) =
-    let same : command ≡ fine.command = same_Some (sym meaning ∙ fine.meaning) in
+    let same : command ≡ fine.command = same_Some command fine.command (sym meaning ∙ fine.meaning) in
     does_well held fine.files fine.command seen o fine.told fine.faultless quiet (subst (λ (x : Command). Does held x seen o) same does)
 command_well held words seen o fine quiet (words_memory out) = inr out.1
 

@@ -113,9 +113,10 @@ does_not_end_so held (Storm seed events) seen o stage = absurd stage
 two_is_no_command : (held : Option (List HeldFile)) (words : List (List ℕ)) (seen : List Deed) (status : ℕ) → Commands held words seen (ends status)
     → (status ≡ 2 → IsNoCommand words) × (IsNoCommand words → (status ≡ 2) ⊎ (status ≡ 9))
 two_is_no_command held words seen status (is_no_command none e) = (λ two. none, λ n. inl (ap status_of e.1))
-two_is_no_command held words seen status (is_command command meaning built stage) =
-    ( (λ two. absurd (does_not_end_so held command seen (ends status) stage two))
-    , (λ none. let bad : is_built command ≡ false = rw meaning at none in let no : true ≡ false = sym built ∙ bad in cc) )
+two_is_no_command held words seen status (is_command command meaning built stage) = (
+  (λ two. absurd (does_not_end_so held command seen (ends status) stage two)),
+  (λ none. let bad : is_built command ≡ false = rw meaning at none in let no : true ≡ false = sym built ∙ bad in cc),
+)
 two_is_no_command held words seen status (words_memory e) =
     ((λ two. let bad : 9 ≡ 2 = sym (ap status_of e.1) ∙ two in absurd (omega (arith, bad))), λ n. inr (ap status_of e.1))
 
@@ -125,10 +126,12 @@ pub usage_is_exact : (words : List (List ℕ)) (before now : Around) (out out_no
 usage_is_exact words before now out out_now result e =
     let exact = two_is_no_command before.files.held words e.seen e.status e.command in
     elim e.reported [
-      | inl done ↦
-          ( (λ two. exact.0 (sym done.0 ∙ two))
-          , (λ none. elim (exact.1 none) [ inl two ↦ inl (done.0 ∙ two) | inr nine ↦ inr (inr (done.0 ∙ nine)) ]) )
-      | inr failed ↦
-          ( (λ two. let bad : 7 ≡ 2 = sym failed.0 ∙ two in absurd (omega (arith, bad)))
-          , (λ none. inr (inl failed.0)) )
+      | inl done ↦ (
+        (λ two. exact.0 (sym done.0 ∙ two)),
+        (λ none. elim (exact.1 none) [ inl two ↦ inl (done.0 ∙ two) | inr nine ↦ inr (inr (done.0 ∙ nine)) ]),
+      )
+      | inr failed ↦ (
+        (λ two. let bad : 7 ≡ 2 = sym failed.0 ∙ two in absurd (omega (arith, bad))),
+        (λ none. inr (inl failed.0)),
+      )
     ]

@@ -26,7 +26,8 @@ fn is_built(command: &Command) -> bool
     ensures { result ≡ built command.now }
 {
     match command {
-        Command::Replay { plan, events, .. } => plan.is_none() && u64::from(*events) == EVENT_BUDGET,
+        Command::Replay { plan, events, .. } => plan.is_none()
+            && u64::from(*events) == EVENT_BUDGET,
         Command::Check { .. } | Command::Derive { .. } => true,
         Command::Serve { .. } | Command::Consume(_) | Command::Storm { .. } => false,
     }

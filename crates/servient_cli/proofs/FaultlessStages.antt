@@ -1,5 +1,5 @@
 -- A command with which nothing is wrong ends with status 0, unless it is out of memory: stage by stage.
-use Rattle.std.proofs.Common.{◌≡◌, ◌<◌, ◌≤◌, ◌⊎◌, ℕ, List, [], ◌∷◌, ◌++◌, length, Result, Ok, Err, Option, Some, None, refl, sym, ap, ◌∙◌, subst, arith, inl, inr}
+use Rattle.std.proofs.Common.{true, false, ◌≡◌, ◌<◌, ◌≤◌, ◌⊎◌, ℕ, List, [], ◌∷◌, ◌++◌, length, Result, Ok, Err, Option, Some, None, refl, sym, ap, ◌∙◌, subst, arith, inl, inr}
 use Rattle.std.specs.Prelude.{IfSome, IsSome, IsSomeAnd, slice_get}
 use Rattle.tm_parts.specs.Library.{Models, MayAdd, with_model}
 use Rattle.servient_core.specs.declared.plan.Plan.{Plan}
@@ -16,50 +16,20 @@ use Rattle.servient_edge.specs.declared.files.HeldFile.{HeldFile}
 use Rattle.servient_edge.specs.declared.net.EventWithBytes.{EventWithBytes}
 use Rattle.servient_edge.specs.Files.{content_of}
 use Rattle.servient_edge.specs.Ending.{with_stop}
-use Rattle.servient_cli.specs.declared.command.Task.{Task}
-use Rattle.servient_cli.specs.declared.command.Task.TheVariants.{Replay, Check, Derive}
+use Rattle.command_words.specs.Grammar.{meaning_of}
+use Rattle.command_words.specs.declared.command.Command.{Command}
+use Rattle.command_words.specs.declared.command.Command.TheVariants.{Replay, Serve, Derive, Check, Consume, Storm}
 use Rattle.servient_cli.specs.Script.{IsScript}
 use Rattle.servient_cli.specs.Stages.{Deed, did_read, did_fail, did_call, did_write, HasFailed, Outcome, goes_on, ends, AndThen, ends_first, goes_further, Around}
-use Rattle.servient_cli.specs.Lines.{usage_line}
+use Rattle.servient_cli.specs.Lines.{memory_line, usage_line}
 use Rattle.servient_cli.specs.Ending.{ComesOut}
 use Rattle.servient_cli.proofs.StageLaws.{line_alone, shows_wrote}
-use Rattle.servient_cli.specs.Reading.{ReadsFile, is_read, is_absent, is_unreadable, is_long, file_memory, ReadsTree, is_tree, has_no_tree, tree_memory, longest_json}
-use Rattle.servient_cli.specs.Replaying.{ReadsScript, is_script, is_no_script, script_memory, RunsScript, is_whole, is_spent, run_memory, event_budget}
-use Rattle.servient_cli.specs.Checking.{Judges, is_valid, is_refused, judge_memory}
+use Rattle.servient_cli.specs.Reading.{ReadsFile, is_read, is_absent, is_unreadable, is_long, file_memory, ReadsTree, is_tree, has_no_tree, tree_memory, longest_json, longest_script}
+use Rattle.servient_cli.specs.Replaying.{IsFaultlessScript, Replays, ReadsScript, is_script, is_no_script, script_memory, RunsScript, is_whole, is_spent, run_memory, event_budget}
+use Rattle.servient_cli.specs.Checking.{Checks, IsFaultlessDescription, Judges, is_valid, is_refused, judge_memory}
 use Rattle.servient_cli.specs.Deriving.{ReadsPlan, is_plan, is_no_plan, plan_memory, AddsModel, is_added, is_not_added, add_memory, IsNotTaken, has_bad_url, is_there_twice, is_no_model, TakesModel, TakesModels, Derives, is_derived, derive_memory, derived_of, DerivesPlan, AreFaultlessModels, IsFaultlessPlan}
 use Rattle.servient_cli.specs.Deriving as plans
-use Rattle.servient_cli.specs.Command.{IsCommand, IsFaultless, IsFaultlessFile, IsReported, OutSeen, Ends, TaskOn, Does, Commands, is_no_command, is_command, limit_of, word_of}
-
-abbrev first : List (List ℕ) → List ℕ
-first [] = []
-first (w ∷ ws) = w
-
-abbrev second : List (List ℕ) → List ℕ
-second [] = []
-second (w ∷ ws) = first ws
-
--- each task has its own word, which its first byte tells
-abbrev byte_of : List ℕ → ℕ
-byte_of [] = 0
-byte_of (b ∷ bytes) = b
-
-same_task : (s t : Task) → byte_of (word_of s) ≡ byte_of (word_of t) → s ≡ t
-same_task Replay Replay same = refl
-same_task Replay Check same = absurd (omega (arith, same))
-same_task Replay Derive same = absurd (omega (arith, same))
-same_task Check Replay same = absurd (omega (arith, same))
-same_task Check Check same = refl
-same_task Check Derive same = absurd (omega (arith, same))
-same_task Derive Replay same = absurd (omega (arith, same))
-same_task Derive Check same = absurd (omega (arith, same))
-same_task Derive Derive same = refl
-
--- the words name one task and one file
-task_is : {words : List (List ℕ)} {s t : Task} {m n : List ℕ} → IsCommand words s m → IsCommand words t n → s ≡ t
-task_is {words} {s} {t} a b = same_task s t (ap (λ (ws : List (List ℕ)). byte_of (first ws)) (sym a.words_are ∙ b.words_are))
-
-name_is : {words : List (List ℕ)} {s t : Task} {m n : List ℕ} → IsCommand words s m → IsCommand words t n → m ≡ n
-name_is a b = ap second (sym a.words_are ∙ b.words_are)
+use Rattle.servient_cli.specs.Command.{IsFaultless, HasFaultlessFile, IsReported, OutSeen, Ends, Does, Commands, IsNoCommand, is_built, is_no_command, is_command, words_memory}
 
 -- a stage goes on with such a value, or is out of memory
 abbrev GoesOn : {A : Type 0} → (A → Type 0) → Outcome A → Type 0
@@ -233,43 +203,66 @@ plan_file_well held files name content seen o is_held fine quiet stage =
     (λ s3 r q3 p3. models_well held files plan.models [] fine.models s3 r is_held (subst (λ (x : Plan). AreFaultlessModels files x.models [] fine.models) (sym is) fine.taken) q3 p3)
     (λ ms all s3 q3 p3. derive_well plan ms fine.things s3 o (ap (λ (x : Plan). derived_of x ms) is ∙ ap (λ (x : Models). derived_of fine.plan x) all ∙ fine.derived_is) p3) p2) p) stage
 
-task_well : (held : Option (List HeldFile)) (files : List HeldFile) (task : Task) (name content : List ℕ) (seen : List Deed) (o : Outcome (Unit {0})) → held ≡ Some files → IsFaultlessFile files task content → ¬ (HasFailed seen) → TaskOn held task name content seen o → EndsWell o
-task_well held files Replay name content seen o is_held fine quiet stage =
-    then_well (ReadsScript name content) RunsScript (λ es. es ≡ fine.0) seen o quiet (λ s r q p. script_well name content fine.0 s r fine.1 p)
-    (λ es same s q p. run_well es s o (subst (λ (x : List EventWithBytes). length (with_stop x) ≤ event_budget) (sym same) fine.2) p) stage
-task_well held files Check name content seen o is_held fine quiet stage =
-    then_well (ReadsTree name content) Judges (λ tree. json_of tree ≡ fine.0) seen o quiet (λ s r q p. tree_well name content fine.0 s r fine.1 p)
-    (λ tree same s q p. judge_well tree s o (ap faults_of same ∙ fine.2) p) stage
-task_well held files Derive name content seen o is_held fine quiet stage = plan_file_well held files name content seen o is_held fine quiet stage
+-- a command whose file is faultless
+does_well : (held : Option (List HeldFile)) (files : List HeldFile) (command : Command) (seen : List Deed) (o : Outcome (Unit {0})) → held ≡ Some files → HasFaultlessFile files command → ¬ (HasFailed seen) → Does held command seen o → EndsWell o
+does_well held files (Replay script plan events) seen o is_held fine quiet stage =
+    then_well (ReadsFile held longest_script script) (Replays script) (λ c. c ≡ fine.content) seen o quiet
+    (λ s r q p. read_well held longest_script script fine.content files s r is_held fine.holds fine.short q p)
+    (λ content same s q p. let good = subst IsFaultlessScript (sym same) fine.good in
+    then_well (ReadsScript script content) RunsScript (λ es. es ≡ good.0) s o q (λ s2 r q2 p2. script_well script content good.0 s2 r good.1 p2)
+    (λ es is s2 q2 p2. run_well es s2 o (subst (λ (x : List EventWithBytes). length (with_stop x) ≤ event_budget) (sym is) good.2) p2) p) stage
+does_well held files (Check description) seen o is_held fine quiet stage =
+    then_well (ReadsFile held longest_json description) (Checks description) (λ c. c ≡ fine.content) seen o quiet
+    (λ s r q p. read_well held longest_json description fine.content files s r is_held fine.holds fine.short q p)
+    (λ content same s q p. let good = subst IsFaultlessDescription (sym same) fine.good in
+    then_well (ReadsTree description content) Judges (λ tree. json_of tree ≡ good.0) s o q (λ s2 r q2 p2. tree_well description content good.0 s2 r good.1 p2)
+    (λ tree is s2 q2 p2. judge_well tree s2 o (ap faults_of is ∙ good.2) p2) p) stage
+does_well held files (Derive plan) seen o is_held fine quiet stage =
+    then_well (ReadsFile held longest_json plan) (DerivesPlan held plan) (λ c. c ≡ fine.content) seen o quiet
+    (λ s r q p. read_well held longest_json plan fine.content files s r is_held fine.holds fine.short q p)
+    (λ content same s q p. plan_file_well held files plan content s o is_held (subst (IsFaultlessPlan files) (sym same) fine.good) q p) stage
+does_well held files (Serve plan events idle) seen o is_held fine quiet stage = absurd fine
+does_well held files (Consume consumption) seen o is_held fine quiet stage = absurd fine
+does_well held files (Storm seed events) seen o is_held fine quiet stage = absurd fine
 
 command_well : (held : Option (List HeldFile)) (words : List (List ℕ)) (seen : List Deed) (o : Outcome (Unit {0})) → IsFaultless words held → ¬ (HasFailed seen) → Commands held words seen o → EndsWell o
-command_well held words seen o fine quiet (is_no_command none end) = absurd (none fine.task fine.name fine.command)
-command_well held words seen o fine quiet (is_command task name is stage) =
-    let t = task_is is fine.command in
-    let n = name_is is fine.command in
-    then_well (ReadsFile held (limit_of task) name) (TaskOn held task name) (λ c. c ≡ fine.content) seen o quiet
-    (λ s r q p. read_well held (limit_of task) name fine.content fine.files s r fine.told (ap (content_of fine.files) n ∙ fine.holds) (subst (λ (x : Task). length fine.content ≤ limit_of x) (sym t) fine.short) q p)
-    (λ c same s q p. task_well held fine.files task name c s o fine.told (subst (λ (x : Task). IsFaultlessFile fine.files x c) (sym t) (subst (λ (x : List ℕ). IsFaultlessFile fine.files fine.task x) (sym same) fine.faultless)) q p) stage
+command_well held words seen o fine quiet (is_no_command none end) =
+    let bad : is_built fine.command ≡ false = rw fine.meaning at none in
+    let no : true ≡ false = sym fine.built ∙ bad in cc
+command_well held words seen o fine quiet (is_command command meaning built does) =
+    let same : command ≡ fine.command = same_Some command fine.command (sym meaning ∙ fine.meaning) in
+    does_well held fine.files fine.command seen o fine.told fine.faultless quiet (subst (λ (x : Command). Does held x seen o) same does)
+command_well held words seen o fine quiet (words_memory out) = inr out.1
 
 -- the whole call, from the command that came out and what was reported of it
-pub call_ends : (words : List (List ℕ)) (before now : Around) (out out_now : OutSeen) (task : Task) (name text shown : List ℕ) (status result : ℕ) → IsCommand words task name → ComesOut (Does before.files.held task name) before now (ends status) text
+pub call_ends : (words : List (List ℕ)) (before now : Around) (out out_now : OutSeen) (command : Command) (text shown : List ℕ) (status result : ℕ) → meaning_of words ≡ Some command → is_built command ≡ true → ComesOut (Does before.files.held command) before now (ends status) text
     → shown ≡ text → IsReported status shown out.written out_now.written out.faults out_now.faults result → Ends words before now out out_now result
-call_ends words before now out out_now task name text shown status result command comes is reported = record {
+call_ends words before now out out_now command text shown status result meaning built comes is reported = record {
   seen = comes.seen;
   status = status;
-  command = is_command task name command comes.stage;
+  command = is_command command meaning built comes.stage;
   shows = comes.shows;
   reported = subst (λ (t : List ℕ). IsReported status t out.written out_now.written out.faults out_now.faults result) (is ∙ sym comes.text_is) reported;
 }
 
--- words that are no command line
-pub usage_ends : (words : List (List ℕ)) (a : Around) (out out_now : OutSeen) (result : ℕ) → ((task : Task) (name : List ℕ) → ¬ (IsCommand words task name)) → IsReported 2 usage_line out.written out_now.written out.faults out_now.faults result → Ends words a a out out_now result
+-- words that are no command line, or mean what isn't built
+pub usage_ends : (words : List (List ℕ)) (a : Around) (out out_now : OutSeen) (result : ℕ) → IsNoCommand words → IsReported 2 usage_line out.written out_now.written out.faults out_now.faults result → Ends words a a out out_now result
 usage_ends words a out out_now result none reported = record {
   seen = did_write usage_line ∷ [];
   status = 2;
   command = is_no_command none (refl, refl);
   shows = shows_wrote a usage_line;
   reported = subst (λ (t : List ℕ). IsReported 2 t out.written out_now.written out.faults out_now.faults result) (sym (line_alone usage_line)) reported;
+}
+
+-- there was no memory for the words
+pub words_memory_ends : (words : List (List ℕ)) (a : Around) (out out_now : OutSeen) (result : ℕ) → IsReported 9 memory_line out.written out_now.written out.faults out_now.faults result → Ends words a a out out_now result
+words_memory_ends words a out out_now result reported = record {
+  seen = did_write memory_line ∷ [];
+  status = 9;
+  command = words_memory (refl, refl);
+  shows = shows_wrote a memory_line;
+  reported = subst (λ (t : List ℕ). IsReported 9 t out.written out_now.written out.faults out_now.faults result) (sym (line_alone memory_line)) reported;
 }
 
 -- where nothing is wrong and nothing failed, the whole call ends well

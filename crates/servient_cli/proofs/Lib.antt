@@ -4,5 +4,6 @@ mod LineTexts
 mod ScriptTexts
 mod StageLaws
 mod FaultlessStages
+mod UsageStages
 mod RunLaws
 mod ModelStages

@@ -9,4 +9,5 @@ pub mod Replaying
 pub mod Checking
 pub mod Deriving
 pub mod Command
+pub mod Words
 pub mod Ending

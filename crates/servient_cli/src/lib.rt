@@ -6,6 +6,7 @@
 
 mod checking;
 mod command;
+mod commands;
 mod derivation;
 mod ending;
 mod fault_lines;

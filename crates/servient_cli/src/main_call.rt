@@ -3,15 +3,12 @@
 ghost use Rattle.std.specs.Prelude.{◌≡◌, ◌<◌, ◌⊎◌, length};
 ghost use Rattle.servient_base.specs.Count.{Rose};
 ghost use Rattle.servient_cli.specs.Stages.{around, files_seen};
-ghost use Rattle.servient_cli.specs.Command.{Does, Ends, IsFaultless, IsReported, out_seen};
-ghost use Rattle.servient_cli.specs.Ending.{EndsBy};
+ghost use Rattle.servient_cli.specs.Command.{Ends, IsFaultless, IsNoCommand, IsReported, out_seen};
 
-use crate::checking::check_file;
-use crate::command::{Command, Task, command_of};
-use crate::derivation::derive_plan;
-use crate::ending::{Ended, Ending};
-use crate::reading::read_file;
-use crate::replay::replay;
+use crate::command::command_of;
+use crate::commands::run_command;
+use crate::ending::Ended;
+use command_words::WordsFault;
 use servient_edge::{Files, Net, Out, Put};
 use std::alloc::Global;
 use thing_handler::Handlers;
@@ -44,37 +41,38 @@ pub fn servient_main<F: Files, N: Net, R: Handlers, O: Out>(
     ensures complete { IsFaultless words.now (F.held files.old)
         → ¬ (Rose (F.faults files.old) (F.faults files.new)) → ¬ (Rose (O.faults out.old) (O.faults out.new))
         → (result ≡ 0) ⊎ (result ≡ 9) }
+    // Status 2 says that the words are no command that is built, and nothing else does, unless the output failed or there was no memory.
+    ensures usage { (result ≡ 2 → IsNoCommand words.now) × (IsNoCommand words.now → (result ≡ 2) ⊎ (result ≡ 7) ⊎ (result ≡ 9)) }
     ensures net { net.new ≡ net.old }
 {
     let _ = net;
-    let Some(command) = command_of(words) else {
-        return report(out, USAGE_LINE, 2);
-    };
-    match run_command(alloc, command, files, rack) {
-        Ok(ending) => report(out, ending.text.as_slice(), ending.status),
-        Err(Ended::With(ending)) => report(out, ending.text.as_slice(), ending.status),
-        Err(Ended::NoMemory) => report(out, MEMORY_LINE, 9),
-    }
+    do_words(alloc, words, files, rack, out)
 }
 
-/// Reads the file of a command and does its task.
-fn run_command<F: Files, R: Handlers>(
+/// Does what the words say, and reports it.
+fn do_words<F: Files, R: Handlers, O: Out>(
     alloc: Global,
-    command: Command<'_>,
+    words: &[Text],
     files: &mut F,
     rack: &mut R,
-) -> Result<Ending, Ended>
+    out: &mut O,
+) -> u8
     requires { 0 < length (R.slots rack.old) }
     ensures { let files_before = files_seen (F.held files.old) (F.reads files.old) (F.faults files.old) in
         let files_now = files_seen (F.held files.new) (F.reads files.new) (F.faults files.new) in
-        EndsBy (Does (F.held files.old) command.entry.task command.entry.file.now)
-        (around files_before (R.slots rack.old)) (around files_now (R.slots rack.new)) result }
+        Ends words.now (around files_before (R.slots rack.old)) (around files_now (R.slots rack.new))
+        (out_seen (O.written out.old) (O.faults out.old))
+        (out_seen (O.written out.new) (O.faults out.new)) result }
 {
-    let content = read_file(alloc, command.file, command.task.limit(), files)?;
-    match command.task {
-        Task::Replay => replay(alloc, command.file, content.as_slice(), rack),
-        Task::Check => check_file(alloc, command.file, content.as_slice()),
-        Task::Derive => derive_plan(alloc, command.file, content.as_slice(), files),
+    let command = match command_of(alloc, words) {
+        Ok(command) => command,
+        Err(WordsFault::Usage) => return report(out, USAGE_LINE, 2),
+        Err(WordsFault::NoMemory) => return report(out, MEMORY_LINE, 9),
+    };
+    match run_command(alloc, &command, files, rack) {
+        Ok(ending) => report(out, ending.text.as_slice(), ending.status),
+        Err(Ended::With(ending)) => report(out, ending.text.as_slice(), ending.status),
+        Err(Ended::NoMemory) => report(out, MEMORY_LINE, 9),
     }
 }
 

@@ -20,7 +20,7 @@ use thing_handler::{Handlers, Turn};
 use wot_json::{Bytes, NoMemory};
 
 /// The most events of a run; `event_budget` of specs/Replaying.antt.
-const EVENT_BUDGET: u64 = 100_000;
+pub const EVENT_BUDGET: u64 = 100_000;
 
 /// The slot of the built-in property's handler.
 const SLOT: usize = 0;

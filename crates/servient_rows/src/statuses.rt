@@ -36,8 +36,8 @@ fn ends<R: Abort + AllocGlobal>(
 }
 
 #[test]
-fn words_that_are_no_command_line(rt: HostRuntime) -> Result<(), Fail> {
-    let table: [&[&str]; 13] = [
+fn words_that_are_no_command_that_is_built(rt: HostRuntime) -> Result<(), Fail> {
+    let table: [&[&str]; 17] = [
         &[],
         &["check"],
         &["check", "-s.txt"],
@@ -51,6 +51,10 @@ fn words_that_are_no_command_line(rt: HostRuntime) -> Result<(), Fail> {
         &["replay", "-s.txt"],
         &["replay", "--"],
         &["s.txt", "replay"],
+        &["replay", "s.txt", "--events", "5"],
+        &["serve", "s.txt", "--idle", "1"],
+        &["consume", "s.txt", "readproperty", "s"],
+        &["storm", "0", "1"],
     ];
     for words in table {
         let (status, text) = run(rt.alloc(), words, ("s.txt", LINE), &NONE)?;
@@ -58,6 +62,24 @@ fn words_that_are_no_command_line(rt: HostRuntime) -> Result<(), Fail> {
         assert_eq!(rt;
             text.as_slice(),
             b"usage: servient replay|serve|derive|check|consume|storm ..\n".as_slice()
+        );
+    }
+    Ok(())
+}
+
+#[test]
+fn words_that_say_what_holds_without_them(rt: HostRuntime) -> Result<(), Fail> {
+    let table: [&[&str]; 3] = [
+        &["replay", "--events=100000", "s.txt"],
+        &["replay", "s.txt", "--events", "100000"],
+        &["replay", "--", "s.txt"],
+    ];
+    for words in table {
+        let (status, text) = run(rt.alloc(), words, ("s.txt", REQUEST), &NONE)?;
+        assert_eq!(rt; status, 0);
+        assert_eq!(rt;
+            text.as_slice(),
+            b"data 1:5683 51450000aac132ff37\nturn 0 0 read = value 7\n".as_slice()
         );
     }
     Ok(())

@@ -1,0 +1,5 @@
+mod WordKinds
+mod ClapRules
+mod ClapWalk
+mod ClapValues
+mod ClapForms

@@ -1,0 +1,157 @@
+-- The grammar of the command line: what the words after the program's name mean.
+--
+--     replay SCRIPT [PLAN] [--events N]
+--     serve PLAN [--events N] [--idle SECONDS]
+--     derive PLAN
+--     check DESCRIPTION
+--     consume DESCRIPTION OPERATION NAME [--scheme SCHEME] [--input FILE] [--count COUNT]
+--     storm SEED N
+use Rattle.std.specs.Prelude.{◌==◌, ◌&&◌, not, nat_le, ℕ, Bool, true, false, List, [], ◌∷◌, Option, Some, None, option_and_then, option_map, if◌then◌else◌, codes, decimal}
+use Rattle.std.specs.Option.{option_map_or}
+use Rattle.std.specs.Str.{bytes_eq}
+use Rattle.std.specs.Str.Parse.{digits_value}
+use Rattle.command_words.specs.Words.{Form, Values, values_given, value_at}
+use Rattle.command_words.specs.declared.command.Command.{Command}
+use Rattle.command_words.specs.declared.command.Command.TheVariants.{Replay, Serve, Derive, Check, Consume, Storm}
+use Rattle.command_words.specs.declared.command.Consumption.{Consumption}
+use Rattle.command_words.specs.declared.command.Operation.{Operation}
+use Rattle.command_words.specs.declared.command.Operation.TheVariants as operation
+use Rattle.command_words.specs.declared.command.Scheme.{Scheme}
+use Rattle.command_words.specs.declared.command.Scheme.TheVariants as scheme
+
+-- one part, and where it is there what follows of it
+abbrev pub with_part : {A B : Type 0} → Option A → (A → Option B) → Option B
+with_part part next = option_and_then next part
+
+-- ---- values
+
+-- The number from `least` to `most` that a text writes in decimal digits, with no sign and no leading zero: the text is the spelling of its
+-- own value.
+abbrev pub number_between : ℕ → ℕ → List ℕ → Option ℕ
+number_between least most text =
+    let value = digits_value 10 text in
+    if bytes_eq text (decimal value) && (nat_le least value && nat_le value most) then Some value else None
+
+-- The number of a place, and that of an option, which has a default.
+abbrev pub number_at : List ℕ → ℕ → ℕ → Values → Option ℕ
+number_at name least most values = option_and_then (number_between least most) (value_at name values)
+
+abbrev pub number_or : ℕ → List ℕ → ℕ → ℕ → Values → Option ℕ
+number_or default name least most values = option_map_or (number_between least most) (value_at name values) (Some default)
+
+-- how many events a run may take
+abbrev pub events_in : Values → Option ℕ
+events_in = number_or 100000 (codes "events") 1 1000000
+
+-- An option that names a file: its value isn't empty and doesn't begin with a hyphen (45). No number and no scheme does either.
+abbrev pub is_file_name : List ℕ → Bool
+is_file_name [] = false
+is_file_name (b ∷ bytes) = not (b == 45)
+
+abbrev pub file_of : List ℕ → Option (Option (List ℕ))
+file_of text = if is_file_name text then Some (Some text) else None
+
+abbrev pub file_in : List ℕ → Values → Option (Option (List ℕ))
+file_in name values = option_map_or file_of (value_at name values) (Some None)
+
+abbrev pub scheme_of : List ℕ → Option (Option Scheme)
+scheme_of text =
+    if bytes_eq text (codes "http") then Some (Some scheme.Http)
+    else if bytes_eq text (codes "coap") then Some (Some scheme.Coap)
+    else None
+
+abbrev pub scheme_in : Values → Option (Option Scheme)
+scheme_in values = option_map_or scheme_of (value_at (codes "scheme") values) (Some None)
+
+-- the operations of the consumer, by their names in TD 1.1, section 5.3.4.2
+abbrev pub operation_of : List ℕ → Option Operation
+operation_of text =
+    if bytes_eq text (codes "readproperty") then Some operation.ReadProperty
+    else if bytes_eq text (codes "writeproperty") then Some operation.WriteProperty
+    else if bytes_eq text (codes "invokeaction") then Some operation.InvokeAction
+    else if bytes_eq text (codes "readallproperties") then Some operation.ReadAllProperties
+    else if bytes_eq text (codes "observeproperty") then Some operation.ObserveProperty
+    else None
+
+-- all properties have no name, for which `-` stands
+abbrev pub name_of : Operation → List ℕ → Option (List ℕ)
+name_of operation.ReadAllProperties name = if bytes_eq name (codes "-") then Some name else None
+name_of _ name = Some name
+
+-- ---- the commands
+
+abbrev pub replay_form : Form
+replay_form = record { places = codes "script" ∷ codes "plan" ∷ []; options = codes "events" ∷ [] }
+
+abbrev pub replay_of : Values → Option Command
+replay_of values =
+    with_part (value_at (codes "script") values) (λ script.
+    with_part (events_in values) (λ events.
+    Some (Replay script (value_at (codes "plan") values) events)))
+
+abbrev pub serve_form : Form
+serve_form = record { places = codes "plan" ∷ []; options = codes "events" ∷ codes "idle" ∷ [] }
+
+abbrev pub serve_of : Values → Option Command
+serve_of values =
+    with_part (value_at (codes "plan") values) (λ plan.
+    with_part (events_in values) (λ events.
+    with_part (number_or 0 (codes "idle") 0 86400 values) (λ idle.
+    Some (Serve plan events idle))))
+
+abbrev pub derive_form : Form
+derive_form = record { places = codes "plan" ∷ []; options = [] }
+
+abbrev pub derive_of : Values → Option Command
+derive_of values = option_map Derive (value_at (codes "plan") values)
+
+abbrev pub check_form : Form
+check_form = record { places = codes "description" ∷ []; options = [] }
+
+abbrev pub check_of : Values → Option Command
+check_of values = option_map Check (value_at (codes "description") values)
+
+abbrev pub consume_form : Form
+consume_form = record {
+  places = codes "description" ∷ codes "operation" ∷ codes "name" ∷ [];
+  options = codes "scheme" ∷ codes "input" ∷ codes "count" ∷ [];
+}
+
+abbrev pub consume_of : Values → Option Command
+consume_of values =
+    with_part (value_at (codes "description") values) (λ description.
+    with_part (option_and_then operation_of (value_at (codes "operation") values)) (λ operation.
+    with_part (option_and_then (name_of operation) (value_at (codes "name") values)) (λ name.
+    with_part (scheme_in values) (λ scheme.
+    with_part (file_in (codes "input") values) (λ input.
+    with_part (number_or 1 (codes "count") 1 100 values) (λ count.
+    Some (Consume (record { description = description; operation = operation; name = name; scheme = scheme; input = input; count = count }))))))))
+
+abbrev pub storm_form : Form
+storm_form = record { places = codes "seed" ∷ codes "events" ∷ []; options = [] }
+
+abbrev pub storm_of : Values → Option Command
+storm_of values =
+    with_part (number_at (codes "seed") 0 999999999 values) (λ seed.
+    with_part (number_at (codes "events") 1 100000 values) (λ events.
+    Some (Storm seed events)))
+
+-- what the words after the command's name mean
+abbrev pub meaning_by : Form → (Values → Option Command) → List (List ℕ) → Option Command
+meaning_by form command_of words = option_and_then command_of (values_given form words)
+
+-- the command of a name, and the words after it
+abbrev pub meaning_after : List ℕ → List (List ℕ) → Option Command
+meaning_after name words =
+    if bytes_eq name (codes "replay") then meaning_by replay_form replay_of words
+    else if bytes_eq name (codes "serve") then meaning_by serve_form serve_of words
+    else if bytes_eq name (codes "derive") then meaning_by derive_form derive_of words
+    else if bytes_eq name (codes "check") then meaning_by check_form check_of words
+    else if bytes_eq name (codes "consume") then meaning_by consume_form consume_of words
+    else if bytes_eq name (codes "storm") then meaning_by storm_form storm_of words
+    else None
+
+-- What the words of the command line mean, or that they mean nothing.
+unfoldable pub meaning_of : List (List ℕ) → Option Command
+meaning_of [] = None
+meaning_of (name ∷ words) = meaning_after name words

@@ -1,0 +1,202 @@
+//! The commands, and the words that say them.
+
+ghost use Rattle.std.specs.Prelude.{◌≡◌, IfOk};
+ghost use Rattle.command_words.specs.Grammar.{check_form, check_of, consume_form, consume_of, derive_form, derive_of, meaning_after, meaning_by, meaning_of, replay_form, replay_of, serve_form, serve_of, storm_form, storm_of};
+ghost use Rattle.command_words.specs.Parts.{Reads, texts};
+ghost use Rattle.command_words.specs.Line.{AreTexts};
+
+use crate::fault::WordsFault;
+use crate::parts::{events, file, name, number, number_or, operation, optional, required, scheme};
+use crate::values::Given;
+use servient_base::NoMemory;
+use std::alloc::Global;
+use wot_json::Text;
+
+/// A command, with all that its words say.
+#[derive(Debug, Drop)]
+pub enum Command {
+    /// Runs the script with this budget of events, on the Things of the plan or on the built-in Thing.
+    Replay {
+        script: Text,
+        plan: Option<Text>,
+        events: u32,
+    },
+    /// Serves the Things of the plan for so many events, or until so many seconds pass without traffic; 0 seconds is no such end.
+    Serve {
+        plan: Text,
+        events: u32,
+        idle: u32,
+    },
+    /// Derives the descriptions of the plan's Things.
+    Derive {
+        plan: Text,
+    },
+    /// Checks a description.
+    Check {
+        description: Text,
+    },
+    /// Does an operation on another Thing.
+    Consume(Consumption),
+    /// Runs the generated script of this seed and this number of events.
+    Storm {
+        seed: u32,
+        events: u32,
+    },
+}
+
+/// An operation on the Thing of a description.
+#[derive(Debug, Drop)]
+pub struct Consumption {
+    /// The name of the description's file.
+    pub description: Text,
+    pub operation: Operation,
+    /// The name of the property or the action; `-` for all properties.
+    pub name: Text,
+    /// The scheme that a form needs; without one, either will do.
+    pub scheme: Option<Scheme>,
+    /// The file of the value to send.
+    pub input: Option<Text>,
+    /// How many values to wait for, where a property is observed.
+    pub count: u32,
+}
+
+/// An operation on a Thing (TD 1.1, section 5.3.4.2).
+#[derive(Clone, Copy, Debug, Drop, PartialEq, Eq)]
+pub enum Operation {
+    ReadProperty,
+    WriteProperty,
+    InvokeAction,
+    ReadAllProperties,
+    ObserveProperty,
+}
+
+/// The scheme of a form's URL.
+#[derive(Clone, Copy, Debug, Drop, PartialEq, Eq)]
+pub enum Scheme {
+    Http,
+    Coap,
+}
+
+impl Command {
+    /// The command that the words after the program's name say.
+    #[tactic(auto, unfolding(crate::specs::Grammar::meaning_of))]
+    pub fn read(alloc: Global, words: &[Text]) -> Result<Command, WordsFault>
+        ensures { Reads (meaning_of words.now) result }
+    {
+        match words {
+            [] => Err(WordsFault::Usage),
+            [name, rest @ ..] => {
+                let all = texts_of(alloc, rest)?;
+                read_after(alloc, name.as_str(), all.as_slice())
+            }
+        }
+    }
+}
+
+/// The texts of some words.
+fn texts_of<'a>(alloc: Global, words: &'a [Text]) -> Result<Vec<&'a str>, NoMemory>
+    ensures same { IfOk result (λ all. texts all.items ≡ words.now) }
+    ensures text { IfOk result (λ all. AreTexts (texts all.items)) }
+{
+    let mut all = Vec::new(alloc);
+    for word in words {
+        all.push(word.as_str())?;
+    }
+    Ok(all)
+}
+
+/// The command of this name, with the words after it.
+fn read_after(alloc: Global, name: &str, words: &[&str]) -> Result<Command, WordsFault>
+    requires { AreTexts (texts words.now) }
+    ensures { Reads (meaning_after name.now (texts words.now)) result }
+{
+    match name {
+        "replay" => replay(alloc, words),
+        "serve" => serve(alloc, words),
+        "derive" => derive(alloc, words),
+        "check" => check(alloc, words),
+        "consume" => consume(alloc, words),
+        "storm" => storm(alloc, words),
+        _ => Err(WordsFault::Usage),
+    }
+}
+
+fn replay(alloc: Global, words: &[&str]) -> Result<Command, WordsFault>
+    requires { AreTexts (texts words.now) }
+    ensures { Reads (meaning_by replay_form replay_of (texts words.now)) result }
+{
+    let values = Given::read(alloc, &["script", "plan"], &["events"], words)?;
+    let script = required(alloc, values.get("script"))?;
+    let events = events(values.get("events"))?;
+    let plan = optional(alloc, values.get("plan"))?;
+    Ok(Command::Replay {
+        script,
+        plan,
+        events,
+    })
+}
+
+fn serve(alloc: Global, words: &[&str]) -> Result<Command, WordsFault>
+    requires { AreTexts (texts words.now) }
+    ensures { Reads (meaning_by serve_form serve_of (texts words.now)) result }
+{
+    let values = Given::read(alloc, &["plan"], &["events", "idle"], words)?;
+    let plan = required(alloc, values.get("plan"))?;
+    let events = events(values.get("events"))?;
+    let idle = number_or(0, values.get("idle"), 0, 86_400)?;
+    Ok(Command::Serve { plan, events, idle })
+}
+
+fn derive(alloc: Global, words: &[&str]) -> Result<Command, WordsFault>
+    requires { AreTexts (texts words.now) }
+    ensures { Reads (meaning_by derive_form derive_of (texts words.now)) result }
+{
+    let values = Given::read(alloc, &["plan"], &[], words)?;
+    let plan = required(alloc, values.get("plan"))?;
+    Ok(Command::Derive { plan })
+}
+
+fn check(alloc: Global, words: &[&str]) -> Result<Command, WordsFault>
+    requires { AreTexts (texts words.now) }
+    ensures { Reads (meaning_by check_form check_of (texts words.now)) result }
+{
+    let values = Given::read(alloc, &["description"], &[], words)?;
+    let description = required(alloc, values.get("description"))?;
+    Ok(Command::Check { description })
+}
+
+fn consume(alloc: Global, words: &[&str]) -> Result<Command, WordsFault>
+    requires { AreTexts (texts words.now) }
+    ensures { Reads (meaning_by consume_form consume_of (texts words.now)) result }
+{
+    let values = Given::read(
+        alloc,
+        &["description", "operation", "name"],
+        &["scheme", "input", "count"],
+        words,
+    )?;
+    let description = required(alloc, values.get("description"))?;
+    let operation = operation(values.get("operation"))?;
+    let name = name(alloc, operation, values.get("name"))?;
+    let scheme = scheme(values.get("scheme"))?;
+    let input = file(alloc, values.get("input"))?;
+    let count = number_or(1, values.get("count"), 1, 100)?;
+    Ok(Command::Consume(Consumption {
+        description,
+        operation,
+        name,
+        scheme,
+        input,
+        count,
+    }))
+}
+
+fn storm(alloc: Global, words: &[&str]) -> Result<Command, WordsFault>
+    requires { AreTexts (texts words.now) }
+    ensures { Reads (meaning_by storm_form storm_of (texts words.now)) result }
+{
+    let values = Given::read(alloc, &["seed", "events"], &[], words)?;
+    let seed = number(values.get("seed"), 0, 999_999_999)?;
+    let events = number(values.get("events"), 1, 100_000)?;
+    Ok(Command::Storm { seed, events })
+}

@@ -1,0 +1,137 @@
+-- No stage of a command that is built ends with status 2, so that this status is left to words that are no such command.
+use Rattle.std.proofs.Common.{◌≡◌, ◌⊎◌, ◌∙◌, ℕ, Bool, true, false, List, [], ◌∷◌, Option, Some, ap, arith, inl, inr, subst, sym}
+use Rattle.std.specs.Prelude.{IfSome}
+use Rattle.command_words.specs.Grammar.{meaning_of}
+use Rattle.command_words.specs.declared.command.Command.{Command}
+use Rattle.command_words.specs.declared.command.Command.TheVariants.{Replay, Serve, Derive, Check, Consume, Storm}
+use Rattle.wot_json.specs.declared.tree.Tree.{Tree}
+use Rattle.tm_parts.specs.Library.{Models}
+use Rattle.servient_core.specs.declared.plan.Plan.{Plan}
+use Rattle.servient_edge.specs.declared.files.HeldFile.{HeldFile}
+use Rattle.servient_edge.specs.declared.net.EventWithBytes.{EventWithBytes}
+use Rattle.servient_cli.specs.Stages.{Around, Deed, Outcome, goes_on, ends, AndThen, ends_first, goes_further}
+use Rattle.servient_cli.specs.Reading.{ReadsFile, is_read, is_absent, is_unreadable, is_long, file_memory, ReadsTree, is_tree, has_no_tree, tree_memory, longest_json, longest_script}
+use Rattle.servient_cli.specs.Replaying.{ReadsScript, Replays, is_script, is_no_script, script_memory, RunsScript, is_whole, is_spent, run_memory}
+use Rattle.servient_cli.specs.Checking.{Checks, Judges, is_valid, is_refused, judge_memory}
+use Rattle.servient_cli.specs.Deriving.{DerivesPlan, ReadsPlan, is_plan, is_no_plan, plan_memory, AddsModel, is_added, is_not_added, add_memory, TakesModel, TakesModels, Derives, is_derived, derive_memory}
+use Rattle.servient_cli.specs.Deriving as plans
+use Rattle.servient_cli.specs.Command.{Commands, Does, Ends, IsNoCommand, OutSeen, is_built, is_command, is_no_command, words_memory}
+
+abbrev status_of : {A : Type 0} → Outcome A → ℕ
+status_of (goes_on value) = 0
+status_of (ends status) = status
+
+-- the stage doesn't end so
+abbrev NotUsage : {A : Type 0} → Outcome A → Type 0
+NotUsage o = ¬ (status_of o ≡ 2)
+
+by_status : {A : Type 0} (o : Outcome A) (n : ℕ) → o ≡ ends n → ¬ (n ≡ 2) → NotUsage o
+by_status o n is other = λ two. other (sym (ap status_of is) ∙ two)
+
+goes_by : {A : Type 0} (o : Outcome A) (value : A) → o ≡ goes_on value → NotUsage o
+goes_by o value is = λ two. let bad : 0 ≡ 2 = sym (ap status_of is) ∙ two in absurd (omega (arith, bad))
+
+then_not : {A B : Type 0} (P : List Deed → Outcome A → Type 0) (Q : A → List Deed → Outcome B → Type 0) (seen : List Deed) (o : Outcome B)
+    → ((s : List Deed) (r : Outcome A) → P s r → NotUsage r) → ((value : A) (s : List Deed) (r : Outcome B) → Q value s r → NotUsage r)
+    → AndThen P Q seen o → NotUsage o
+then_not P Q seen o first next (ends_first status p is) = by_status o status is (first seen (ends status) p)
+then_not P Q seen o first next (goes_further value a b p q is) = next value b o q
+
+file_not : (held : Option (List HeldFile)) (limit : ℕ) (name : List ℕ) (seen : List Deed) (o : Outcome (List ℕ)) → ReadsFile held limit name seen o → NotUsage o
+file_not held limit name seen o (is_read content a b d is) = goes_by o content is
+file_not held limit name seen o (is_absent a e) = by_status o 3 e.1 (omega arith)
+file_not held limit name seen o (is_unreadable e) = by_status o 3 e.1 (omega arith)
+file_not held limit name seen o (is_long a e) = by_status o 4 e.1 (omega arith)
+file_not held limit name seen o (file_memory first a e) = by_status o 9 e.1 (omega arith)
+
+tree_not : (name content : List ℕ) (seen : List Deed) (o : Outcome Tree) → ReadsTree name content seen o → NotUsage o
+tree_not name content seen o (is_tree tree a b is) = goes_by o tree is
+tree_not name content seen o (has_no_tree what a b e) = by_status o 4 e.1 (omega arith)
+tree_not name content seen o (tree_memory e) = by_status o 9 e.1 (omega arith)
+
+script_not : (name content : List ℕ) (seen : List Deed) (o : Outcome (List EventWithBytes)) → ReadsScript name content seen o → NotUsage o
+script_not name content seen o (is_script events a b d is) = goes_by o events is
+script_not name content seen o (is_no_script line a b e) = by_status o 4 e.1 (omega arith)
+script_not name content seen o (script_memory e) = by_status o 9 e.1 (omega arith)
+
+run_not : (events : List EventWithBytes) (seen : List Deed) (o : Outcome (Unit {0})) → RunsScript events seen o → NotUsage o
+run_not events seen o (is_whole ran end a b e) = by_status o 0 e.1 (omega arith)
+run_not events seen o (is_spent ran end a b e) = by_status o 8 e.1 (omega arith)
+run_not events seen o (run_memory ran end count b e) = by_status o 9 e.1 (omega arith)
+
+judge_not : (tree : Tree) (seen : List Deed) (o : Outcome (Unit {0})) → Judges tree seen o → NotUsage o
+judge_not tree seen o (is_valid a e) = by_status o 0 e.1 (omega arith)
+judge_not tree seen o (is_refused number pointer a e) = by_status o 5 e.1 (omega arith)
+judge_not tree seen o (judge_memory e) = by_status o 9 e.1 (omega arith)
+
+plan_not : (name : List ℕ) (tree : Tree) (seen : List Deed) (o : Outcome Plan) → ReadsPlan name tree seen o → NotUsage o
+plan_not name tree seen o (is_plan plan a b is) = goes_by o plan is
+plan_not name tree seen o (is_no_plan pointer a e) = by_status o 4 e.1 (omega arith)
+plan_not name tree seen o (plan_memory e) = by_status o 9 e.1 (omega arith)
+
+add_not : (models : Models) (url file : List ℕ) (tree : Tree) (seen : List Deed) (o : Outcome Models) → AddsModel models url file tree seen o → NotUsage o
+add_not models url file tree seen o (is_added a b is) = goes_by o _ is
+add_not models url file tree seen o (is_not_added what a e) = by_status o 4 e.1 (omega arith)
+add_not models url file tree seen o (add_memory e) = by_status o 9 e.1 (omega arith)
+
+take_not : (held : Option (List HeldFile)) (model : List ℕ × List ℕ) (models : Models) (seen : List Deed) (o : Outcome Models) → TakesModel held model models seen o → NotUsage o
+take_not held model models seen o stage =
+    then_not (ReadsFile held longest_json model.1) (λ content. AndThen (ReadsTree model.1 content) (AddsModel models model.0 model.1)) seen o
+    (file_not held longest_json model.1)
+    (λ content s r p. then_not (ReadsTree model.1 content) (AddsModel models model.0 model.1) s r (tree_not model.1 content) (add_not models model.0 model.1) p) stage
+
+models_not : (held : Option (List HeldFile)) (left : List (List ℕ × List ℕ)) (models : Models) (seen : List Deed) (o : Outcome Models) → TakesModels held left models seen o → NotUsage o
+models_not held [] models seen o stage = goes_by o models stage.1
+models_not held (model ∷ left) models seen o stage =
+    then_not (TakesModel held model models) (TakesModels held left) seen o (take_not held model models) (models_not held left) stage
+
+derive_not : (plan : Plan) (models : Models) (seen : List Deed) (o : Outcome (Unit {0})) → Derives plan models seen o → NotUsage o
+derive_not plan models seen o (is_derived things a e) = by_status o 0 e.1 (omega arith)
+derive_not plan models seen o (plans.is_refused fault a e) = by_status o 5 e.1 (omega arith)
+derive_not plan models seen o (derive_memory e) = by_status o 9 e.1 (omega arith)
+
+plan_file_not : (held : Option (List HeldFile)) (name content : List ℕ) (seen : List Deed) (o : Outcome (Unit {0})) → DerivesPlan held name content seen o → NotUsage o
+plan_file_not held name content seen o stage =
+    then_not (ReadsTree name content) (λ tree. AndThen (ReadsPlan name tree) (λ plan. AndThen (TakesModels held plan.models []) (Derives plan))) seen o (tree_not name content)
+    (λ tree s r p. then_not (ReadsPlan name tree) (λ plan. AndThen (TakesModels held plan.models []) (Derives plan)) s r (plan_not name tree)
+    (λ plan s2 r2 p2. then_not (TakesModels held plan.models []) (Derives plan) s2 r2 (models_not held plan.models []) (derive_not plan) p2) p) stage
+
+does_not_end_so : (held : Option (List HeldFile)) (command : Command) (seen : List Deed) (o : Outcome (Unit {0})) → Does held command seen o → NotUsage o
+does_not_end_so held (Replay script plan events) seen o stage =
+    then_not (ReadsFile held longest_script script) (Replays script) seen o (file_not held longest_script script)
+    (λ content s r p. then_not (ReadsScript script content) RunsScript s r (script_not script content) run_not p) stage
+does_not_end_so held (Check description) seen o stage =
+    then_not (ReadsFile held longest_json description) (Checks description) seen o (file_not held longest_json description)
+    (λ content s r p. then_not (ReadsTree description content) Judges s r (tree_not description content) judge_not p) stage
+does_not_end_so held (Derive plan) seen o stage =
+    then_not (ReadsFile held longest_json plan) (DerivesPlan held plan) seen o (file_not held longest_json plan) (plan_file_not held plan) stage
+does_not_end_so held (Serve plan events idle) seen o stage = absurd stage
+does_not_end_so held (Consume consumption) seen o stage = absurd stage
+does_not_end_so held (Storm seed events) seen o stage = absurd stage
+
+-- the words lead to status 2 exactly where they are no command, unless there is no memory for them
+two_is_no_command : (held : Option (List HeldFile)) (words : List (List ℕ)) (seen : List Deed) (status : ℕ) → Commands held words seen (ends status)
+    → (status ≡ 2 → IsNoCommand words) × (IsNoCommand words → (status ≡ 2) ⊎ (status ≡ 9))
+two_is_no_command held words seen status (is_no_command none e) = (λ two. none, λ n. inl (ap status_of e.1))
+two_is_no_command held words seen status (is_command command meaning built stage) = (
+  (λ two. absurd (does_not_end_so held command seen (ends status) stage two)),
+  (λ none. let bad : is_built command ≡ false = rw meaning at none in let no : true ≡ false = sym built ∙ bad in cc),
+)
+two_is_no_command held words seen status (words_memory e) =
+    ((λ two. let bad : 9 ≡ 2 = sym (ap status_of e.1) ∙ two in absurd (omega (arith, bad))), λ n. inr (ap status_of e.1))
+
+-- and so does the whole call, unless the output fails
+pub usage_is_exact : (words : List (List ℕ)) (before now : Around) (out out_now : OutSeen) (result : ℕ) → Ends words before now out out_now result
+    → (result ≡ 2 → IsNoCommand words) × (IsNoCommand words → (result ≡ 2) ⊎ (result ≡ 7) ⊎ (result ≡ 9))
+usage_is_exact words before now out out_now result e =
+    let exact = two_is_no_command before.files.held words e.seen e.status e.command in
+    elim e.reported [
+      | inl done ↦ (
+        (λ two. exact.0 (sym done.0 ∙ two)),
+        (λ none. elim (exact.1 none) [ inl two ↦ inl (done.0 ∙ two) | inr nine ↦ inr (inr (done.0 ∙ nine)) ]),
+      )
+      | inr failed ↦ (
+        (λ two. let bad : 7 ≡ 2 = sym failed.0 ∙ two in absurd (omega (arith, bad))),
+        (λ none. inr (inl failed.0)),
+      )
+    ]

@@ -1,0 +1,13 @@
+-- How the words are taken.
+use Rattle.std.specs.Prelude.{◌≡◌, ℕ, true, List, Some, Result, Ok, Err}
+use Rattle.command_words.specs.Grammar.{meaning_of}
+use Rattle.command_words.specs.declared.command.Command.{Command}
+use Rattle.command_words.specs.declared.fault.WordsFault.{WordsFault}
+use Rattle.command_words.specs.declared.fault.WordsFault.TheVariants.{Usage, NoMemory}
+use Rattle.servient_cli.specs.Command.{IsNoCommand, is_built}
+
+-- A success is what the words mean, and is built. They are refused where they mean nothing, or what isn't built.
+abbrev pub TakesWords : List (List ℕ) → Result Command WordsFault → Type 0
+TakesWords words (Ok command) = (meaning_of words ≡ Some command) × (is_built command ≡ true)
+TakesWords words (Err Usage) = IsNoCommand words
+TakesWords words (Err NoMemory) = Unit {0}

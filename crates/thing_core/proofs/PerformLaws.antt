@@ -1,70 +1,99 @@
--- A request that was admitted or refused, and what was done, are a move of the Thing machine.
-use Rattle.std.proofs.Common.{◌≡◌, ℕ, List, [], refl, inl, inr}
-use Rattle.std.specs.Prelude.{Some}
-use Rattle.servient_base.specs.Moves.{Makes}
+-- A request that was admitted or refused, and what was done, and polls, are moves of the Thing machine.
+use Rattle.std.proofs.Common.{◌≡◌, ℕ, ◌≤◌, List, [], ◌∷◌, ◌++◌, map, length, Bool, true, false, cond, refl, sym, ap, subst, ◌∙◌, arith, length-append, inl, inr}
+use Rattle.std.specs.Prelude.{Some, ◌⊎◌, ◌&&◌}
+use Rattle.std.specs.List.{filter}
+use Rattle.std.proofs.lemmas.List.{append-nil}
 use Rattle.thing_ops.specs.declared.outcome.Outcome.{Outcome}
+use Rattle.thing_ops.specs.declared.outcome.Outcome.TheVariants as outcome
 use Rattle.thing_ops.specs.Requests.{PlainRequest}
 use Rattle.thing_handler.specs.Handler.{Seen}
 use Rattle.thing_handler.specs.Turns.{HandlerCall, RackShows}
 use Rattle.thing_handler.proofs.RackLaws.{rack_shows_in_order}
-use Rattle.thing_core.specs.declared.state.Invocation.{Invocation}
-use Rattle.thing_core.specs.declared.state.Machine.{Machine}
-use Rattle.thing_core.specs.Site.{Site}
-use Rattle.thing_core.specs.State.{State}
-use Rattle.thing_core.specs.Places.{Act, describes, reads_all, writes_many, reads, writes, invokes, queries, cancels, reads_event, waits}
-use Rattle.thing_core.specs.Refusals.{act_asked, refusals, IsRefusedBy}
-use Rattle.thing_core.specs.Thing.{Done, only, Performs, Acts, refuses, has_no_memory, performs}
-use Rattle.thing_core.specs.Kept.{state_in}
-use Rattle.thing_core.specs.Performing.{DoesEmpty, IsBuilt, MakesAct, MakesOn, PerformsEmpty, TakesEmpty}
-use Rattle.thing_core.proofs.RefusalLaws.{no_input, takes_empty}
-
-empty_performs : (act : Act) (q : PlainRequest) (done : Done) (s : State) (seen : List HandlerCall) (t : State) → PerformsEmpty act q.accept.td done s seen t → Performs act q [] done s seen t
-empty_performs (describes thing) q done s seen t p = p
-empty_performs (reads_all thing) q done s seen t p = absurd p
-empty_performs (writes_many thing) q done s seen t p = absurd p
-empty_performs (reads x) q done s seen t p = p
-empty_performs (writes x) q done s seen t p = absurd p
-empty_performs (invokes x) q done s seen t p = absurd p
-empty_performs (queries x i) q done s seen t p = absurd p
-empty_performs (cancels x i) q done s seen t p = absurd p
-empty_performs (reads_event x) q done s seen t p = p
-empty_performs (waits x) q done s seen t p = p
+use Rattle.wot_terms.specs.declared.kind.Kind.TheVariants as kind
+use Rattle.thing_core.specs.Site.{Placed, ExposedThing, Site, those_of, events_of, is_emitter, is_kind, of_kind, emitters_of, emitters_of_thing}
+use Rattle.thing_core.specs.Course.{Course}
+use Rattle.thing_core.specs.State.{Emission}
+use Rattle.thing_core.specs.Places.{Act}
+use Rattle.thing_core.specs.Refusals.{Asked, Input, act_asked, inputs_of, refusals, IsRefusedBy, NoneStands}
+use Rattle.thing_core.specs.Thing.{only, Performs, PollsEach, Acts, refuses, has_no_memory, performs}
+use Rattle.thing_core.specs.Performing.{MakesAct, MakesDone, MakesPolls, OrMemory, PollsSome}
 
 -- the act is done
-pub done_makes : (site : Site) (q : PlainRequest) (act : Act) (o : Outcome) (invocations : List Invocation) (m n : Machine) (pending : List ℕ) (before after : List Seen)
-    → pending ≡ [] → act_asked (record { site = site; state = state_in invocations m; request = q }) ≡ Some act → IsBuilt act → TakesEmpty act q
-    → MakesOn (DoesEmpty act q.accept.td (only o)) m n before after
-    → MakesAct (record { site = site; state = state_in invocations m; pending = pending }) (record { site = site; state = state_in invocations n; pending = pending }) q o before after
-done_makes site q act o invocations m n pending before after none asked built takes made =
-    let k : Makes RackShows (DoesEmpty act q.accept.td (only o)) (state_in invocations m) (state_in invocations n) before after = made invocations in
-    record {
-      done = only o;
-      outcome = refl;
-      pending = none;
-      site = refl;
-      made = record {
-        seen = k.seen;
-        move = elim k.move as (λ _. Acts site q (only o) (state_in invocations m) k.seen (state_in invocations n)) [
-          | inl p ↦ performs act [] (takes_empty (record { site = site; state = state_in invocations m; request = q }) act asked built takes) asked
-              (no_input act q.body built takes.body) (empty_performs act q (only o) (state_in invocations m) k.seen (state_in invocations n) p)
-          | inr out ↦ has_no_memory out
-        ];
-        shows = k.shows;
-      };
-    }
+pub done_makes : (site : Site) (q : PlainRequest) (act : Act) (inputs : List Input) (o : Outcome) (c d : Course) (before after : List Seen) → c.pending ≡ []
+    → act_asked (record { site = site; state = c.state; request = q }) ≡ Some act → inputs_of act q.body ≡ Some inputs → NoneStands refusals (record { site = site; state = c.state; request = q })
+    → MakesDone (OrMemory (Performs act q inputs)) o c d before after
+    → MakesAct (record { site = site; state = c.state; pending = c.pending }) (record { site = site; state = d.state; pending = d.pending }) q o before after
+done_makes site q act inputs o c d before after none asked given free k = record {
+  done = k.done;
+  outcome = k.outcome;
+  pending = k.pending ∙ ap (λ (l : List ℕ). l ++ map (λ (e : Emission). e.target) k.done.emissions) none;
+  site = refl;
+  made = record {
+    seen = k.made.seen;
+    move = elim k.made.move as (λ _. Acts site q k.done c.state k.made.seen d.state) [
+      | inl p ↦ performs act inputs free asked given p
+      | inr out ↦ has_no_memory out
+    ];
+    shows = k.made.shows;
+  };
+}
 
--- the request is refused
-pub refusal_makes : (site : Site) (q : PlainRequest) (o : Outcome) (invocations : List Invocation) (m : Machine) (pending : List ℕ) (slots : List Seen)
-    → pending ≡ [] → IsRefusedBy refusals (record { site = site; state = state_in invocations m; request = q }) o
-    → MakesAct (record { site = site; state = state_in invocations m; pending = pending }) (record { site = site; state = state_in invocations m; pending = pending }) q o slots slots
-refusal_makes site q o invocations m pending slots none refused = record {
+-- the request is refused, or memory is out
+pub refusal_makes : (site : Site) (q : PlainRequest) (o : Outcome) (c : Course) (slots : List Seen) → c.pending ≡ []
+    → (o ≡ outcome.Memory) ⊎ IsRefusedBy refusals (record { site = site; state = c.state; request = q }) o
+    → MakesAct (record { site = site; state = c.state; pending = c.pending }) (record { site = site; state = c.state; pending = c.pending }) q o slots slots
+refusal_makes site q o c slots none refused = record {
   done = only o;
   outcome = refl;
   pending = none;
   site = refl;
   made = record {
     seen = [];
-    move = refuses o refused (refl, record { next = refl; saw = refl });
+    move = elim refused as (λ _. Acts site q (only o) c.state [] c.state) [
+      | inl out ↦ has_no_memory (ap only out, record { next = refl; saw = refl })
+      | inr r ↦ refuses o r (refl, record { next = refl; saw = refl })
+    ];
     shows = rack_shows_in_order.none slots;
   };
 }
+
+-- all events are polled
+pub polls_made : (site : Site) (c d : Course) (before after : List Seen) → c.pending ≡ [] → PollsSome (events_of site) c d before after
+    → MakesPolls (record { site = site; state = c.state; pending = c.pending }) (record { site = site; state = d.state; pending = d.pending }) before after
+polls_made site c d before after none k =
+    let last = k.leads [] in
+    record {
+      emissions = k.emissions;
+      pending = k.pending ∙ ap (λ (l : List ℕ). l ++ map (λ (e : Emission). e.target) k.emissions) none;
+      site = refl;
+      made = record {
+        seen = last.seen ++ [];
+        move = subst (λ (ps : List Placed). PollsEach ps k.emissions c.state (last.seen ++ []) d.state) (append-nil (events_of site))
+            (subst (λ (es : List Emission). PollsEach (events_of site ++ []) es c.state (last.seen ++ []) d.state) (append-nil k.emissions)
+            (last.leads [] [] d.state (refl, record { next = refl; saw = refl })));
+        shows = subst (λ (seen : List HandlerCall). RackShows before after seen) (sym (append-nil last.seen)) last.shows;
+      };
+    }
+
+-- ---- there is room for the emissions of all events
+
+events_few : (ps : List Placed) → length (filter (of_kind kind.Event) ps) ≤ length (filter is_emitter ps)
+events_few [] = omega arith
+events_few (p ∷ ps) = by_test (events_few ps) (is_kind kind.Event p.affordance.kind) (is_kind kind.Property p.affordance.kind && p.affordance.observable)
+  where
+    by_test : length (filter (of_kind kind.Event) ps) ≤ length (filter is_emitter ps) → (b m : Bool)
+        → length (cond b (p ∷ filter (of_kind kind.Event) ps) (filter (of_kind kind.Event) ps)) ≤ length (cond (cond b true m) (p ∷ filter is_emitter ps) (filter is_emitter ps))
+    by_test rest true m = omega (arith, rest)
+    by_test rest false true = omega (arith, rest)
+    by_test rest false false = rest
+
+pub events_are_emitters : (site : Site) → length (events_of site) ≤ length (emitters_of site)
+events_are_emitters [] = omega arith
+events_are_emitters (t ∷ site) =
+    omega (
+      arith,
+      events_few t.affordances,
+      events_are_emitters site,
+      length-append (those_of kind.Event t) (events_of site),
+      length-append (emitters_of_thing t) (emitters_of site),
+    )

@@ -5,7 +5,7 @@ use Rattle.thing_ops.specs.Requests.{PlainRequest}
 use Rattle.thing_ops.specs.Routes.{route_of}
 use Rattle.thing_ops.specs.declared.routing.RouteKind.{RouteKind}
 use Rattle.thing_ops.specs.declared.routing.RouteKind.TheVariants as route
-use Rattle.thing_core.specs.declared.state.Invocation.{Invocation}
+use Rattle.thing_core.specs.State.{Invocation}
 use Rattle.thing_core.specs.Site.{Site}
 use Rattle.thing_core.specs.State.{State}
 use Rattle.thing_core.specs.Places.{Place, place_at, place_of, Act, act_at}

@@ -1,16 +1,20 @@
 -- Affordances with their slots, gone through one by one.
-use Rattle.std.proofs.Common.{◌≡◌, ℕ, zero, suc, ◌+◌, ◌<◌, List, [], ◌∷◌, ◌++◌, map, drop, length, get_or, Bool, true, false, refl, sym, ap, subst, ◌∙◌, arith, append_assoc, inl, inr}
+use Rattle.std.proofs.Common.{◌≡◌, ℕ, zero, suc, ◌+◌, ◌<◌, List, [], ◌∷◌, ◌++◌, map, drop, length, get_or, Bool, true, false, cond, refl, sym, ap, subst, ◌∙◌, arith, append_assoc, inl, inr}
 use Rattle.std.specs.Prelude.{slice_get, Some, None, ◌&&◌}
 use Rattle.std.specs.List.{filter}
 use Rattle.std.specs.Str.{bytes_eq}
 use Rattle.std.proofs.lemmas.List.{at_drop_all, append-nil}
+use Rattle.std.proofs.lemmas.List.Elements.{filter-append}
 use Rattle.std.proofs.lemmas.Option.{same_Some, slice_get_cases}
 use Rattle.wot_terms.specs.declared.kind.Kind.{Kind}
 use Rattle.wot_terms.specs.declared.affordance.Affordance.{Affordance}
-use Rattle.thing_core.specs.declared.state.Latest.{Latest}
-use Rattle.thing_core.specs.Site.{Placed, affordance_named, is_emitter, is_kind}
+use Rattle.thing_core.specs.State.{Latest}
+use Rattle.wot_terms.specs.declared.kind.Kind.TheVariants as kind
+use Rattle.thing_core.specs.Site.{Placed, affordance_named, is_emitter, is_kind, of_kind}
+use Rattle.thing_core.specs.Thing.{is_readable}
 use Rattle.thing_core.specs.State.{silent}
 use Rattle.thing_core.specs.Exposing.{placed_all}
+use Rattle.thing_core.specs.Performing.{AllStand}
 
 -- the next affordance, where there is a slot for it
 next_placed : (affordances : List Affordance) (slots : List ℕ) (i : ℕ) (a : Affordance) (slot : ℕ)
@@ -64,3 +68,50 @@ silent_more last new p ps grown = by_test (is_emitter p) refl
     by_test false e =
         let same : new ≡ last = grown ∙ rw e (append-nil last) in
         rw (e, same) refl
+
+-- ---- those that are read, and those that are polled
+
+abbrev pub readable_of : List Placed → List Placed
+readable_of ps = filter is_readable (filter (of_kind kind.Property) ps)
+
+abbrev pub events_among : List Placed → List Placed
+events_among ps = filter (of_kind kind.Event) ps
+
+filter_more : (p : Placed → Bool) (x : Placed) (xs : List Placed) → filter p (x ∷ xs) ≡ filter p (x ∷ []) ++ filter p xs
+filter_more p x xs = by_test (p x)
+  where
+    by_test : (b : Bool) → cond b (x ∷ filter p xs) (filter p xs) ≡ cond b (x ∷ []) [] ++ filter p xs
+    by_test true = refl
+    by_test false = refl
+
+pub readable_more : (p : Placed) (ps : List Placed) → readable_of (p ∷ ps) ≡ readable_of (p ∷ []) ++ readable_of ps
+readable_more p ps =
+    ap (filter is_readable) (filter_more (of_kind kind.Property) p ps) ∙ filter-append is_readable (filter (of_kind kind.Property) (p ∷ [])) (filter (of_kind kind.Property) ps)
+
+pub events_more : (p : Placed) (ps : List Placed) → events_among (p ∷ ps) ≡ events_among (p ∷ []) ++ events_among ps
+events_more p ps = filter_more (of_kind kind.Event) p ps
+
+-- ---- slots that stand
+
+filter_stands : (count : ℕ) (p : Placed → Bool) (ps : List Placed) → AllStand count ps → AllStand count (filter p ps)
+filter_stands count p [] all = tt
+filter_stands count p (x ∷ ps) all = by_test (filter_stands count p ps all.1) (p x)
+  where
+    by_test : AllStand count (filter p ps) → (b : Bool) → AllStand count (cond b (x ∷ filter p ps) (filter p ps))
+    by_test rest true = (all.0, rest)
+    by_test rest false = rest
+
+pub readable_stand : (count : ℕ) (ps : List Placed) → AllStand count ps → AllStand count (readable_of ps)
+readable_stand count ps all = filter_stands count is_readable (filter (of_kind kind.Property) ps) (filter_stands count (of_kind kind.Property) ps all)
+
+pub events_stand : (count : ℕ) (ps : List Placed) → AllStand count ps → AllStand count (events_among ps)
+events_stand count ps all = filter_stands count (of_kind kind.Event) ps all
+
+-- of two lists of affordances whose slots stand, the slots of each stand
+pub stands_first : (count : ℕ) (ps qs : List Placed) → AllStand count (ps ++ qs) → AllStand count ps
+stands_first count [] qs all = tt
+stands_first count (p ∷ ps) qs all = (all.0, stands_first count ps qs all.1)
+
+pub stands_rest : (count : ℕ) (ps qs : List Placed) → AllStand count (ps ++ qs) → AllStand count qs
+stands_rest count [] qs all = all
+stands_rest count (p ∷ ps) qs all = stands_rest count ps qs all.1

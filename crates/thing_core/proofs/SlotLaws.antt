@@ -1,42 +1,69 @@
--- The slot of an affordance that a request asks for stands in a rack that the site fits.
-use Rattle.std.proofs.Common.{◌≡◌, ℕ, List, [], ◌∷◌, length, Bool, true, false, cond, refl, ap, subst, ◌∙◌}
-use Rattle.std.specs.Prelude.{Option, Some, None, option_map, option_and_then, slice_get, ◌&&◌}
+-- The affordances that a request asks for stand in a rack that the site fits, and an act that is admitted may be done.
+use Rattle.std.proofs.Common.{◌≡◌, ◌≤◌, ◌<◌, ℕ, List, [], ◌∷◌, ◌++◌, map, length, Bool, true, false, cond, refl, sym, ap, subst, ◌∙◌, arith, inl, inr}
+use Rattle.std.specs.Prelude.{Option, Some, None, IsSome, option_map, option_and_then, slice_get, ◌&&◌}
 use Rattle.std.specs.List.{AllByRecursion}
 use Rattle.std.specs.Str.{bytes_eq}
 use Rattle.std.proofs.lemmas.Option.{same_Some, slice_get_within}
+use Rattle.wot_json.specs.Tree.{Json, object, Members, no_members, member}
+use Rattle.wot_json.specs.Json.{text_of}
+use Rattle.wot_json.specs.Meaning.{json_of}
+use Rattle.wot_json.specs.Reading.{tree_of}
 use Rattle.wot_terms.specs.declared.kind.Kind.{Kind}
+use Rattle.wot_terms.specs.declared.kind.Kind.TheVariants as kind
 use Rattle.thing_ops.specs.Routes.{route_of}
 use Rattle.thing_ops.specs.declared.routing.RouteKind.{RouteKind}
 use Rattle.thing_ops.specs.declared.routing.RouteKind.TheVariants as route
 use Rattle.thing_ops.specs.declared.verb.Verb.{Verb}
 use Rattle.thing_ops.specs.declared.verb.Verb.TheVariants as verb
 use Rattle.thing_handler.specs.Handler.{Seen}
-use Rattle.thing_core.specs.declared.state.Invocation.{Invocation}
-use Rattle.thing_core.specs.Site.{Placed, ExposedThing, Site, is_kind, affordance_named, thing_named}
-use Rattle.thing_core.specs.State.{State, invocation_named}
-use Rattle.thing_core.specs.Places.{Place, description, all_properties, property, observed, action, invocation, event, subscribed, thing_in, affordance_in, Act, reads, writes, act_at, unless}
-use Rattle.thing_core.specs.Refusals.{Asked, act_asked, place_asked}
+use Rattle.thing_core.specs.declared.input.Input.{Input as InputInCode}
+use Rattle.thing_core.specs.Site.{Placed, ExposedThing, Site, is_kind, affordance_named, thing_named, events_of, those_of, of_kind}
+use Rattle.thing_core.specs.State.{State, Invocation, invocation_named, running_count, most_invocations}
+use Rattle.thing_core.specs.Places.{Place, description, all_properties, property, observed, action, invocation, event, subscribed, thing_in, affordance_in, place_at, where_observable, where_invoked, Act, describes, reads_all, writes_many, reads, writes, invokes, queries, cancels, reads_event, waits, act_at, unless}
+use Rattle.thing_core.specs.Refusals.{Asked, Input, act_asked, place_asked, inputs_of, no_inputs, invoke_inputs, object_inputs, member_inputs, only_input, written_property, unless_read_only, longest_value, refusals, IsLong, SomeInput, Holding, HasNoInvocationLeft, NoneStands}
 use Rattle.thing_core.specs.Kept.{FitsSlot, ThingFits, Fits}
-use Rattle.thing_core.specs.Performing.{SlotStands}
-use Rattle.thing_core.specs.Found.{kind_by, place_by, spot_by, thing_by}
-use Rattle.thing_core.proofs.PlaceLaws.{place_by_parts}
+use Rattle.thing_core.specs.Performing.{AllStand, InputsFit, MayBeDone, affordances_of_act, input_of}
+use Rattle.thing_core.proofs.PlacedLists.{events_among, events_stand}
 
--- an affordance of some that fit fits
-named_fits : (slots : List Seen) (k : Kind) (name : List ℕ) (ps : List Placed) (p : Placed) → AllByRecursion (FitsSlot slots) ps → affordance_named k name ps ≡ Some p → FitsSlot slots p
-named_fits slots k name [] p all e = absurd cc
-named_fits slots k name (q ∷ ps) p all e = by_test (named_fits slots k name ps p all.1) (is_kind k q.affordance.kind && bytes_eq name q.affordance.name) e
+-- ---- what fits stands
+
+fits_stand : (slots : List Seen) (ps : List Placed) → AllByRecursion (FitsSlot slots) ps → AllStand (length slots) ps
+fits_stand slots [] all = tt
+fits_stand slots (p ∷ ps) all = (slice_get_within slots p.slot all.0.0 all.0.1, fits_stand slots ps all.1)
+
+-- all affordances of a site
+abbrev pub SiteStands : ℕ → Site → Type 0
+SiteStands count site = AllByRecursion (λ t. AllStand count t.affordances) site
+
+pub site_stands : (slots : List Seen) (site : Site) → Fits site slots → SiteStands (length slots) site
+site_stands slots [] all = tt
+site_stands slots (t ∷ site) all = (fits_stand slots t.affordances all.0, site_stands slots site all.1)
+
+both_stand : (count : ℕ) (ps qs : List Placed) → AllStand count ps → AllStand count qs → AllStand count (ps ++ qs)
+both_stand count [] qs one other = other
+both_stand count (p ∷ ps) qs one other = (one.0, both_stand count ps qs one.1 other)
+
+pub all_events_stand : (count : ℕ) (site : Site) → SiteStands count site → AllStand count (events_of site)
+all_events_stand count [] all = tt
+all_events_stand count (t ∷ site) all =
+    both_stand count (those_of kind.Event t) (events_of site) (events_stand count t.affordances all.0) (all_events_stand count site all.1)
+
+-- ---- what is found
+
+named_stands : (count : ℕ) (k : Kind) (name : List ℕ) (ps : List Placed) (p : Placed) → AllStand count ps → affordance_named k name ps ≡ Some p → p.slot < count
+named_stands count k name [] p all e = absurd cc
+named_stands count k name (q ∷ ps) p all e = by_test (named_stands count k name ps p all.1) (is_kind k q.affordance.kind && bytes_eq name q.affordance.name) e
   where
-    by_test : (affordance_named k name ps ≡ Some p → FitsSlot slots p) → (b : Bool) → cond b (Some q) (affordance_named k name ps) ≡ Some p → FitsSlot slots p
-    by_test further true is = subst (λ (x : Placed). FitsSlot slots x) (same_Some q p is) all.0
+    by_test : (affordance_named k name ps ≡ Some p → p.slot < count) → (b : Bool) → cond b (Some q) (affordance_named k name ps) ≡ Some p → p.slot < count
+    by_test further true is = subst (λ (x : Placed). x.slot < count) (same_Some q p is) all.0
     by_test further false is = further is
 
--- a Thing of a site that fits fits
-thing_fits : (slots : List Seen) (segment : List ℕ) (site : Site) (thing : ExposedThing) → Fits site slots → thing_named segment site ≡ Some thing → ThingFits slots thing
-thing_fits slots segment [] thing all e = absurd cc
-thing_fits slots segment (t ∷ site) thing all e = by_test (thing_fits slots segment site thing all.1) (bytes_eq segment t.segment) e
+thing_stands : (count : ℕ) (segment : List ℕ) (site : Site) (thing : ExposedThing) → SiteStands count site → thing_named segment site ≡ Some thing → AllStand count thing.affordances
+thing_stands count segment [] thing all e = absurd cc
+thing_stands count segment (t ∷ site) thing all e = by_test (thing_stands count segment site thing all.1) (bytes_eq segment t.segment) e
   where
-    by_test : (thing_named segment site ≡ Some thing → ThingFits slots thing) → (b : Bool) → cond b (Some t) (thing_named segment site) ≡ Some thing → ThingFits slots thing
-    by_test further true is = subst (λ (x : ExposedThing). ThingFits slots x) (same_Some t thing is) all.0
+    by_test : (thing_named segment site ≡ Some thing → AllStand count thing.affordances) → (b : Bool) → cond b (Some t) (thing_named segment site) ≡ Some thing → AllStand count thing.affordances
+    by_test further true is = subst (λ (x : ExposedThing). AllStand count x.affordances) (same_Some t thing is) all.0
     by_test further false is = further is
 
 -- what a step after another gives came of something
@@ -44,124 +71,196 @@ came_of : {A B : Type 0} (f : A → Option B) (o : Option A) (b : B) → option_
 came_of f None b e = absurd cc
 came_of f (Some a) b e = (a, refl, e)
 
-affordance_fits : (slots : List Seen) (k : Kind) (path : List (List ℕ)) (site : Site) (p : Placed) → Fits site slots → affordance_in k path site ≡ Some p → FitsSlot slots p
-affordance_fits slots k path site p fits e =
+made_of : {A B : Type 0} (f : A → B) (o : Option A) (b : B) → option_map f o ≡ Some b → (a : A) × (o ≡ Some a) × (f a ≡ b)
+made_of f None b e = absurd cc
+made_of f (Some a) b e = (a, refl, same_Some (f a) b e)
+
+in_site_stands : (count : ℕ) (path : List (List ℕ)) (site : Site) (thing : ExposedThing) → SiteStands count site → thing_in path site ≡ Some thing → AllStand count thing.affordances
+in_site_stands count path site thing all e =
+    let of_segment = came_of (λ (segment : List ℕ). thing_named segment site) (slice_get path 0) thing e in
+    thing_stands count of_segment.0 site thing all of_segment.2
+
+in_thing_stands : (count : ℕ) (k : Kind) (path : List (List ℕ)) (site : Site) (p : Placed) → SiteStands count site → affordance_in k path site ≡ Some p → p.slot < count
+in_thing_stands count k path site p all e =
     let of_thing = came_of (λ (thing : ExposedThing). option_and_then (λ (name : List ℕ). affordance_named k name thing.affordances) (slice_get path 2)) (thing_in path site) p e in
     let of_name = came_of (λ (name : List ℕ). affordance_named k name of_thing.0.affordances) (slice_get path 2) p of_thing.2 in
-    let of_segment = came_of (λ (segment : List ℕ). thing_named segment site) (slice_get path 0) of_thing.0 of_thing.1 in
-    named_fits slots k of_name.0 of_thing.0.affordances p (thing_fits slots of_segment.0 site of_thing.0 fits of_segment.2) of_name.2
+    named_stands count k of_name.0 of_thing.0.affordances p (in_site_stands count path site of_thing.0 all of_thing.1) of_name.2
 
--- a property is found where the path is about it
-property_of_spot : (form : RouteKind) (thing : Option ExposedThing) (spot : Option Placed) (s : State) (p : Placed) → place_by form thing spot s ≡ Some (property p) → spot ≡ Some p
-property_of_spot route.Root None spot s p e = absurd cc
-property_of_spot route.Root (Some t) spot s p e = absurd cc
-property_of_spot route.Thing None spot s p e = absurd cc
-property_of_spot route.Thing (Some t) spot s p e = absurd cc
-property_of_spot route.All None spot s p e = absurd cc
-property_of_spot route.All (Some t) spot s p e = absurd cc
-property_of_spot route.Property thing None s p e = absurd cc
-property_of_spot route.Property thing (Some q) s p e = cc
-property_of_spot route.Observe thing None s p e = absurd cc
-property_of_spot route.Observe thing (Some q) s p e = by_test q.affordance.observable e
+-- ---- places and acts
+
+-- what a place is about stands, and an invocation that it is about is one of these
+abbrev PlaceStands : ℕ → State → Place → Type 0
+PlaceStands count s (description thing) = AllStand count thing.affordances
+PlaceStands count s (all_properties thing) = AllStand count thing.affordances
+PlaceStands count s (property p) = p.slot < count
+PlaceStands count s (observed p) = p.slot < count
+PlaceStands count s (action p) = p.slot < count
+PlaceStands count s (invocation p id) = (p.slot < count) × IsSome (invocation_named p.slot id s.invocations)
+PlaceStands count s (event p) = p.slot < count
+PlaceStands count s (subscribed p) = p.slot < count
+
+root_stands : (count : ℕ) (site : Site) (thing : ExposedThing) → SiteStands count site → slice_get site 0 ≡ Some thing → AllStand count thing.affordances
+root_stands count [] thing all e = absurd cc
+root_stands count (t ∷ site) thing all e = subst (λ (x : ExposedThing). AllStand count x.affordances) (same_Some t thing e) all.0
+
+observable_stands : (count : ℕ) (s : State) (p : Placed) (place : Place) → p.slot < count → where_observable p ≡ Some place → PlaceStands count s place
+observable_stands count s p place below e = by_test p.affordance.observable e
   where
-    by_test : (b : Bool) → cond b (Some (observed q)) None ≡ Some (property p) → Some q ≡ Some p
-    by_test true is = absurd cc
+    by_test : (b : Bool) → cond b (Some (observed p)) None ≡ Some place → PlaceStands count s place
+    by_test true is = subst (λ (x : Place). PlaceStands count s x) (same_Some (observed p) place is) below
     by_test false is = absurd cc
-property_of_spot route.Subscribe thing None s p e = absurd cc
-property_of_spot route.Subscribe thing (Some q) s p e = absurd cc
-property_of_spot route.Action thing None s p e = absurd cc
-property_of_spot route.Action thing (Some q) s p e = absurd cc
-property_of_spot (route.Invocation id) thing None s p e = absurd cc
-property_of_spot (route.Invocation id) thing (Some q) s p e = by_found (invocation_named q.slot id s.invocations) e
+
+invoked_stands : (count id : ℕ) (s : State) (p : Placed) (place : Place) → p.slot < count → where_invoked id s p ≡ Some place → PlaceStands count s place
+invoked_stands count id s p place below e =
+    let of_invocation = made_of (λ (i : Invocation). invocation p id) (invocation_named p.slot id s.invocations) place e in
+    subst (λ (x : Place). PlaceStands count s x) of_invocation.2 (below, subst (λ (o : Option Invocation). IsSome o) (sym of_invocation.1) refl)
+
+place_stands : (count : ℕ) (form : RouteKind) (path : List (List ℕ)) (site : Site) (s : State) (place : Place) → SiteStands count site → place_at form path site s ≡ Some place → PlaceStands count s place
+place_stands count route.Root path site s place all e =
+    let of = made_of description (slice_get site 0) place e in subst (λ (x : Place). PlaceStands count s x) of.2 (root_stands count site of.0 all of.1)
+place_stands count route.Thing path site s place all e =
+    let of = made_of description (thing_in path site) place e in subst (λ (x : Place). PlaceStands count s x) of.2 (in_site_stands count path site of.0 all of.1)
+place_stands count route.All path site s place all e =
+    let of = made_of all_properties (thing_in path site) place e in subst (λ (x : Place). PlaceStands count s x) of.2 (in_site_stands count path site of.0 all of.1)
+place_stands count route.Property path site s place all e =
+    let of = made_of property (affordance_in kind.Property path site) place e in subst (λ (x : Place). PlaceStands count s x) of.2 (in_thing_stands count kind.Property path site of.0 all of.1)
+place_stands count route.Observe path site s place all e =
+    let of = came_of where_observable (affordance_in kind.Property path site) place e in observable_stands count s of.0 place (in_thing_stands count kind.Property path site of.0 all of.1) of.2
+place_stands count route.Subscribe path site s place all e =
+    let of = made_of subscribed (affordance_in kind.Event path site) place e in subst (λ (x : Place). PlaceStands count s x) of.2 (in_thing_stands count kind.Event path site of.0 all of.1)
+place_stands count route.Action path site s place all e =
+    let of = made_of action (affordance_in kind.Action path site) place e in subst (λ (x : Place). PlaceStands count s x) of.2 (in_thing_stands count kind.Action path site of.0 all of.1)
+place_stands count (route.Invocation id) path site s place all e =
+    let of = came_of (where_invoked id s) (affordance_in kind.Action path site) place e in invoked_stands count id s of.0 place (in_thing_stands count kind.Action path site of.0 all of.1) of.2
+place_stands count route.Event path site s place all e =
+    let of = made_of event (affordance_in kind.Event path site) place e in subst (λ (x : Place). PlaceStands count s x) of.2 (in_thing_stands count kind.Event path site of.0 all of.1)
+place_stands count route.Things path site s place all e = absurd cc
+place_stands count route.Entry path site s place all e = absurd cc
+place_stands count route.Nowhere path site s place all e = absurd cc
+
+-- what an act asks of slots and of the state, but for room for a further invocation
+abbrev ActStands : ℕ → State → Act → Type 0
+ActStands count s (queries p id) = AllStand count (p ∷ []) × IsSome (invocation_named p.slot id s.invocations)
+ActStands count s (cancels p id) = AllStand count (p ∷ []) × IsSome (invocation_named p.slot id s.invocations)
+ActStands count s act = AllStand count (affordances_of_act act)
+
+unless_stands : (count : ℕ) (s : State) (b : Bool) (one act : Act) → ActStands count s one → unless b one ≡ Some act → ActStands count s act
+unless_stands count s true one act stands e = absurd cc
+unless_stands count s false one act stands e = subst (λ (x : Act). ActStands count s x) (same_Some one act e) stands
+
+is_that : (count : ℕ) (s : State) (one act : Act) → ActStands count s one → Some one ≡ Some act → ActStands count s act
+is_that count s one act stands e = subst (λ (x : Act). ActStands count s x) (same_Some one act e) stands
+
+act_stands : (count : ℕ) (s : State) (place : Place) (v : Verb) (act : Act) → PlaceStands count s place → act_at place v ≡ Some act → ActStands count s act
+act_stands count s (description t) verb.Get act stands e = is_that count s (describes t) act tt e
+act_stands count s (description t) verb.Head act stands e = is_that count s (describes t) act tt e
+act_stands count s (all_properties t) verb.Get act stands e = is_that count s (reads_all t) act stands e
+act_stands count s (all_properties t) verb.Head act stands e = is_that count s (reads_all t) act stands e
+act_stands count s (all_properties t) verb.Put act stands e = is_that count s (writes_many t) act stands e
+act_stands count s (property p) verb.Get act stands e = unless_stands count s p.affordance.write_only (reads p) act (stands, tt) e
+act_stands count s (property p) verb.Head act stands e = unless_stands count s p.affordance.write_only (reads p) act (stands, tt) e
+act_stands count s (property p) verb.Put act stands e = unless_stands count s p.affordance.read_only (writes p) act (stands, tt) e
+act_stands count s (observed p) verb.Get act stands e = is_that count s (waits p) act tt e
+act_stands count s (subscribed p) verb.Get act stands e = is_that count s (waits p) act tt e
+act_stands count s (action p) verb.Post act stands e = is_that count s (invokes p) act (stands, tt) e
+act_stands count s (invocation p id) verb.Get act stands e = is_that count s (queries p id) act ((stands.0, tt), stands.1) e
+act_stands count s (invocation p id) verb.Head act stands e = is_that count s (queries p id) act ((stands.0, tt), stands.1) e
+act_stands count s (invocation p id) verb.Delete act stands e = is_that count s (cancels p id) act ((stands.0, tt), stands.1) e
+act_stands count s (event p) verb.Get act stands e = is_that count s (reads_event p) act tt e
+act_stands count s (event p) verb.Head act stands e = is_that count s (reads_event p) act tt e
+act_stands count s place v act stands e = absurd cc
+
+asked_stands : (count : ℕ) (a : Asked) (act : Act) → SiteStands count a.site → act_asked a ≡ Some act → ActStands count a.state act
+asked_stands count a act all e =
+    let of = came_of (λ (place : Place). act_at place a.request.verb) (place_asked a) act e in
+    act_stands count a.state of.0 a.request.verb act (place_stands count (route_of a.request.path) a.request.path a.site a.state of.0 all of.1) of.2
+
+slots_of : (count : ℕ) (s : State) (act : Act) → ActStands count s act → AllStand count (affordances_of_act act)
+slots_of count s (queries p id) stands = stands.0
+slots_of count s (cancels p id) stands = stands.0
+slots_of count s act stands = stands
+
+pub slots_stand : (count : ℕ) (a : Asked) (act : Act) → SiteStands count a.site → act_asked a ≡ Some act → AllStand count (affordances_of_act act)
+slots_stand count a act all e = slots_of count a.state act (asked_stands count a act all e)
+
+-- ---- the state
+
+at_most : (s : State) → ¬ (most_invocations ≤ running_count s.invocations) → running_count s.invocations < most_invocations
+at_most s full = omega (arith, full)
+
+done_by_act : (count : ℕ) (s : State) (act : Act) → ActStands count s act → ¬ (HasNoInvocationLeft s act) → MayBeDone act s
+done_by_act count s (invokes p) stands free = at_most s free
+done_by_act count s (queries p id) stands free = stands.1
+done_by_act count s (cancels p id) stands free = stands.1
+done_by_act count s act stands free = tt
+
+pub may_be_done : (count : ℕ) (a : Asked) (act : Act) → SiteStands count a.site → act_asked a ≡ Some act → NoneStands refusals a → MayBeDone act a.state
+may_be_done count a act all e none =
+    done_by_act count a.state act (asked_stands count a act all e)
+    (λ full. none.1.1.1.1.1.1.1.0 (subst (λ (x : Option Act). Holding (HasNoInvocationLeft a.state) x) (sym e) full))
+
+-- ---- inputs
+
+-- the affordances of inputs stand
+abbrev InputsStand : ℕ → List Input → Type 0
+InputsStand count inputs = AllByRecursion (λ i. i.affordance.slot < count) inputs
+
+none_handed : (count : ℕ) (body : List ℕ) (inputs : List Input) → no_inputs body ≡ Some inputs → InputsStand count inputs
+none_handed count [] inputs e = subst (λ (is : List Input). InputsStand count is) (same_Some [] inputs e) tt
+none_handed count (b ∷ body) inputs e = absurd cc
+
+one_handed : (count : ℕ) (p : Placed) (value : Option Json) (inputs : List Input) → p.slot < count → option_map (only_input p) value ≡ Some inputs → InputsStand count inputs
+one_handed count p value inputs below e =
+    let of = made_of (only_input p) value inputs e in subst (λ (is : List Input). InputsStand count is) of.2 (below, tt)
+
+written_stands : (count : ℕ) (thing : ExposedThing) (name : List ℕ) (p : Placed) → AllStand count thing.affordances → written_property thing name ≡ Some p → p.slot < count
+written_stands count thing name p all e =
+    let of = came_of unless_read_only (affordance_named kind.Property name thing.affordances) p e in
+    by_test of.0 (named_stands count kind.Property name thing.affordances of.0 all of.1) of.0.affordance.read_only of.2
   where
-    by_found : (o : Option Invocation) → option_map (invocation q) o ≡ Some (property p) → Some q ≡ Some p
-    by_found None is = absurd cc
-    by_found (Some i) is = absurd cc
-property_of_spot route.Event thing None s p e = absurd cc
-property_of_spot route.Event thing (Some q) s p e = absurd cc
-property_of_spot route.Things thing spot s p e = absurd cc
-property_of_spot route.Entry thing spot s p e = absurd cc
-property_of_spot route.Nowhere thing spot s p e = absurd cc
+    by_test : (q : Placed) → q.slot < count → (b : Bool) → cond b None (Some q) ≡ Some p → p.slot < count
+    by_test q below true is = absurd cc
+    by_test q below false is = subst (λ (x : Placed). x.slot < count) (same_Some q p is) below
 
-property_fits : (slots : List Seen) (a : Asked) (p : Placed) → Fits a.site slots → place_asked a ≡ Some (property p) → FitsSlot slots p
-property_fits slots a p fits e =
-    let parts : place_by (route_of a.request.path) (thing_by (route_of a.request.path) a.request.path a.site) (spot_by (route_of a.request.path) a.request.path a.site) a.state ≡ Some (property p) =
-    place_by_parts (route_of a.request.path) a.request.path a.site a.state ∙ e in
-    let spot = property_of_spot (route_of a.request.path) (thing_by (route_of a.request.path) a.request.path a.site) (spot_by (route_of a.request.path) a.request.path a.site) a.state p parts in
-    let of_kind = came_of (λ (k : Kind). affordance_in k a.request.path a.site) (kind_by (route_of a.request.path)) p spot in
-    affordance_fits slots of_kind.0 a.request.path a.site p fits of_kind.2
+members_handed : (count : ℕ) (thing : ExposedThing) (ms : Members) (inputs : List Input) → AllStand count thing.affordances → member_inputs thing ms ≡ Some inputs → InputsStand count inputs
+members_handed count thing no_members inputs all e = subst (λ (is : List Input). InputsStand count is) (same_Some [] inputs e) tt
+members_handed count thing (member name value ms) inputs all e =
+    let of = came_of (λ (p : Placed). option_map (λ (is : List Input). only_input p value ++ is) (member_inputs thing ms)) (written_property thing name) inputs e in
+    let rest = made_of (λ (is : List Input). only_input of.0 value ++ is) (member_inputs thing ms) inputs of.2 in
+    subst (λ (is : List Input). InputsStand count is) rest.2 (written_stands count thing name of.0 all of.1, members_handed count thing ms rest.0 all rest.1)
 
--- reading is of a property alone
-read_unless : (b : Bool) (q p : Placed) → unless b (reads q) ≡ Some (reads p) → property q ≡ property p
-read_unless true q p e = absurd cc
-read_unless false q p e = cc
+object_handed : (count : ℕ) (thing : ExposedThing) (value : Json) (inputs : List Input) → AllStand count thing.affordances → object_inputs thing value ≡ Some inputs → InputsStand count inputs
+object_handed count thing (object ms) inputs all e = members_handed count thing ms inputs all e
+object_handed count thing value inputs all e = absurd cc
 
-write_unless : (b : Bool) (q p : Placed) → unless b (writes q) ≡ Some (reads p) → property q ≡ property p
-write_unless true q p e = absurd cc
-write_unless false q p e = absurd cc
+invoke_handed : (count : ℕ) (p : Placed) (schema : Option Json) (body : List ℕ) (inputs : List Input) → p.slot < count → invoke_inputs p schema body ≡ Some inputs → InputsStand count inputs
+invoke_handed count p None body inputs below e = none_handed count body inputs e
+invoke_handed count p (Some schema) body inputs below e = one_handed count p (tree_of body) inputs below e
 
-read_of : (place : Place) (v : Verb) (p : Placed) → act_at place v ≡ Some (reads p) → place ≡ property p
-read_of (description t) verb.Get p e = absurd cc
-read_of (description t) verb.Head p e = absurd cc
-read_of (description t) verb.Put p e = absurd cc
-read_of (description t) verb.Post p e = absurd cc
-read_of (description t) verb.Patch p e = absurd cc
-read_of (description t) verb.Delete p e = absurd cc
-read_of (description t) verb.Other p e = absurd cc
-read_of (all_properties t) verb.Get p e = absurd cc
-read_of (all_properties t) verb.Head p e = absurd cc
-read_of (all_properties t) verb.Put p e = absurd cc
-read_of (all_properties t) verb.Post p e = absurd cc
-read_of (all_properties t) verb.Patch p e = absurd cc
-read_of (all_properties t) verb.Delete p e = absurd cc
-read_of (all_properties t) verb.Other p e = absurd cc
-read_of (property q) verb.Get p e = read_unless q.affordance.write_only q p e
-read_of (property q) verb.Head p e = read_unless q.affordance.write_only q p e
-read_of (property q) verb.Put p e = write_unless q.affordance.read_only q p e
-read_of (property q) verb.Post p e = absurd cc
-read_of (property q) verb.Patch p e = absurd cc
-read_of (property q) verb.Delete p e = absurd cc
-read_of (property q) verb.Other p e = absurd cc
-read_of (observed q) verb.Get p e = absurd cc
-read_of (observed q) verb.Head p e = absurd cc
-read_of (observed q) verb.Put p e = absurd cc
-read_of (observed q) verb.Post p e = absurd cc
-read_of (observed q) verb.Patch p e = absurd cc
-read_of (observed q) verb.Delete p e = absurd cc
-read_of (observed q) verb.Other p e = absurd cc
-read_of (action q) verb.Get p e = absurd cc
-read_of (action q) verb.Head p e = absurd cc
-read_of (action q) verb.Put p e = absurd cc
-read_of (action q) verb.Post p e = absurd cc
-read_of (action q) verb.Patch p e = absurd cc
-read_of (action q) verb.Delete p e = absurd cc
-read_of (action q) verb.Other p e = absurd cc
-read_of (invocation q i) verb.Get p e = absurd cc
-read_of (invocation q i) verb.Head p e = absurd cc
-read_of (invocation q i) verb.Put p e = absurd cc
-read_of (invocation q i) verb.Post p e = absurd cc
-read_of (invocation q i) verb.Patch p e = absurd cc
-read_of (invocation q i) verb.Delete p e = absurd cc
-read_of (invocation q i) verb.Other p e = absurd cc
-read_of (event q) verb.Get p e = absurd cc
-read_of (event q) verb.Head p e = absurd cc
-read_of (event q) verb.Put p e = absurd cc
-read_of (event q) verb.Post p e = absurd cc
-read_of (event q) verb.Patch p e = absurd cc
-read_of (event q) verb.Delete p e = absurd cc
-read_of (event q) verb.Other p e = absurd cc
-read_of (subscribed q) verb.Get p e = absurd cc
-read_of (subscribed q) verb.Head p e = absurd cc
-read_of (subscribed q) verb.Put p e = absurd cc
-read_of (subscribed q) verb.Post p e = absurd cc
-read_of (subscribed q) verb.Patch p e = absurd cc
-read_of (subscribed q) verb.Delete p e = absurd cc
-read_of (subscribed q) verb.Other p e = absurd cc
+handed_stand : (count : ℕ) (act : Act) (body : List ℕ) (inputs : List Input) → AllStand count (affordances_of_act act) → inputs_of act body ≡ Some inputs → InputsStand count inputs
+handed_stand count (describes thing) body inputs all e = none_handed count body inputs e
+handed_stand count (reads_all thing) body inputs all e = none_handed count body inputs e
+handed_stand count (writes_many thing) body inputs all e =
+    let of = came_of (object_inputs thing) (tree_of body) inputs e in object_handed count thing of.0 inputs all of.2
+handed_stand count (reads p) body inputs all e = none_handed count body inputs e
+handed_stand count (writes p) body inputs all e = one_handed count p (tree_of body) inputs all.0 e
+handed_stand count (invokes p) body inputs all e = invoke_handed count p p.affordance.input body inputs all.0 e
+handed_stand count (queries p id) body inputs all e = none_handed count body inputs e
+handed_stand count (cancels p id) body inputs all e = none_handed count body inputs e
+handed_stand count (reads_event p) body inputs all e = none_handed count body inputs e
+handed_stand count (waits p) body inputs all e = none_handed count body inputs e
 
-pub slot_stands : (slots : List Seen) (a : Asked) (act : Act) → Fits a.site slots → act_asked a ≡ Some act → SlotStands act (length slots)
-slot_stands slots a (reads p) fits e =
-    let of_place = came_of (λ (place : Place). act_at place a.request.verb) (place_asked a) (reads p) e in
-    let there = read_of of_place.0 a.request.verb p of_place.2 in
-    let fit = property_fits slots a p fits (of_place.1 ∙ ap (λ (x : Place). Some x) there) in
-    slice_get_within slots p.slot fit.0 fit.1
-slot_stands slots a act fits e = tt
+none_long : (count : ℕ) (inputs : List InputInCode) → InputsStand count (map input_of inputs) → ¬ (SomeInput IsLong (map input_of inputs)) → InputsFit count inputs
+none_long count [] stand short = tt
+none_long count (i ∷ inputs) stand short =
+    let here : ¬ (longest_value < length (text_of (json_of i.value))) = λ long. short (inl long) in (
+      (stand.0, omega (arith, here, ap length i.written)),
+      none_long count inputs stand.1 (λ further. short (inr further)),
+    )
+
+pub inputs_fit : (count : ℕ) (a : Asked) (act : Act) (inputs : List InputInCode) → SiteStands count a.site → act_asked a ≡ Some act → inputs_of act a.request.body ≡ Some (map input_of inputs)
+    → NoneStands refusals a → InputsFit count inputs
+inputs_fit count a act inputs all e given none =
+    none_long count inputs (handed_stand count act a.request.body (map input_of inputs) (slots_stand count a act all e) given)
+    (λ long. none.1.1.1.1.1.0 (subst (λ (x : Option Act). Holding (λ y. Holding (SomeInput IsLong) (inputs_of y a.request.body)) x) (sym e)
+    (subst (λ (x : Option (List Input)). Holding (SomeInput IsLong) x) (sym given) long)))

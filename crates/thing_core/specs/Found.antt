@@ -5,8 +5,7 @@ use Rattle.wot_terms.specs.declared.kind.Kind.TheVariants as kind
 use Rattle.thing_ops.specs.declared.routing.RouteKind.{RouteKind}
 use Rattle.thing_ops.specs.declared.routing.RouteKind.TheVariants as route
 use Rattle.thing_core.specs.Site.{Placed, ExposedThing, Site}
-use Rattle.thing_core.specs.declared.state.Invocation.{Invocation}
-use Rattle.thing_core.specs.State.{State}
+use Rattle.thing_core.specs.State.{Invocation, State}
 use Rattle.thing_core.specs.declared.place.Place.{Place as FoundPlace}
 use Rattle.thing_core.specs.declared.place.Place.TheVariants as found
 use Rattle.thing_core.specs.declared.place.Act.{Act as FoundAct}
@@ -20,7 +19,7 @@ found_place (found.AllProperties thing) = all_properties (held_thing thing.now)
 found_place (found.Property spot) = property (placed_spot spot)
 found_place (found.Observed spot) = observed (placed_spot spot)
 found_place (found.Action spot) = action (placed_spot spot)
-found_place (found.Invocation spot i) = invocation (placed_spot spot) i.now
+found_place (found.Invocation spot id) = invocation (placed_spot spot) id
 found_place (found.Event spot) = event (placed_spot spot)
 found_place (found.Subscribed spot) = subscribed (placed_spot spot)
 
@@ -31,8 +30,8 @@ found_act (act.WritesMany thing) = writes_many (held_thing thing.now)
 found_act (act.Reads spot) = reads (placed_spot spot)
 found_act (act.Writes spot) = writes (placed_spot spot)
 found_act (act.Invokes spot) = invokes (placed_spot spot)
-found_act (act.Queries spot i) = queries (placed_spot spot) i.now
-found_act (act.Cancels spot i) = cancels (placed_spot spot) i.now
+found_act (act.Queries spot id) = queries (placed_spot spot) id
+found_act (act.Cancels spot id) = cancels (placed_spot spot) id
 found_act (act.ReadsEvent spot) = reads_event (placed_spot spot)
 found_act (act.Waits spot) = waits (placed_spot spot)
 

@@ -7,23 +7,15 @@ use Rattle.wot_json.specs.JsonCodes.{json_code}
 use Rattle.wot_terms.specs.AffordanceCodes.{affordance_code}
 use Rattle.wot_terms.specs.declared.affordance.Affordance.{Affordance}
 use Rattle.thing_handler.specs.Handler.{Seen}
-use Rattle.thing_core.specs.declared.state.Status.{Status}
-use Rattle.thing_core.specs.declared.state.Status.TheVariants.{Running, Completed}
-use Rattle.thing_core.specs.declared.state.Invocation.{Invocation}
-use Rattle.thing_core.specs.declared.state.Latest.{Latest}
-use Rattle.thing_core.specs.declared.state.Machine.{Machine}
 use Rattle.thing_core.specs.Site.{Placed, ExposedThing, Site}
 use Rattle.thing_core.specs.State.{State}
+use Rattle.thing_core.specs.Course.{state_code}
 
 -- the Things, the state of the machine, and the targets of emissions that weren't handed out yet
 pub record Kept : Type 0 where
   pub site : Site
   pub state : State
   pub pending : List ℕ
-
--- the state that the code keeps
-abbrev pub state_in : List Invocation → Machine → State
-state_in invocations m = record { invocations = invocations; next_invocation = m.next_invocation; last = m.last.items; turns = m.turns }
 
 -- a site fits a rack: each affordance's slot is one of the rack's, and the handler in it is of the affordance's kind
 abbrev pub FitsSlot : List Seen → Placed → Type 0
@@ -50,47 +42,6 @@ thing_code =
 
 abbrev pub site_code : Coded Site
 site_code = coded_list thing_code
-
--- an invocation runs, or has an output or none
-abbrev status_parts : Status → Option (Option (List ℕ))
-status_parts Running = None
-status_parts (Completed output) = Some output
-
-abbrev status_from : Option (Option (List ℕ)) → Status
-status_from None = Running
-status_from (Some output) = Completed output
-
-pub status_back : (s : Status) → status_from (status_parts s) ≡ s
-status_back Running = refl
-status_back (Completed output) = refl
-
-abbrev status_code : Coded Status
-status_code = code_by (Option (Option (List ℕ))) (coded_option (coded_option (coded_list coded_ℕ))) status_parts status_from status_back
-
-abbrev InvocationParts : Type 0
-InvocationParts = ℕ × (ℕ × Status)
-
-abbrev invocation_code : Coded Invocation
-invocation_code =
-    code_by InvocationParts (coded× coded_ℕ (coded× coded_ℕ status_code))
-    (λ i. (i.id, (i.slot, i.status))) (λ q. record { id = q.0; slot = q.1.0; status = q.1.1 }) (λ _. refl)
-
-abbrev LatestParts : Type 0
-LatestParts = ℕ × Option (List ℕ)
-
-abbrev latest_code : Coded Latest
-latest_code =
-    code_by LatestParts (coded× coded_ℕ (coded_option (coded_list coded_ℕ))) (λ l. (l.target, l.text))
-    (λ q. record { target = q.0; text = q.1 }) (λ _. refl)
-
-abbrev StateParts : Type 0
-StateParts = List Invocation × (ℕ × (List Latest × ℕ))
-
-abbrev state_code : Coded State
-state_code =
-    code_by StateParts (coded× (coded_list invocation_code) (coded× coded_ℕ (coded× (coded_list latest_code) coded_ℕ)))
-    (λ s. (s.invocations, (s.next_invocation, (s.last, s.turns))))
-    (λ q. record { invocations = q.0; next_invocation = q.1.0; last = q.1.1.0; turns = q.1.1.1 }) (λ _. refl)
 
 abbrev KeptParts : Type 0
 KeptParts = Site × (State × List ℕ)

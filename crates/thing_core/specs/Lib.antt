@@ -1,8 +1,11 @@
 pub mod Site
 pub mod State
+pub mod Rooms
+pub mod Course
 pub mod Places
 pub mod Refusals
 pub mod Thing
+pub mod Keeping
 pub mod Exposing
 pub mod Kept
 pub mod Found

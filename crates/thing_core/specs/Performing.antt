@@ -1,68 +1,85 @@
 -- What performing a request promises: a move of the Thing machine, which the rack shows.
-use Rattle.std.specs.Prelude.{◌≡◌, ◌≢◌, ◌<◌, ◌⊎◌, ℕ, List, [], map, Bool, true, false, Option, Some, None, Result, Ok, Err}
+use Rattle.std.specs.Prelude.{◌≡◌, ◌<◌, ◌≤◌, ◌+◌, ◌⊎◌, ℕ, List, [], ◌∷◌, ◌++◌, map, length, Bool, true, false, Option, Some, None, Result, Ok, Err, codes, nat_lt, IfSome, IsSome, if◌then◌else◌}
+use Rattle.std.specs.List.{AllByRecursion}
 use Rattle.servient_base.specs.Moves.{Makes}
-use Rattle.wot_json.specs.Tree.{Json}
-use Rattle.wot_json.specs.Json.{json_text, text_of}
+use Rattle.wot_json.specs.Tree.{Json, members_of}
+use Rattle.wot_json.specs.Json.{text_of, members_text}
 use Rattle.wot_json.specs.Meaning.{json_of}
+use Rattle.wot_json.specs.declared.tree.Tree.{Tree}
 use Rattle.thing_ops.specs.declared.outcome.Outcome.{Outcome}
 use Rattle.thing_ops.specs.declared.outcome.Outcome.TheVariants as outcome
 use Rattle.thing_ops.specs.Requests.{PlainRequest}
+use Rattle.thing_handler.specs.declared.handler.CallKind.{CallKind}
+use Rattle.thing_handler.specs.declared.handler.Answer.{Answer}
 use Rattle.thing_handler.specs.declared.handler.Answer.TheVariants as answer
 use Rattle.thing_handler.specs.Handler.{Seen}
-use Rattle.thing_handler.specs.Turns.{RackShows}
-use Rattle.thing_core.specs.declared.acting.Called.{Called as CalledInCode}
-use Rattle.thing_core.specs.declared.acting.Called.TheVariants as code
-use Rattle.thing_core.specs.declared.place.Act.{Act as FoundAct}
-use Rattle.thing_core.specs.declared.state.Invocation.{Invocation}
-use Rattle.thing_core.specs.declared.state.Machine.{Machine}
+use Rattle.thing_handler.specs.Turns.{HandlerCall, RackShows}
+use Rattle.thing_core.specs.declared.calling.Called.{Called as CalledInCode}
+use Rattle.thing_core.specs.declared.calling.Called.TheVariants as code
+use Rattle.thing_core.specs.declared.input.Input.{Input as InputInCode}
+use Rattle.thing_core.specs.declared.field.Field.{Field}
+use Rattle.thing_core.specs.declared.admitting.Task.{Task}
 use Rattle.thing_core.specs.Site.{Placed}
-use Rattle.thing_core.specs.State.{last_of}
+use Rattle.thing_core.specs.State.{State, Emission, Invocation, completed, running, status_text, invocation_named, running_count, most_invocations}
+use Rattle.thing_core.specs.Course.{Course}
 use Rattle.thing_core.specs.Places.{Act, describes, reads_all, writes_many, reads, writes, invokes, queries, cancels, reads_event, waits}
-use Rattle.thing_core.specs.Refusals.{Asked, act_asked, refusals, is_acceptable, is_taken_format, IsRefusedBy}
-use Rattle.thing_core.specs.Thing.{Move, Done, Called, no_number, no_memory, gives, Decides, IsTaken, event_outcome, failure_of, Reads, Answers, Acts}
+use Rattle.thing_core.specs.Refusals.{Asked, Input, longest_value, act_asked, inputs_of, refusals, refusals_of_acts, StandsAgainst, IsAnswer, IsFirst, IsNone, IsRefusedBy, NoneStands}
+use Rattle.thing_core.specs.Thing.{Move, Done, only, Called, no_number, no_memory, gives, Calls, Decides, IsTaken, GivesValue, Answers, WritesEach, ReadsEach, PollsEach, Polls, emissions_of_write, place_of_invocation, IsInvoked, IsQueried, IsCancelled, Acts}
+use Rattle.thing_core.specs.Exposing.{placed_spot}
 use Rattle.thing_core.specs.Found.{found_act}
-use Rattle.thing_core.specs.Kept.{Kept, state_in}
+use Rattle.thing_core.specs.Kept.{Kept}
 
--- ---- so far
+-- ---- judging a request
 
--- the acts that are built: those that hand nothing in, but for reading all properties and what asks an invocation
-abbrev pub IsBuilt : Act → Type 0
-IsBuilt (describes thing) = Unit {0}
-IsBuilt (reads_all thing) = ⊥
-IsBuilt (writes_many thing) = ⊥
-IsBuilt (reads p) = Unit {0}
-IsBuilt (writes p) = ⊥
-IsBuilt (invokes p) = ⊥
-IsBuilt (queries p i) = ⊥
-IsBuilt (cancels p i) = ⊥
-IsBuilt (reads_event p) = Unit {0}
-IsBuilt (waits p) = Unit {0}
+abbrev pub input_of : InputInCode → Input
+input_of i = record { affordance = placed_spot i.spot; value = json_of i.value }
 
--- where a request asks for an act, that act is built
-abbrev pub AsksForBuilt : Asked → Type 0
-AsksForBuilt a = (act : Act) → act_asked a ≡ Some act → IsBuilt act
+-- a body isn't as wanted, or memory is out
+abbrev pub HasNoInputs : Option (List Input) → Outcome → Type 0
+HasNoInputs expected o = (o ≡ outcome.Memory) ⊎ ((expected ≡ None) × (o ≡ outcome.BadValue))
 
--- ---- judging a request whose act hands nothing in
+-- this stands, and comes to this
+abbrev pub Comes : Type 0 → Outcome → Outcome → Type 0
+Comes P refusal o = P × (o ≡ refusal)
 
--- it is refused, and comes to this
-pub data RefusesEmpty (act : Act) (q : PlainRequest) (o : Outcome) : Type 0 where
-  isnt_acceptable : is_acceptable act q.accept ≡ false → o ≡ outcome.NotAcceptable → RefusesEmpty act q o
-  has_other_format : is_acceptable act q.accept ≡ true → q.body ≢ [] → is_taken_format act q.format ≡ false → o ≡ outcome.Format → RefusesEmpty act q o
-  has_body : is_acceptable act q.accept ≡ true → (q.body ≢ [] → is_taken_format act q.format ≡ true) → q.body ≢ [] → o ≡ outcome.BadValue → RefusesEmpty act q o
+-- nothing stands against an act, and this is handed in
+abbrev pub IsFree : Act → State → PlainRequest → List InputInCode → Type 0
+IsFree act s q inputs = (inputs_of act q.body ≡ Some (map input_of inputs)) × IsNone (λ r. StandsAgainst r act s q) refusals_of_acts
 
--- nothing stands against it
-pub record TakesEmpty (act : Act) (q : PlainRequest) : Type 0 where
-  pub acceptable : is_acceptable act q.accept ≡ true
-  pub body : q.body ≡ []
+-- an act is refused, or memory is out
+abbrev pub IsActRefused : Act → State → PlainRequest → Outcome → Type 0
+IsActRefused act s q o = (o ≡ outcome.Memory) ⊎ IsFirst (λ r. StandsAgainst r act s q) IsAnswer refusals_of_acts o
 
-abbrev pub IsJudgedEmpty : Act → PlainRequest → Option Outcome → Type 0
-IsJudgedEmpty act q None = TakesEmpty act q
-IsJudgedEmpty act q (Some o) = RefusesEmpty act q o
+-- a request is admitted, with its act and what is handed in; or it is refused, or memory is out
+abbrev pub IsAdmitted : Asked → Result Task Outcome → Type 0
+IsAdmitted a (Ok task) =
+    (act_asked a ≡ Some (found_act task.act))
+    × (inputs_of (found_act task.act) a.request.body ≡ Some (map input_of task.inputs.items))
+    × NoneStands refusals a
+IsAdmitted a (Err o) = (o ≡ outcome.Memory) ⊎ IsRefusedBy refusals a o
 
--- a request is refused, or its act is to be done
-abbrev pub IsAdmitted : Asked → Result FoundAct Outcome → Type 0
-IsAdmitted a (Ok act) = (act_asked a ≡ Some (found_act act)) × TakesEmpty (found_act act) a.request
-IsAdmitted a (Err o) = IsRefusedBy refusals a o
+-- ---- the slots of what is called
+
+-- these affordances have slots of a rack of so many
+abbrev pub AllStand : ℕ → List Placed → Type 0
+AllStand count ps = AllByRecursion (λ p. p.slot < count) ps
+
+-- the affordances that an act may call the handlers of
+abbrev pub affordances_of_act : Act → List Placed
+affordances_of_act (describes thing) = []
+affordances_of_act (reads_all thing) = thing.affordances
+affordances_of_act (writes_many thing) = thing.affordances
+affordances_of_act (reads p) = p ∷ []
+affordances_of_act (writes p) = p ∷ []
+affordances_of_act (invokes p) = p ∷ []
+affordances_of_act (queries p id) = p ∷ []
+affordances_of_act (cancels p id) = p ∷ []
+affordances_of_act (reads_event p) = []
+affordances_of_act (waits p) = []
+
+-- each input has such a slot, and is no longer than is taken
+abbrev pub InputsFit : ℕ → List InputInCode → Type 0
+InputsFit count inputs = AllByRecursion (λ i. (i.spot.slot < count) × (length i.text ≤ longest_value)) inputs
 
 -- ---- acting
 
@@ -71,39 +88,144 @@ found_called code.NoNumber = no_number
 found_called code.NoMemory = no_memory
 found_called (code.Gives answer) = gives answer
 
--- what a call for a value comes to: the value's text where it is taken
-abbrev pub ValueComesTo : Option Json → Called → Outcome → Type 0
-ValueComesTo schema (gives (answer.Value tree)) o = Decides (IsTaken schema (json_of tree)) (outcome.Content (json_text tree)) outcome.BadAnswer o
-ValueComesTo schema called o = o ≡ failure_of called
+-- a handler was called, and nothing else changed but the number of turns
+pub record MakesCall (slot : ℕ) (what : CallKind) (called : Called) (old new : Course) (before after : List Seen) : Type 0 where
+  pub made : Makes RackShows (Calls slot what called) old.state new.state before after
+  pub pending : new.pending ≡ old.pending
+  pub room : new.room ≡ old.room
+  pub slots : length after ≡ length before
+
+-- an act was done, which came to this; its emissions are to be handed out after those that were
+pub record MakesDone (move : Done → Move) (o : Outcome) (old new : Course) (before after : List Seen) : Type 0 where
+  pub done : Done
+  pub outcome : done.outcome ≡ o
+  pub pending : new.pending ≡ old.pending ++ map (λ e. e.target) done.emissions
+  pub made : Makes RackShows (move done) old.state new.state before after
+
+-- the act is done, or memory was out before any call
+abbrev pub OrMemory : (Done → Move) → Done → Move
+OrMemory P done s seen t = P done s seen t ⊎ Answers outcome.Memory done s seen t
 
 -- it is this, or memory was out
 abbrev pub IsOrMemory : Outcome → Outcome → Type 0
 IsOrMemory o result = (result ≡ o) ⊎ (result ≡ outcome.Memory)
 
--- a property is read, or memory was out before the call
-abbrev pub ReadsOrNot : Placed → Done → Move
-ReadsOrNot p done s seen t = Reads p done s seen t ⊎ Answers outcome.Memory done s seen t
+-- a part of some moves was made: whatever follows, the whole is what was seen so far and then that
+pub record Leads {I : Type 0} (rest whole : I → Move) (s mid : State) (before after : List Seen) : Type 0 where
+  pub seen : List HandlerCall
+  pub shows : RackShows before after seen
+  pub leads : (i : I) (later : List HandlerCall) (t : State) → rest i mid later t → whole i s (seen ++ later) t
 
--- the act is done, which hands nothing in, for a sender that takes td+json or doesn't; or memory was out before any call
-abbrev pub PerformsEmpty : Act → Bool → Done → Move
-PerformsEmpty (describes thing) td done s seen t = Answers (outcome.Description (text_of thing.description) td) done s seen t
-PerformsEmpty (reads p) td done s seen t = Reads p done s seen t
-PerformsEmpty (reads_event p) td done s seen t = Answers (event_outcome (last_of p.slot s.last)) done s seen t
-PerformsEmpty (waits p) td done s seen t = Answers (outcome.Wait p.slot) done s seen t
-PerformsEmpty act td done s seen t = ⊥
+-- ---- reading
 
-abbrev pub DoesEmpty : Act → Bool → Done → Move
-DoesEmpty act td done s seen t = PerformsEmpty act td done s seen t ⊎ Answers outcome.Memory done s seen t
+-- the value that a call for one gave, or what it comes to
+abbrev pub IsValueOf : Called → Result Tree Outcome → Type 0
+IsValueOf called (Ok value) = called ≡ gives (answer.Value value)
+IsValueOf called (Err o) = (schema : Option Json) → GivesValue schema called (Err o)
 
--- the slot of the property that an act reads is one of so many
-abbrev pub SlotStands : Act → ℕ → Type 0
-SlotStands (reads p) count = p.slot < count
-SlotStands act count = Unit {0}
+-- the text of an object so far, whose members are these
+abbrev pub open_object : List (List ℕ × Json) → List ℕ
+open_object members = codes "{" ++ members_text (members_of members)
 
--- what the code keeps changed by a move, whatever the invocations are, which stay
-abbrev pub MakesOn : Move → Machine → Machine → List Seen → List Seen → Type 0
-MakesOn move old new before after =
-    (invocations : List Invocation) → Makes RackShows move (state_in invocations old) (state_in invocations new) before after
+-- the same with a further member, by its name's text and its value's
+abbrev pub with_member : List ℕ → List ℕ → List ℕ → List ℕ
+with_member text name value = text ++ (if nat_lt 1 (length text) then codes "," else []) ++ name ++ codes ":" ++ value
+
+-- properties that are to be read, and how many bytes an object has room in that has them with the longest values
+abbrev pub spots_of : List Field → List Placed
+spots_of fields = map (λ f. placed_spot f.spot) fields
+
+abbrev pub room_of_fields : List Field → ℕ
+room_of_fields [] = 2
+room_of_fields (f ∷ fields) = room_of_fields fields + (length f.name + (longest_value + 2))
+
+-- a property was read after others: its value is a further member, or it stops there
+abbrev pub ReadsOne : Placed → Option Outcome → List ℕ → List ℕ → Course → Course → List Seen → List Seen → Type 0
+ReadsOne p None text after_text old new before after =
+    (members : List (List ℕ × Json)) → text ≡ open_object members →
+    (value : Json) × (after_text ≡ open_object (members ++ (p.affordance.name, value) ∷ []))
+    × ((ps : List Placed) → Leads (ReadsEach ps (members ++ (p.affordance.name, value) ∷ [])) (ReadsEach (p ∷ ps) members) old.state new.state before after)
+ReadsOne p (Some o) text after_text old new before after =
+    (ps : List Placed) (members : List (List ℕ × Json)) → Makes RackShows (ReadsEach (p ∷ ps) members (only o)) old.state new.state before after
+
+-- ---- writing
+
+-- the device did what it was asked
+abbrev pub is_done : Called → Bool
+is_done (gives answer.Done) = true
+is_done called = false
+
+-- what an observable property emits when this text is written to it
+abbrev pub emissions_of_text : Placed → List ℕ → List Emission
+emissions_of_text p text = if p.affordance.observable then record { target = p.slot; text = text } ∷ [] else []
+
+-- a property was written after others: its emission is to be handed out, or it stops there
+abbrev pub WritesOne : Input → Option Outcome → Course → Course → List Seen → List Seen → Type 0
+WritesOne i None old new before after =
+    (new.pending ≡ old.pending ++ map (λ e. e.target) (emissions_of_write i))
+    × ((inputs : List Input) (emitted : List Emission)
+    → Leads (WritesEach inputs (emitted ++ emissions_of_write i)) (WritesEach (i ∷ inputs) emitted) old.state new.state before after)
+WritesOne i (Some o) old new before after =
+    (new.pending ≡ old.pending)
+    × ((inputs : List Input) (emitted : List Emission)
+    → Makes RackShows (WritesEach (i ∷ inputs) emitted (record { outcome = o; emissions = emitted })) old.state new.state before after)
+
+-- ---- polling
+
+abbrev pub has_fired : Called → Bool
+has_fired (gives (answer.Fired value)) = true
+has_fired called = false
+
+-- the value that an event came about with
+abbrev pub IsFired : Called → Option Tree → Type 0
+IsFired called (Some value) = called ≡ gives (answer.Fired value)
+IsFired called None = has_fired called ≡ false
+
+-- events were polled, one after another; their emissions are to be handed out
+pub record PollsSome (ps : List Placed) (old new : Course) (before after : List Seen) : Type 0 where
+  pub emissions : List Emission
+  pub pending : new.pending ≡ old.pending ++ map (λ e. e.target) emissions
+  pub leads : (qs : List Placed) → Leads (PollsEach qs) (λ later. PollsEach (ps ++ qs) (emissions ++ later)) old.state new.state before after
+
+-- ---- actions
+
+-- the value that inputs hand in to an action
+abbrev pub HandsIn : List InputInCode → Option Tree → Type 0
+HandsIn [] handed = handed ≡ None
+HandsIn (i ∷ inputs) handed = handed ≡ Some i.value
+
+-- what an invocation comes to that finished with this output
+abbrev pub OutputComesTo : Option Json → Option Tree → Outcome → Type 0
+OutputComesTo schema None o = o ≡ outcome.Changed
+OutputComesTo schema (Some tree) o = Decides (IsTaken schema (json_of tree)) (outcome.Output (text_of (json_of tree))) outcome.BadAnswer o
+
+-- what an answer brought about, while the emissions stay as they were
+abbrev pub SettlesInvocation : Placed → List (List ℕ) → Answer → Outcome → Course → Course → Type 0
+SettlesInvocation p place answer o old new =
+    ((path : List (List ℕ)) → place ≡ place_of_invocation path old.state.next_invocation
+    → IsInvoked p path old.state.next_invocation (only o) (gives answer) old.state [] new.state)
+    × (new.pending ≡ old.pending)
+
+abbrev pub SettlesQuery : Placed → ℕ → Answer → Outcome → Course → Course → Type 0
+SettlesQuery p id answer o old new = IsQueried p id (only o) (gives answer) old.state [] new.state × (new.pending ≡ old.pending)
+
+abbrev pub SettlesCancel : ℕ → Answer → Outcome → Course → Course → Type 0
+SettlesCancel id answer o old new = IsCancelled id (only o) (gives answer) old.state [] new.state × (new.pending ≡ old.pending)
+
+-- an invocation that runs no more was asked about; or it runs, and the room is empty still
+abbrev pub IsTold : Option Invocation → ℕ → Result Outcome (List ℕ) → Type 0
+IsTold found id (Ok o) =
+    (i : Invocation) × (output : Option (List ℕ)) × (found ≡ Some i) × (i.status ≡ completed output) × (o ≡ outcome.Content (status_text id (completed output)))
+IsTold found id (Err room) = IfSome found (λ i. i.status ≡ running) × (room ≡ [])
+
+-- what an act asks of the state: the invocation that it is about stands, and where it begins one, a further one may run
+abbrev pub MayBeDone : Act → State → Type 0
+MayBeDone (invokes p) s = running_count s.invocations < most_invocations
+MayBeDone (queries p id) s = IsSome (invocation_named p.slot id s.invocations)
+MayBeDone (cancels p id) s = IsSome (invocation_named p.slot id s.invocations)
+MayBeDone act s = Unit {0}
+
+-- ---- what a call comes to
 
 -- what a request came to: a move of the Thing machine; its emissions are to be handed out
 pub record MakesAct (old new : Kept) (q : PlainRequest) (o : Outcome) (before after : List Seen) : Type 0 where
@@ -112,3 +234,10 @@ pub record MakesAct (old new : Kept) (q : PlainRequest) (o : Outcome) (before af
   pub pending : new.pending ≡ map (λ e. e.target) done.emissions
   pub site : new.site ≡ old.site
   pub made : Makes RackShows (Acts old.site q done) old.state new.state before after
+
+-- what polling all events came to: a move of the Thing machine; its emissions are to be handed out
+pub record MakesPolls (old new : Kept) (before after : List Seen) : Type 0 where
+  pub emissions : List Emission
+  pub pending : new.pending ≡ map (λ e. e.target) emissions
+  pub site : new.site ≡ old.site
+  pub made : Makes RackShows (Polls old.site emissions) old.state new.state before after

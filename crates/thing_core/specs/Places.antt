@@ -9,7 +9,6 @@ use Rattle.thing_ops.specs.declared.routing.RouteKind.TheVariants as route
 use Rattle.thing_ops.specs.declared.allow.Flags.{Flags}
 use Rattle.thing_ops.specs.Routes.{route_of}
 use Rattle.thing_core.specs.Site.{Placed, ExposedThing, Site, thing_named, affordance_named}
-use Rattle.thing_core.specs.declared.state.Invocation.{Invocation}
 use Rattle.thing_core.specs.State.{State, invocation_named}
 
 -- ---- places
@@ -24,7 +23,8 @@ pub data Place : Type 0 where
   -- where a property is observed
   observed : Placed → Place
   action : Placed → Place
-  invocation : Placed → Invocation → Place
+  -- an invocation of an action, by its id
+  invocation : Placed → (id : ℕ) → Place
   event : Placed → Place
   -- where an event is subscribed to
   subscribed : Placed → Place
@@ -43,7 +43,7 @@ where_observable p = if p.affordance.observable then Some (observed p) else None
 
 -- an invocation is under its own action alone
 abbrev pub where_invoked : ℕ → State → Placed → Option Place
-where_invoked id s p = option_map (invocation p) (invocation_named p.slot id s.invocations)
+where_invoked id s p = option_map (λ _. invocation p id) (invocation_named p.slot id s.invocations)
 
 abbrev pub place_at : RouteKind → List (List ℕ) → Site → State → Option Place
 place_at route.Root path site s = option_map description (slice_get site 0)
@@ -73,8 +73,8 @@ pub data Act : Type 0 where
   reads : Placed → Act
   writes : Placed → Act
   invokes : Placed → Act
-  queries : Placed → Invocation → Act
-  cancels : Placed → Invocation → Act
+  queries : Placed → (id : ℕ) → Act
+  cancels : Placed → (id : ℕ) → Act
   reads_event : Placed → Act
   waits : Placed → Act
 
@@ -95,9 +95,9 @@ act_at (property p) verb.Put = unless p.affordance.read_only (writes p)
 act_at (observed p) verb.Get = Some (waits p)
 act_at (subscribed p) verb.Get = Some (waits p)
 act_at (action p) verb.Post = Some (invokes p)
-act_at (invocation p i) verb.Get = Some (queries p i)
-act_at (invocation p i) verb.Head = Some (queries p i)
-act_at (invocation p i) verb.Delete = Some (cancels p i)
+act_at (invocation p id) verb.Get = Some (queries p id)
+act_at (invocation p id) verb.Head = Some (queries p id)
+act_at (invocation p id) verb.Delete = Some (cancels p id)
 act_at (event p) verb.Get = Some (reads_event p)
 act_at (event p) verb.Head = Some (reads_event p)
 act_at place v = None

@@ -67,8 +67,8 @@ inputs_of (writes_many thing) body = option_and_then (object_inputs thing) (tree
 inputs_of (reads p) body = no_inputs body
 inputs_of (writes p) body = option_map (only_input p) (tree_of body)
 inputs_of (invokes p) body = invoke_inputs p p.affordance.input body
-inputs_of (queries p i) body = no_inputs body
-inputs_of (cancels p i) body = no_inputs body
+inputs_of (queries p id) body = no_inputs body
+inputs_of (cancels p id) body = no_inputs body
 inputs_of (reads_event p) body = no_inputs body
 inputs_of (waits p) body = no_inputs body
 
@@ -80,12 +80,12 @@ is_acceptable (describes thing) accept = accept.json || accept.td
 is_acceptable (reads_all thing) accept = accept.json
 is_acceptable (reads p) accept = accept.json
 is_acceptable (invokes p) accept = accept.json
-is_acceptable (queries p i) accept = accept.json
+is_acceptable (queries p id) accept = accept.json
 is_acceptable (reads_event p) accept = accept.json
 is_acceptable (waits p) accept = accept.json
 is_acceptable (writes_many thing) accept = true
 is_acceptable (writes p) accept = true
-is_acceptable (cancels p i) accept = true
+is_acceptable (cancels p id) accept = true
 
 -- the formats in which a body is taken: JSON, which is also what a body is that names none; for a description that of descriptions too
 abbrev pub is_description : Act → Bool
@@ -138,11 +138,14 @@ act_asked a = option_and_then (λ place. act_at place a.request.verb) (place_ask
 pub data Refusal : Type 0 where
   nothing_there verb_not_taken answer_not_acceptable format_not_taken body_not_as_wanted value_too_large refused_by_schema no_invocation_left : Refusal
 
+-- those against an act that is there
+abbrev pub refusals_of_acts : List Refusal
+refusals_of_acts =
+    answer_not_acceptable ∷ format_not_taken ∷ body_not_as_wanted ∷ value_too_large ∷ refused_by_schema ∷ no_invocation_left ∷ []
+
 -- All of them, in the order in which they are judged.
 abbrev pub refusals : List Refusal
-refusals =
-    nothing_there ∷ verb_not_taken ∷ answer_not_acceptable ∷ format_not_taken ∷ body_not_as_wanted ∷ value_too_large
-    ∷ refused_by_schema ∷ no_invocation_left ∷ []
+refusals = nothing_there ∷ verb_not_taken ∷ refusals_of_acts
 
 -- the act is there, and this holds of it; there is an input list, and this holds of it
 abbrev pub Holding : {A : Type 0} → (A → Type 0) → Option A → Type 0
@@ -152,47 +155,64 @@ Holding P (Some a) = P a
 abbrev pub IsEmptyBody : List ℕ → Type 0
 IsEmptyBody body = body ≡ []
 
+-- when each of them stands against an act that is asked for
+abbrev pub StandsAgainst : Refusal → Act → State → PlainRequest → Type 0
+-- the sender takes no format that the answer has
+StandsAgainst answer_not_acceptable act s q = is_acceptable act q.accept ≡ false
+-- it has a body in a format that isn't taken there
+StandsAgainst format_not_taken act s q = (¬ (IsEmptyBody q.body)) × (is_taken_format act q.format ≡ false)
+-- its body is missing, not wanted, can't be read, or isn't an object of properties that may be written
+StandsAgainst body_not_as_wanted act s q = inputs_of act q.body ≡ None
+-- a value is longer than is taken
+StandsAgainst value_too_large act s q = Holding (SomeInput IsLong) (inputs_of act q.body)
+-- a schema refuses a value
+StandsAgainst refused_by_schema act s q = Holding (SomeInput IsRefusedBySchema) (inputs_of act q.body)
+-- an action is to be invoked, and no further invocation may run
+StandsAgainst no_invocation_left act s q = HasNoInvocationLeft s act
+-- there is an act, and so neither of the first two stands
+StandsAgainst r act s q = ⊥
+
 -- when each of them stands
 abbrev pub Stands : Refusal → Asked → Type 0
 -- there is nothing at the path
 Stands nothing_there a = place_asked a ≡ None
 -- what is there doesn't take the verb
 Stands verb_not_taken a = act_asked a ≡ None
--- its sender takes no format that the answer has
-Stands answer_not_acceptable a = Holding (λ act. is_acceptable act a.request.accept ≡ false) (act_asked a)
--- it has a body in a format that isn't taken there
-Stands format_not_taken a =
-    Holding (λ act. (¬ (IsEmptyBody a.request.body)) × (is_taken_format act a.request.format ≡ false)) (act_asked a)
--- its body is missing, not wanted, can't be read, or isn't an object of properties that may be written
-Stands body_not_as_wanted a = Holding (λ act. inputs_of act a.request.body ≡ None) (act_asked a)
--- a value is longer than is taken
-Stands value_too_large a = Holding (λ act. Holding (SomeInput IsLong) (inputs_of act a.request.body)) (act_asked a)
--- a schema refuses a value
-Stands refused_by_schema a = Holding (λ act. Holding (SomeInput IsRefusedBySchema) (inputs_of act a.request.body)) (act_asked a)
--- an action is to be invoked, and no further invocation may run
-Stands no_invocation_left a = Holding (HasNoInvocationLeft a.state) (act_asked a)
+Stands r a = Holding (λ act. StandsAgainst r act a.state a.request) (act_asked a)
 
 -- the verbs that are taken at a place are those of the table, with the flags of the property that it is
 abbrev pub ListsVerbs : Allow → Asked → Type 0
 ListsVerbs allow a = Holding (λ place. verbs_in allow ≡ verbs_of (route_of a.request.path) (flags_of place)) (place_asked a)
 
+-- what those against an act are answered with
+abbrev pub IsAnswer : Refusal → Outcome → Type 0
+IsAnswer answer_not_acceptable o = o ≡ outcome.NotAcceptable
+IsAnswer format_not_taken o = o ≡ outcome.Format
+IsAnswer body_not_as_wanted o = o ≡ outcome.BadValue
+IsAnswer value_too_large o = o ≡ outcome.TooLarge
+IsAnswer refused_by_schema o = o ≡ outcome.BadValue
+IsAnswer no_invocation_left o = o ≡ outcome.InvocationsFull
+IsAnswer r o = ⊥
+
 -- what each of them is answered with
 abbrev pub IsAnsweredWith : Refusal → Asked → Outcome → Type 0
 IsAnsweredWith nothing_there a o = o ≡ outcome.NotFound
 IsAnsweredWith verb_not_taken a o = (allow : Allow) × ListsVerbs allow a × (o ≡ outcome.NotAllowed allow)
-IsAnsweredWith answer_not_acceptable a o = o ≡ outcome.NotAcceptable
-IsAnsweredWith format_not_taken a o = o ≡ outcome.Format
-IsAnsweredWith body_not_as_wanted a o = o ≡ outcome.BadValue
-IsAnsweredWith value_too_large a o = o ≡ outcome.TooLarge
-IsAnsweredWith refused_by_schema a o = o ≡ outcome.BadValue
-IsAnsweredWith no_invocation_left a o = o ≡ outcome.InvocationsFull
+IsAnsweredWith r a o = IsAnswer r o
 
 -- the first of these that stands decides the outcome
-abbrev pub IsRefusedBy : List Refusal → Asked → Outcome → Type 0
-IsRefusedBy [] a o = ⊥
-IsRefusedBy (r ∷ rs) a o = (Stands r a × IsAnsweredWith r a o) ⊎ ((¬ (Stands r a)) × IsRefusedBy rs a o)
+abbrev pub IsFirst : (Refusal → Type 0) → (Refusal → Outcome → Type 0) → List Refusal → Outcome → Type 0
+IsFirst S Answers [] o = ⊥
+IsFirst S Answers (r ∷ rs) o = (S r × Answers r o) ⊎ ((¬ (S r)) × IsFirst S Answers rs o)
 
 -- none of these stands
+abbrev pub IsNone : (Refusal → Type 0) → List Refusal → Type 0
+IsNone S [] = Unit {0}
+IsNone S (r ∷ rs) = (¬ (S r)) × IsNone S rs
+
+-- a request is refused by these, with this outcome
+abbrev pub IsRefusedBy : List Refusal → Asked → Outcome → Type 0
+IsRefusedBy rs a o = IsFirst (λ r. Stands r a) (λ r. IsAnsweredWith r a) rs o
+
 abbrev pub NoneStands : List Refusal → Asked → Type 0
-NoneStands [] a = Unit {0}
-NoneStands (r ∷ rs) a = (¬ (Stands r a)) × NoneStands rs a
+NoneStands rs a = IsNone (λ r. Stands r a) rs

@@ -1,23 +1,27 @@
 -- The state of the Thing machine: what its devices don't keep themselves.
 use Rattle.std.specs.Prelude.{ℕ, ◌+◌, ◌==◌, List, [], ◌∷◌, ◌++◌, map, length, Bool, true, false, ◌&&◌, not, Option, Some, None, codes, decimal, if◌then◌else◌}
 use Rattle.std.specs.List.{filter}
-use Rattle.thing_core.specs.declared.state.Status.{Status}
-use Rattle.thing_core.specs.declared.state.Status.TheVariants.{Running, Completed}
-use Rattle.thing_core.specs.declared.state.Invocation.{Invocation}
-use Rattle.thing_core.specs.declared.state.Latest.{Latest}
 use Rattle.thing_core.specs.Site.{Placed, Site, emitters_of}
 
 -- ---- invocations of actions
 
--- An invocation is an `Invocation`: its id, the slot of its action, and how it stands, its `Status`: it is `Running`, or
--- `Completed`, with the text of its output where it has one.
+-- how an invocation stands: it runs, or is completed, with the text of its output where it has one
+pub data Status : Type 0 where
+  running : Status
+  completed : (output : Option (List ℕ)) → Status
+
+-- an invocation: its id, the slot of its action, and how it stands
+pub record Invocation : Type 0 where
+  pub id : ℕ
+  pub slot : ℕ
+  pub status : Status
 
 -- how many invocations may run at a time, and stand at a time, running and completed together
 abbrev pub most_invocations : ℕ
 most_invocations = 64
 
 abbrev pub is_running : Invocation → Bool
-is_running i = elim i.status as (λ _. Bool) [ Running ↦ true | Completed output ↦ false ]
+is_running i = elim i.status as (λ _. Bool) [ running ↦ true | completed output ↦ false ]
 
 -- the invocation of this id under the action in this slot
 abbrev pub invocation_named : ℕ → ℕ → List Invocation → Option Invocation
@@ -30,18 +34,15 @@ running_count [] = 0
 running_count (i ∷ invocations) = if is_running i then running_count invocations + 1 else running_count invocations
 
 -- the invocations without the one of this id
-abbrev pub is_other : ℕ → Invocation → Bool
-is_other id i = not (i.id == id)
-
 abbrev pub without_invocation : ℕ → List Invocation → List Invocation
-without_invocation id = filter (is_other id)
+without_invocation id [] = []
+without_invocation id (i ∷ invocations) = if i.id == id then invocations else i ∷ without_invocation id invocations
 
 -- the same, where the one of this id is completed with this output
-abbrev pub finished : ℕ → Option (List ℕ) → Invocation → Invocation
-finished id output i = if i.id == id then record i { status = Completed output } else i
-
 abbrev pub with_completed : ℕ → Option (List ℕ) → List Invocation → List Invocation
-with_completed id output = map (finished id output)
+with_completed id output [] = []
+with_completed id output (i ∷ invocations) =
+    if i.id == id then record i { status = completed output } ∷ invocations else i ∷ with_completed id output invocations
 
 -- without the oldest that is completed; the oldest are first
 abbrev pub without_oldest_completed : List Invocation → List Invocation
@@ -52,7 +53,7 @@ without_oldest_completed (i ∷ invocations) = if is_running i then i ∷ withou
 abbrev pub with_running : ℕ → ℕ → List Invocation → List Invocation
 with_running id slot invocations =
     (if length invocations == most_invocations then without_oldest_completed invocations else invocations)
-    ++ record { id = id; slot = slot; status = Running } ∷ []
+    ++ record { id = id; slot = slot; status = running } ∷ []
 
 -- how it stands, as a JSON text
 abbrev pub output_text : Option (List ℕ) → List ℕ
@@ -60,8 +61,8 @@ output_text None = []
 output_text (Some text) = codes ",\"output\":" ++ text
 
 abbrev pub status_text : ℕ → Status → List ℕ
-status_text id Running = codes "{\"id\":" ++ decimal id ++ codes ",\"status\":\"running\"}"
-status_text id (Completed output) = codes "{\"id\":" ++ decimal id ++ output_text output ++ codes ",\"status\":\"completed\"}"
+status_text id running = codes "{\"id\":" ++ decimal id ++ codes ",\"status\":\"running\"}"
+status_text id (completed output) = codes "{\"id\":" ++ decimal id ++ output_text output ++ codes ",\"status\":\"completed\"}"
 
 -- ---- emissions
 
@@ -70,7 +71,10 @@ pub record Emission : Type 0 where
   pub target : ℕ
   pub text : List ℕ
 
--- The last value that an affordance emitted, where it did, is a `Latest`: the slot of the affordance, and the value's text.
+-- the last value that an affordance emitted, where it did: the slot of the affordance, and the value's text
+pub record Latest : Type 0 where
+  pub target : ℕ
+  pub text : Option (List ℕ)
 
 abbrev pub last_of : ℕ → List Latest → Option (List ℕ)
 last_of target [] = None

@@ -18,10 +18,7 @@ use Rattle.thing_handler.specs.declared.handler.Answer.{Answer}
 use Rattle.thing_handler.specs.declared.handler.Answer.TheVariants as answer
 use Rattle.thing_handler.specs.Turns.{HandlerCall, answered, missed}
 use Rattle.thing_core.specs.Site.{Placed, ExposedThing, Site, those_of, events_of}
-use Rattle.thing_core.specs.declared.state.Status.{Status}
-use Rattle.thing_core.specs.declared.state.Status.TheVariants.{Running, Completed}
-use Rattle.thing_core.specs.declared.state.Invocation.{Invocation}
-use Rattle.thing_core.specs.State.{State, Emission, without_invocation, with_completed, with_running, status_text, last_of, last_after}
+use Rattle.thing_core.specs.State.{Status, running, completed, Invocation, State, Emission, invocation_named, without_invocation, with_completed, with_running, status_text, last_of, last_after}
 use Rattle.thing_core.specs.Places.{Act, describes, reads_all, writes_many, reads, writes, invokes, queries, cancels, reads_event, waits}
 use Rattle.thing_core.specs.Refusals.{Input, IsAccepted, longest_value, inputs_of, act_asked, refusals, IsRefusedBy, NoneStands}
 
@@ -158,7 +155,7 @@ place_of_invocation path id = path ++ decimal id ∷ []
 -- what the answer to an invocation of this id brings about
 abbrev pub IsInvoked : Placed → List (List ℕ) → ℕ → Done → Called → Move
 IsInvoked p path id done (gives answer.Started) s seen t =
-    (done ≡ only (outcome.Started (place_of_invocation path id) (status_text id Running)))
+    (done ≡ only (outcome.Started (place_of_invocation path id) (status_text id running)))
     × Becomes (with_id_used (with_invocations (with_running id p.slot s.invocations) s)) [] seen t
 IsInvoked p path id done (gives (answer.Finished None)) s seen t = (done ≡ only outcome.Changed) × Becomes (with_id_used s) [] seen t
 IsInvoked p path id done (gives (answer.Finished (Some tree))) s seen t =
@@ -173,43 +170,47 @@ Invokes p path inputs done s seen t =
     × Passing (Calls p.slot (call.Invoke s.next_invocation handed)) (IsInvoked p path s.next_invocation done) s seen t
 
 -- an invocation is asked about that runs no more: its status, and no call
-abbrev pub Tells : Invocation → Status → Done → Move
-Tells i status done s seen t = (done ≡ only (outcome.Content (status_text i.id status))) × Stays s seen t
+abbrev pub Tells : ℕ → Status → Done → Move
+Tells id status done s seen t = (done ≡ only (outcome.Content (status_text id status))) × Stays s seen t
 
 -- it finishes with this output
-abbrev pub Completes : Invocation → Option (List ℕ) → Done → Move
-Completes i output done s seen t =
-    (done ≡ only (outcome.Content (status_text i.id (Completed output))))
-    × Becomes (with_invocations (with_completed i.id output s.invocations) s) [] seen t
+abbrev pub Completes : ℕ → Option (List ℕ) → Done → Move
+Completes id output done s seen t =
+    (done ≡ only (outcome.Content (status_text id (completed output))))
+    × Becomes (with_invocations (with_completed id output s.invocations) s) [] seen t
 
 abbrev pub Fails : Called → Done → Move
 Fails called done s seen t = (done ≡ only (failure_of called)) × Stays s seen t
 
 -- what the answer to a query brings about; where it is no success the invocation is as it was
-abbrev pub IsQueried : Placed → Invocation → Done → Called → Move
-IsQueried p i done (gives answer.Running) s seen t = Tells i Running done s seen t
-IsQueried p i done (gives (answer.Finished None)) s seen t = Completes i None done s seen t
-IsQueried p i done (gives (answer.Finished (Some tree))) s seen t =
-    (IsTaken p.affordance.output (json_of tree) × Completes i (Some (text_of (json_of tree))) done s seen t)
+abbrev pub IsQueried : Placed → ℕ → Done → Called → Move
+IsQueried p id done (gives answer.Running) s seen t = Tells id running done s seen t
+IsQueried p id done (gives (answer.Finished None)) s seen t = Completes id None done s seen t
+IsQueried p id done (gives (answer.Finished (Some tree))) s seen t =
+    (IsTaken p.affordance.output (json_of tree) × Completes id (Some (text_of (json_of tree))) done s seen t)
     ⊎ ((¬ (IsTaken p.affordance.output (json_of tree))) × Fails (gives (answer.Finished (Some tree))) done s seen t)
-IsQueried p i done called s seen t = Fails called done s seen t
+IsQueried p id done called s seen t = Fails called done s seen t
 
-abbrev pub Queries : Placed → Invocation → Status → Done → Move
-Queries p i Running done s seen t = Passing (Calls p.slot (call.Query i.id)) (IsQueried p i done) s seen t
-Queries p i (Completed output) done s seen t = Tells i (Completed output) done s seen t
+abbrev pub Queries : Placed → ℕ → Status → Done → Move
+Queries p id running done s seen t = Passing (Calls p.slot (call.Query id)) (IsQueried p id done) s seen t
+Queries p id (completed output) done s seen t = Tells id (completed output) done s seen t
 
 -- an invocation goes
-abbrev pub Removes : Invocation → Done → Move
-Removes i done s seen t =
-    (done ≡ only outcome.Deleted) × Becomes (with_invocations (without_invocation i.id s.invocations) s) [] seen t
+abbrev pub Removes : ℕ → Done → Move
+Removes id done s seen t = (done ≡ only outcome.Deleted) × Becomes (with_invocations (without_invocation id s.invocations) s) [] seen t
 
-abbrev pub IsCancelled : Invocation → Done → Called → Move
-IsCancelled i done (gives answer.Cancelled) s seen t = Removes i done s seen t
-IsCancelled i done called s seen t = Fails called done s seen t
+abbrev pub IsCancelled : ℕ → Done → Called → Move
+IsCancelled id done (gives answer.Cancelled) s seen t = Removes id done s seen t
+IsCancelled id done called s seen t = Fails called done s seen t
 
-abbrev pub Cancels : Placed → Invocation → Status → Done → Move
-Cancels p i Running done s seen t = Passing (Calls p.slot (call.Cancel i.id)) (IsCancelled i done) s seen t
-Cancels p i (Completed output) done s seen t = Removes i done s seen t
+abbrev pub Cancels : Placed → ℕ → Status → Done → Move
+Cancels p id running done s seen t = Passing (Calls p.slot (call.Cancel id)) (IsCancelled id done) s seen t
+Cancels p id (completed output) done s seen t = Removes id done s seen t
+
+-- what is done to an invocation depends on how it stands
+abbrev pub OnInvocation : Placed → ℕ → (Status → Done → Move) → Done → Move
+OnInvocation p id ByStatus done s seen t =
+    (i : Invocation) × (invocation_named p.slot id s.invocations ≡ Some i) × ByStatus i.status done s seen t
 
 -- ---- requests
 
@@ -230,8 +231,8 @@ Performs (writes_many thing) q inputs done s seen t = WritesEach inputs [] done 
 Performs (reads p) q inputs done s seen t = Reads p done s seen t
 Performs (writes p) q inputs done s seen t = WritesEach inputs [] done s seen t
 Performs (invokes p) q inputs done s seen t = Invokes p q.path inputs done s seen t
-Performs (queries p i) q inputs done s seen t = Queries p i i.status done s seen t
-Performs (cancels p i) q inputs done s seen t = Cancels p i i.status done s seen t
+Performs (queries p id) q inputs done s seen t = OnInvocation p id (Queries p id) done s seen t
+Performs (cancels p id) q inputs done s seen t = OnInvocation p id (Cancels p id) done s seen t
 Performs (reads_event p) q inputs done s seen t = Answers (event_outcome (last_of p.slot s.last)) done s seen t
 Performs (waits p) q inputs done s seen t = Answers (outcome.Wait p.slot) done s seen t
 

@@ -1,148 +1,53 @@
 //! Doing what a request asks.
 
-ghost use Rattle.std.specs.Prelude.{◌≡◌, ◌≤◌, ◌<◌, ◌↔◌, [], length, option_map, vec_capacity, IfSome, IsNone, IsTrue};
-ghost use Rattle.wot_json.specs.Json.{json_text, text_of as text_of_value};
-ghost use Rattle.wot_json.specs.Meaning.{json_of};
+ghost use Rattle.std.specs.Prelude.{◌≡◌, length, map, option_map};
+ghost use Rattle.wot_json.specs.Json.{json_text};
+ghost use Rattle.thing_ops.specs.Requests.{plain_request};
 ghost use Rattle.thing_core.specs.State.{last_of};
-ghost use Rattle.thing_core.specs.Refusals.{longest_value, IsAccepted};
-ghost use Rattle.thing_core.specs.Thing.{event_outcome, gives, most_turns, only, Calls, Decides, IsTaken};
-ghost use Rattle.thing_core.specs.Exposing.{held_thing, placed_spot};
+ghost use Rattle.thing_core.specs.Thing.{event_outcome, Performs};
 ghost use Rattle.thing_core.specs.Found.{found_act};
-ghost use Rattle.thing_core.specs.Performing.{found_called, DoesEmpty, IsBuilt, IsOrMemory, MakesOn, ReadsOrNot, SlotStands, ValueComesTo};
+ghost use Rattle.thing_core.specs.Performing.{affordances_of_act, input_of, AllStand, InputsFit, IsOrMemory, MakesDone, MayBeDone, OrMemory};
 
-use crate::exposed::last_in;
+use crate::admitting::Task;
+use crate::invoking::{cancel, invoke, prepare, query};
+use crate::machine::Machine;
 use crate::place::Act;
-use crate::site::Spot;
-use crate::state::Machine;
+use crate::reading::{read, read_all};
+use crate::state::Latest;
+use crate::writing::write_each;
 use std::alloc::Global;
-use thing_handler::{Answer, CallKind, Handlers};
-use thing_ops::Outcome;
-use wot_json::{Bytes, Tree, text_of, write};
-use wot_schema::Schema;
+use thing_handler::Handlers;
+use thing_ops::{Outcome, Request};
+use wot_json::{Bytes, Tree, text_of};
 
-/// How many turns a run may have.
-const MOST_TURNS: u64 = 4_294_967_295;
-
-/// How long the text of a value may be, in bytes.
-const LONGEST_VALUE: usize = 1024;
-
-/// What comes of a call of a handler.
-#[derive(Drop)]
-pub enum Called {
-    /// The run has no number left for a turn.
-    NoNumber,
-    /// The handler is out of memory.
-    NoMemory,
-    Gives(Answer),
-}
-
-/// Calls the handler in a slot.
-fn call<R: Handlers>(machine: &mut Machine, rack: &mut R, slot: u32, what: &CallKind) -> Called
-    requires slot { slot < length (R.slots rack.old) }
-    requires bound { machine.old.turns ≤ most_turns }
-    ensures made { MakesOn (Calls slot what.now (found_called result)) machine.old machine.new (R.slots rack.old) (R.slots rack.new) }
-    ensures bound { machine.new.turns ≤ most_turns }
+/// Does an act.
+pub fn act<R: Handlers>(
+    alloc: Global,
+    task: Task<'_>,
+    request: &Request<'_>,
+    machine: &mut Machine,
+    rack: &mut R,
+) -> Outcome
+    requires slots { AllStand (length (R.slots rack.old)) (affordances_of_act (found_act task.act)) }
+    requires inputs { InputsFit (length (R.slots rack.old)) task.inputs.items }
+    requires state { MayBeDone (found_act task.act) machine.old.state }
+    ensures { MakesDone (OrMemory (Performs (found_act task.entry.act) (plain_request request.now) (map input_of task.entry.inputs.items))) result machine.old machine.new (R.slots rack.old) (R.slots rack.new) }
 {
-    if machine.turns == MOST_TURNS {
-        return Called::NoNumber;
+    match task.act {
+        Act::Describes(thing) => describe(alloc, &thing.tree, request.accept.td),
+        Act::ReadsAll(thing) => read_all(alloc, thing, machine, rack),
+        Act::Reads(spot) => read(alloc, spot, machine, rack),
+        Act::WritesMany(_) => write_each(task.inputs, machine, rack),
+        Act::Writes(_) => write_each(task.inputs, machine, rack),
+        Act::Invokes(spot) => match prepare(alloc, &request.path, machine.next_invocation()) {
+            Ok(prepared) => invoke(spot, task.inputs, prepared, machine, rack),
+            Err(_) => Outcome::Memory,
+        },
+        Act::Queries(spot, id) => query(alloc, spot, id, machine, rack),
+        Act::Cancels(spot, id) => cancel(spot, id, machine, rack),
+        Act::ReadsEvent(spot) => last_emission(alloc, machine.last(), spot.slot),
+        Act::Waits(spot) => Outcome::Wait(spot.slot),
     }
-    match rack.call(slot as usize, machine.turns, what) {
-        Ok(answer) => {
-            machine.turns += 1;
-            Called::Gives(answer)
-        }
-        Err(_) => Called::NoMemory,
-    }
-}
-
-/// What a call for a value comes to. The room for its text was taken before the call.
-fn value_outcome(room: Vec<u8>, schema: &Option<Schema>, called: Called) -> Outcome
-    requires empty { room.items ≡ [] }
-    requires room { longest_value ≤ vec_capacity room }
-    ensures { ValueComesTo schema.now (found_called called) result }
-{
-    match called {
-        Called::NoNumber => Outcome::CallsUsed,
-        Called::NoMemory => Outcome::Memory,
-        Called::Gives(answer) => answer_outcome(room, schema, answer),
-    }
-}
-
-/// What an answer to a call for a value comes to.
-fn answer_outcome(room: Vec<u8>, schema: &Option<Schema>, answer: Answer) -> Outcome
-    requires empty { room.items ≡ [] }
-    requires room { longest_value ≤ vec_capacity room }
-    ensures { ValueComesTo schema.now (gives answer) result }
-{
-    match answer {
-        Answer::Value(value) => content(room, schema, &value),
-        Answer::Refused(number) => Outcome::Refused(number),
-        Answer::DeviceFault(number) => Outcome::DeviceFault(number),
-        Answer::Done
-        | Answer::Started
-        | Answer::Running
-        | Answer::Finished(_)
-        | Answer::Cancelled
-        | Answer::Quiet
-        | Answer::Fired(_) => Outcome::BadAnswer,
-    }
-}
-
-/// A value of a device as content, where it is taken.
-fn content(room: Vec<u8>, schema: &Option<Schema>, value: &Tree) -> Outcome
-    requires empty { room.items ≡ [] }
-    requires room { longest_value ≤ vec_capacity room }
-    ensures { Decides (IsTaken schema.now (json_of value.now)) (Outcome.Content (json_text value.now)) Outcome.BadAnswer result }
-{
-    if !is_accepted(schema, value) {
-        return Outcome::BadAnswer;
-    }
-    match text_in(room, value) {
-        Some(text) => Outcome::Content(text),
-        None => Outcome::BadAnswer,
-    }
-}
-
-/// The schema accepts the value, or there is none.
-fn is_accepted(schema: &Option<Schema>, value: &Tree) -> bool
-    ensures { IsTrue result ↔ IsAccepted schema.now (json_of value.now) }
-{
-    match schema {
-        Some(schema) => schema.accepts(value),
-        None => true,
-    }
-}
-
-/// The text of a value, where it is no longer than is taken, in the room that was taken for it.
-fn text_in(mut room: Vec<u8>, value: &Tree) -> Option<Bytes>
-    requires empty { room.items ≡ [] }
-    requires room { longest_value ≤ vec_capacity room }
-    ensures text { IfSome result (λ text. text ≡ json_text value.now) }
-    ensures no_room { IsNone result ↔ (longest_value < length (json_text value.now)) }
-{
-    let mut buffer = [0u8; LONGEST_VALUE];
-    match write(value, &mut buffer) {
-        Some(count) => {
-            room.extend_from_slice(&buffer[..count]).unwrap();
-            Some(Bytes::from_vec(room))
-        }
-        None => None,
-    }
-}
-
-/// Reads a property.
-fn read<R: Handlers>(alloc: Global, spot: Spot<'_>, machine: &mut Machine, rack: &mut R) -> Outcome
-    requires slot { spot.slot < length (R.slots rack.old) }
-    requires bound { machine.old.turns ≤ most_turns }
-    ensures made { MakesOn (ReadsOrNot (placed_spot spot.entry) (only result)) machine.old machine.new (R.slots rack.old) (R.slots rack.new) }
-    ensures bound { machine.new.turns ≤ most_turns }
-{
-    let room = match Vec::with_capacity(alloc, LONGEST_VALUE) {
-        Ok(room) => room,
-        Err(_) => return Outcome::Memory,
-    };
-    let called = call(machine, rack, spot.slot, &CallKind::Read);
-    value_outcome(room, &spot.affordance.output, called)
 }
 
 /// A description as it is sent.
@@ -156,10 +61,10 @@ fn describe(alloc: Global, tree: &Tree, td: bool) -> Outcome
 }
 
 /// The last emission of an event.
-fn last_emission(alloc: Global, machine: &Machine, target: u32) -> Outcome
-    ensures { IsOrMemory (event_outcome (last_of target machine.now.last.items)) result }
+fn last_emission(alloc: Global, last: &[Latest], target: u32) -> Outcome
+    ensures { IsOrMemory (event_outcome (last_of target last.now)) result }
 {
-    match last_in(machine.last.as_slice(), target) {
+    match last_in(last, target) {
         Some(text) => match Bytes::copy_of(alloc, text) {
             Ok(text) => Outcome::Content(text),
             Err(_) => Outcome::Memory,
@@ -168,29 +73,14 @@ fn last_emission(alloc: Global, machine: &Machine, target: u32) -> Outcome
     }
 }
 
-/// Does an act that hands nothing in. Other acts aren't built yet, and come to NotFound.
-pub fn act<R: Handlers>(
-    alloc: Global,
-    act: Act<'_>,
-    td: bool,
-    machine: &mut Machine,
-    rack: &mut R,
-) -> Outcome
-    requires slot { SlotStands (found_act act) (length (R.slots rack.old)) }
-    requires bound { machine.old.turns ≤ most_turns }
-    ensures made { IsBuilt (found_act act.entry) → MakesOn (DoesEmpty (found_act act.entry) td (only result)) machine.old machine.new (R.slots rack.old) (R.slots rack.new) }
-    ensures bound { machine.new.turns ≤ most_turns }
+/// The text of the last emission of this target, among these.
+pub fn last_in(last: &[Latest], target: u32) -> Option<&[u8]>
+    ensures { option_map (λ t. t.now) result ≡ last_of target last.now }
 {
-    match act {
-        Act::Describes(thing) => describe(alloc, &thing.tree, td),
-        Act::Reads(spot) => read(alloc, spot, machine, rack),
-        Act::ReadsEvent(spot) => last_emission(alloc, machine, spot.slot),
-        Act::Waits(spot) => Outcome::Wait(spot.slot),
-        Act::ReadsAll(_)
-        | Act::WritesMany(_)
-        | Act::Writes(_)
-        | Act::Invokes(_)
-        | Act::Queries(_, _)
-        | Act::Cancels(_, _) => Outcome::NotFound,
+    for latest in last {
+        if latest.target() == target {
+            return latest.text();
+        }
     }
+    None
 }

@@ -8,18 +8,18 @@ ghost use Rattle.thing_core.specs.State.{start, last_of};
 ghost use Rattle.thing_core.specs.Places.{target_of as target_of_path};
 ghost use Rattle.thing_core.specs.Exposing.{kinds_of, IsFirst};
 ghost use Rattle.thing_core.specs.Kept.{Fits};
-ghost use Rattle.thing_core.specs.Performing.{AsksForBuilt, MakesAct};
+ghost use Rattle.thing_core.specs.Performing.{MakesAct, MakesPolls};
 ghost use Rattle.thing_ops.specs.Requests.{plain_request};
 
-use crate::acting::act;
+use crate::acting::{act, last_in};
 use crate::admitting::admitted;
+use crate::machine::Machine;
 use crate::place::{place_of, target_at};
 use crate::placing::place_all;
+use crate::polling::poll_all;
 use crate::site::{HeldThing, silent_all};
-use crate::state::{Invocation, Latest, Machine};
 use crate::{ExposeFault, Slots};
 use std::alloc::Global;
-use std::collections::VecDeque;
 use std::marker::Model;
 use thing_handler::Handlers;
 use thing_ops::{Outcome, Request, Segments};
@@ -30,31 +30,22 @@ use wot_terms::Things;
 pub struct Exposed {
     alloc: Global,
     things: Vec<HeldThing>,
-    /// The oldest first.
-    invocations: Vec<Invocation>,
     machine: Machine,
-    pending: VecDeque<u32>,
 }
 
 impl Model for Exposed {
-    ghost use Rattle.std.specs.Prelude.{◌≤◌, length};
+    ghost use Rattle.std.specs.Prelude.{◌≡◌, length};
+    ghost use Rattle.thing_core.specs.Site.{emitters_of};
     ghost use Rattle.thing_core.specs.Kept.{Kept, kept_code};
-    ghost use Rattle.thing_core.specs.Thing.{most_turns};
-    ghost use Rattle.thing_core.specs.State.{most_invocations};
-    ghost use Rattle.thing_core.specs.Kept.{state_in};
     ghost use Rattle.thing_core.specs.Exposing.{held_site};
 
     ghost Value = { Kept };
 
     ghost coded = { kept_code };
 
-    ghost view = { λ e. record {
-      site = held_site e.things.items;
-      state = state_in e.invocations.items e.machine;
-      pending = e.pending.items;
-    } };
+    ghost view = { λ e. record { site = held_site e.things.items; state = e.machine.state; pending = e.machine.pending } };
 
-    ghost invariant = { λ e. (e.machine.turns ≤ most_turns) × (length e.invocations.items ≤ most_invocations) };
+    ghost invariant = { λ e. length e.machine.state.last ≡ length (emitters_of (held_site e.things.items)) };
 }
 
 /// How much the machine has done and keeps.
@@ -82,41 +73,41 @@ impl Exposed {
     {
         let held = place_all(alloc, rack, slots, things.as_slice())?;
         let last = silent_all(alloc, held.as_slice())?;
-        let pending = VecDeque::with_capacity(alloc, last.len())?;
         Ok(Exposed {
             alloc,
             things: held,
-            invocations: Vec::new(alloc),
-            machine: Machine {
-                next_invocation: 1,
-                last,
-                turns: 0,
-            },
-            pending,
+            machine: Machine::new(alloc, last)?,
         })
     }
 
-    /// Does what a request asks. So far it is said of requests whose act hands nothing in, but for reading all properties
-    /// and what asks an invocation; for others nothing is done, and the outcome is NotFound or a refusal.
+    /// Does what a request asks.
     pub fn perform<R: Handlers>(&mut self, rack: &mut R, request: &Request<'_>) -> Outcome
         requires fits { Fits self.old.site (R.slots rack.old) }
         requires pending { self.old.pending ≡ [] }
-        ensures act { AsksForBuilt (record { site = self.old.site; state = self.old.state; request = plain_request request.now })
-            → MakesAct self.old self.new (plain_request request.now) result (R.slots rack.old) (R.slots rack.new) }
-        ensures site { self.new.site ≡ self.old.site }
+        ensures { MakesAct self.old self.new (plain_request request.now) result (R.slots rack.old) (R.slots rack.new) }
     {
-        let td = request.accept.td;
-        match admitted(self.things.as_slice(), self.invocations.as_slice(), request) {
-            Ok(asked) => act(self.alloc, asked, td, &mut self.machine, rack),
+        match admitted(self.alloc, self.things.as_slice(), &self.machine, request) {
+            Ok(task) => act(self.alloc, task, request, &mut self.machine, rack),
             Err(outcome) => outcome,
         }
+    }
+
+    /// Polls the handler of each event once, in the order of Things and names. It takes no memory of its own: an event is left
+    /// out only where its handler is out of memory, or where the run has no number left for a turn.
+    pub fn tick<R: Handlers>(&mut self, rack: &mut R)
+        requires fits { Fits self.old.site (R.slots rack.old) }
+        requires pending { self.old.pending ≡ [] }
+        ensures { MakesPolls self.old self.new (R.slots rack.old) (R.slots rack.new) }
+    {
+        let _room = self.machine.emitters();
+        poll_all(self.things.as_slice(), &mut self.machine, rack);
     }
 
     /// The target of the own path of an observable property or an event: the slot of its affordance.
     pub fn target_of(&self, path: &Segments) -> Option<u32>
         ensures { result ≡ target_of_path path.now self.now.site self.now.state }
     {
-        let place = place_of(self.things.as_slice(), self.invocations.as_slice(), path);
+        let place = place_of(self.things.as_slice(), self.machine.invocations(), path);
         target_at(place)
     }
 
@@ -126,14 +117,14 @@ impl Exposed {
         ensures site { self.new.site ≡ self.old.site }
         ensures state { self.new.state ≡ self.old.state }
     {
-        self.pending.pop_front()
+        self.machine.hand_out()
     }
 
     /// The text of the last emission of this target.
     pub fn last(&self, target: u32) -> Option<&[u8]>
         ensures { option_map (λ t. t.now) result ≡ last_of target self.now.state.last }
     {
-        last_in(self.machine.last.as_slice(), target)
+        last_in(self.machine.last(), target)
     }
 
     /// How much the machine has done and keeps.
@@ -142,23 +133,8 @@ impl Exposed {
         ensures invocations { result.invocations ≡ length self.now.state.invocations }
     {
         Accounts {
-            calls: self.machine.turns,
-            invocations: self.invocations.len() as u32,
+            calls: self.machine.turns(),
+            invocations: self.machine.standing(),
         }
     }
-}
-
-/// The text of the last emission of this target, among these.
-pub(crate) fn last_in(last: &[Latest], target: u32) -> Option<&[u8]>
-    ensures { option_map (λ t. t.now) result ≡ last_of target last.now }
-{
-    for latest in last {
-        if latest.target == target {
-            return match &latest.text {
-                Some(text) => Some(text.as_slice()),
-                None => None,
-            };
-        }
-    }
-    None
 }

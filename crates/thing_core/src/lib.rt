@@ -14,22 +14,32 @@
 //! ```
 //!
 //! Contracts see the site, which is constant (`specs/Site.antt`), and the state of the Thing machine (`specs/State.antt`). The
-//! contract in a sentence: what `perform` answers, calls and leaves is a move of that machine (`Acts` of `specs/Thing.antt`),
-//! and the rack shows the calls of it. So far that is said of requests whose act hands nothing in: descriptions, reads of one
-//! property, reads of events and waits, and of all that lead to no act (`AsksForBuilt` of `specs/Performing.antt`).
+//! contract in a sentence: what `perform` answers, calls and leaves is a move of that machine (`Acts` of `specs/Thing.antt`), what
+//! `tick` calls and leaves is one of its polls (`Polls`), and the rack shows the calls of it. Memory is taken before the first
+//! call of a handler, and by `tick` never.
 #![tactic(auto)]
 
 mod acting;
 mod admitting;
+mod calling;
 mod exposed;
 mod fault;
+mod field;
+mod input;
+mod invoking;
 mod laws;
+mod machine;
 mod place;
 mod placing;
+mod polling;
+mod reading;
+mod room;
 mod site;
 mod slots;
 mod state;
+mod status;
 mod wanted;
+mod writing;
 
 pub use exposed::{Accounts, Exposed};
 pub use fault::ExposeFault;

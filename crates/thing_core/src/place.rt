@@ -20,7 +20,8 @@ pub enum Place<'a> {
     /// Where a property is observed.
     Observed(Spot<'a>),
     Action(Spot<'a>),
-    Invocation(Spot<'a>, &'a Invocation),
+    /// An invocation of an action, by its id.
+    Invocation(Spot<'a>, u32),
     Event(Spot<'a>),
     /// Where an event is subscribed to.
     Subscribed(Spot<'a>),
@@ -35,8 +36,8 @@ pub enum Act<'a> {
     Reads(Spot<'a>),
     Writes(Spot<'a>),
     Invokes(Spot<'a>),
-    Queries(Spot<'a>, &'a Invocation),
-    Cancels(Spot<'a>, &'a Invocation),
+    Queries(Spot<'a>, u32),
+    Cancels(Spot<'a>, u32),
     ReadsEvent(Spot<'a>),
     Waits(Spot<'a>),
 }
@@ -45,7 +46,7 @@ pub enum Act<'a> {
 #[tactic(auto, using(crate::proofs::PlaceLaws::place_by_parts))]
 pub fn place_of<'a>(
     things: &'a [HeldThing],
-    invocations: &'a [Invocation],
+    invocations: &[Invocation],
     path: &Segments,
 ) -> Option<Place<'a>>
     ensures { option_map found_place result ≡ spec.place_of path.now (held_site things.now) (with_invocations_alone invocations.now) }
@@ -61,7 +62,7 @@ fn place_from<'a>(
     route: RouteKind,
     thing: Option<&'a HeldThing>,
     spot: Option<Spot<'a>>,
-    invocations: &'a [Invocation],
+    invocations: &[Invocation],
 ) -> Option<Place<'a>>
     ensures { option_map found_place result ≡ place_by route (option_map (λ t. held_thing t.now) thing.entry) (option_map placed_spot spot.entry) (with_invocations_alone invocations.now) }
 {
@@ -226,17 +227,13 @@ fn observed<'a>(property: Option<Spot<'a>>) -> Option<Place<'a>>
 }
 
 /// An invocation of an action.
-fn invoked<'a>(
-    action: Option<Spot<'a>>,
-    invocations: &'a [Invocation],
-    id: u32,
-) -> Option<Place<'a>>
+fn invoked<'a>(action: Option<Spot<'a>>, invocations: &[Invocation], id: u32) -> Option<Place<'a>>
     ensures { option_map found_place result
-        ≡ option_and_then (λ p. option_map (spec.invocation p) (invocation_of p.slot id invocations.now)) (option_map placed_spot action.entry) }
+        ≡ option_and_then (λ p. option_map (λ _. spec.invocation p id) (invocation_of p.slot id invocations.now)) (option_map placed_spot action.entry) }
 {
     match action {
         Some(spot) => match invocation_in(invocations, spot.slot, id) {
-            Some(invocation) => Some(Place::Invocation(spot, invocation)),
+            Some(_) => Some(Place::Invocation(spot, id)),
             None => None,
         },
         None => None,
@@ -244,11 +241,11 @@ fn invoked<'a>(
 }
 
 /// The invocation of this id under the action in this slot.
-fn invocation_in(invocations: &[Invocation], slot: u32, id: u32) -> Option<&Invocation>
+pub fn invocation_in(invocations: &[Invocation], slot: u32, id: u32) -> Option<&Invocation>
     ensures { option_map (λ i. i.now) result ≡ invocation_of slot id invocations.now }
 {
     for invocation in invocations {
-        if invocation.slot == slot && invocation.id == id {
+        if invocation.slot() == slot && invocation.id() == id {
             return Some(invocation);
         }
     }
@@ -269,10 +266,8 @@ pub fn act_at<'a>(place: Place<'a>, verb: Verb) -> Option<Act<'a>>
         (Place::Property(spot), Verb::Put) => unless(spot.affordance.read_only, Act::Writes(spot)),
         (Place::Observed(spot) | Place::Subscribed(spot), Verb::Get) => Some(Act::Waits(spot)),
         (Place::Action(spot), Verb::Post) => Some(Act::Invokes(spot)),
-        (Place::Invocation(spot, invocation), Verb::Get | Verb::Head) => {
-            Some(Act::Queries(spot, invocation))
-        }
-        (Place::Invocation(spot, invocation), Verb::Delete) => Some(Act::Cancels(spot, invocation)),
+        (Place::Invocation(spot, id), Verb::Get | Verb::Head) => Some(Act::Queries(spot, id)),
+        (Place::Invocation(spot, id), Verb::Delete) => Some(Act::Cancels(spot, id)),
         (Place::Event(spot), Verb::Get | Verb::Head) => Some(Act::ReadsEvent(spot)),
         _ => None,
     }

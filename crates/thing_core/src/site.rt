@@ -84,14 +84,14 @@ fn is_named(affordance: &Affordance, kind: Kind, name: &[u8]) -> bool
 }
 
 /// The slot with this number.
-fn slot_at(slots: &[u32], index: usize) -> Option<u32>
+pub fn slot_at(slots: &[u32], index: usize) -> Option<u32>
     ensures { result ≡ slice_get slots.now index }
 {
     slots.get(index).copied()
 }
 
 /// Both kinds are one.
-fn is_kind(left: Kind, right: Kind) -> bool
+pub fn is_kind(left: Kind, right: Kind) -> bool
     ensures { result ≡ is_kind_of left right }
 {
     match (left, right) {
@@ -109,6 +109,7 @@ pub fn silent_all(alloc: Global, things: &[HeldThing]) -> Result<Vec<Latest>, No
     let mut last = Vec::new(alloc);
     for thing in things {
         push_silent(
+            alloc,
             &mut last,
             thing.affordances.affordances(),
             thing.slots.as_slice(),
@@ -119,6 +120,7 @@ pub fn silent_all(alloc: Global, things: &[HeldThing]) -> Result<Vec<Latest>, No
 
 /// Puts those at the end that may emit among the affordances of a Thing.
 fn push_silent(
+    alloc: Global,
     last: &mut Vec<Latest>,
     affordances: &[Affordance],
     slots: &[u32],
@@ -130,13 +132,14 @@ fn push_silent(
             Some(slot) => slot,
             None => return Ok(()),
         };
-        push_if_emitter(last, affordance, slot)?;
+        push_if_emitter(alloc, last, affordance, slot)?;
     }
     Ok(())
 }
 
 /// Puts an affordance at the end, where it may emit.
 fn push_if_emitter(
+    alloc: Global,
     last: &mut Vec<Latest>,
     affordance: &Affordance,
     target: u32,
@@ -145,7 +148,7 @@ fn push_if_emitter(
         ++ map silent (filter is_emitter_of (record { affordance = affordance.now; slot = target } ∷ []))) }
 {
     if is_emitter(affordance) {
-        last.push(Latest { target, text: None })?;
+        last.push(Latest::silent(alloc, target)?)?;
     }
     Ok(())
 }

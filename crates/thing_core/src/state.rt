@@ -1,40 +1,186 @@
 //! What changes in a run: the state of the Thing machine.
 
-use wot_json::Bytes;
+ghost use Rattle.std.specs.Prelude.{◌≡◌, ◌≤◌, length, option_map, IfOk};
+ghost use Rattle.thing_core.specs.Rooms.{room_size};
+ghost use Rattle.thing_core.specs.Course as course;
+
+use crate::NoMemory;
+use crate::room::Room;
+use std::alloc::Global;
+use std::marker::Model;
+
+/// How many invocations may run at a time, and stand at a time.
+pub const MOST_INVOCATIONS: usize = 64;
+
+/// How many turns a run may have.
+pub const MOST_TURNS: u64 = 4_294_967_295;
 
 /// How an invocation stands.
-#[derive(Debug, Drop)]
-pub enum Status {
+#[derive(Clone, Copy, Debug, PartialEq, Eq, Drop)]
+pub enum Progress {
     Running,
-    /// It is finished, with the text of its output where it has one.
-    Completed(Option<Bytes>),
+    /// It is finished, and gave no output.
+    Finished,
+    /// It is finished, with the output that its room has.
+    Gave,
 }
 
 /// An invocation of an action.
 #[derive(Debug, Drop)]
 pub struct Invocation {
-    pub id: u32,
+    id: u32,
+    slot: u32,
+    progress: Progress,
+    output: Room,
+}
+
+impl Model for Invocation {
+    ghost use Rattle.thing_core.specs.State.{Invocation as InvocationSeen};
+    ghost use Rattle.std.specs.Prelude.{◌≤◌, length};
+    ghost use Rattle.thing_core.specs.Refusals.{longest_value};
+    ghost use Rattle.thing_core.specs.Course.{invocation_code, status_of};
+
+    ghost Value = { InvocationSeen };
+
+    ghost coded = { invocation_code };
+
+    ghost view = { λ i. record { id = i.id; slot = i.slot; status = status_of i.progress i.output } };
+
+    ghost invariant = { λ i. length i.output ≤ longest_value };
+}
+
+impl Invocation {
+    ghost use Rattle.std.specs.Prelude.{◌≤◌, length};
+    ghost use Rattle.thing_core.specs.Refusals.{longest_value};
+    ghost use Rattle.thing_core.specs.State.{completed, is_running as is_running_one, running};
+
+    /// One that runs, in a room that has no longer text than a value.
+    pub fn running(id: u32, slot: u32, output: Room) -> Invocation
+        requires { length output ≤ longest_value }
+        ensures { result ≡ record { id = id; slot = slot; status = running } }
+    {
+        Invocation {
+            id,
+            slot,
+            progress: Progress::Running,
+            output,
+        }
+    }
+
+    pub fn id(&self) -> u32
+        ensures { result ≡ self.now.id }
+    {
+        self.id
+    }
+
     /// The slot of its action.
-    pub slot: u32,
-    pub status: Status,
+    pub fn slot(&self) -> u32
+        ensures { result ≡ self.now.slot }
+    {
+        self.slot
+    }
+
+    pub fn is_running(&self) -> bool
+        ensures { result ≡ is_running_one self.now }
+    {
+        match self.progress {
+            Progress::Running => true,
+            Progress::Finished | Progress::Gave => false,
+        }
+    }
+
+    /// The text of its output, where it gave one.
+    pub fn output(&self) -> Option<&[u8]>
+        ensures output { course.IsOutput self.now.status (option_map (λ t. t.now) result) }
+        ensures length { course.FitsValue (option_map (λ t. t.now) result) }
+    {
+        match self.progress {
+            Progress::Gave => Some(self.output.as_slice()),
+            Progress::Running | Progress::Finished => None,
+        }
+    }
+
+    /// It finishes, with the text of its output where it has one.
+    pub fn complete(&mut self, output: Option<&[u8]>)
+        requires { course.FitsValue (option_map (λ t. t.now) output) }
+        ensures { self.new ≡ record self.old { status = completed (option_map (λ t. t.now) output.entry) } }
+    {
+        match output {
+            Some(text) => {
+                self.output.fill(text);
+                self.progress = Progress::Gave;
+            }
+            None => self.progress = Progress::Finished,
+        }
+    }
+
+    /// The room of its output.
+    pub fn into_room(self) -> Room {
+        self.output
+    }
 }
 
 /// The last value of what may emit.
 #[derive(Debug, Drop)]
 pub struct Latest {
-    /// The slot of its affordance.
-    pub target: u32,
-    /// The value's text, where it has emitted one.
-    pub text: Option<Bytes>,
+    target: u32,
+    has_emitted: bool,
+    text: Room,
 }
 
-/// What the machine keeps beside the invocations.
-#[derive(Drop)]
-pub struct Machine {
-    /// The id of the next invocation, counted over all actions.
-    pub next_invocation: u32,
-    /// One for each affordance that may emit.
-    pub last: Vec<Latest>,
-    /// How many turns the run has.
-    pub turns: u64,
+impl Model for Latest {
+    ghost use Rattle.std.specs.Prelude.{Some, None, if◌then◌else◌};
+    ghost use Rattle.thing_core.specs.State.{Latest as LatestSeen};
+    ghost use Rattle.thing_core.specs.Course.{latest_code};
+
+    ghost Value = { LatestSeen };
+
+    ghost coded = { latest_code };
+
+    ghost view = { λ l. record { target = l.target; text = if l.has_emitted then Some l.text else None } };
+}
+
+impl Latest {
+    ghost use Rattle.std.specs.Prelude.{None};
+    ghost use Rattle.thing_core.specs.State.{renewed};
+
+    /// That of the affordance in this slot, which hasn't emitted yet.
+    pub fn silent(alloc: Global, target: u32) -> Result<Latest, NoMemory>
+        ensures { IfOk result (λ l. l ≡ record { target = target; text = None }) }
+    {
+        Ok(Latest {
+            target,
+            has_emitted: false,
+            text: Room::new(alloc)?,
+        })
+    }
+
+    /// The slot of its affordance.
+    pub fn target(&self) -> u32
+        ensures { result ≡ self.now.target }
+    {
+        self.target
+    }
+
+    /// The value's text, where it has emitted one.
+    pub fn text(&self) -> Option<&[u8]>
+        ensures { option_map (λ t. t.now) result ≡ self.now.text }
+    {
+        if self.has_emitted {
+            Some(self.text.as_slice())
+        } else {
+            None
+        }
+    }
+
+    /// It emits this text, where the emission is of its affordance.
+    pub fn renew(&mut self, target: u32, text: &[u8])
+        requires { length text.now ≤ room_size }
+        ensures { self.new ≡ renewed (record { target = target; text = text.now }) self.old }
+    {
+        if self.target == target {
+            self.text.fill(text);
+            self.has_emitted = true;
+        }
+    }
 }

@@ -1,32 +1,39 @@
-use Rattle.std.proofs.Common.{List, [], refl, sym, subst, inl}
+use Rattle.std.proofs.Common.{◌≡◌, List, [], map, refl, sym, ap, subst, inl}
 use Rattle.wot_json.specs.Json.{json_text}
 use Rattle.thing_ops.specs.declared.outcome.Outcome.TheVariants as outcome
-use Rattle.thing_core.specs.declared.state.Latest.{Latest}
-use Rattle.thing_core.specs.State.{last_of}
-use Rattle.thing_core.specs.Places.{describes, reads_event, waits}
-use Rattle.thing_core.specs.Thing.{event_outcome, Answers}
-use Rattle.thing_core.specs.Exposing.{held_thing, placed_spot}
-use Rattle.thing_core.proofs.ActingLaws.{answers_or_not}
+use Rattle.thing_ops.specs.Requests.{plain_request}
+use Rattle.thing_core.specs.declared.place.Act.{Act as FoundAct}
+use Rattle.thing_core.specs.State.{Latest, last_of}
+use Rattle.thing_core.specs.Thing.{Done, only, event_outcome, Performs}
+use Rattle.thing_core.specs.Found.{found_act}
+use Rattle.thing_core.specs.Performing.{input_of}
+use Rattle.thing_core.proofs.MoveLaws.{answers_done, memory_out}
 use Rattle.thing_core.proofs.acting.act.Goals as goal
 
-pub returns-in-Describes-clause-made : goal.returns-in-Describes-clause-made
-returns-in-Describes-clause-made g c =
-    rw c.in-Describes.is
-    (λ built. answers_or_not (describes (held_thing c.in-Describes.thing.now)) c.args.td (outcome.Description (json_text c.in-Describes.thing.now.tree) c.args.td) c.describe.result
-    c.args.machine.now (g.R.Handlers.slots c.args.rack.now) c.describe.ensures (λ s e done a. a))
+pub returns-in-Describes : goal.returns-in-Describes
+returns-in-Describes g c =
+    answers_done (Performs (found_act c.args.task.act) (plain_request c.args.request.now) (map input_of c.args.task.inputs.items))
+    (outcome.Description (json_text c.in-Describes.thing.now.tree) c.args.request.now.accept.td) c.describe.result c.args.machine.now (g.R.Handlers.slots c.args.rack.now) c.describe.ensures
+    (subst (λ (x : FoundAct). Performs (found_act x) (plain_request c.args.request.now) (map input_of c.args.task.inputs.items)
+    (only (outcome.Description (json_text c.in-Describes.thing.now.tree) c.args.request.now.accept.td)) c.args.machine.now.state [] c.args.machine.now.state) (sym c.in-Describes.is)
+    (refl, record { next = refl; saw = refl }))
 
-pub returns-in-Reads-clause-made : goal.returns-in-Reads-clause-made
-returns-in-Reads-clause-made g c = rw c.in-Reads.is (λ built. c.read.ensures.made)
+pub returns-in-Err : goal.returns-in-Err
+returns-in-Err g c =
+    memory_out (Performs (found_act c.args.task.act) (plain_request c.args.request.now) (map input_of c.args.task.inputs.items)) c.args.machine.now c.args.machine.now (g.R.Handlers.slots c.args.rack.now) refl refl
 
-pub returns-in-ReadsEvent-clause-made : goal.returns-in-ReadsEvent-clause-made
-returns-in-ReadsEvent-clause-made g c =
-    rw c.in-ReadsEvent.is
-    (λ built. answers_or_not (reads_event (placed_spot c.in-ReadsEvent.spot)) c.args.td (event_outcome (last_of c.in-ReadsEvent.spot.slot c.args.machine.now.last.items)) c.last_emission.result
-    c.args.machine.now (g.R.Handlers.slots c.args.rack.now) c.last_emission.ensures
-    (λ s e done a. subst (λ (last : List Latest). Answers (event_outcome (last_of c.in-ReadsEvent.spot.slot last)) done s [] s) (sym e) a))
+pub returns-in-ReadsEvent : goal.returns-in-ReadsEvent
+returns-in-ReadsEvent g c =
+    answers_done (Performs (found_act c.args.task.act) (plain_request c.args.request.now) (map input_of c.args.task.inputs.items))
+    (event_outcome (last_of c.in-ReadsEvent.spot.slot c.last.result.now)) c.last_emission.result c.args.machine.now (g.R.Handlers.slots c.args.rack.now) c.last_emission.ensures
+    (subst (λ (x : FoundAct). Performs (found_act x) (plain_request c.args.request.now) (map input_of c.args.task.inputs.items)
+    (only (event_outcome (last_of c.in-ReadsEvent.spot.slot c.last.result.now))) c.args.machine.now.state [] c.args.machine.now.state) (sym c.in-ReadsEvent.is)
+    (ap (λ (l : List Latest). only (event_outcome (last_of c.in-ReadsEvent.spot.slot l))) c.last.ensures, record { next = refl; saw = refl }))
 
-pub returns-in-Waits-clause-made : goal.returns-in-Waits-clause-made
-returns-in-Waits-clause-made g c =
-    rw c.in-Waits.is
-    (λ built. answers_or_not (waits (placed_spot c.in-Waits.spot)) c.args.td (outcome.Wait c.in-Waits.spot.slot) (outcome.Wait c.in-Waits.spot.slot)
-    c.args.machine.now (g.R.Handlers.slots c.args.rack.now) (inl refl) (λ s e done a. a))
+pub returns-in-Waits : goal.returns-in-Waits
+returns-in-Waits g c =
+    answers_done (Performs (found_act c.args.task.act) (plain_request c.args.request.now) (map input_of c.args.task.inputs.items))
+    (outcome.Wait c.in-Waits.spot.slot) (outcome.Wait c.in-Waits.spot.slot) c.args.machine.now (g.R.Handlers.slots c.args.rack.now) (inl refl)
+    (subst (λ (x : FoundAct). Performs (found_act x) (plain_request c.args.request.now) (map input_of c.args.task.inputs.items)
+    (only (outcome.Wait c.in-Waits.spot.slot)) c.args.machine.now.state [] c.args.machine.now.state) (sym c.in-Waits.is)
+    (refl, record { next = refl; saw = refl }))

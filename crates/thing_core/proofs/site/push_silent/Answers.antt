@@ -1,7 +1,7 @@
 use Rattle.std.proofs.Common.{◌+◌, ◌++◌, List, map, drop, ap, sym, ◌∙◌}
 use Rattle.std.specs.List.{filter}
 use Rattle.std.proofs.lemmas.List.{append-nil}
-use Rattle.thing_core.specs.declared.state.Latest.{Latest}
+use Rattle.thing_core.specs.State.{Latest}
 use Rattle.thing_core.specs.Site.{Placed, is_emitter}
 use Rattle.thing_core.specs.State.{silent}
 use Rattle.thing_core.specs.Exposing.{placed_all}

@@ -1,0 +1,35 @@
+use Rattle.std.proofs.Common.{◌≡◌, ◌∙◌, ◌-◌, List, ap, sym, subst}
+use Rattle.std.specs.Prelude.{◌==◌}
+use Rattle.std.specs.List.{position}
+use Rattle.std.specs.VecDeque.{deque_capacity, deque_len}
+use Rattle.thing_core.specs.State.{Invocation, without_invocation}
+use Rattle.thing_core.specs.Course.{Course}
+use Rattle.thing_core.specs.Thing.{with_invocations}
+use Rattle.thing_core.specs.declared.machine.Machine.TheInside.{Inside}
+use Rattle.thing_core.proofs.InvocationLists.{removed_at, none_removed}
+use Rattle.thing_core.proofs.machine.Machine.remove.Goals as goal
+
+-- what is seen of a machine with these invocations in the place of its own
+abbrev seen : Inside → List Invocation → Course
+seen m invocations = record {
+  state = record { invocations = invocations; next_invocation = m.next_invocation; last = m.last.items; turns = m.turns };
+  pending = m.pending.items;
+  room = deque_capacity m.pending - deque_len m.pending;
+}
+
+pub returns-in-Some : goal.returns-in-Some
+returns-in-Some c =
+    let gone : c.take_back.new.invocations.items ≡ without_invocation c.args.id c.self.inside.invocations.items =
+    c.take_back.ensures.items
+    ∙ (removed_at c.args.id c.self.inside.invocations.items c.in-Some.index
+    (ap (position (λ i. i.id == c.args.id)) (sym c.as_slice.ensures.value) ∙ sym c.place_of.ensures ∙ c.in-Some.is)).1 in
+    subst (λ (k : Course). seen c.self.inside c.take_back.new.invocations.items ≡ record k { state = with_invocations (without_invocation c.args.id k.state.invocations) k.state })
+    c.self.view_is (ap (seen c.self.inside) gone)
+
+pub returns-in-None : goal.returns-in-None
+returns-in-None c =
+    let stays : c.self.inside.invocations.items ≡ without_invocation c.args.id c.self.inside.invocations.items =
+    sym (none_removed c.args.id c.self.inside.invocations.items
+    (ap (position (λ i. i.id == c.args.id)) (sym c.as_slice.ensures.value) ∙ sym c.place_of.ensures ∙ c.in-None.is)) in
+    subst (λ (k : Course). k ≡ record k { state = with_invocations (without_invocation c.args.id k.state.invocations) k.state })
+    c.self.view_is (ap (seen c.self.inside) stays)

@@ -1,0 +1,11 @@
+use Rattle.std.proofs.Common.{List, [], ◌∷◌, Bool, cond, sym, subst, ◌∙◌}
+use Rattle.thing_core.specs.Site.{Placed}
+use Rattle.thing_core.specs.Exposing.{placed_spot}
+use Rattle.thing_core.specs.Performing.{PollsSome}
+use Rattle.thing_core.proofs.PollLaws.{none_polled}
+use Rattle.thing_core.proofs.polling.poll_if_event.Goals as goal
+
+pub returns-else-is_kind-clause-polled : goal.returns-else-is_kind-clause-polled
+returns-else-is_kind-clause-polled g c =
+    subst (λ (b : Bool). PollsSome (cond b (placed_spot c.args.spot ∷ []) []) c.args.machine.now c.args.machine.now (g.R.Handlers.slots c.args.rack.now) (g.R.Handlers.slots c.args.rack.now))
+    c.if-is_kind.ensures (none_polled c.args.machine.now (g.R.Handlers.slots c.args.rack.now))

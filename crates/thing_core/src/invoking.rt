@@ -1,0 +1,298 @@
+//! Actions: they are invoked, and invocations that run are queried and cancelled.
+
+ghost use Rattle.std.specs.Prelude.{◌≡◌, ◌≤◌, ◌<◌, ℕ, List, [], length, map, IfOk, IfSome, IsSome};
+ghost use Rattle.thing_core.specs.State.{invocation_named, is_running as is_running_one, most_invocations, running, running_count, status_text};
+ghost use Rattle.thing_core.specs.Thing.{place_of_invocation, Cancels, Invokes, OnInvocation, Queries};
+ghost use Rattle.thing_core.specs.Exposing.{placed_spot};
+ghost use Rattle.thing_core.specs.Performing.{input_of, HandsIn, IsTold, MakesDone, OrMemory, OutputComesTo, SettlesCancel, SettlesInvocation, SettlesQuery};
+
+use crate::NoMemory;
+use crate::calling::{Called, LONGEST_VALUE, call, taken_text};
+use crate::input::Input;
+use crate::machine::Machine;
+use crate::place::invocation_in;
+use crate::room::Room;
+use crate::site::Spot;
+use crate::state::{Invocation, MOST_TURNS};
+use crate::status::{put_completed, put_running};
+use itoa::Buffer;
+use std::alloc::Global;
+use thing_handler::{Answer, CallKind, Handlers};
+use thing_ops::{Outcome, Segments};
+use wot_json::{Bytes, Tree};
+use wot_schema::Schema;
+
+/// What an invocation may need once it was answered.
+#[derive(Drop)]
+pub struct Prepared {
+    /// Its path.
+    pub place: Segments,
+    /// Its status while it runs.
+    pub status: Bytes,
+    /// Room for its output.
+    pub output: Room,
+}
+
+/// Takes what an invocation of this id may need, under the path of its action.
+pub fn prepare(alloc: Global, path: &Segments, id: u64) -> Result<Prepared, NoMemory>
+    ensures { IfOk result (λ p. (p.place ≡ place_of_invocation path.now id) × (p.status ≡ status_text id running) × (p.output ≡ [])) }
+{
+    let mut status = Room::new(alloc)?;
+    put_running(&mut status, id);
+    Ok(Prepared {
+        place: place_under(alloc, path, id)?,
+        status: status.into_bytes(),
+        output: Room::new(alloc)?,
+    })
+}
+
+/// The path of an invocation of this id, under the path of its action.
+fn place_under(alloc: Global, path: &Segments, id: u64) -> Result<Segments, NoMemory>
+    ensures { IfOk result (λ place. place ≡ place_of_invocation path.now id) }
+{
+    let mut place = Segments::new(alloc);
+    for index in 0..path.len() {
+        match path.get(index) {
+            Some(segment) => place.push(segment)?,
+            None => return Ok(place),
+        }
+    }
+    let mut digits = Buffer::new();
+    place.push(digits.format(id).as_bytes())?;
+    Ok(place)
+}
+
+/// Invokes an action.
+pub fn invoke<R: Handlers>(
+    spot: Spot<'_>,
+    inputs: Vec<Input<'_>>,
+    prepared: Prepared,
+    machine: &mut Machine,
+    rack: &mut R,
+) -> Outcome
+    requires slot { spot.slot < length (R.slots rack.old) }
+    requires running { running_count machine.old.state.invocations < most_invocations }
+    requires status { prepared.status ≡ status_text machine.old.state.next_invocation running }
+    requires output { prepared.output ≡ [] }
+    ensures { (path : List (List ℕ)) → prepared.place ≡ place_of_invocation path machine.old.state.next_invocation
+        → MakesDone (Invokes (placed_spot spot.entry) path (map input_of inputs.entry.items)) result machine.old machine.new (R.slots rack.old) (R.slots rack.new) }
+{
+    if machine.turns() == MOST_TURNS {
+        return Outcome::CallsUsed;
+    }
+    let id = machine.next_invocation() as u32;
+    let called = call(
+        machine,
+        rack,
+        spot.slot,
+        &CallKind::Invoke(id, handed_in(inputs)),
+    );
+    match called {
+        Called::NoNumber => Outcome::CallsUsed,
+        Called::NoMemory => Outcome::Memory,
+        Called::Gives(answer) => settle(spot, prepared, answer, machine),
+    }
+}
+
+/// The value that is handed in to an action.
+fn handed_in(inputs: Vec<Input<'_>>) -> Option<Tree>
+    ensures { HandsIn inputs.entry.items result }
+{
+    match inputs.into_iter().next() {
+        Some(input) => Some(input.value),
+        None => None,
+    }
+}
+
+/// What the answer to an invocation brings about.
+fn settle(spot: Spot<'_>, prepared: Prepared, answer: Answer, machine: &mut Machine) -> Outcome
+    requires id { machine.old.state.next_invocation ≤ machine.old.state.turns }
+    requires running { running_count machine.old.state.invocations < most_invocations }
+    requires status { prepared.status ≡ status_text machine.old.state.next_invocation running }
+    requires output { prepared.output ≡ [] }
+    ensures { SettlesInvocation (placed_spot spot.entry) prepared.place answer result machine.old machine.new }
+{
+    match answer {
+        Answer::Started => {
+            machine.start(spot.slot);
+            Outcome::Started(prepared.place, prepared.status)
+        }
+        Answer::Finished(output) => {
+            machine.use_id();
+            finished(prepared.output, &spot.affordance.output, output)
+        }
+        Answer::Refused(number) => {
+            machine.use_id();
+            Outcome::Refused(number)
+        }
+        Answer::DeviceFault(number) => {
+            machine.use_id();
+            Outcome::DeviceFault(number)
+        }
+        Answer::Value(_)
+        | Answer::Done
+        | Answer::Running
+        | Answer::Cancelled
+        | Answer::Quiet
+        | Answer::Fired(_) => {
+            machine.use_id();
+            Outcome::BadAnswer
+        }
+    }
+}
+
+/// What an invocation comes to that is finished at once.
+fn finished(mut room: Room, schema: &Option<Schema>, output: Option<Tree>) -> Outcome
+    requires { room ≡ [] }
+    ensures { OutputComesTo schema.now output result }
+{
+    let value = match output {
+        Some(value) => value,
+        None => return Outcome::Changed,
+    };
+    let mut buffer = [0; LONGEST_VALUE];
+    match taken_text(schema, &value, &mut buffer) {
+        Some(text) => {
+            room.fill(text);
+            Outcome::Output(room.into_bytes())
+        }
+        None => Outcome::BadAnswer,
+    }
+}
+
+/// Asks how an invocation stands.
+pub fn query<R: Handlers>(
+    alloc: Global,
+    spot: Spot<'_>,
+    id: u32,
+    machine: &mut Machine,
+    rack: &mut R,
+) -> Outcome
+    requires slot { spot.slot < length (R.slots rack.old) }
+    requires stands { IsSome (invocation_named spot.slot id machine.old.state.invocations) }
+    ensures { MakesDone (OrMemory (OnInvocation (placed_spot spot.entry) id (Queries (placed_spot spot.entry) id))) result machine.old machine.new (R.slots rack.old) (R.slots rack.new) }
+{
+    let room = match Room::new(alloc) {
+        Ok(room) => room,
+        Err(_) => return Outcome::Memory,
+    };
+    let room = match told(machine.invocations(), spot.slot, id, room) {
+        Ok(outcome) => return outcome,
+        Err(room) => room,
+    };
+    let called = call(machine, rack, spot.slot, &CallKind::Query(id));
+    match called {
+        Called::NoNumber => Outcome::CallsUsed,
+        Called::NoMemory => Outcome::Memory,
+        Called::Gives(answer) => queried(spot, id, room, answer, machine),
+    }
+}
+
+/// The status of an invocation that runs no more; or else the room.
+fn told(invocations: &[Invocation], slot: u32, id: u32, mut room: Room) -> Result<Outcome, Room>
+    requires { room ≡ [] }
+    ensures { IsTold (invocation_named slot id invocations.now) id result }
+{
+    match invocation_in(invocations, slot, id) {
+        None => Err(room),
+        Some(invocation) => {
+            if invocation.is_running() {
+                return Err(room);
+            }
+            put_completed(&mut room, u64::from(id), invocation.output());
+            Ok(Outcome::Content(room.into_bytes()))
+        }
+    }
+}
+
+/// What the answer to a query brings about.
+fn queried(
+    spot: Spot<'_>,
+    id: u32,
+    mut room: Room,
+    answer: Answer,
+    machine: &mut Machine,
+) -> Outcome
+    requires { room ≡ [] }
+    ensures { SettlesQuery (placed_spot spot.entry) id answer result machine.old machine.new }
+{
+    match answer {
+        Answer::Running => {
+            put_running(&mut room, u64::from(id));
+            Outcome::Content(room.into_bytes())
+        }
+        Answer::Finished(None) => {
+            machine.complete(id, None);
+            put_completed(&mut room, u64::from(id), None);
+            Outcome::Content(room.into_bytes())
+        }
+        Answer::Finished(Some(value)) => {
+            let mut buffer = [0; LONGEST_VALUE];
+            match taken_text(&spot.affordance.output, &value, &mut buffer) {
+                Some(text) => {
+                    machine.complete(id, Some(text));
+                    put_completed(&mut room, u64::from(id), Some(text));
+                    Outcome::Content(room.into_bytes())
+                }
+                None => Outcome::BadAnswer,
+            }
+        }
+        Answer::Refused(number) => Outcome::Refused(number),
+        Answer::DeviceFault(number) => Outcome::DeviceFault(number),
+        Answer::Value(_)
+        | Answer::Done
+        | Answer::Started
+        | Answer::Cancelled
+        | Answer::Quiet
+        | Answer::Fired(_) => Outcome::BadAnswer,
+    }
+}
+
+/// Ends an invocation.
+pub fn cancel<R: Handlers>(spot: Spot<'_>, id: u32, machine: &mut Machine, rack: &mut R) -> Outcome
+    requires slot { spot.slot < length (R.slots rack.old) }
+    requires stands { IsSome (invocation_named spot.slot id machine.old.state.invocations) }
+    ensures { MakesDone (OnInvocation (placed_spot spot.entry) id (Cancels (placed_spot spot.entry) id)) result machine.old machine.new (R.slots rack.old) (R.slots rack.new) }
+{
+    if !is_running(machine.invocations(), spot.slot, id) {
+        machine.remove(id);
+        return Outcome::Deleted;
+    }
+    let called = call(machine, rack, spot.slot, &CallKind::Cancel(id));
+    match called {
+        Called::NoNumber => Outcome::CallsUsed,
+        Called::NoMemory => Outcome::Memory,
+        Called::Gives(answer) => cancelled(id, answer, machine),
+    }
+}
+
+/// What the answer to a cancellation brings about.
+fn cancelled(id: u32, answer: Answer, machine: &mut Machine) -> Outcome
+    ensures { SettlesCancel id answer result machine.old machine.new }
+{
+    match answer {
+        Answer::Cancelled => {
+            machine.remove(id);
+            Outcome::Deleted
+        }
+        Answer::Refused(number) => Outcome::Refused(number),
+        Answer::DeviceFault(number) => Outcome::DeviceFault(number),
+        Answer::Value(_)
+        | Answer::Done
+        | Answer::Started
+        | Answer::Running
+        | Answer::Finished(_)
+        | Answer::Quiet
+        | Answer::Fired(_) => Outcome::BadAnswer,
+    }
+}
+
+/// The invocation of this id, of the action in this slot, runs.
+fn is_running(invocations: &[Invocation], slot: u32, id: u32) -> bool
+    ensures { IfSome (invocation_named slot id invocations.now) (λ i. result ≡ is_running_one i) }
+{
+    match invocation_in(invocations, slot, id) {
+        Some(invocation) => invocation.is_running(),
+        None => false,
+    }
+}

@@ -1,0 +1,84 @@
+//! Polling events.
+
+ghost use Rattle.std.specs.Prelude.{◌≡◌, ◌≤◌, ◌<◌, ◌+◌, ◌∷◌, [], length};
+ghost use Rattle.std.specs.List.{filter};
+ghost use Rattle.thing_core.specs.Site.{events_of, of_kind};
+ghost use Rattle.thing_core.specs.Exposing.{held_site, placed_all, placed_spot};
+ghost use Rattle.thing_core.specs.Performing.{AllStand, PollsSome};
+
+use crate::calling::{LONGEST_VALUE, call, fired, taken_text};
+use crate::machine::Machine;
+use crate::site::{HeldThing, Spot, is_kind, slot_at};
+use thing_handler::{CallKind, Handlers};
+use wot_terms::{Affordance, Kind};
+
+/// Polls each event, in the order of Things and affordances.
+pub fn poll_all<R: Handlers>(things: &[HeldThing], machine: &mut Machine, rack: &mut R)
+    requires slots { AllStand (length (R.slots rack.old)) (events_of (held_site things.now)) }
+    requires room { length (events_of (held_site things.now)) ≤ machine.old.room }
+    ensures { PollsSome (events_of (held_site things.now)) machine.old machine.new (R.slots rack.old) (R.slots rack.new) }
+{
+    for thing in things {
+        poll_thing(
+            thing.affordances.affordances(),
+            thing.slots.as_slice(),
+            machine,
+            rack,
+        );
+    }
+}
+
+/// Polls each event among the affordances of a Thing.
+fn poll_thing<R: Handlers>(
+    affordances: &[Affordance],
+    slots: &[u32],
+    machine: &mut Machine,
+    rack: &mut R,
+)
+    requires slots { AllStand (length (R.slots rack.old)) (filter (of_kind Kind.Event) (placed_all affordances.now slots.now)) }
+    requires room { length (filter (of_kind Kind.Event) (placed_all affordances.now slots.now)) ≤ machine.old.room }
+    ensures polled { PollsSome (filter (of_kind Kind.Event) (placed_all affordances.now slots.now)) machine.old machine.new (R.slots rack.old) (R.slots rack.new) }
+    ensures room { machine.old.room ≤ machine.new.room + length (filter (of_kind Kind.Event) (placed_all affordances.now slots.now)) }
+    ensures slots { length (R.slots rack.new) ≡ length (R.slots rack.old) }
+{
+    for (index, affordance) in affordances.iter().enumerate() {
+        let slot = match slot_at(slots, index) {
+            Some(slot) => slot,
+            None => return,
+        };
+        poll_if_event(Spot { affordance, slot }, machine, rack);
+    }
+}
+
+/// Polls an affordance, where it is an event.
+fn poll_if_event<R: Handlers>(spot: Spot<'_>, machine: &mut Machine, rack: &mut R)
+    requires slots { AllStand (length (R.slots rack.old)) (filter (of_kind Kind.Event) (placed_spot spot ∷ [])) }
+    requires room { length (filter (of_kind Kind.Event) (placed_spot spot ∷ [])) ≤ machine.old.room }
+    ensures polled { PollsSome (filter (of_kind Kind.Event) (placed_spot spot.entry ∷ [])) machine.old machine.new (R.slots rack.old) (R.slots rack.new) }
+    ensures room { machine.old.room ≤ machine.new.room + length (filter (of_kind Kind.Event) (placed_spot spot.entry ∷ [])) }
+    ensures slots { length (R.slots rack.new) ≡ length (R.slots rack.old) }
+{
+    if is_kind(Kind::Event, spot.affordance.kind) {
+        poll(spot, machine, rack);
+    }
+}
+
+/// Polls an event: its value is emitted where it is taken.
+fn poll<R: Handlers>(spot: Spot<'_>, machine: &mut Machine, rack: &mut R)
+    requires slot { spot.slot < length (R.slots rack.old) }
+    requires room { 0 < machine.old.room }
+    ensures polled { PollsSome (placed_spot spot.entry ∷ []) machine.old machine.new (R.slots rack.old) (R.slots rack.new) }
+    ensures room { machine.old.room ≤ machine.new.room + 1 }
+    ensures slots { length (R.slots rack.new) ≡ length (R.slots rack.old) }
+{
+    let called = call(machine, rack, spot.slot, &CallKind::Poll);
+    let value = match fired(called) {
+        Some(value) => value,
+        None => return,
+    };
+    let mut buffer = [0; LONGEST_VALUE];
+    match taken_text(&spot.affordance.output, &value, &mut buffer) {
+        Some(text) => machine.emit(spot.slot, text),
+        None => {}
+    }
+}

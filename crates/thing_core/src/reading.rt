@@ -1,0 +1,222 @@
+//! Reading properties: one, or all of a Thing.
+
+ghost use Rattle.std.specs.Prelude.{◌≡◌, ◌≤◌, ◌<◌, ◌+◌, ◌++◌, ◌∷◌, [], length, vec_len, vec_capacity, IfOk, IfSome, OnOk};
+ghost use Rattle.std.specs.List.{filter};
+ghost use Rattle.thing_core.specs.Site.{of_kind};
+ghost use Rattle.thing_core.specs.Thing.{is_readable, readable, Reads, ReadsEach};
+ghost use Rattle.thing_core.specs.Exposing.{held_thing, placed_all, placed_spot};
+ghost use Rattle.thing_core.specs.Performing.{with_member, room_of_fields, spots_of, AllStand, MakesDone, OrMemory, ReadsOne};
+
+use crate::NoMemory;
+use crate::calling::{LONGEST_VALUE, call, taken_text, value_of};
+use crate::field::Field;
+use crate::machine::Machine;
+use crate::site::{HeldThing, Spot, slot_at};
+use std::alloc::Global;
+use thing_handler::{CallKind, Handlers};
+use thing_ops::Outcome;
+use wot_json::{Bytes, quoted};
+use wot_terms::{Affordance, Kind};
+
+/// Reads a property. The room for its text is taken before the call.
+pub fn read<R: Handlers>(
+    alloc: Global,
+    spot: Spot<'_>,
+    machine: &mut Machine,
+    rack: &mut R,
+) -> Outcome
+    requires { spot.slot < length (R.slots rack.old) }
+    ensures { MakesDone (OrMemory (Reads (placed_spot spot.entry))) result machine.old machine.new (R.slots rack.old) (R.slots rack.new) }
+{
+    let room = match Vec::with_capacity(alloc, LONGEST_VALUE) {
+        Ok(room) => room,
+        Err(_) => return Outcome::Memory,
+    };
+    let called = call(machine, rack, spot.slot, &CallKind::Read);
+    let value = match value_of(called) {
+        Ok(value) => value,
+        Err(outcome) => return outcome,
+    };
+    let mut buffer = [0; LONGEST_VALUE];
+    match taken_text(&spot.affordance.output, &value, &mut buffer) {
+        Some(text) => Outcome::Content(filled(room, text)),
+        None => Outcome::BadAnswer,
+    }
+}
+
+/// A text in empty room that was taken for it.
+fn filled(mut room: Vec<u8>, text: &[u8]) -> Bytes
+    requires empty { room.items ≡ [] }
+    requires room { length text.now ≤ vec_capacity room }
+    ensures { result ≡ text.now }
+{
+    room.extend_from_slice(text).unwrap();
+    Bytes::from_vec(room)
+}
+
+/// Reads all properties of a Thing that aren't write-only, until one fails. All room is taken before the first call.
+pub fn read_all<R: Handlers>(
+    alloc: Global,
+    thing: &HeldThing,
+    machine: &mut Machine,
+    rack: &mut R,
+) -> Outcome
+    requires { AllStand (length (R.slots rack.old)) (held_thing thing.now).affordances }
+    ensures { MakesDone (OrMemory (ReadsEach (readable (held_thing thing.now)) [])) result machine.old machine.new (R.slots rack.old) (R.slots rack.new) }
+{
+    let fields = match fields_of(
+        alloc,
+        thing.affordances.affordances(),
+        thing.slots.as_slice(),
+    ) {
+        Ok(fields) => fields,
+        Err(_) => return Outcome::Memory,
+    };
+    match room_for(alloc, fields.as_slice()) {
+        Some(text) => read_fields(fields.as_slice(), text, machine, rack),
+        None => Outcome::Memory,
+    }
+}
+
+/// Reads these properties, until one fails, into this room.
+fn read_fields<R: Handlers>(
+    fields: &[Field<'_>],
+    mut text: Vec<u8>,
+    machine: &mut Machine,
+    rack: &mut R,
+) -> Outcome
+    requires slots { AllStand (length (R.slots rack.old)) (spots_of fields.now) }
+    requires empty { text.items ≡ [] }
+    requires len { vec_len text ≡ 0 }
+    requires room { room_of_fields fields.now ≤ vec_capacity text }
+    ensures { MakesDone (ReadsEach (spots_of fields.now) []) result machine.old machine.new (R.slots rack.old) (R.slots rack.new) }
+{
+    text.push_reserved(b'{');
+    for field in fields {
+        match read_one(field, &mut text, machine, rack) {
+            None => {}
+            Some(outcome) => return outcome,
+        }
+    }
+    text.push_reserved(b'}');
+    Outcome::Content(Bytes::from_vec(text))
+}
+
+/// Reads a property, and puts it after the others into the text of an object; or what it comes to where that fails.
+fn read_one<R: Handlers>(
+    field: &Field<'_>,
+    text: &mut Vec<u8>,
+    machine: &mut Machine,
+    rack: &mut R,
+) -> Option<Outcome>
+    requires slot { field.now.spot.slot < length (R.slots rack.old) }
+    requires room { vec_len text.old + length field.now.name + LONGEST_VALUE + 2 ≤ vec_capacity text.old }
+    ensures read { ReadsOne (placed_spot field.now.spot) result text.old.items text.new.items machine.old machine.new (R.slots rack.old) (R.slots rack.new) }
+    ensures pending { machine.new.pending ≡ machine.old.pending }
+    ensures slots { length (R.slots rack.new) ≡ length (R.slots rack.old) }
+    ensures len { vec_len text.new ≤ vec_len text.old + length field.now.name + LONGEST_VALUE + 2 }
+    ensures places { vec_capacity text.old ≤ vec_capacity text.new }
+{
+    let called = call(machine, rack, field.spot.slot, &CallKind::Read);
+    let value = match value_of(called) {
+        Ok(value) => value,
+        Err(outcome) => return Some(outcome),
+    };
+    let mut buffer = [0; LONGEST_VALUE];
+    match taken_text(&field.spot.affordance.output, &value, &mut buffer) {
+        Some(value) => {
+            put_member(text, field.name.as_slice(), value);
+            None
+        }
+        None => Some(Outcome::BadAnswer),
+    }
+}
+
+/// Puts a member after the others into the text of an object that has no end yet.
+fn put_member(text: &mut Vec<u8>, name: &[u8], value: &[u8])
+    requires { vec_len text.old + length name.now + length value.now + 2 ≤ vec_capacity text.old }
+    ensures items { text.new.items ≡ with_member text.old.items name.now value.now }
+    ensures len { vec_len text.new ≤ vec_len text.old + length name.now + length value.now + 2 }
+    ensures places { vec_capacity text.old ≤ vec_capacity text.new }
+{
+    if 1 < text.len() {
+        text.push_reserved(b',');
+    }
+    text.extend_from_slice(name).unwrap();
+    text.push_reserved(b':');
+    text.extend_from_slice(value).unwrap();
+}
+
+/// The properties that are to be read among these affordances.
+fn fields_of<'a>(
+    alloc: Global,
+    affordances: &'a [Affordance],
+    slots: &[u32],
+) -> Result<Vec<Field<'a>>, NoMemory>
+    ensures { IfOk result (λ fields. spots_of fields.items ≡ filter is_readable (filter (of_kind Kind.Property) (placed_all affordances.now slots.now))) }
+{
+    let mut fields = Vec::new(alloc);
+    for (index, affordance) in affordances.iter().enumerate() {
+        let slot = match slot_at(slots, index) {
+            Some(slot) => slot,
+            None => return Ok(fields),
+        };
+        push_if_readable(alloc, &mut fields, Spot { affordance, slot })?;
+    }
+    Ok(fields)
+}
+
+/// Puts a property at the end, where it is to be read.
+fn push_if_readable<'a>(
+    alloc: Global,
+    fields: &mut Vec<Field<'a>>,
+    spot: Spot<'a>,
+) -> Result<(), NoMemory>
+    ensures { OnOk result (spots_of fields.new.items ≡ spots_of fields.old.items ++ filter is_readable (filter (of_kind Kind.Property) (placed_spot spot.entry ∷ []))) }
+{
+    let is_property = match spot.affordance.kind {
+        Kind::Property => true,
+        Kind::Action | Kind::Event => false,
+    };
+    if is_property && !spot.affordance.write_only {
+        let name = quoted(alloc, spot.affordance.name.as_str())?;
+        fields.push(Field { spot, name })?;
+    }
+    Ok(())
+}
+
+/// Room for the text of these properties with their values.
+fn room_for(alloc: Global, fields: &[Field<'_>]) -> Option<Vec<u8>>
+    ensures empty { IfSome result (λ text. text.items ≡ []) }
+    ensures len { IfSome result (λ text. vec_len text ≡ 0) }
+    ensures room { IfSome result (λ text. room_of_fields fields.now ≤ vec_capacity text) }
+{
+    match size_of_all(fields) {
+        Some(size) => Vec::with_capacity(alloc, size).ok(),
+        None => None,
+    }
+}
+
+/// How many bytes the text of these properties with their values has at most, where that is a number of bytes.
+fn size_of_all(fields: &[Field<'_>]) -> Option<usize>
+    ensures { IfSome result (λ size. size ≡ room_of_fields fields.now) }
+{
+    let mut size = 2_usize;
+    for field in fields {
+        size = match size_with(size, field.name.len()) {
+            Some(size) => size,
+            None => return None,
+        };
+    }
+    Some(size)
+}
+
+/// The size with a further property.
+fn size_with(size: usize, name: usize) -> Option<usize>
+    ensures { IfSome result (λ all. all ≡ size + (name + (LONGEST_VALUE + 2))) }
+{
+    match name.checked_add(LONGEST_VALUE + 2) {
+        Some(field) => size.checked_add(field),
+        None => None,
+    }
+}

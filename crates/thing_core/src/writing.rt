@@ -1,0 +1,79 @@
+//! Writing properties: one, or several of a Thing.
+
+ghost use Rattle.std.specs.Prelude.{◌≡◌, ◌≤◌, ◌<◌, ◌+◌, ◌++◌, [], length, map};
+ghost use Rattle.thing_core.specs.State.{last_after};
+ghost use Rattle.thing_core.specs.Refusals.{longest_value};
+ghost use Rattle.thing_core.specs.Thing.{WritesEach};
+ghost use Rattle.thing_core.specs.Exposing.{placed_spot};
+ghost use Rattle.thing_core.specs.Performing.{emissions_of_text, input_of, InputsFit, MakesDone, OrMemory, WritesOne};
+
+use crate::calling::{call, write_failure};
+use crate::input::Input;
+use crate::machine::Machine;
+use crate::site::Spot;
+use thing_handler::{CallKind, Handlers};
+use thing_ops::Outcome;
+
+/// Writes values to properties, one after another, until one isn't done. Room for the emissions is taken before the first
+/// call.
+pub fn write_each<R: Handlers>(
+    inputs: Vec<Input<'_>>,
+    machine: &mut Machine,
+    rack: &mut R,
+) -> Outcome
+    requires { InputsFit (length (R.slots rack.old)) inputs.items }
+    ensures { MakesDone (OrMemory (WritesEach (map input_of inputs.entry.items) [])) result machine.old machine.new (R.slots rack.old) (R.slots rack.new) }
+{
+    if machine.reserve(inputs.len()).is_err() {
+        return Outcome::Memory;
+    }
+    write_all(inputs, machine, rack)
+}
+
+/// The same, where there is room for the emissions.
+fn write_all<R: Handlers>(inputs: Vec<Input<'_>>, machine: &mut Machine, rack: &mut R) -> Outcome
+    requires inputs { InputsFit (length (R.slots rack.old)) inputs.items }
+    requires room { length inputs.items ≤ machine.old.room }
+    ensures { MakesDone (WritesEach (map input_of inputs.entry.items) []) result machine.old machine.new (R.slots rack.old) (R.slots rack.new) }
+{
+    for input in inputs {
+        match write_one(input, machine, rack) {
+            None => {}
+            Some(outcome) => return outcome,
+        }
+    }
+    Outcome::Changed
+}
+
+/// Writes a value to a property, which emits it if it is observable; or what it comes to where it isn't done.
+fn write_one<R: Handlers>(input: Input<'_>, machine: &mut Machine, rack: &mut R) -> Option<Outcome>
+    requires slot { input.spot.slot < length (R.slots rack.old) }
+    requires text { length input.text ≤ longest_value }
+    requires room { 0 < machine.old.room }
+    ensures written { WritesOne (input_of input.entry) result machine.old machine.new (R.slots rack.old) (R.slots rack.new) }
+    ensures room { machine.old.room ≤ machine.new.room + 1 }
+    ensures slots { length (R.slots rack.new) ≡ length (R.slots rack.old) }
+{
+    let spot = input.spot;
+    let called = call(machine, rack, spot.slot, &CallKind::Write(input.value));
+    match write_failure(called) {
+        None => {
+            emit_written(spot, input.text.as_slice(), machine);
+            None
+        }
+        Some(outcome) => Some(outcome),
+    }
+}
+
+/// A property emits the text of what was written to it, if it is observable.
+fn emit_written(spot: Spot<'_>, text: &[u8], machine: &mut Machine)
+    requires text { length text.now ≤ longest_value }
+    requires room { 0 < machine.old.room }
+    ensures state { machine.new.state ≡ record machine.old.state { last = last_after (emissions_of_text (placed_spot spot.entry) text.now) machine.old.state.last } }
+    ensures pending { machine.new.pending ≡ machine.old.pending ++ map (λ e. e.target) (emissions_of_text (placed_spot spot.entry) text.now) }
+    ensures room { machine.old.room ≤ machine.new.room + 1 }
+{
+    if spot.affordance.observable {
+        machine.emit(spot.slot, text);
+    }
+}

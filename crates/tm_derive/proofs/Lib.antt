@@ -5,3 +5,4 @@ pub mod Gathering
 pub mod Putting
 pub mod OneThing
 pub mod WholeDerivation
+pub mod NoFaults

@@ -5,16 +5,13 @@ use std::alloc::{AllocError, Global};
 use std::test::Fail;
 use wot_json::Text;
 
-/// The command of some words.
-fn read<'a>(
-    alloc: Global,
-    words: impl Iterator<Item = &'a str>,
-) -> Result<Result<Command, WordsFault>, Fail> {
-    let mut given = Vec::new(alloc);
-    for word in words {
-        given.push(Text::copy_of(alloc, word)?)?;
+/// The command of the words of a line.
+fn read(alloc: Global, line: &str) -> Result<Result<Command, WordsFault>, Fail> {
+    let mut words = Vec::new(alloc);
+    for word in line.split(' ') {
+        words.push(Text::copy_of(alloc, word)?)?;
     }
-    Ok(Command::read(alloc, given.as_slice()))
+    Ok(Command::read(alloc, words.as_slice()))
 }
 
 /// A text that may be there, or `none`.
@@ -71,185 +68,188 @@ fn shown(alloc: Global, command: &Command) -> Result<String, AllocError> {
     }
 }
 
+/// Lines that mean a command, and its parts.
+const TAKEN: [(&str, &str); 26] = [
+    ("check td.json", "check td.json"),
+    ("check -", "check -"),
+    ("check ", "check "),
+    ("check -- --td.json", "check --td.json"),
+    ("check -- --", "check --"),
+    ("check td.json --", "check td.json"),
+    ("derive p.json", "derive p.json"),
+    ("replay s.txt", "replay s.txt none 100000"),
+    ("replay s.txt --events=5 p.json", "replay s.txt p.json 5"),
+    ("replay --events 5 -- s.txt", "replay s.txt none 5"),
+    ("replay --events=1 s.txt p.json", "replay s.txt p.json 1"),
+    (
+        "replay s.txt p.json --events 1000000",
+        "replay s.txt p.json 1000000",
+    ),
+    ("replay s.txt --events 99999 -- -p", "replay s.txt -p 99999"),
+    ("replay - -", "replay - - 100000"),
+    ("replay s.txt -- --events", "replay s.txt --events 100000"),
+    ("serve p.json", "serve p.json 100000 0"),
+    (
+        "serve --idle 86400 p.json --events=1",
+        "serve p.json 1 86400",
+    ),
+    ("serve p.json --events 9 --idle=0", "serve p.json 9 0"),
+    (
+        "consume t readproperty s",
+        "consume t readproperty s none none 1",
+    ),
+    (
+        "consume t readproperty -",
+        "consume t readproperty - none none 1",
+    ),
+    (
+        "consume t readallproperties -",
+        "consume t readallproperties - none none 1",
+    ),
+    (
+        "consume --scheme http t --input v writeproperty s",
+        "consume t writeproperty s http v 1",
+    ),
+    (
+        "consume t observeproperty s --count 100 --scheme=coap",
+        "consume t observeproperty s coap none 100",
+    ),
+    (
+        "consume --count=1 t invokeaction --input=a=-b fade",
+        "consume t invokeaction fade none a=-b 1",
+    ),
+    ("storm 0 1", "storm 0 1"),
+    ("storm 999999999 100000", "storm 999999999 100000"),
+];
+
 #[test]
 fn lines_that_are_taken(rt: HostRuntime) -> Result<(), Fail> {
-    let table = [
-        ("check td.json", "check td.json"),
-        ("check -", "check -"),
-        ("check ", "check "),
-        ("check -- --td.json", "check --td.json"),
-        ("check -- --", "check --"),
-        ("check td.json --", "check td.json"),
-        ("derive p.json", "derive p.json"),
-        ("replay s.txt", "replay s.txt none 100000"),
-        ("replay s.txt --events=5 p.json", "replay s.txt p.json 5"),
-        ("replay --events 5 -- s.txt", "replay s.txt none 5"),
-        ("replay --events=1 s.txt p.json", "replay s.txt p.json 1"),
-        (
-            "replay s.txt p.json --events 1000000",
-            "replay s.txt p.json 1000000",
-        ),
-        ("replay s.txt --events 99999 -- -p", "replay s.txt -p 99999"),
-        ("replay - -", "replay - - 100000"),
-        ("replay s.txt -- --events", "replay s.txt --events 100000"),
-        ("serve p.json", "serve p.json 100000 0"),
-        (
-            "serve --idle 86400 p.json --events=1",
-            "serve p.json 1 86400",
-        ),
-        ("serve p.json --events 9 --idle=0", "serve p.json 9 0"),
-        (
-            "consume t readproperty s",
-            "consume t readproperty s none none 1",
-        ),
-        (
-            "consume t readproperty -",
-            "consume t readproperty - none none 1",
-        ),
-        (
-            "consume t readallproperties -",
-            "consume t readallproperties - none none 1",
-        ),
-        (
-            "consume --scheme http t --input v writeproperty s",
-            "consume t writeproperty s http v 1",
-        ),
-        (
-            "consume t observeproperty s --count 100 --scheme=coap",
-            "consume t observeproperty s coap none 100",
-        ),
-        (
-            "consume --count=1 t invokeaction --input=a=-b fade",
-            "consume t invokeaction fade none a=-b 1",
-        ),
-        ("storm 0 1", "storm 0 1"),
-        ("storm 999999999 100000", "storm 999999999 100000"),
-    ];
     let alloc = rt.alloc();
-    for (line, meaning) in table {
-        match read(alloc, line.split(' '))? {
+    for (line, meaning) in TAKEN {
+        match read(alloc, line)? {
             Ok(command) => assert_eq!(rt; shown(alloc, &command)?.as_str(), meaning),
-            Err(_) => assert!(rt; false, "{line}"),
+            Err(_) => assert!(rt; false),
         }
     }
     Ok(())
 }
 
+/// Lines that mean nothing.
+const REFUSED: [&str; 98] = [
+    // The command.
+    "",
+    "-",
+    "help",
+    "--help",
+    "checks td.json",
+    "Check td.json",
+    "td.json check",
+    "--events 5 replay s.txt",
+    "--events=5 replay s.txt",
+    "-- check td.json",
+    // A word too few and a word too many.
+    "check",
+    "check td.json td.json",
+    "check td.json ",
+    "derive",
+    "derive p.json p.json",
+    "replay",
+    "replay --events 5",
+    "replay --",
+    "replay s.txt p.json p.json",
+    "serve",
+    "serve p.json p.json",
+    "consume t readproperty",
+    "consume t readproperty s s",
+    "storm 1",
+    "storm 1 1 1",
+    // Options.
+    "replay s.txt --help",
+    "replay s.txt -h",
+    "replay -s.txt",
+    "check td.json -",
+    "check -td.json",
+    "check --events 5 td.json",
+    "derive p.json --idle 5",
+    "replay s.txt --idle 5",
+    "serve p.json --count 1",
+    "consume t readproperty s --events 5",
+    "replay s.txt --event 5",
+    "replay s.txt --Events 5",
+    "replay s.txt -events 5",
+    "replay s.txt -e 5",
+    "replay s.txt --=5",
+    "replay s.txt --events 5 --events 6",
+    "replay s.txt --events=5 --events=5",
+    "replay --events 5 s.txt --events=5",
+    "serve p.json --idle 5 --events 5 --idle 5",
+    "consume t readproperty s --scheme http --scheme coap",
+    "consume t readproperty s --input v --input w",
+    "consume t readproperty s --count 1 --count 1",
+    // Values.
+    "replay s.txt --events",
+    "replay s.txt --events ",
+    "replay s.txt --events=",
+    "replay s.txt --events -- 5",
+    "replay s.txt --events --idle 5",
+    "replay s.txt --events -5",
+    "replay s.txt --events=-5",
+    "replay s.txt --events -",
+    "replay s.txt --events=-",
+    "serve p.json --idle",
+    "serve p.json --idle=",
+    "serve p.json --idle -1",
+    "consume t readproperty s --scheme",
+    "consume t readproperty s --scheme=",
+    "consume t readproperty s --scheme -http",
+    "consume t readproperty s --scheme https",
+    "consume t readproperty s --scheme HTTP",
+    "consume t readproperty s --input",
+    "consume t readproperty s --input ",
+    "consume t readproperty s --input=",
+    "consume t readproperty s --input -",
+    "consume t readproperty s --input=-",
+    "consume t readproperty s --input -v",
+    "consume t readproperty s --input=-v",
+    "consume t readproperty s --count=",
+    "consume t readproperty s --count -1",
+    // Numbers.
+    "replay s.txt --events 0",
+    "replay s.txt --events 1000001",
+    "replay s.txt --events 1000000000",
+    "replay s.txt --events 007",
+    "replay s.txt --events 05",
+    "replay s.txt --events +5",
+    "replay s.txt --events 5.0",
+    "replay s.txt --events 5x",
+    "replay s.txt --events 99999999999999999999",
+    "serve p.json --idle 86401",
+    "serve p.json --idle 00",
+    "consume t readproperty s --count 0",
+    "consume t readproperty s --count 101",
+    "storm 1000000000 1",
+    "storm 01 1",
+    "storm -1 1",
+    "storm -- -1 1",
+    "storm - 1",
+    "storm 1 0",
+    "storm 1 100001",
+    // Operations and names.
+    "consume t readproperties s",
+    "consume t writeallproperties -",
+    "consume t ReadProperty s",
+    "consume t readallproperties s",
+    "consume t readallproperties ",
+];
+
 #[test]
 fn lines_that_are_refused(rt: HostRuntime) -> Result<(), Fail> {
-    let table = [
-        // The command.
-        "",
-        "-",
-        "help",
-        "--help",
-        "checks td.json",
-        "Check td.json",
-        "td.json check",
-        "--events 5 replay s.txt",
-        "--events=5 replay s.txt",
-        "-- check td.json",
-        // A word too few and a word too many.
-        "check",
-        "check td.json td.json",
-        "check td.json ",
-        "derive",
-        "derive p.json p.json",
-        "replay",
-        "replay --events 5",
-        "replay --",
-        "replay s.txt p.json p.json",
-        "serve",
-        "serve p.json p.json",
-        "consume t readproperty",
-        "consume t readproperty s s",
-        "storm 1",
-        "storm 1 1 1",
-        // Options.
-        "replay s.txt --help",
-        "replay s.txt -h",
-        "replay -s.txt",
-        "check td.json -",
-        "check -td.json",
-        "check --events 5 td.json",
-        "derive p.json --idle 5",
-        "replay s.txt --idle 5",
-        "serve p.json --count 1",
-        "consume t readproperty s --events 5",
-        "replay s.txt --event 5",
-        "replay s.txt --Events 5",
-        "replay s.txt -events 5",
-        "replay s.txt -e 5",
-        "replay s.txt --=5",
-        "replay s.txt --events 5 --events 6",
-        "replay s.txt --events=5 --events=5",
-        "replay --events 5 s.txt --events=5",
-        "serve p.json --idle 5 --events 5 --idle 5",
-        "consume t readproperty s --scheme http --scheme coap",
-        "consume t readproperty s --input v --input w",
-        "consume t readproperty s --count 1 --count 1",
-        // Values.
-        "replay s.txt --events",
-        "replay s.txt --events ",
-        "replay s.txt --events=",
-        "replay s.txt --events -- 5",
-        "replay s.txt --events --idle 5",
-        "replay s.txt --events -5",
-        "replay s.txt --events=-5",
-        "replay s.txt --events -",
-        "replay s.txt --events=-",
-        "serve p.json --idle",
-        "serve p.json --idle=",
-        "serve p.json --idle -1",
-        "consume t readproperty s --scheme",
-        "consume t readproperty s --scheme=",
-        "consume t readproperty s --scheme -http",
-        "consume t readproperty s --scheme https",
-        "consume t readproperty s --scheme HTTP",
-        "consume t readproperty s --input",
-        "consume t readproperty s --input ",
-        "consume t readproperty s --input=",
-        "consume t readproperty s --input -",
-        "consume t readproperty s --input=-",
-        "consume t readproperty s --input -v",
-        "consume t readproperty s --input=-v",
-        "consume t readproperty s --count=",
-        "consume t readproperty s --count -1",
-        // Numbers.
-        "replay s.txt --events 0",
-        "replay s.txt --events 1000001",
-        "replay s.txt --events 1000000000",
-        "replay s.txt --events 007",
-        "replay s.txt --events 05",
-        "replay s.txt --events +5",
-        "replay s.txt --events 5.0",
-        "replay s.txt --events 5x",
-        "replay s.txt --events 99999999999999999999",
-        "serve p.json --idle 86401",
-        "serve p.json --idle 00",
-        "consume t readproperty s --count 0",
-        "consume t readproperty s --count 101",
-        "storm 1000000000 1",
-        "storm 01 1",
-        "storm -1 1",
-        "storm -- -1 1",
-        "storm - 1",
-        "storm 1 0",
-        "storm 1 100001",
-        // Operations and names.
-        "consume t readproperties s",
-        "consume t writeallproperties -",
-        "consume t ReadProperty s",
-        "consume t readallproperties s",
-        "consume t readallproperties ",
-    ];
     let alloc = rt.alloc();
-    for line in table {
-        let refused = matches!(read(alloc, line.split(' '))?, Err(WordsFault::Usage));
-        assert!(rt; refused, "{line}");
+    for line in REFUSED {
+        let refused = matches!(read(alloc, line)?, Err(WordsFault::Usage));
+        assert!(rt; refused);
     }
-    let no_words: [&str; 0] = [];
-    let refused = matches!(read(alloc, no_words.into_iter())?, Err(WordsFault::Usage));
+    let refused = matches!(Command::read(alloc, &[]), Err(WordsFault::Usage));
     assert!(rt; refused);
     Ok(())
 }

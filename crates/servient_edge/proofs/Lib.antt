@@ -3,3 +3,4 @@ pub mod BytesInTurns
 pub mod ToldLaws
 pub mod NetLaws
 pub mod OrderLaws
+pub mod ActsKept

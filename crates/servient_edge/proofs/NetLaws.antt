@@ -30,7 +30,7 @@ leaves_then (did act ∷ a) b first second third p q = leaves_then a b first sec
 leaves_then (heard e ∷ a) b (Some (x ∷ rest)) second third p q = (p.0, leaves_then a b (Some rest) second third p.1 q)
 leaves_then (heard e ∷ a) b (Some []) second third p q = tt
 leaves_then (heard e ∷ a) b None second third p q = tt
-leaves_then (broke call ∷ a) b (Some (x ∷ rest)) second third p q = absurd p
+leaves_then (broke call ∷ a) b (Some (x ∷ rest)) second third p q = (p.0, leaves_then a b (Some (x ∷ rest)) second third p.1 q)
 leaves_then (broke call ∷ a) b (Some []) second third p q = tt
 leaves_then (broke call ∷ a) b None second third p q = tt
 

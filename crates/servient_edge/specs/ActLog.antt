@@ -1,5 +1,6 @@
 -- What keeping an act does to the acts that are kept.
-use Rattle.std.specs.Prelude.{◌≡◌, [], ◌∷◌, ◌++◌}
+use Rattle.std.specs.Prelude.{◌≡◌, [], ◌∷◌, ◌++◌, ◌⊎◌, Result, Ok, Err}
+use Rattle.std.specs.declared.alloc.AllocError.{AllocError}
 use Rattle.servient_base.specs.Count.{one_more}
 use Rattle.servient_edge.specs.declared.net.Act.{Act}
 use Rattle.servient_edge.specs.declared.act_log.ActLog.{ActLog}
@@ -17,3 +18,8 @@ pub record LosesAct (before now : ActLog) : Type 0 where
   pub gaps : now.gaps.items ≡ before.gaps.items
   pub since : now.since ≡ before.since
   pub lost : now.lost ≡ one_more before.lost
+
+-- the act, if there was memory to make it, is kept or lost
+abbrev pub KeepsIfMade : ActLog → ActLog → Result Act AllocError → Type 0
+KeepsIfMade before now (Ok act) = AddsAct before now act ⊎ LosesAct before now
+KeepsIfMade before now (Err e) = LosesAct before now

@@ -5,6 +5,9 @@ pub mod Ending
 pub mod Order
 pub mod ActLog
 pub mod NetMemory
+pub mod Timing
+pub mod Turns
+pub mod MioNet
 pub mod Files
 pub mod FilesMemory
 pub mod Out

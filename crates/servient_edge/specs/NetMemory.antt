@@ -1,19 +1,27 @@
 -- What is seen of a network in memory.
-use Rattle.std.specs.Prelude.{◌≡◌, ◌<◌, ◌+◌, ◌-◌, ◌^◌, ℕ, List, [], ◌∷◌, ◌++◌, ◌⊎◌, Option, IsSome, drop}
+use Rattle.std.specs.Prelude.{◌≡◌, ◌<◌, ◌+◌, ◌-◌, ◌^◌, ℕ, suc, nat_lt, List, [], ◌∷◌, ◌++◌, ◌⊎◌, Option, Some, None, IsSome, drop, if◌then◌else◌}
+use Rattle.coap_msg.specs.declared.endpoint.Endpoint.{Endpoint}
 use Rattle.servient_base.specs.Count.{one_more}
 use Rattle.servient_edge.specs.declared.net.Act.{Act}
+use Rattle.servient_edge.specs.declared.net.Act.TheVariants as act
 use Rattle.servient_edge.specs.declared.net.EventWithBytes.{EventWithBytes}
 use Rattle.servient_edge.specs.declared.net.Next.{Next}
 use Rattle.servient_edge.specs.declared.net.Next.TheVariants.{Got, Failed}
+use Rattle.servient_edge.specs.declared.net.Listened.{Listened}
+use Rattle.servient_edge.specs.declared.net.Listened.TheVariants as listened
+use Rattle.servient_edge.specs.declared.net.Dialled.{Dialled}
+use Rattle.servient_edge.specs.declared.net.Dialled.TheVariants as dialled
+use Rattle.servient_edge.specs.declared.net.Found.{Found}
+use Rattle.servient_edge.specs.declared.net.Found.TheVariants as found
 use Rattle.servient_edge.specs.declared.calls.CallCount.{CallCount}
 use Rattle.servient_edge.specs.declared.net_memory.NetMemory.{NetMemory}
-use Rattle.servient_edge.specs.Told.{told_at_zero}
-use Rattle.servient_edge.specs.CallCount.{no_calls, where_none_fails}
-use Rattle.servient_edge.specs.Network.{in_buffer, Happening, NetSeen}
-use Rattle.servient_edge.specs.Order.{call_results, with_acts}
+use Rattle.servient_edge.specs.Told.{told_at_zero, Continues}
+use Rattle.servient_edge.specs.CallCount.{is_failing, no_calls, where_none_fails}
+use Rattle.servient_edge.specs.Network.{in_buffer, Happening, did, NetSeen}
+use Rattle.servient_edge.specs.Order.{steps, happened_by, breaks_after}
 use Rattle.servient_edge.specs.Ending.{last_moment, stop_event, with_stop}
 
--- its calls of `next`
+-- its calls that may fail
 abbrev pub calls_of : NetMemory → CallCount
 calls_of n = n.calls
 
@@ -29,6 +37,10 @@ stop_moment_of n = n.stop_moment
 abbrev pub stop_of : NetMemory → EventWithBytes
 stop_of n = record { event = stop_event (stop_moment_of n); bytes = [] }
 
+-- how many connections were dialled
+abbrev pub connected_count : NetMemory → ℕ
+connected_count n = n.connected
+
 -- the acts that found memory
 abbrev pub kept_acts : NetMemory → List Act
 kept_acts n = n.log.acts.items
@@ -37,11 +49,12 @@ kept_acts n = n.log.acts.items
 abbrev pub lost_acts : NetMemory → ℕ
 lost_acts n = n.log.lost
 
--- What happened, as long as no act was lost. A call of `next` after 2 ^ 64 - 1 others isn't recorded.
+-- What happened, as long as no act was lost. A call of `next` after 2 ^ 64 - 1 others without an act between them isn't
+-- recorded.
 abbrev pub told_history : NetMemory → Option (List Happening)
 told_history n =
     told_at_zero (n.uncounted + lost_acts n)
-    (with_acts n.log.gaps.items (kept_acts n) (call_results n.calls.fails n.events (stop_of n) n.calls.made))
+    (happened_by n.calls.fails n.events (stop_of n) (steps n.log.gaps.items (kept_acts n) n.log.since) 0 0)
 
 -- the events still to come, where no call fails
 abbrev pub left_events : NetMemory → Option (List EventWithBytes)
@@ -60,8 +73,11 @@ pub record IsFresh (n : NetMemory) (events : List EventWithBytes) (fails : List 
   pub rest : rest_of n ≡ with_stop events
   pub stop_moment : stop_moment_of n ≡ last_moment events
   pub calls : calls_of n ≡ no_calls fails
+  pub connected : connected_count n ≡ 0
   pub faults : fault_count n ≡ 0
   pub lost : lost_acts n ≡ 0
+
+-- ---- calls of `next`
 
 -- A failing call takes nothing from what is left. Any other takes the first event of it, or gives the Stop again.
 abbrev pub TakesFrom : List EventWithBytes → List EventWithBytes → ℕ → Next → List ℕ → Type 0
@@ -71,24 +87,88 @@ TakesFrom (first ∷ rest) now stop_moment (Got e) buffer = (in_buffer e buffer 
 
 -- what happened is recorded after a call of `next` where it was recorded before, whether or not the call failed
 abbrev pub GoesOnTelling : NetMemory → NetMemory → Type 0
-GoesOnTelling before now = (calls_of before).made < 2 ^ 64 - 1 → IsSome (told_history before) → IsSome (told_history now)
+GoesOnTelling before now = before.log.since < 2 ^ 64 - 1 → IsSome (told_history before) → IsSome (told_history now)
 
 -- The acts stay as they were.
 pub record KeepsActs (before now : NetMemory) : Type 0 where
   pub kept : kept_acts now ≡ kept_acts before
   pub lost : lost_acts now ≡ lost_acts before
 
--- What it has to give and its calls stay as they were, and no fault is counted. What happened is recorded after an act
--- where it was recorded before and the act wasn't lost.
-pub record KeepsEvents (before now : NetMemory) : Type 0 where
-  pub calls : calls_of now ≡ calls_of before
+-- ---- acts
+
+-- What it has to give stays as it was. What happened is recorded after an act where it was recorded before and the act
+-- wasn't lost.
+pub record KeepsRest (before now : NetMemory) : Type 0 where
   pub rest : rest_of now ≡ rest_of before
   pub stop_moment : stop_moment_of now ≡ stop_moment_of before
-  pub faults : fault_count now ≡ fault_count before
   pub told : lost_acts now ≡ lost_acts before → IsSome (told_history before) → IsSome (told_history now)
+
+-- the same, and its calls stay as they were, and no fault is counted
+pub record KeepsEvents (before now : NetMemory) : Type 0 where
+  pub rest : KeepsRest before now
+  pub calls : calls_of now ≡ calls_of before
+  pub connected : connected_count now ≡ connected_count before
+  pub faults : fault_count now ≡ fault_count before
 
 -- The act is kept after the others; or there is no memory for it, and it is counted.
 abbrev pub KeepsOrCounts : NetMemory → NetMemory → Act → Type 0
 KeepsOrCounts before now act =
     (kept_acts now ≡ kept_acts before ++ act ∷ []) × (lost_acts now ≡ lost_acts before)
     ⊎ (kept_acts now ≡ kept_acts before) × (lost_acts now ≡ one_more (lost_acts before))
+
+-- an act that can't fail
+abbrev pub IsNoCall : Act → Type 0
+IsNoCall (act.Sent c bytes) = Unit {0}
+IsNoCall (act.Closed c) = Unit {0}
+IsNoCall (act.Datagram to bytes) = Unit {0}
+IsNoCall (act.Listened place) = ⊥
+IsNoCall (act.Dialled host port c) = ⊥
+IsNoCall (act.Looked host port to) = ⊥
+
+-- an act that may fail
+abbrev pub IsCall : Act → Type 0
+IsCall (act.Sent c bytes) = ⊥
+IsCall (act.Closed c) = ⊥
+IsCall (act.Datagram to bytes) = ⊥
+IsCall (act.Listened place) = Unit {0}
+IsCall (act.Dialled host port c) = Unit {0}
+IsCall (act.Looked host port to) = Unit {0}
+
+-- What is recorded goes on by this act, and by what follows it where it failed.
+abbrev pub GoesOnBy : NetMemory → NetMemory → Act → Type 0
+GoesOnBy before now act =
+    Continues (told_history before) (told_history now) (did act ∷ breaks_after before.calls.fails before.calls.made act)
+
+-- ---- answers
+
+-- Ready, unless the next call fails
+abbrev pub listen_answer : CallCount → Listened
+listen_answer calls = if is_failing calls.fails (one_more calls.made) then listened.Failed else listened.Ready
+
+-- the next of 64 numbers, unless the next call fails
+abbrev pub dial_answer : CallCount → ℕ → Dialled
+dial_answer calls connected =
+    if is_failing calls.fails (one_more calls.made) then dialled.Failed else if nat_lt connected 64 then dialled.Connected connected else dialled.Failed
+
+-- how many connections were dialled after this answer
+abbrev pub connected_after : Dialled → ℕ → ℕ
+connected_after (dialled.Connected c) connected = suc connected
+connected_after dialled.Failed connected = connected
+connected_after dialled.NoMemory connected = connected
+
+-- the connection in an answer
+abbrev pub dialled_in : Dialled → Option ℕ
+dialled_in (dialled.Connected c) = Some c
+dialled_in dialled.Failed = None
+dialled_in dialled.NoMemory = None
+
+-- the address 1, unless the next call fails
+abbrev pub find_answer : CallCount → ℕ → Found
+find_answer calls port =
+    if is_failing calls.fails (one_more calls.made) then found.Failed else found.At (record { host = 1; port = port })
+
+-- the endpoint in an answer
+abbrev pub looked_in : Found → Option Endpoint
+looked_in (found.At to) = Some to
+looked_in found.Failed = None
+looked_in found.NoMemory = None

@@ -1,26 +1,48 @@
 -- What is known of a network.
-use Rattle.std.specs.Prelude.{◌≡◌, ◌≤◌, ◌^◌, ℕ, suc, List, [], ◌∷◌, Option, Some, None, take, length}
+use Rattle.std.specs.Prelude.{◌≡◌, ◌≤◌, ◌<◌, ◌^◌, ℕ, suc, List, [], ◌∷◌, Option, Some, None, take, length}
 use Rattle.servient_base.specs.Count.{RoseBy}
 use Rattle.servient_edge.specs.declared.net.What.{What}
-use Rattle.servient_edge.specs.declared.net.What.TheVariants.{Datagram, Stop}
+use Rattle.servient_edge.specs.declared.net.What.TheVariants.{Opened, Bytes, Ended, Datagram, Tick, Stop}
 use Rattle.servient_edge.specs.declared.net.Event.{Event}
 use Rattle.servient_edge.specs.declared.net.EventWithBytes.{EventWithBytes}
 use Rattle.servient_edge.specs.declared.net.Act.{Act}
+use Rattle.servient_edge.specs.declared.net.Act.TheVariants as act
 use Rattle.servient_edge.specs.declared.net.Next.{Next}
 use Rattle.servient_edge.specs.declared.net.Next.TheVariants.{Got, Failed}
+use Rattle.servient_edge.specs.declared.net.Listened.{Listened}
+use Rattle.servient_edge.specs.declared.net.Listened.TheVariants as listened
+use Rattle.servient_edge.specs.declared.net.Dialled.{Dialled}
+use Rattle.servient_edge.specs.declared.net.Dialled.TheVariants as dialled
+use Rattle.servient_edge.specs.declared.net.Found.{Found}
+use Rattle.servient_edge.specs.declared.net.Found.TheVariants as found
+use Rattle.servient_edge.specs.declared.place.Place.{Place}
 use Rattle.servient_edge.specs.Told.{Continues}
 
 -- ---- events
 
 -- how many bytes come with what came
 abbrev pub byte_count : What → ℕ
+byte_count (Opened c) = 0
+byte_count (Bytes c count) = count
+byte_count (Ended c) = 0
 byte_count (Datagram from count) = count
+byte_count Tick = 0
 byte_count Stop = 0
 
--- an event that a network may give: its moment in milliseconds, and no more bytes than a datagram may have
+-- What may come: of one of 64 connections, no more bytes at once than a buffer takes, but some; and a datagram of no more
+-- bytes than are taken.
+abbrev pub MayCome : What → Type 0
+MayCome (Opened c) = c < 64
+MayCome (Bytes c count) = (c < 64) × (1 ≤ count) × (count ≤ 4096)
+MayCome (Ended c) = c < 64
+MayCome (Datagram from count) = count ≤ 2048
+MayCome Tick = Unit {0}
+MayCome Stop = Unit {0}
+
+-- an event that a network may give, its moment in milliseconds
 pub record IsEvent (e : Event) : Type 0 where
   pub moment : e.moment ≤ 10 ^ 15
-  pub bytes : byte_count e.what ≤ 2048
+  pub what : MayCome e.what
 
 -- an event with its bytes that a network may give
 pub record IsWithinBounds (e : EventWithBytes) : Type 0 where
@@ -36,6 +58,9 @@ in_buffer e buffer = record { event = e; bytes = take (byte_count e.what) buffer
 -- a call of a network that may fail
 pub data NetCall : Type 0 where
   next_event : NetCall
+  listening : NetCall
+  dialling : NetCall
+  looking : NetCall
 
 -- One thing that happens between the servient and the network. A call that acts is one act, whatever it answers; where
 -- it failed, a break follows that names it.
@@ -77,15 +102,22 @@ pub record NetSeen : Type 0 where
   pub left : Option (List EventWithBytes)
   pub faults : ℕ
 
+-- the call may fail while events are known to come: only dialling, for want of a number that is free
+abbrev pub MayStillFail : NetCall → Type 0
+MayStillFail next_event = ⊥
+MayStillFail listening = ⊥
+MayStillFail dialling = Unit {0}
+MayStillFail looking = ⊥
+
 -- As these happen, the events to come go from one list to another: as long as some are known to come, each event given
--- is the first of them, and the network doesn't fail. Once none is, nothing more is known.
+-- is the first of them, and nothing fails but what may still fail. Once none is, nothing more is known.
 abbrev pub Leaves : List Happening → Option (List EventWithBytes) → Option (List EventWithBytes) → Type 0
 Leaves [] before now = now ≡ before
 Leaves (did act ∷ happened) before now = Leaves happened before now
 Leaves (heard e ∷ happened) (Some (first ∷ rest)) now = (e ≡ first) × Leaves happened (Some rest) now
 Leaves (heard e ∷ happened) (Some []) now = Unit {0}
 Leaves (heard e ∷ happened) None now = Unit {0}
-Leaves (broke call ∷ happened) (Some (first ∷ rest)) now = ⊥
+Leaves (broke call ∷ happened) (Some (first ∷ rest)) now = MayStillFail call × Leaves happened (Some (first ∷ rest)) now
 Leaves (broke call ∷ happened) (Some []) now = Unit {0}
 Leaves (broke call ∷ happened) None now = Unit {0}
 
@@ -105,3 +137,27 @@ came Failed buffer = broke next_event
 abbrev pub IsAnswer : Next → Type 0
 IsAnswer (Got e) = IsEvent e
 IsAnswer Failed = Unit {0}
+
+-- what a call of `listen` is seen as
+abbrev pub listens_as : Place → Listened → List Happening
+listens_as place listened.Ready = did (act.Listened place) ∷ []
+listens_as place listened.Failed = did (act.Listened place) ∷ broke listening ∷ []
+listens_as place listened.NoMemory = did (act.Listened place) ∷ []
+
+-- what a call of `dial` is seen as
+abbrev pub dials_as : List ℕ → ℕ → Dialled → List Happening
+dials_as host port (dialled.Connected c) = did (act.Dialled host port (Some c)) ∷ []
+dials_as host port dialled.Failed = did (act.Dialled host port None) ∷ broke dialling ∷ []
+dials_as host port dialled.NoMemory = did (act.Dialled host port None) ∷ []
+
+-- an answer of `dial` is one of 64 connections, if it is one
+abbrev pub IsConnection : Dialled → Type 0
+IsConnection (dialled.Connected c) = c < 64
+IsConnection dialled.Failed = Unit {0}
+IsConnection dialled.NoMemory = Unit {0}
+
+-- what a call of `find` is seen as
+abbrev pub finds_as : List ℕ → ℕ → Found → List Happening
+finds_as host port (found.At endpoint) = did (act.Looked host port (Some endpoint)) ∷ []
+finds_as host port found.Failed = did (act.Looked host port None) ∷ broke looking ∷ []
+finds_as host port found.NoMemory = did (act.Looked host port None) ∷ []

@@ -1,39 +1,34 @@
 //! The acts that a network in memory keeps, and where each of them comes among the calls of `next`.
 
 ghost use Rattle.std.specs.Prelude.{◌≡◌, [], ◌∷◌, ◌++◌, OnErr, OnOk, length};
-ghost use Rattle.servient_base.specs.Count.{one_more};
 
 use crate::Act;
-use coap_msg::Endpoint;
 use servient_base::NoMemory;
 use std::alloc::Global;
-use wot_json::Bytes;
 
 /// Acts in order, each with the number of calls of `next` that came between the act before it and itself.
 #[derive(Drop)]
 pub struct ActLog {
     pub acts: Vec<Act>,
     pub gaps: Vec<u64>,
-    /// How many calls came after the last act.
+    /// How many calls of `next` came after the last act.
     pub since: u64,
     /// How many acts found no memory. At its last value, 2^64 - 1, it stays.
     pub lost: u64,
     ghost gap_for_each: { length gaps.items ≡ length acts.items },
 }
 
-/// Puts a datagram after the acts, if there is memory for it.
-fn push_act(alloc: Global, acts: &mut Vec<Act>, to: Endpoint, bytes: &[u8]) -> Result<(), NoMemory>
-    ensures ok { OnOk result (acts.new.items ≡ acts.old.items ++ Act.Datagram to bytes.now ∷ []) }
+/// Puts an act after the others, if there is memory for it.
+fn push_act(acts: &mut Vec<Act>, act: Act) -> Result<(), NoMemory>
+    ensures ok { OnOk result (acts.new.items ≡ acts.old.items ++ act ∷ []) }
     ensures unchanged { OnErr result (acts.new.items ≡ acts.old.items) }
 {
-    let bytes = Bytes::copy_of(alloc, bytes)?;
-    acts.push(Act::Datagram(to, bytes))?;
+    acts.push(act)?;
     Ok(())
 }
 
 impl ActLog {
-    ghost use Rattle.servient_edge.specs.ActLog.{AddsAct, LosesAct};
-    ghost use Rattle.std.specs.Prelude.{◌⊎◌};
+    ghost use Rattle.servient_edge.specs.ActLog.{KeepsIfMade, LosesAct};
 
     /// No acts yet.
     pub fn new(alloc: Global) -> Self
@@ -50,19 +45,29 @@ impl ActLog {
         }
     }
 
-    /// Keeps a datagram that is sent, or counts it where there is no memory for it.
-    pub fn keep(&mut self, alloc: Global, to: Endpoint, bytes: &[u8])
-        ensures { AddsAct self.old self.new (Act.Datagram to bytes.now) ⊎ LosesAct self.old self.new }
+    /// Keeps an act, or counts it where there is no memory for it.
+    pub fn keep(&mut self, act: Result<Act, NoMemory>)
+        ensures { KeepsIfMade self.old self.new act }
     {
-        match self.push(alloc, to, bytes) {
-            Ok(()) => self.since = 0,
-            Err(_) => self.lost = self.lost.saturating_add(1),
+        match act {
+            Ok(act) => match self.push(act) {
+                Ok(()) => self.since = 0,
+                Err(_) => self.lose(),
+            },
+            Err(_) => self.lose(),
         }
     }
 
-    /// Puts a datagram and its place after the others, if there is memory for both.
-    fn push(&mut self, alloc: Global, to: Endpoint, bytes: &[u8]) -> Result<(), NoMemory>
-        ensures ok { OnOk result (self.new.acts.items ≡ self.old.acts.items ++ Act.Datagram to bytes.now ∷ []) }
+    /// Counts an act for which there is no memory.
+    fn lose(&mut self)
+        ensures { LosesAct self.old self.new }
+    {
+        self.lost = self.lost.saturating_add(1);
+    }
+
+    /// Puts an act and its place after the others, if there is memory for both.
+    fn push(&mut self, act: Act) -> Result<(), NoMemory>
+        ensures ok { OnOk result (self.new.acts.items ≡ self.old.acts.items ++ act ∷ []) }
         ensures place { OnOk result (self.new.gaps.items ≡ self.old.gaps.items ++ self.old.since ∷ []) }
         ensures no_memory { OnErr result (self.new.acts.items ≡ self.old.acts.items) }
         ensures no_place { OnErr result (self.new.gaps.items ≡ self.old.gaps.items) }
@@ -70,7 +75,7 @@ impl ActLog {
         ensures lost { self.new.lost ≡ self.old.lost }
     {
         self.gaps.push(self.since)?;
-        let kept = push_act(alloc, &mut self.acts, to, bytes);
+        let kept = push_act(&mut self.acts, act);
         if kept.is_err() {
             self.gaps.pop();
         }

@@ -68,6 +68,13 @@ pub struct CallCount {
 impl CallCount {
     ghost use Rattle.servient_edge.specs.CallCount.{FailsNext, after_call};
 
+    /// Whether the next call fails.
+    pub fn is_next_failing(&self) -> bool
+        ensures { IsTrue result ↔ FailsNext self.now }
+    {
+        self.fails.contains(self.made.saturating_add(1))
+    }
+
     /// Counts one more call, and says whether it fails.
     pub fn next_fails(&mut self) -> bool
         ensures fails { IsTrue result ↔ FailsNext self.old }

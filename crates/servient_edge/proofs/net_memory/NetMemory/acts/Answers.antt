@@ -14,4 +14,4 @@ told_are (suc untold) happened acts same = tt
 pub returns-clause-told : goal.returns-clause-told
 returns-clause-told c =
     let n = c.args.self.now in
-    told_are (n.uncounted + n.log.lost) _ _ (acts_in-told n.log.gaps.items n.log.acts.items n.calls.fails n.events (stop_of n) n.calls.made n.log.gap_for_each ∙ sym c.as_slice.ensures.value)
+    told_are (n.uncounted + n.log.lost) _ _ (acts_in-told n.log.gaps.items n.log.acts.items n.log.since n.calls.fails n.events (stop_of n) n.log.gap_for_each ∙ sym c.as_slice.ensures.value)

@@ -1,0 +1,60 @@
+//! When the network is to give a tick, and when it ends for want of traffic. All moments are in milliseconds.
+
+ghost use Rattle.std.specs.Prelude.{◌≡◌, ◌≤◌, ◌^◌};
+
+const TICK: u64 = 1000;
+
+/// What is to be given when nothing else comes.
+#[derive(Clone, Copy, Debug, PartialEq, Eq)]
+pub enum Due {
+    Nothing,
+    Tick,
+    Stop,
+}
+
+/// When something was given last.
+#[derive(Drop)]
+pub struct Timing {
+    /// The run ends after so much time without traffic, unless it is 0.
+    pub idle: u64,
+    /// When the last event that is traffic was given.
+    pub traffic: u64,
+    /// When the last tick was given.
+    pub tick: u64,
+    ghost traffic_in_bounds: { traffic ≤ 10 ^ 15 },
+    ghost tick_in_bounds: { tick ≤ 10 ^ 15 },
+}
+
+impl Timing {
+    ghost use Rattle.servient_edge.specs.Timing.{IsDue, time_left};
+
+    /// What is due at a moment. At one moment Stop comes before Tick.
+    pub fn due(&self, moment: u64) -> Due
+        requires { moment ≤ 10 ^ 15 }
+        ensures { IsDue self.now moment result }
+    {
+        if self.idle != 0 && self.traffic.saturating_add(self.idle) <= moment {
+            Due::Stop
+        } else if self.tick.saturating_add(TICK) <= moment {
+            Due::Tick
+        } else {
+            Due::Nothing
+        }
+    }
+
+    /// How long it is from a moment until something is due.
+    pub fn left(&self, moment: u64) -> u64
+        requires { moment ≤ 10 ^ 15 }
+        ensures { result ≡ time_left self.now moment }
+    {
+        let tick = self.tick.saturating_add(TICK).saturating_sub(moment);
+        if self.idle == 0 {
+            return tick;
+        }
+        let stop = self
+            .traffic
+            .saturating_add(self.idle)
+            .saturating_sub(moment);
+        tick.min(stop)
+    }
+}

@@ -282,6 +282,7 @@ fn places_are_written_where_they_fit(rt: HostRuntime) {
 fn connections_are_idle_after_120_seconds(rt: HostRuntime) {
     let mut http = HttpBind::new(rt.alloc()).expect(&rt, "memory");
     let mut room = new_room(rt.alloc()).expect(&rt, "memory");
+    let room = room.as_mut_slice();
     let mut out = [0; 4096];
     let mut word = [0; 32];
     assert!(rt; http.idle(1_000_000).is_none());
@@ -293,7 +294,7 @@ fn connections_are_idle_after_120_seconds(rt: HostRuntime) {
     http.bytes(3, b"POST /a HTTP/1.1\r\nHost: h\r\n\r\n", 2000);
     assert!(rt; http.idle(121_999).is_none());
     assert!(rt; http.idle(122_000) == Some(3));
-    match http.next(3, room.as_mut_slice()) {
+    match http.next(3, room) {
         HttpNext::Ask(_) => {
             let _reply = http.answered(3, &Outcome::Changed, 5000, &mut out, &mut word);
         }
@@ -306,6 +307,11 @@ fn connections_are_idle_after_120_seconds(rt: HostRuntime) {
     http.opened(1, 5000);
     assert!(rt; http.idle(125_000) == Some(1));
     http.ended(1);
+    assert!(rt; http.idle(125_000) == Some(3));
+
+    // A piece for a connection that isn't open does nothing.
+    http.bytes(1, b"POST /a HTTP/1.1\r\nHost: h\r\n\r\n", 5000);
+    assert!(rt; matches!(http.next(1, room), HttpNext::Idle));
     assert!(rt; http.idle(125_000) == Some(3));
 }
 

@@ -22,7 +22,7 @@ use Rattle.http_bind.proofs.Holding.{holds_less, has_nothing, lets_continue, let
 use Rattle.http_bind.proofs.Standing.{leads_at, same_with}
 
 -- what was put there is there
-held_after : (c : ℕ) (b : Slots) (x : Option Held) → c < length b → held_at c (with_held c x b) ≡ x
+pub held_after : (c : ℕ) (b : Slots) (x : Option Held) → c < length b → held_at c (with_held c x b) ≡ x
 held_after c [] x within = absurd (omega arith)
 held_after zero (h ∷ b) x within = refl
 held_after (suc c) (h ∷ b) x within = held_after c b x (omega arith)

@@ -11,3 +11,4 @@ pub mod Giving
 pub mod ShortReplies
 pub mod AllowLines
 pub mod Requests
+pub mod Leaving

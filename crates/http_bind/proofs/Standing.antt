@@ -1,9 +1,11 @@
 -- What is held of all connections, and the streams that it stands for.
-use Rattle.std.proofs.Common.{◌≡◌, ℕ, zero, suc, [], ◌∷◌, length, refl, sym, ap, ◌∙◌, arith}
-use Rattle.std.specs.Prelude.{Option, Some, None, replicate}
+use Rattle.std.proofs.Common.{◌≡◌, ℕ, zero, suc, true, [], ◌∷◌, length, get_or, refl, sym, ap, subst, ◌∙◌, arith}
+use Rattle.std.specs.Prelude.{Option, Some, None, IsSome, replicate}
+use Rattle.std.proofs.lemmas.List.{get_or_read, get_or_default}
+use Rattle.std.proofs.lemmas.List.Quantifiers.{position-Some}
 use Rattle.std.specs.List.{position, position_or_len}
 use Rattle.http_bind.specs.Streams.{Connection, Streams, connection_at, with_connection, is_idle}
-use Rattle.http_bind.specs.Slots.{Held, Slots, HoldsIfOpen, StandsFor, Leads, held_at, with_held, is_idle as is_idle_held}
+use Rattle.http_bind.specs.Slots.{Held, Slots, HoldsIfOpen, StandsFor, Leads, held_at, with_held, IsOpen, is_idle as is_idle_held}
 
 pub holds_at : (c : ℕ) (b : Slots) (s : Streams) → StandsFor b s → HoldsIfOpen (held_at c b) (connection_at c s)
 holds_at c [] [] a = tt
@@ -67,3 +69,16 @@ pub idle_is : (now : ℕ) (b items : Slots) (s : Streams) (r : Option ℕ) {foun
     position (is_idle now) s ≡ r
 idle_is now b items s r {found} all same first stands =
     sym (idle_first now b s stands) ∙ ap (position (is_idle_held now)) (sym all ∙ sym same) ∙ sym first
+
+-- one that is idle is open
+idle_held : (now : ℕ) (h : Option Held) → is_idle_held now h ≡ true → IsSome h
+idle_held now None is = absurd (cc)
+idle_held now (Some h) is = refl
+
+-- the first that is idle is open
+pub idle_is_open : (now c : ℕ) (b items : Slots) (r : Option ℕ) {found : Slots} → items ≡ b → found ≡ items → r ≡ position (is_idle_held now) found → r ≡ Some c → IsOpen c b
+idle_is_open now c b items r {found} all same first is =
+    let at = position-Some (is_idle_held now) found c None (sym first ∙ is) in
+    subst (λ (x : Slots). IsOpen c x) (same ∙ all)
+    (subst (λ (h : Option Held). IsSome h) (get_or_read found c (get_or found c None) at.0 (get_or_default found c None (get_or found c None) at.0) None)
+    (idle_held now (get_or found c None) at.1))

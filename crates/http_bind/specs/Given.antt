@@ -1,5 +1,5 @@
 -- What `next` gives, and what is held afterwards.
-use Rattle.std.specs.Prelude.{◌≡◌, ℕ, IsSome}
+use Rattle.std.specs.Prelude.{◌≡◌, ◌<◌, ◌≤◌, ℕ, IsSome}
 use Rattle.thing_ops.specs.Requests.{PlainRequest, plain_request}
 use Rattle.http_bind.specs.declared.next.HttpNext.{HttpNext}
 use Rattle.http_bind.specs.declared.next.HttpNext.TheVariants as next
@@ -24,3 +24,11 @@ Gives c next.Continue b d = Leads (Takes c wants_continue) b d × IsOpen c d
 Gives c (next.Ask request) b d = AsksFor c (plain_request request) b d
 Gives c (next.Refuse status) b d = Leads (Takes c (is_faulty status)) b d × IsOpen c d × IsSome (fault_word status)
 Gives c next.Memory b d = (request : PlainRequest) × AsksFor c request b d
+
+-- Less is left after what was taken; a fault leaves what there was, until it is refused.
+abbrev pub LeavesLess : HttpNext → ℕ → ℕ → Type 0
+LeavesLess next.Idle before after = Unit {0}
+LeavesLess next.Continue before after = after < before
+LeavesLess (next.Ask request) before after = after < before
+LeavesLess (next.Refuse status) before after = after ≤ before
+LeavesLess next.Memory before after = after < before

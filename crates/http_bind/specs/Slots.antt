@@ -1,5 +1,5 @@
 -- What contracts see of an `HttpBind`, and the streams that it stands for.
-use Rattle.std.specs.Prelude.{◌≡◌, ◌≤◌, ℕ, ◌+◌, ◌-◌, Bool, false, nat_le, List, [], ◌∷◌, ◌++◌, length, replicate, slice_index_or, slice_set, Option, Some, None, IsSome}
+use Rattle.std.specs.Prelude.{◌≡◌, ◌≤◌, ℕ, ◌+◌, ◌-◌, ◌*◌, Bool, false, nat_le, List, [], ◌∷◌, ◌++◌, length, replicate, slice_index_or, slice_set, Option, Some, None, IsSome, if◌then◌else◌}
 use Rattle.thing_ops.specs.Requests.{PlainRequest}
 use Rattle.http_wire.specs.Heads.{skipped}
 use Rattle.http_bind.specs.Replying.{is_head}
@@ -99,6 +99,14 @@ IsBounded c b = HasRoomFor 0 (held_at c b)
 -- the connection is open
 abbrev pub IsOpen : ℕ → Slots → Type 0
 IsOpen c b = IsSome (held_at c b)
+
+-- How much may still be taken of a connection: each thing that is taken leaves less, and a closed one has nothing.
+abbrev pub left_in : Option Held → ℕ
+left_in None = 0
+left_in (Some h) = 2 * length h.rest + (if h.continued then 1 else 2)
+
+abbrev pub left_at : ℕ → Slots → ℕ
+left_at c b = left_in (held_at c b)
 
 -- a reply to this request is what the message taken last asks for
 abbrev pub AwaitsReply : PlainRequest → Option Held → Type 0

@@ -44,8 +44,8 @@ impl Model for HttpBind {
 impl HttpBind {
     ghost use Rattle.http_bind.specs.Replying.{fault_word as word_of_fault, reply_head, reply_body, refusal_head, refusal_body};
     ghost use Rattle.http_bind.specs.Streams.{Streams, Opened, Ended, Lengthened, Replies, Refuses, IsIdle, NoneIdle, none_open};
-    ghost use Rattle.http_bind.specs.Slots.{StandsFor, Leads, OthersStay, HasRoom, IsBounded, IsOpen, IsAskedBy, longest_piece};
-    ghost use Rattle.http_bind.specs.Given.{Gives};
+    ghost use Rattle.http_bind.specs.Slots.{StandsFor, Leads, OthersStay, HasRoom, IsBounded, IsOpen, IsAskedBy, longest_piece, left_at};
+    ghost use Rattle.http_bind.specs.Given.{Gives, LeavesLess};
 
     /// No connection is open. All memory but that for paths is taken here.
     pub fn new(alloc: Global) -> Result<HttpBind, NoMemory>
@@ -81,6 +81,7 @@ impl HttpBind {
     pub fn ended(&mut self, c: u32)
         requires { c < 64 }
         ensures leads { Leads (Ended c) self.old self.new }
+        ensures held { self.new ≡ with_held c None self.old }
         ensures room { HasRoom c self.new }
         ensures others { OthersStay c self.old self.new }
     {
@@ -88,11 +89,13 @@ impl HttpBind {
     }
 
     /// What is to be done next on a connection. A message is taken, also where there is no memory for its path. The query
-    /// and the body of a request are written into `room` and lent from there.
+    /// and the body of a request are written into `room` and lent from there. What is taken leaves less to take, so a
+    /// connection is dry after finitely many calls.
     pub fn next<'a>(&mut self, c: u32, room: &'a mut [u8]) -> HttpNext<'a>
         requires connection { c < 64 }
         requires room { ROOM ≤ length room.old }
         ensures gives { Gives c result self.old self.new }
+        ensures less { LeavesLess result (left_at c self.old) (left_at c self.new) }
         ensures others { OthersStay c self.old self.new }
     {
         let found = take(&mut self.slots, c, self.alloc, room);
@@ -114,6 +117,7 @@ impl HttpBind {
         ensures leads { (request : PlainRequest) → IsAskedBy c request self.old
             → Leads (Replies c request outcome.now now (result.head.now ++ result.body.now) result.close) self.old self.new }
         ensures head { result.head.now ≡ reply_head result.close outcome.now }
+        ensures left { left_at c self.new ≤ left_at c self.old }
         ensures others { OthersStay c self.old self.new }
     {
         let (bodiless, close) = self.slots[c as usize].answer(now);
@@ -141,6 +145,7 @@ impl HttpBind {
         ensures head { result.head.now ≡ refusal_head status }
         ensures body { result.body.now ≡ refusal_body status }
         ensures close { result.close ≡ not (status == 100) }
+        ensures left { left_at c self.new ≤ (if status == 100 then left_at c self.old else 0) }
         ensures others { OthersStay c self.old self.new }
     {
         self.free_unless(c, status == 100);
@@ -158,6 +163,7 @@ impl HttpBind {
         ensures idle { (c : ℕ) → result ≡ Some c → (s : Streams) → StandsFor self.now s → IsIdle c now s }
         ensures none { result ≡ None → (s : Streams) → StandsFor self.now s → NoneIdle now s }
         ensures bound { (c : ℕ) → result ≡ Some c → c < 64 }
+        ensures open { (c : ℕ) → result ≡ Some c → IsOpen c self.now }
     {
         match first_idle(self.slots.as_slice(), now) {
             Some(place) => Some(place as u32),

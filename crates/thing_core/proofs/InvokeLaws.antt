@@ -1,5 +1,5 @@
 -- Acts on actions as moves of the Thing machine.
-use Rattle.std.proofs.Common.{◌≡◌, ℕ, zero, suc, ◌+◌, List, [], ◌∷◌, map, drop, Bool, true, false, refl, sym, ap, subst, ◌∙◌, arith}
+use Rattle.std.proofs.Common.{◌≡◌, ℕ, zero, suc, ◌+◌, List, [], ◌∷◌, map, drop, true, false, refl, sym, ap, subst, ◌∙◌, arith}
 use Rattle.std.specs.Prelude.{Option, Some, None, IsSome, IfSome, slice_get}
 use Rattle.std.proofs.lemmas.Option.{same_Some}
 use Rattle.servient_base.specs.Moves.{Makes}
@@ -13,7 +13,7 @@ use Rattle.thing_core.specs.declared.input.Input.{Input as InputInCode}
 use Rattle.thing_core.specs.Site.{Placed}
 use Rattle.thing_core.specs.State.{Status, running, completed, Invocation, State, invocation_named, is_running, without_invocation, status_text}
 use Rattle.thing_core.specs.Course.{Course}
-use Rattle.thing_core.specs.Thing.{Done, Called, gives, only, place_of_invocation, IsHandedIn, IsInvoked, Invokes, IsQueried, Queries, IsCancelled, Cancels, OnInvocation, with_invocations}
+use Rattle.thing_core.specs.Thing.{Called, gives, only, place_of_invocation, IsHandedIn, IsInvoked, Invokes, IsQueried, Queries, IsCancelled, Cancels, OnInvocation, with_invocations}
 use Rattle.thing_handler.specs.declared.handler.Answer.{Answer}
 use Rattle.thing_core.specs.Performing.{MakesCall, MakesDone, HandsIn, SettlesInvocation, input_of}
 use Rattle.thing_core.proofs.MoveLaws.{call_ends, done_alone, made_unseen}

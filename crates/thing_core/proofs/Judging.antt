@@ -12,7 +12,7 @@ use Rattle.wot_terms.specs.declared.affordance.Affordance.{Affordance}
 use Rattle.thing_core.specs.declared.fault.ExposeFault.{ExposeFault}
 use Rattle.thing_core.specs.declared.fault.ExposeFault.TheVariants.{NoSlot, KindDiffers, SlotTwice, NoMemory}
 use Rattle.thing_core.specs.declared.wanted.Wanted.{Wanted}
-use Rattle.thing_core.specs.declared.site.HeldThing.{HeldThing}
+use Rattle.thing_core.specs.declared.held.HeldThing.{HeldThing}
 use Rattle.thing_core.specs.Site.{Slots, placed, wanted_by, wanted_of_thing, wanted_of, expose_faults, faults_from, slots_in}
 use Rattle.thing_core.specs.Exposing.{placed_all, IsFirst, IsJudged, IsPlaced, HaveNoFault, HaveFault, slot_or_0}
 

@@ -1,8 +1,8 @@
 -- However the machine moves, as many affordances may emit as before.
 use Rattle.std.proofs.Common.{◌≡◌, ℕ, List, [], ◌∷◌, ◌++◌, map, length, ap, ◌∙◌, refl, inl, inr}
-use Rattle.std.specs.Prelude.{Result, Ok, Err, Option, Some, None}
+use Rattle.std.specs.Prelude.{Result, Ok, Err, Some, None}
 use Rattle.std.proofs.lemmas.List.{length-map}
-use Rattle.servient_base.specs.Moves.{Becomes, Stays, Then}
+use Rattle.servient_base.specs.Moves.{Then}
 use Rattle.wot_json.specs.Tree.{Json}
 use Rattle.thing_ops.specs.declared.outcome.Outcome.{Outcome}
 use Rattle.thing_ops.specs.Requests.{PlainRequest}
@@ -10,11 +10,11 @@ use Rattle.thing_handler.specs.declared.handler.CallKind.{CallKind}
 use Rattle.thing_handler.specs.declared.handler.CallKind.TheVariants as call
 use Rattle.thing_handler.specs.declared.handler.Answer.TheVariants as answer
 use Rattle.thing_handler.specs.Turns.{HandlerCall}
-use Rattle.thing_core.specs.Site.{Placed, Site}
+use Rattle.thing_core.specs.Site.{Placed}
 use Rattle.thing_core.specs.State.{Status, running, completed, State, Emission, Latest, last_after, renewed}
 use Rattle.thing_core.specs.Places.{Act, describes, reads_all, writes_many, reads, writes, invokes, queries, cancels, reads_event, waits}
 use Rattle.thing_core.specs.Refusals.{Input}
-use Rattle.thing_core.specs.Thing.{Move, Done, Called, no_number, no_memory, gives, failure_of, only, Calls, ReadsValue, ReadsEach, Emits, emissions_of_write, Stops, IfDone, WritesEach, IsInvoked, IsQueried, Queries, IsCancelled, Cancels, Performs, PollsEvent, PollsEach}
+use Rattle.thing_core.specs.Thing.{Move, Done, Called, no_number, no_memory, gives, failure_of, Calls, ReadsValue, ReadsEach, Emits, emissions_of_write, Stops, IfDone, WritesEach, IsInvoked, IsQueried, Queries, IsCancelled, Cancels, Performs, PollsEach}
 use Rattle.thing_core.specs.Performing.{OrMemory}
 use Rattle.thing_core.proofs.ReadLaws.{AfterValue}
 

@@ -4,6 +4,7 @@ pub mod PlaceLaws
 pub mod PlacedLists
 pub mod ThingLaws
 pub mod InvocationLists
+mod IdLaws
 pub mod MoveLaws
 pub mod ReadLaws
 pub mod ReadLoop
@@ -14,3 +15,10 @@ pub mod RefusalLaws
 pub mod SlotLaws
 pub mod LastLaws
 pub mod PerformLaws
+mod Handed
+mod CompleteLaws
+pub mod DeterminedLaws
+mod TickLaws
+mod RisingLaws
+mod Halving
+mod IndexLaws

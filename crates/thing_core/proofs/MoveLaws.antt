@@ -1,9 +1,9 @@
 -- Calls of handlers and parts of acts, put together to moves of the Thing machine.
-use Rattle.std.proofs.Common.{◌≡◌, ℕ, ◌<◌, ◌≤◌, ◌+◌, List, [], ◌∷◌, ◌++◌, length, map, refl, sym, ap, subst, ◌∙◌, append_assoc, inl, inr}
+use Rattle.std.proofs.Common.{◌≡◌, ℕ, ◌<◌, ◌+◌, List, [], ◌∷◌, ◌++◌, length, refl, sym, ap, subst, ◌∙◌, append_assoc, inl, inr}
 use Rattle.std.specs.Prelude.{Result, Ok, Err}
 use Rattle.std.specs.declared.alloc.AllocError.{AllocError}
 use Rattle.std.proofs.lemmas.List.{append-nil, length-set}
-use Rattle.servient_base.specs.Moves.{Makes, Passing, Becomes, Stays}
+use Rattle.servient_base.specs.Moves.{Makes, Passing}
 use Rattle.wot_json.specs.Tree.{Json}
 use Rattle.thing_ops.specs.declared.outcome.Outcome.{Outcome}
 use Rattle.thing_ops.specs.declared.outcome.Outcome.TheVariants as outcome
@@ -16,7 +16,7 @@ use Rattle.thing_handler.proofs.RackLaws.{rack_shows_in_order, rack_shows_answer
 use Rattle.thing_core.specs.Site.{Placed}
 use Rattle.thing_core.specs.State.{State}
 use Rattle.thing_core.specs.Course.{Course}
-use Rattle.thing_core.specs.Thing.{Move, Done, Called, no_number, no_memory, gives, only, most_turns, Calls, GivesValue, ReadsValue, Answers}
+use Rattle.thing_core.specs.Thing.{Move, Done, Called, no_number, no_memory, gives, only, most_turns, Calls, GivesValue, ReadsValue}
 use Rattle.thing_core.specs.Performing.{IsOrMemory, Leads, MakesCall, MakesDone, OrMemory}
 
 -- ---- a call

@@ -1,7 +1,7 @@
 -- Affordances with their slots, gone through one by one.
 use Rattle.std.proofs.Common.{◌≡◌, ℕ, zero, suc, ◌+◌, ◌<◌, List, [], ◌∷◌, ◌++◌, map, drop, length, get_or, Bool, true, false, cond, refl, sym, ap, subst, ◌∙◌, arith, append_assoc, inl, inr}
 use Rattle.std.specs.Prelude.{slice_get, Some, None, ◌&&◌}
-use Rattle.std.specs.List.{filter}
+use Rattle.std.specs.List.{AllByRecursion, filter}
 use Rattle.std.specs.Str.{bytes_eq}
 use Rattle.std.proofs.lemmas.List.{at_drop_all, append-nil}
 use Rattle.std.proofs.lemmas.List.Elements.{filter-append}
@@ -93,19 +93,21 @@ events_more p ps = filter_more (of_kind kind.Event) p ps
 
 -- ---- slots that stand
 
-filter_stands : (count : ℕ) (p : Placed → Bool) (ps : List Placed) → AllStand count ps → AllStand count (filter p ps)
-filter_stands count p [] all = tt
-filter_stands count p (x ∷ ps) all = by_test (filter_stands count p ps all.1) (p x)
+-- a part of all has what all have
+pub filter_has : (P : Placed → Type 0) (f : Placed → Bool) (ps : List Placed) → AllByRecursion P ps → AllByRecursion P (filter f ps)
+filter_has P f [] all = tt
+filter_has P f (x ∷ ps) all = by_test (filter_has P f ps all.1) (f x)
   where
-    by_test : AllStand count (filter p ps) → (b : Bool) → AllStand count (cond b (x ∷ filter p ps) (filter p ps))
+    by_test : AllByRecursion P (filter f ps) → (b : Bool) → AllByRecursion P (cond b (x ∷ filter f ps) (filter f ps))
     by_test rest true = (all.0, rest)
     by_test rest false = rest
 
 pub readable_stand : (count : ℕ) (ps : List Placed) → AllStand count ps → AllStand count (readable_of ps)
-readable_stand count ps all = filter_stands count is_readable (filter (of_kind kind.Property) ps) (filter_stands count (of_kind kind.Property) ps all)
+readable_stand count ps all =
+    filter_has (λ (x : Placed). x.slot < count) is_readable (filter (of_kind kind.Property) ps) (filter_has (λ (x : Placed). x.slot < count) (of_kind kind.Property) ps all)
 
 pub events_stand : (count : ℕ) (ps : List Placed) → AllStand count ps → AllStand count (events_among ps)
-events_stand count ps all = filter_stands count (of_kind kind.Event) ps all
+events_stand count ps all = filter_has (λ (x : Placed). x.slot < count) (of_kind kind.Event) ps all
 
 -- of two lists of affordances whose slots stand, the slots of each stand
 pub stands_first : (count : ℕ) (ps qs : List Placed) → AllStand count (ps ++ qs) → AllStand count ps

@@ -1,8 +1,6 @@
 -- Events that are polled one after another.
-use Rattle.std.proofs.Common.{◌≡◌, ℕ, List, [], ◌∷◌, ◌++◌, map, Bool, true, false, refl, sym, ap, subst, ◌∙◌, append_assoc, inl, inr}
-use Rattle.std.specs.Prelude.{Option}
+use Rattle.std.proofs.Common.{◌≡◌, ℕ, List, [], ◌∷◌, ◌++◌, map, false, refl, sym, ap, subst, ◌∙◌, append_assoc, inl, inr}
 use Rattle.std.proofs.lemmas.List.{append-nil}
-use Rattle.wot_json.specs.Json.{text_of}
 use Rattle.wot_json.specs.Meaning.{json_of}
 use Rattle.wot_json.specs.declared.tree.Tree.{Tree}
 use Rattle.thing_handler.specs.declared.handler.CallKind.TheVariants as call
@@ -13,8 +11,8 @@ use Rattle.thing_handler.proofs.RackLaws.{rack_shows_in_order}
 use Rattle.thing_core.specs.Site.{Placed}
 use Rattle.thing_core.specs.State.{State, Emission, last_after}
 use Rattle.thing_core.specs.Course.{Course}
-use Rattle.thing_core.specs.Thing.{Done, Called, no_number, no_memory, gives, IsTaken, emission, IsPolled, PollsEach}
-use Rattle.thing_core.specs.Performing.{Leads, MakesCall, PollsSome, has_fired}
+use Rattle.thing_core.specs.Thing.{Called, gives, IsTaken, emission, IsPolled, PollsEach}
+use Rattle.thing_core.specs.Performing.{MakesCall, PollsSome, has_fired}
 use Rattle.thing_core.proofs.WriteLoop.{targets_then}
 
 -- ---- what an answer emits

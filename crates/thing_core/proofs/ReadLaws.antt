@@ -1,11 +1,11 @@
 -- Reads of properties as moves of the Thing machine.
-use Rattle.std.proofs.Common.{◌≡◌, ℕ, ◌<◌, ◌+◌, List, [], ◌∷◌, ◌++◌, length, Bool, true, false, cond, refl, sym, ap, subst, ◌∙◌, append_assoc, length-append, arith, inl, inr}
+use Rattle.std.proofs.Common.{◌≡◌, ℕ, List, [], ◌∷◌, ◌++◌, length, Bool, true, refl, sym, ap, subst, ◌∙◌, append_assoc, arith, inl, inr}
 use Rattle.std.specs.Prelude.{Option, Result, Ok, Err, codes, nat_lt, if◌then◌else◌}
 use Rattle.std.proofs.lemmas.List.{append-nil}
 use Rattle.std.proofs.lemmas.Bool.{lt-ltb}
 use Rattle.servient_base.specs.Moves.{Makes, Stays}
-use Rattle.wot_json.specs.Tree.{Json, Members, no_members, member, members_of, object}
-use Rattle.wot_json.specs.Json.{text_of, members_text, more_members_text, json_string}
+use Rattle.wot_json.specs.Tree.{Json, members_of}
+use Rattle.wot_json.specs.Json.{text_of, more_members_text, json_string}
 use Rattle.wot_json.specs.Meaning.{json_of}
 use Rattle.wot_json.specs.declared.tree.Tree.{Tree}
 use Rattle.thing_ops.specs.declared.outcome.Outcome.{Outcome}
@@ -15,10 +15,9 @@ use Rattle.thing_handler.specs.declared.handler.Answer.TheVariants as answer
 use Rattle.thing_handler.specs.Handler.{Seen}
 use Rattle.thing_handler.specs.Turns.{RackShows}
 use Rattle.thing_core.specs.Site.{Placed}
-use Rattle.thing_core.specs.State.{State}
 use Rattle.thing_core.specs.Course.{Course}
-use Rattle.thing_core.specs.Thing.{Move, Done, Called, gives, only, IsTaken, GivesValue, ReadsValue, content_of, Reads, ReadsEach}
-use Rattle.thing_core.specs.Performing.{MakesCall, MakesDone, OrMemory, Leads, ReadsOne, open_object, with_member}
+use Rattle.thing_core.specs.Thing.{Move, Done, Called, gives, only, IsTaken, GivesValue, content_of, Reads, ReadsEach}
+use Rattle.thing_core.specs.Performing.{MakesCall, MakesDone, OrMemory, Leads, open_object, with_member}
 use Rattle.thing_core.proofs.MoveLaws.{done_alone, or_memory, leads_value, leads_end, made_unseen}
 
 -- a value is taken, or it isn't

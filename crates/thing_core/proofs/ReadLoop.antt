@@ -1,5 +1,5 @@
 -- Properties that are read one after another.
-use Rattle.std.proofs.Common.{◌≡◌, ℕ, ◌≤◌, ◌<◌, ◌+◌, List, [], ◌∷◌, ◌++◌, length, refl, sym, ap, ◌∙◌, arith}
+use Rattle.std.proofs.Common.{◌≡◌, ℕ, ◌≤◌, List, [], ◌∷◌, ◌++◌, length, refl, ap, ◌∙◌, arith}
 use Rattle.std.specs.Prelude.{Some, None, codes}
 use Rattle.wot_json.specs.Tree.{Json}
 use Rattle.thing_ops.specs.declared.outcome.Outcome.{Outcome}
@@ -8,7 +8,7 @@ use Rattle.thing_handler.specs.Handler.{Seen}
 use Rattle.thing_core.specs.declared.field.Field.{Field}
 use Rattle.thing_core.specs.Site.{Placed}
 use Rattle.thing_core.specs.Course.{Course}
-use Rattle.thing_core.specs.Thing.{Done, only, ReadsEach}
+use Rattle.thing_core.specs.Thing.{only, ReadsEach}
 use Rattle.thing_core.specs.Performing.{Leads, MakesDone, ReadsOne, open_object, room_of_fields}
 use Rattle.thing_core.proofs.MoveLaws.{done_alone, leads_none, leads_then, leads_end, made_unseen}
 

@@ -1,16 +1,13 @@
 -- Refusals of acts, and of requests that ask for them.
-use Rattle.std.proofs.Common.{◌≡◌, ℕ, List, [], ◌∷◌, map, length, true, false, refl, sym, ap, subst, ◌∙◌, inl, inr, arith}
+use Rattle.std.proofs.Common.{◌≡◌, List, map, true, false, refl, sym, ap, subst, inl, inr}
 use Rattle.std.specs.Prelude.{Option, Some, None, option_and_then}
-use Rattle.std.specs.List.{AllByRecursion}
-use Rattle.wot_json.specs.Json.{text_of}
-use Rattle.wot_json.specs.Meaning.{json_of}
 use Rattle.thing_ops.specs.declared.outcome.Outcome.{Outcome}
 use Rattle.thing_ops.specs.declared.outcome.Outcome.TheVariants as outcome
 use Rattle.thing_ops.specs.Requests.{PlainRequest}
 use Rattle.thing_core.specs.declared.input.Input.{Input as InputInCode}
 use Rattle.thing_core.specs.State.{State}
 use Rattle.thing_core.specs.Places.{Act, act_at}
-use Rattle.thing_core.specs.Refusals.{Asked, Input, act_asked, place_asked, inputs_of, is_acceptable, is_taken_format, refusals, refusals_of_acts, Holding, HasNoInvocationLeft, IsEmptyBody, IsLong, IsAnswer, IsAnsweredWith, IsFirst, IsNone, IsRefusedBy, IsRefusedBySchema, NoneStands, SomeInput, Stands, StandsAgainst}
+use Rattle.thing_core.specs.Refusals.{Asked, Input, act_asked, place_asked, inputs_of, is_acceptable, is_taken_format, refusals, refusals_of_acts, Holding, HasNoInvocationLeft, IsEmptyBody, IsLong, IsAnswer, IsFirst, IsNone, IsRefusedBy, IsRefusedBySchema, NoneStands, SomeInput, StandsAgainst}
 use Rattle.thing_core.specs.Performing.{input_of, IsActRefused, IsFree}
 
 -- what holds of inputs that are handed in

@@ -1,13 +1,11 @@
 -- The affordances that a request asks for stand in a rack that the site fits, and an act that is admitted may be done.
-use Rattle.std.proofs.Common.{◌≡◌, ◌≤◌, ◌<◌, ℕ, List, [], ◌∷◌, ◌++◌, map, length, Bool, true, false, cond, refl, sym, ap, subst, ◌∙◌, arith, inl, inr}
-use Rattle.std.specs.Prelude.{Option, Some, None, IsSome, option_map, option_and_then, slice_get, ◌&&◌}
+use Rattle.std.proofs.Common.{◌≡◌, ◌≤◌, ◌<◌, ℕ, List, [], ◌∷◌, ◌++◌, map, length, Bool, true, false, cond, refl, sym, ap, subst, arith, inl, inr}
+use Rattle.std.specs.Prelude.{Option, Some, None, IsSome, option_and_then, slice_get}
 use Rattle.std.specs.List.{AllByRecursion}
 use Rattle.std.specs.Str.{bytes_eq}
 use Rattle.std.proofs.lemmas.Option.{same_Some, slice_get_within}
-use Rattle.wot_json.specs.Tree.{Json, object, Members, no_members, member}
 use Rattle.wot_json.specs.Json.{text_of}
 use Rattle.wot_json.specs.Meaning.{json_of}
-use Rattle.wot_json.specs.Reading.{tree_of}
 use Rattle.wot_terms.specs.declared.kind.Kind.{Kind}
 use Rattle.wot_terms.specs.declared.kind.Kind.TheVariants as kind
 use Rattle.thing_ops.specs.Routes.{route_of}
@@ -17,13 +15,14 @@ use Rattle.thing_ops.specs.declared.verb.Verb.{Verb}
 use Rattle.thing_ops.specs.declared.verb.Verb.TheVariants as verb
 use Rattle.thing_handler.specs.Handler.{Seen}
 use Rattle.thing_core.specs.declared.input.Input.{Input as InputInCode}
-use Rattle.thing_core.specs.Site.{Placed, ExposedThing, Site, is_kind, affordance_named, thing_named, events_of, those_of, of_kind}
+use Rattle.thing_core.specs.Site.{Placed, ExposedThing, Site, affordance_named, thing_named, events_of, those_of}
 use Rattle.thing_core.specs.State.{State, Invocation, invocation_named, running_count, most_invocations}
 use Rattle.thing_core.specs.Places.{Place, description, all_properties, property, observed, action, invocation, event, subscribed, thing_in, affordance_in, place_at, where_observable, where_invoked, Act, describes, reads_all, writes_many, reads, writes, invokes, queries, cancels, reads_event, waits, act_at, unless}
-use Rattle.thing_core.specs.Refusals.{Asked, Input, act_asked, place_asked, inputs_of, no_inputs, invoke_inputs, object_inputs, member_inputs, only_input, written_property, unless_read_only, longest_value, refusals, IsLong, SomeInput, Holding, HasNoInvocationLeft, NoneStands}
-use Rattle.thing_core.specs.Kept.{FitsSlot, ThingFits, Fits}
+use Rattle.thing_core.specs.Refusals.{Asked, Input, act_asked, place_asked, inputs_of, longest_value, refusals, IsLong, SomeInput, Holding, HasNoInvocationLeft, NoneStands}
+use Rattle.thing_core.specs.Kept.{FitsSlot, Fits}
 use Rattle.thing_core.specs.Performing.{AllStand, InputsFit, MayBeDone, affordances_of_act, input_of}
-use Rattle.thing_core.proofs.PlacedLists.{events_among, events_stand}
+use Rattle.thing_core.proofs.Handed.{came_of, made_of, named_has, InputsHave, handed_have}
+use Rattle.thing_core.proofs.PlacedLists.{events_stand}
 
 -- ---- what fits stands
 
@@ -50,14 +49,6 @@ all_events_stand count (t ∷ site) all =
 
 -- ---- what is found
 
-named_stands : (count : ℕ) (k : Kind) (name : List ℕ) (ps : List Placed) (p : Placed) → AllStand count ps → affordance_named k name ps ≡ Some p → p.slot < count
-named_stands count k name [] p all e = absurd cc
-named_stands count k name (q ∷ ps) p all e = by_test (named_stands count k name ps p all.1) (is_kind k q.affordance.kind && bytes_eq name q.affordance.name) e
-  where
-    by_test : (affordance_named k name ps ≡ Some p → p.slot < count) → (b : Bool) → cond b (Some q) (affordance_named k name ps) ≡ Some p → p.slot < count
-    by_test further true is = subst (λ (x : Placed). x.slot < count) (same_Some q p is) all.0
-    by_test further false is = further is
-
 thing_stands : (count : ℕ) (segment : List ℕ) (site : Site) (thing : ExposedThing) → SiteStands count site → thing_named segment site ≡ Some thing → AllStand count thing.affordances
 thing_stands count segment [] thing all e = absurd cc
 thing_stands count segment (t ∷ site) thing all e = by_test (thing_stands count segment site thing all.1) (bytes_eq segment t.segment) e
@@ -65,15 +56,6 @@ thing_stands count segment (t ∷ site) thing all e = by_test (thing_stands coun
     by_test : (thing_named segment site ≡ Some thing → AllStand count thing.affordances) → (b : Bool) → cond b (Some t) (thing_named segment site) ≡ Some thing → AllStand count thing.affordances
     by_test further true is = subst (λ (x : ExposedThing). AllStand count x.affordances) (same_Some t thing is) all.0
     by_test further false is = further is
-
--- what a step after another gives came of something
-came_of : {A B : Type 0} (f : A → Option B) (o : Option A) (b : B) → option_and_then f o ≡ Some b → (a : A) × (o ≡ Some a) × (f a ≡ Some b)
-came_of f None b e = absurd cc
-came_of f (Some a) b e = (a, refl, e)
-
-made_of : {A B : Type 0} (f : A → B) (o : Option A) (b : B) → option_map f o ≡ Some b → (a : A) × (o ≡ Some a) × (f a ≡ b)
-made_of f None b e = absurd cc
-made_of f (Some a) b e = (a, refl, same_Some (f a) b e)
 
 in_site_stands : (count : ℕ) (path : List (List ℕ)) (site : Site) (thing : ExposedThing) → SiteStands count site → thing_in path site ≡ Some thing → AllStand count thing.affordances
 in_site_stands count path site thing all e =
@@ -84,7 +66,7 @@ in_thing_stands : (count : ℕ) (k : Kind) (path : List (List ℕ)) (site : Site
 in_thing_stands count k path site p all e =
     let of_thing = came_of (λ (thing : ExposedThing). option_and_then (λ (name : List ℕ). affordance_named k name thing.affordances) (slice_get path 2)) (thing_in path site) p e in
     let of_name = came_of (λ (name : List ℕ). affordance_named k name of_thing.0.affordances) (slice_get path 2) p of_thing.2 in
-    named_stands count k of_name.0 of_thing.0.affordances p (in_site_stands count path site of_thing.0 all of_thing.1) of_name.2
+    named_has (λ (x : Placed). x.slot < count) k of_name.0 of_thing.0.affordances p (in_site_stands count path site of_thing.0 all of_thing.1) of_name.2
 
 -- ---- places and acts
 
@@ -201,56 +183,7 @@ may_be_done count a act all e none =
 
 -- ---- inputs
 
--- the affordances of inputs stand
-abbrev InputsStand : ℕ → List Input → Type 0
-InputsStand count inputs = AllByRecursion (λ i. i.affordance.slot < count) inputs
-
-none_handed : (count : ℕ) (body : List ℕ) (inputs : List Input) → no_inputs body ≡ Some inputs → InputsStand count inputs
-none_handed count [] inputs e = subst (λ (is : List Input). InputsStand count is) (same_Some [] inputs e) tt
-none_handed count (b ∷ body) inputs e = absurd cc
-
-one_handed : (count : ℕ) (p : Placed) (value : Option Json) (inputs : List Input) → p.slot < count → option_map (only_input p) value ≡ Some inputs → InputsStand count inputs
-one_handed count p value inputs below e =
-    let of = made_of (only_input p) value inputs e in subst (λ (is : List Input). InputsStand count is) of.2 (below, tt)
-
-written_stands : (count : ℕ) (thing : ExposedThing) (name : List ℕ) (p : Placed) → AllStand count thing.affordances → written_property thing name ≡ Some p → p.slot < count
-written_stands count thing name p all e =
-    let of = came_of unless_read_only (affordance_named kind.Property name thing.affordances) p e in
-    by_test of.0 (named_stands count kind.Property name thing.affordances of.0 all of.1) of.0.affordance.read_only of.2
-  where
-    by_test : (q : Placed) → q.slot < count → (b : Bool) → cond b None (Some q) ≡ Some p → p.slot < count
-    by_test q below true is = absurd cc
-    by_test q below false is = subst (λ (x : Placed). x.slot < count) (same_Some q p is) below
-
-members_handed : (count : ℕ) (thing : ExposedThing) (ms : Members) (inputs : List Input) → AllStand count thing.affordances → member_inputs thing ms ≡ Some inputs → InputsStand count inputs
-members_handed count thing no_members inputs all e = subst (λ (is : List Input). InputsStand count is) (same_Some [] inputs e) tt
-members_handed count thing (member name value ms) inputs all e =
-    let of = came_of (λ (p : Placed). option_map (λ (is : List Input). only_input p value ++ is) (member_inputs thing ms)) (written_property thing name) inputs e in
-    let rest = made_of (λ (is : List Input). only_input of.0 value ++ is) (member_inputs thing ms) inputs of.2 in
-    subst (λ (is : List Input). InputsStand count is) rest.2 (written_stands count thing name of.0 all of.1, members_handed count thing ms rest.0 all rest.1)
-
-object_handed : (count : ℕ) (thing : ExposedThing) (value : Json) (inputs : List Input) → AllStand count thing.affordances → object_inputs thing value ≡ Some inputs → InputsStand count inputs
-object_handed count thing (object ms) inputs all e = members_handed count thing ms inputs all e
-object_handed count thing value inputs all e = absurd cc
-
-invoke_handed : (count : ℕ) (p : Placed) (schema : Option Json) (body : List ℕ) (inputs : List Input) → p.slot < count → invoke_inputs p schema body ≡ Some inputs → InputsStand count inputs
-invoke_handed count p None body inputs below e = none_handed count body inputs e
-invoke_handed count p (Some schema) body inputs below e = one_handed count p (tree_of body) inputs below e
-
-handed_stand : (count : ℕ) (act : Act) (body : List ℕ) (inputs : List Input) → AllStand count (affordances_of_act act) → inputs_of act body ≡ Some inputs → InputsStand count inputs
-handed_stand count (describes thing) body inputs all e = none_handed count body inputs e
-handed_stand count (reads_all thing) body inputs all e = none_handed count body inputs e
-handed_stand count (writes_many thing) body inputs all e =
-    let of = came_of (object_inputs thing) (tree_of body) inputs e in object_handed count thing of.0 inputs all of.2
-handed_stand count (reads p) body inputs all e = none_handed count body inputs e
-handed_stand count (writes p) body inputs all e = one_handed count p (tree_of body) inputs all.0 e
-handed_stand count (invokes p) body inputs all e = invoke_handed count p p.affordance.input body inputs all.0 e
-handed_stand count (queries p id) body inputs all e = none_handed count body inputs e
-handed_stand count (cancels p id) body inputs all e = none_handed count body inputs e
-handed_stand count (reads_event p) body inputs all e = none_handed count body inputs e
-handed_stand count (waits p) body inputs all e = none_handed count body inputs e
-
-none_long : (count : ℕ) (inputs : List InputInCode) → InputsStand count (map input_of inputs) → ¬ (SomeInput IsLong (map input_of inputs)) → InputsFit count inputs
+none_long : (count : ℕ) (inputs : List InputInCode) → InputsHave (λ (x : Placed). x.slot < count) (map input_of inputs) → ¬ (SomeInput IsLong (map input_of inputs)) → InputsFit count inputs
 none_long count [] stand short = tt
 none_long count (i ∷ inputs) stand short =
     let here : ¬ (longest_value < length (text_of (json_of i.value))) = λ long. short (inl long) in (
@@ -261,6 +194,6 @@ none_long count (i ∷ inputs) stand short =
 pub inputs_fit : (count : ℕ) (a : Asked) (act : Act) (inputs : List InputInCode) → SiteStands count a.site → act_asked a ≡ Some act → inputs_of act a.request.body ≡ Some (map input_of inputs)
     → NoneStands refusals a → InputsFit count inputs
 inputs_fit count a act inputs all e given none =
-    none_long count inputs (handed_stand count act a.request.body (map input_of inputs) (slots_stand count a act all e) given)
+    none_long count inputs (handed_have (λ (x : Placed). x.slot < count) act a.request.body (map input_of inputs) (slots_stand count a act all e) given)
     (λ long. none.1.1.1.1.1.0 (subst (λ (x : Option Act). Holding (λ y. Holding (SomeInput IsLong) (inputs_of y a.request.body)) x) (sym e)
     (subst (λ (x : Option (List Input)). Holding (SomeInput IsLong) x) (sym given) long)))

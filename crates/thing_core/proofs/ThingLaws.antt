@@ -7,12 +7,12 @@ use Rattle.thing_ops.specs.declared.outcome.Outcome.{Outcome}
 use Rattle.thing_ops.specs.Requests.{PlainRequest}
 use Rattle.thing_handler.specs.Handler.{Seen}
 use Rattle.thing_handler.specs.Turns.{RunTurn, HandlerCall, GrewBy}
-use Rattle.thing_core.specs.Site.{Placed, ExposedThing, Site}
+use Rattle.thing_core.specs.Site.{Placed, Site}
 use Rattle.thing_core.specs.State.{State}
 use Rattle.thing_core.specs.Refusals.{Stands, refused_by_schema}
 use Rattle.thing_core.specs.Thing.{Acts, Done, refuses, has_no_memory, performs}
-use Rattle.thing_core.specs.Kept.{Fits, FitsSlot, Kept, ThingFits}
-use Rattle.thing_core.specs.Performing.{MakesAct}
+use Rattle.thing_core.specs.Kept.{Fits, FitsSlot, Kept}
+use Rattle.thing_core.specs.Performing.{MakesAct, MakesPolls}
 
 -- a value that its schema refuses reaches no handler
 pub schema_first : (site : Site) (q : PlainRequest) (done : Done) (s t : State) (seen : List HandlerCall) → Acts site q done s seen t
@@ -39,10 +39,14 @@ all_stay : (turns : List RunTurn) (before after : List Seen) (ps : List Placed) 
 all_stay turns before after [] grew all = tt
 all_stay turns before after (p ∷ ps) grew all = (slot_stays turns before after p grew all.0, all_stay turns before after ps grew all.1)
 
-site_stays : (turns : List RunTurn) (before after : List Seen) (site : Site) → GrewBy turns 0 before after → Fits site before → Fits site after
+pub site_stays : (turns : List RunTurn) (before after : List Seen) (site : Site) → GrewBy turns 0 before after → Fits site before → Fits site after
 site_stays turns before after [] grew all = tt
 site_stays turns before after (t ∷ site) grew all = (all_stay turns before after t.affordances grew all.0, site_stays turns before after site grew all.1)
 
 pub fits_on : (old new : Kept) (q : PlainRequest) (o : Outcome) (before after : List Seen) → MakesAct old new q o before after → Fits old.site before → Fits new.site after
 fits_on old new q o before after act fits =
     subst (λ (site : Site). Fits site after) (sym act.site) (site_stays _ before after old.site act.made.shows.turns fits)
+
+pub fits_on_after_polls : (old new : Kept) (before after : List Seen) → MakesPolls old new before after → Fits old.site before → Fits new.site after
+fits_on_after_polls old new before after polls fits =
+    subst (λ (site : Site). Fits site after) (sym polls.site) (site_stays _ before after old.site polls.made.shows.turns fits)

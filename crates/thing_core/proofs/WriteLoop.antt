@@ -1,5 +1,5 @@
 -- Properties that are written one after another.
-use Rattle.std.proofs.Common.{◌≡◌, ℕ, List, [], ◌∷◌, ◌++◌, map, length, Bool, true, false, refl, sym, ap, subst, ◌∙◌, append_assoc}
+use Rattle.std.proofs.Common.{◌≡◌, ℕ, List, [], ◌∷◌, ◌++◌, map, length, true, false, refl, sym, ap, subst, ◌∙◌, append_assoc}
 use Rattle.std.specs.Prelude.{Some, None}
 use Rattle.std.proofs.lemmas.List.{append-nil, map-append}
 use Rattle.servient_base.specs.Moves.{Makes, Then}
@@ -14,7 +14,7 @@ use Rattle.thing_handler.specs.Turns.{HandlerCall, RackShows}
 use Rattle.thing_core.specs.State.{State, Emission, last_after}
 use Rattle.thing_core.specs.Course.{Course}
 use Rattle.thing_core.specs.Refusals.{Input}
-use Rattle.thing_core.specs.Thing.{Move, Done, Called, no_number, no_memory, gives, failure_of, Emits, emissions_of_write, IfDone, Stops, WritesEach}
+use Rattle.thing_core.specs.Thing.{Move, Done, Called, gives, failure_of, Emits, emissions_of_write, IfDone, Stops, WritesEach}
 use Rattle.thing_core.specs.Performing.{Leads, MakesCall, MakesDone, WritesOne, is_done}
 use Rattle.thing_core.proofs.MoveLaws.{leads_none, leads_then, leads_end, made_unseen}
 

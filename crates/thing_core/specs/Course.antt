@@ -1,5 +1,5 @@
 -- What contracts see of what changes in a run, and how the logic keeps it.
-use Rattle.std.specs.Prelude.{◌≡◌, ◌≤◌, ◌-◌, ℕ, List, length, Option, Some, None, refl}
+use Rattle.std.specs.Prelude.{◌≡◌, ◌≤◌, ℕ, List, length, Option, Some, None, refl}
 use Rattle.std.specs.Coded.{Coded, code_by, coded×, coded_ℕ, coded_list, coded_option}
 use Rattle.thing_core.specs.declared.state.Progress.{Progress}
 use Rattle.thing_core.specs.declared.state.Progress.TheVariants as progress

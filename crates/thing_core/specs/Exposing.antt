@@ -8,7 +8,7 @@ use Rattle.thing_handler.specs.Handler.{Seen}
 use Rattle.thing_core.specs.declared.fault.ExposeFault.{ExposeFault}
 use Rattle.thing_core.specs.declared.fault.ExposeFault.TheVariants.{NoSlot, KindDiffers, SlotTwice, NoMemory}
 use Rattle.thing_core.specs.declared.wanted.Wanted.{Wanted}
-use Rattle.thing_core.specs.declared.site.HeldThing.{HeldThing}
+use Rattle.thing_core.specs.declared.held.HeldThing.{HeldThing}
 use Rattle.thing_core.specs.declared.site.Spot.{Spot}
 use Rattle.thing_core.specs.Site.{Placed, ExposedThing, Site, Slots, exposed, site_of, wanted_of_thing, fault_of, faults_from, expose_faults}
 

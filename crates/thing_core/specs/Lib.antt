@@ -10,3 +10,9 @@ pub mod Exposing
 pub mod Kept
 pub mod Found
 pub mod Performing
+pub mod Completeness
+pub mod Determined
+pub mod Ticks
+pub mod Order
+pub mod Ids
+pub mod Index

@@ -1,6 +1,5 @@
 -- The state of the Thing machine: what its devices don't keep themselves.
-use Rattle.std.specs.Prelude.{ℕ, ◌+◌, ◌==◌, List, [], ◌∷◌, ◌++◌, map, length, Bool, true, false, ◌&&◌, not, Option, Some, None, codes, decimal, if◌then◌else◌}
-use Rattle.std.specs.List.{filter}
+use Rattle.std.specs.Prelude.{ℕ, ◌+◌, ◌==◌, List, [], ◌∷◌, ◌++◌, map, length, Bool, true, false, ◌&&◌, Option, Some, None, codes, decimal, if◌then◌else◌}
 use Rattle.thing_core.specs.Site.{Placed, Site, emitters_of}
 
 -- ---- invocations of actions

@@ -7,15 +7,17 @@ ghost use Rattle.wot_json.specs.Meaning.{json_of};
 ghost use Rattle.thing_ops.specs.Requests.{plain_request};
 ghost use Rattle.thing_core.specs.State as state;
 ghost use Rattle.thing_core.specs.Refusals as refusal;
-ghost use Rattle.thing_core.specs.Exposing.{held_site, held_thing, placed_spot};
+ghost use Rattle.thing_core.specs.Exposing.{held_thing, placed_spot};
 ghost use Rattle.thing_core.specs.Found.{found_act};
 ghost use Rattle.thing_core.specs.Performing.{input_of, Comes, HasNoInputs, IsActRefused, IsAdmitted, IsFree};
 
 use crate::calling::{LONGEST_VALUE, is_accepted};
+use crate::held::HeldThing;
+use crate::indexed::IndexedThings;
 use crate::input::Input;
 use crate::machine::Machine;
 use crate::place::{Act, act_at, flags_of, place_of};
-use crate::site::{HeldThing, Spot};
+use crate::site::Spot;
 use crate::state::{Invocation, MOST_INVOCATIONS};
 use std::alloc::Global;
 use thing_ops::{Accept, Format, Outcome, Request, allowed, route};
@@ -32,11 +34,11 @@ pub struct Task<'a> {
 /// The act that a request asks for, where nothing stands against it; else what it comes to.
 pub fn admitted<'a>(
     alloc: Global,
-    things: &'a [HeldThing],
+    things: &'a IndexedThings,
     machine: &Machine,
     request: &Request<'_>,
 ) -> Result<Task<'a>, Outcome>
-    ensures { IsAdmitted (record { site = held_site things.now; state = machine.now.state; request = plain_request request.now }) result }
+    ensures { IsAdmitted (record { site = things.now; state = machine.now.state; request = plain_request request.now }) result }
 {
     let place = match place_of(things, machine.invocations(), &request.path) {
         Some(place) => place,

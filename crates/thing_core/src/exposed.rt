@@ -13,11 +13,12 @@ ghost use Rattle.thing_ops.specs.Requests.{plain_request};
 
 use crate::acting::{act, last_in};
 use crate::admitting::admitted;
+use crate::indexed::IndexedThings;
 use crate::machine::Machine;
 use crate::place::{place_of, target_at};
 use crate::placing::place_all;
 use crate::polling::poll_all;
-use crate::site::{HeldThing, silent_all};
+use crate::site::silent_all;
 use crate::{ExposeFault, Slots};
 use std::alloc::Global;
 use std::marker::Model;
@@ -29,7 +30,7 @@ use wot_terms::Things;
 #[derive(Drop)]
 pub struct Exposed {
     alloc: Global,
-    things: Vec<HeldThing>,
+    things: IndexedThings,
     machine: Machine,
 }
 
@@ -37,15 +38,14 @@ impl Model for Exposed {
     ghost use Rattle.std.specs.Prelude.{◌≡◌, length};
     ghost use Rattle.thing_core.specs.Site.{emitters_of};
     ghost use Rattle.thing_core.specs.Kept.{Kept, kept_code};
-    ghost use Rattle.thing_core.specs.Exposing.{held_site};
 
     ghost Value = { Kept };
 
     ghost coded = { kept_code };
 
-    ghost view = { λ e. record { site = held_site e.things.items; state = e.machine.state; pending = e.machine.pending } };
+    ghost view = { λ e. record { site = e.things; state = e.machine.state; pending = e.machine.pending } };
 
-    ghost invariant = { λ e. length e.machine.state.last ≡ length (emitters_of (held_site e.things.items)) };
+    ghost invariant = { λ e. length e.machine.state.last ≡ length (emitters_of e.things) };
 }
 
 /// How much the machine has done and keeps.
@@ -75,7 +75,7 @@ impl Exposed {
         let last = silent_all(alloc, held.as_slice())?;
         Ok(Exposed {
             alloc,
-            things: held,
+            things: IndexedThings::of(alloc, held)?,
             machine: Machine::new(alloc, last)?,
         })
     }
@@ -86,7 +86,7 @@ impl Exposed {
         requires pending { self.old.pending ≡ [] }
         ensures { MakesAct self.old self.new (plain_request request.now) result (R.slots rack.old) (R.slots rack.new) }
     {
-        match admitted(self.alloc, self.things.as_slice(), &self.machine, request) {
+        match admitted(self.alloc, &self.things, &self.machine, request) {
             Ok(task) => act(self.alloc, task, request, &mut self.machine, rack),
             Err(outcome) => outcome,
         }
@@ -107,7 +107,7 @@ impl Exposed {
     pub fn target_of(&self, path: &Segments) -> Option<u32>
         ensures { result ≡ target_of_path path.now self.now.site self.now.state }
     {
-        let place = place_of(self.things.as_slice(), self.machine.invocations(), path);
+        let place = place_of(&self.things, self.machine.invocations(), path);
         target_at(place)
     }
 
@@ -136,5 +136,12 @@ impl Exposed {
             calls: self.machine.turns(),
             invocations: self.machine.standing(),
         }
+    }
+
+    /// The id of the next invocation, counted over all actions.
+    pub fn next_invocation(&self) -> u64
+        ensures { result ≡ self.now.state.next_invocation }
+    {
+        self.machine.next_invocation()
     }
 }

@@ -1,6 +1,7 @@
 //! Actions: they are invoked, and invocations that run are queried and cancelled.
 
 ghost use Rattle.std.specs.Prelude.{◌≡◌, ◌≤◌, ◌<◌, ℕ, List, [], length, map, IfOk, IfSome, IsSome};
+ghost use Rattle.thing_core.specs.Ids.{IdsRise};
 ghost use Rattle.thing_core.specs.State.{invocation_named, is_running as is_running_one, most_invocations, running, running_count, status_text};
 ghost use Rattle.thing_core.specs.Thing.{place_of_invocation, Cancels, Invokes, OnInvocation, Queries};
 ghost use Rattle.thing_core.specs.Exposing.{placed_spot};
@@ -190,7 +191,8 @@ pub fn query<R: Handlers>(
 
 /// The status of an invocation that runs no more; or else the room.
 fn told(invocations: &[Invocation], slot: u32, id: u32, mut room: Room) -> Result<Outcome, Room>
-    requires { room ≡ [] }
+    requires room { room ≡ [] }
+    requires rise { IdsRise invocations.now }
     ensures { IsTold (invocation_named slot id invocations.now) id result }
 {
     match invocation_in(invocations, slot, id) {
@@ -289,6 +291,7 @@ fn cancelled(id: u32, answer: Answer, machine: &mut Machine) -> Outcome
 
 /// The invocation of this id, of the action in this slot, runs.
 fn is_running(invocations: &[Invocation], slot: u32, id: u32) -> bool
+    requires { IdsRise invocations.now }
     ensures { IfSome (invocation_named slot id invocations.now) (λ i. result ≡ is_running_one i) }
 {
     match invocation_in(invocations, slot, id) {

@@ -10,7 +10,10 @@ ghost use Rattle.thing_core.specs.State.{State};
 ghost use Rattle.thing_core.specs.Refusals.{Stands, refused_by_schema};
 ghost use Rattle.thing_core.specs.Thing.{Acts, Done};
 ghost use Rattle.thing_core.specs.Kept.{Fits, Kept};
-ghost use Rattle.thing_core.specs.Performing.{MakesAct};
+ghost use Rattle.thing_core.specs.Performing.{MakesAct, MakesPolls};
+ghost use Rattle.thing_core.specs.Completeness.{IsComplete};
+ghost use Rattle.thing_core.specs.Determined.{IsDetermined};
+ghost use Rattle.thing_core.specs.Ticks.{IsSameInTurn};
 
 /// A value that its schema refuses reaches no handler, and changes nothing.
 pub fn refused_values_reach_no_handler()
@@ -23,4 +26,27 @@ pub fn refused_values_reach_no_handler()
 pub fn a_rack_fits_on()
     ensures { (old new : Kept) → (q : PlainRequest) → (o : Outcome) → (before after : List Seen)
         → MakesAct old new q o before after → Fits old.site before → Fits new.site after }
+{}
+
+/// The same of polls.
+pub fn a_rack_fits_on_after_polls()
+    ensures { (old new : Kept) → (before after : List Seen)
+        → MakesPolls old new before after → Fits old.site before → Fits new.site after }
+{}
+
+/// A request that nothing stands against, and whose devices answer in kind, comes to the success of its act, but where memory
+/// is out or the run has no number left for a turn.
+pub fn requests_are_complete()
+    ensures { (site : Site) → (q : PlainRequest) → IsComplete site q }
+{}
+
+/// To poll all events and to hand all emissions out afterwards is to do so event by event.
+pub fn polls_are_the_same_in_turn()
+    ensures { (site : Site) → IsSameInTurn site }
+{}
+
+/// What a request comes to, what it emits, its calls and the state afterwards are determined by the state, the request and
+/// the answers, where memory isn't out.
+pub fn requests_are_determined()
+    ensures { (site : Site) → (q : PlainRequest) → IsDetermined site q }
 {}

@@ -25,6 +25,8 @@ mod calling;
 mod exposed;
 mod fault;
 mod field;
+mod held;
+mod indexed;
 mod input;
 mod invoking;
 mod laws;
@@ -43,6 +45,9 @@ mod writing;
 
 pub use exposed::{Accounts, Exposed};
 pub use fault::ExposeFault;
-pub use laws::{a_rack_fits_on, refused_values_reach_no_handler};
+pub use laws::{
+    a_rack_fits_on, a_rack_fits_on_after_polls, polls_are_the_same_in_turn,
+    refused_values_reach_no_handler, requests_are_complete,
+};
 pub use servient_base::NoMemory;
 pub use slots::Slots;

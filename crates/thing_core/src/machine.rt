@@ -1,13 +1,14 @@
 //! What the Thing machine keeps in a run, in places that were all taken at its beginning.
 
-ghost use Rattle.std.specs.Prelude.{◌≡◌, ◌≤◌, ◌<◌, ◌+◌, length, map, option_map, not, position, remove, vec_len, vec_capacity, ◌==◌, IfOk};
+ghost use Rattle.std.specs.Prelude.{◌≡◌, ◌≤◌, ◌<◌, ◌+◌, length, map, option_map, not, position, remove, vec_len, vec_capacity, IfOk};
 ghost use Rattle.thing_core.specs.Rooms.{room_size};
 ghost use Rattle.thing_core.specs.State as spec;
 ghost use Rattle.thing_core.specs.Course.{FitsValue};
+ghost use Rattle.thing_core.specs.Ids.{IdsRise};
 
 use crate::NoMemory;
 use crate::room::Room;
-use crate::state::{Invocation, Latest, MOST_INVOCATIONS};
+use crate::state::{Invocation, Latest, MOST_INVOCATIONS, place_by_id};
 use std::alloc::Global;
 use std::collections::VecDeque;
 use std::marker::Model;
@@ -53,6 +54,7 @@ impl Machine {
     ghost use Rattle.thing_core.specs.State as spec;
     ghost use Rattle.thing_core.specs.Thing.{most_turns, with_id_used, with_invocations};
     ghost use Rattle.thing_core.specs.Course.{FitsValue};
+    ghost use Rattle.thing_core.specs.Ids.{IdsRise};
 
     /// Before the first request, where what may emit is this. All its memory is taken here.
     pub fn new(alloc: Global, last: Vec<Latest>) -> Result<Machine, NoMemory>
@@ -72,7 +74,8 @@ impl Machine {
 
     /// The invocations that stand, the oldest first.
     pub fn invocations(&self) -> &[Invocation]
-        ensures { result.now ≡ self.now.state.invocations }
+        ensures items { result.now ≡ self.now.state.invocations }
+        ensures rise { IdsRise result.now }
     {
         self.invocations.as_slice()
     }
@@ -171,9 +174,7 @@ impl Machine {
         if self.invocations.len() == MOST_INVOCATIONS {
             drop_oldest_completed(&mut self.invocations, &mut self.spare);
         }
-        let mut room = self.spare.pop().unwrap();
-        room.fill(&[]);
-        let invocation = Invocation::running(self.next_invocation as u32, slot, room);
+        let invocation = running_in(&mut self.spare, self.next_invocation as u32, slot);
         self.invocations.push_reserved(invocation);
         self.next_invocation += 1;
     }
@@ -192,7 +193,7 @@ impl Machine {
     pub fn remove(&mut self, id: u32)
         ensures { self.new ≡ record self.old { state = with_invocations (spec.without_invocation id self.old.state.invocations) self.old.state } }
     {
-        match place_of(self.invocations.as_slice(), id) {
+        match place_by_id(self.invocations.as_slice(), id) {
             Some(index) => take_back(&mut self.invocations, &mut self.spare, index),
             None => {}
         }
@@ -244,11 +245,16 @@ fn place_of_completed(invocations: &[Invocation]) -> Option<usize>
     invocations.iter().position(|i| !i.is_running())
 }
 
-/// The place of the first of this id.
-fn place_of(invocations: &[Invocation], id: u32) -> Option<usize>
-    ensures { result ≡ position (λ i. i.id == id) invocations.now }
+/// An invocation that runs, in one of these rooms.
+fn running_in(spare: &mut Vec<Room>, id: u32, slot: u32) -> Invocation
+    requires { 0 < vec_len spare.old }
+    ensures invocation { result ≡ record { id = id; slot = slot; status = spec.running } }
+    ensures len { vec_len spare.new + 1 ≡ vec_len spare.old }
+    ensures places { vec_capacity spare.new ≡ vec_capacity spare.old }
 {
-    invocations.iter().position(|i| i.id() == id)
+    let mut room = spare.pop().unwrap();
+    room.fill(&[]);
+    Invocation::running(id, slot, room)
 }
 
 /// The one at this place goes, and gives its room back.
@@ -265,15 +271,14 @@ fn take_back(invocations: &mut Vec<Invocation>, spare: &mut Vec<Room>, index: us
     spare.push_reserved(invocation.into_room());
 }
 
-/// The first of this id finishes, with the text of its output where it has one.
+/// The one of this id finishes, with the text of its output where it has one.
 fn complete_one(invocations: &mut [Invocation], id: u32, output: Option<&[u8]>)
-    requires { FitsValue (option_map (λ t. t.now) output) }
+    requires output { FitsValue (option_map (λ t. t.now) output) }
+    requires rise { IdsRise invocations.old }
     ensures { invocations.new ≡ spec.with_completed id (option_map (λ t. t.now) output.entry) invocations.old }
 {
-    for invocation in invocations {
-        if invocation.id() == id {
-            invocation.complete(output);
-            return;
-        }
+    match place_by_id(invocations, id) {
+        Some(index) => invocations[index].complete(output),
+        None => {}
     }
 }

@@ -1,13 +1,16 @@
 //! What the path of a request leads to, and which act its verb asks for there.
 
-ghost use Rattle.std.specs.Prelude.{◌≡◌, option_and_then, option_map, slice_get};
+ghost use Rattle.std.specs.Prelude.{◌≡◌, ◌==◌, Some, None, if◌then◌else◌, option_and_then, option_map, slice_get};
 ghost use Rattle.thing_core.specs.Places as spec;
 ghost use Rattle.thing_core.specs.State.{invocation_named as invocation_of};
+ghost use Rattle.thing_core.specs.Ids.{IdsRise};
 ghost use Rattle.thing_core.specs.Exposing.{held_site, held_thing, placed_spot};
 ghost use Rattle.thing_core.specs.Found.{found_act, found_place, kind_by, place_by, spot_by, thing_by, with_invocations_alone};
 
-use crate::site::{HeldThing, Spot, thing_named};
-use crate::state::Invocation;
+use crate::held::HeldThing;
+use crate::indexed::IndexedThings;
+use crate::site::Spot;
+use crate::state::{Invocation, place_by_id};
 use thing_ops::{Flags, RouteKind, Segments, Verb, route};
 use wot_terms::Kind;
 
@@ -45,11 +48,12 @@ pub enum Act<'a> {
 /// What a path leads to, where it leads anywhere.
 #[tactic(auto, using(crate::proofs::PlaceLaws::place_by_parts))]
 pub fn place_of<'a>(
-    things: &'a [HeldThing],
+    things: &'a IndexedThings,
     invocations: &[Invocation],
     path: &Segments,
 ) -> Option<Place<'a>>
-    ensures { option_map found_place result ≡ spec.place_of path.now (held_site things.now) (with_invocations_alone invocations.now) }
+    requires { IdsRise invocations.now }
+    ensures { option_map found_place result ≡ spec.place_of path.now things.now (with_invocations_alone invocations.now) }
 {
     let route = route(path);
     let thing = thing_at(things, path, route);
@@ -64,6 +68,7 @@ fn place_from<'a>(
     spot: Option<Spot<'a>>,
     invocations: &[Invocation],
 ) -> Option<Place<'a>>
+    requires { IdsRise invocations.now }
     ensures { option_map found_place result ≡ place_by route (option_map (λ t. held_thing t.now) thing.entry) (option_map placed_spot spot.entry) (with_invocations_alone invocations.now) }
 {
     match route {
@@ -80,19 +85,23 @@ fn place_from<'a>(
 }
 
 /// The Thing that a path of this form is about as a whole.
-fn thing_at<'a>(things: &'a [HeldThing], path: &Segments, route: RouteKind) -> Option<&'a HeldThing>
-    ensures { option_map (λ t. held_thing t.now) result ≡ thing_by route path.now (held_site things.now) }
+fn thing_at<'a>(
+    things: &'a IndexedThings,
+    path: &Segments,
+    route: RouteKind,
+) -> Option<&'a HeldThing>
+    ensures { option_map (λ t. held_thing t.now) result ≡ thing_by route path.now things.now }
 {
     match route {
-        RouteKind::Root => root_of(things),
+        RouteKind::Root => root_of(things.as_slice()),
         RouteKind::Thing | RouteKind::All => thing_in(things, path),
         _ => None,
     }
 }
 
 /// The affordance that a path of this form is about.
-fn spot_at<'a>(things: &'a [HeldThing], path: &Segments, route: RouteKind) -> Option<Spot<'a>>
-    ensures { option_map placed_spot result ≡ spot_by route path.now (held_site things.now) }
+fn spot_at<'a>(things: &'a IndexedThings, path: &Segments, route: RouteKind) -> Option<Spot<'a>>
+    ensures { option_map placed_spot result ≡ spot_by route path.now things.now }
 {
     match kind_at(route) {
         Some(kind) => affordance_in(things, path, kind),
@@ -128,18 +137,18 @@ fn root_of(things: &[HeldThing]) -> Option<&HeldThing>
 }
 
 /// The Thing that the first segment names.
-fn thing_in<'a>(things: &'a [HeldThing], path: &Segments) -> Option<&'a HeldThing>
-    ensures { option_map (λ t. held_thing t.now) result ≡ spec.thing_in path.now (held_site things.now) }
+fn thing_in<'a>(things: &'a IndexedThings, path: &Segments) -> Option<&'a HeldThing>
+    ensures { option_map (λ t. held_thing t.now) result ≡ spec.thing_in path.now things.now }
 {
     match path.get(0) {
-        Some(segment) => thing_named(things, segment),
+        Some(segment) => things.named(segment),
         None => None,
     }
 }
 
 /// Its affordance of this kind that the third segment names.
-fn affordance_in<'a>(things: &'a [HeldThing], path: &Segments, kind: Kind) -> Option<Spot<'a>>
-    ensures { option_map placed_spot result ≡ spec.affordance_in kind path.now (held_site things.now) }
+fn affordance_in<'a>(things: &'a IndexedThings, path: &Segments, kind: Kind) -> Option<Spot<'a>>
+    ensures { option_map placed_spot result ≡ spec.affordance_in kind path.now things.now }
 {
     match thing_in(things, path) {
         Some(thing) => match path.get(2) {
@@ -228,6 +237,7 @@ fn observed<'a>(property: Option<Spot<'a>>) -> Option<Place<'a>>
 
 /// An invocation of an action.
 fn invoked<'a>(action: Option<Spot<'a>>, invocations: &[Invocation], id: u32) -> Option<Place<'a>>
+    requires { IdsRise invocations.now }
     ensures { option_map found_place result
         ≡ option_and_then (λ p. option_map (λ _. spec.invocation p id) (invocation_of p.slot id invocations.now)) (option_map placed_spot action.entry) }
 {
@@ -240,16 +250,26 @@ fn invoked<'a>(action: Option<Spot<'a>>, invocations: &[Invocation], id: u32) ->
     }
 }
 
-/// The invocation of this id under the action in this slot.
+/// The invocation of this id under the action in this slot, found by halving.
 pub fn invocation_in(invocations: &[Invocation], slot: u32, id: u32) -> Option<&Invocation>
+    requires { IdsRise invocations.now }
     ensures { option_map (λ i. i.now) result ≡ invocation_of slot id invocations.now }
 {
-    for invocation in invocations {
-        if invocation.slot() == slot && invocation.id() == id {
-            return Some(invocation);
-        }
+    match place_by_id(invocations, id) {
+        Some(index) => of_slot(&invocations[index], slot),
+        None => None,
     }
-    None
+}
+
+/// An invocation, where its action is in this slot.
+fn of_slot(invocation: &Invocation, slot: u32) -> Option<&Invocation>
+    ensures { option_map (λ i. i.now) result ≡ (if invocation.now.slot == slot then Some invocation.now else None) }
+{
+    if invocation.slot() == slot {
+        Some(invocation)
+    } else {
+        None
+    }
 }
 
 /// The act of a verb at a place, where the verb is taken there.

@@ -8,12 +8,12 @@ ghost use Rattle.wot_terms.specs.ThingLists.{kept_thing, kept_things};
 ghost use Rattle.thing_core.specs.Site.{is_among as is_among_those, expose_faults};
 ghost use Rattle.thing_core.specs.Exposing.{kinds_of, slot_or_0, ArePlaced, HaveFault, HaveNoFault, IsFirst, IsJudged, IsPlaced};
 
-use crate::site::HeldThing;
+use crate::held::HeldThing;
 use crate::wanted::{Wanted, wanted_all};
 use crate::{ExposeFault, NoMemory, Slots};
 use std::alloc::Global;
 use thing_handler::{Handlers, Kind};
-use wot_json::{Text, copy};
+use wot_json::{Text, copy, tree_is_well_formed};
 use wot_terms::{Description, Thing};
 
 /// Gives the affordances of Things their handlers, in order.
@@ -57,6 +57,7 @@ fn place<R: Handlers>(
     ensures { IsPlaced (kinds_of (R.slots rack.now)) slots.now (kept_thing thing.now) earlier.old.items earlier.new.items result }
 {
     let affordances = Description::of(alloc, &thing.tree)?;
+    tree_is_well_formed(&thing.tree);
     let wanted = wanted_all(
         alloc,
         slots,

@@ -7,8 +7,9 @@ ghost use Rattle.thing_core.specs.Exposing.{held_site, placed_all, placed_spot};
 ghost use Rattle.thing_core.specs.Performing.{AllStand, PollsSome};
 
 use crate::calling::{LONGEST_VALUE, call, fired, taken_text};
+use crate::held::HeldThing;
 use crate::machine::Machine;
-use crate::site::{HeldThing, Spot, is_kind, slot_at};
+use crate::site::{Spot, is_kind, slot_at};
 use thing_handler::{CallKind, Handlers};
 use wot_terms::{Affordance, Kind};
 

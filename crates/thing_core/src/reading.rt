@@ -10,8 +10,9 @@ ghost use Rattle.thing_core.specs.Performing.{with_member, room_of_fields, spots
 use crate::NoMemory;
 use crate::calling::{LONGEST_VALUE, call, taken_text, value_of};
 use crate::field::Field;
+use crate::held::HeldThing;
 use crate::machine::Machine;
-use crate::site::{HeldThing, Spot, slot_at};
+use crate::site::{Spot, slot_at};
 use std::alloc::Global;
 use thing_handler::{CallKind, Handlers};
 use thing_ops::Outcome;

@@ -1,26 +1,20 @@
 //! What is constant in a run: the Things, their affordances and the slots of their handlers.
 
-ghost use Rattle.std.specs.Prelude.{◌≡◌, [], ◌∷◌, ◌++◌, map, option_map, slice_get, ◌&&◌, IfOk, OnOk};
+ghost use Rattle.std.specs.Prelude.{◌≡◌, [], ◌∷◌, ◌++◌, map, option_map, slice_get, ◌&&◌, true, IfOk, OnOk};
 ghost use Rattle.std.specs.List.{filter};
-ghost use Rattle.std.specs.Str.{bytes_eq};
-ghost use Rattle.thing_core.specs.Site.{affordance_named, emitters_of, is_emitter as is_emitter_of, is_kind as is_kind_of, thing_named as thing_of};
+ghost use Rattle.thing_core.specs.Site.{affordance_named, emitters_of, is_emitter as is_emitter_of, is_kind as is_kind_of};
 ghost use Rattle.thing_core.specs.State.{silent};
+ghost use Rattle.std.specs.Cmp.Lexicographic.{slice_cmp};
+ghost use Rattle.std.specs.Ordering.{nat_cmp};
+ghost use Rattle.thing_core.specs.Order.{key, key_of, rank as rank_of, are_rising};
 ghost use Rattle.thing_core.specs.Exposing.{held_site, held_thing, placed_all, placed_spot};
 
 use crate::NoMemory;
+use crate::held::HeldThing;
 use crate::state::Latest;
 use std::alloc::Global;
-use wot_json::{Text, Tree};
-use wot_terms::{Affordance, Description, Kind};
-
-/// A Thing with the slots of its handlers, one for each affordance, in the order of the affordances.
-#[derive(Drop)]
-pub struct HeldThing {
-    pub segment: Text,
-    pub tree: Tree,
-    pub affordances: Description,
-    pub slots: Vec<u32>,
-}
+use std::cmp::Ordering;
+use wot_terms::{Affordance, Kind};
 
 /// An affordance, and the slot of its handler.
 #[derive(Clone, Copy)]
@@ -29,20 +23,8 @@ pub struct Spot<'a> {
     pub slot: u32,
 }
 
-/// The Thing of this segment. The time is in proportion to the number of Things.
-pub fn thing_named<'a>(things: &'a [HeldThing], segment: &[u8]) -> Option<&'a HeldThing>
-    ensures { option_map (λ t. held_thing t.now) result ≡ thing_of segment.now (held_site things.now) }
-{
-    for thing in things {
-        if segment == thing.segment.as_str().as_bytes() {
-            return Some(thing);
-        }
-    }
-    None
-}
-
 impl HeldThing {
-    /// The affordance of this kind and name. The time is in proportion to the number of affordances.
+    /// The affordance of this kind and name, found by halving.
     pub fn affordance(&self, kind: Kind, name: &[u8]) -> Option<Spot<'_>>
         ensures { option_map placed_spot result ≡ affordance_named kind name.now (held_thing self.now).affordances }
     {
@@ -55,32 +37,54 @@ impl HeldThing {
     }
 }
 
-/// The first of these affordances of this kind and name.
+/// The one of these affordances of this kind and name.
 fn spot_named<'a>(
     affordances: &'a [Affordance],
     slots: &[u32],
     kind: Kind,
     name: &[u8],
 ) -> Option<Spot<'a>>
+    requires { are_rising affordances.now ≡ true }
     ensures { option_map placed_spot result ≡ affordance_named kind name.now (placed_all affordances.now slots.now) }
 {
-    for (index, affordance) in affordances.iter().enumerate() {
-        let slot = match slot_at(slots, index) {
-            Some(slot) => slot,
-            None => return None,
-        };
-        if is_named(affordance, kind, name) {
-            return Some(Spot { affordance, slot });
-        }
+    let order = |affordance: &Affordance| -> Ordering
+        ensures { result ≡ slice_cmp nat_cmp (key_of affordance.now) (key kind name.entry.now) }
+    { compare(affordance, kind, name) };
+    match affordances.binary_search_by(order) {
+        Ok(index) => spot_of(&affordances[index], slot_at(slots, index)),
+        Err(_) => None,
     }
-    None
 }
 
-/// The affordance is of this kind and has this name.
-fn is_named(affordance: &Affordance, kind: Kind, name: &[u8]) -> bool
-    ensures { result ≡ (is_kind_of kind affordance.now.kind && bytes_eq name.now affordance.now.name) }
+/// An affordance with its slot, where it has one.
+fn spot_of(affordance: &Affordance, slot: Option<u32>) -> Option<Spot<'_>>
+    ensures { option_map placed_spot result ≡ option_map (λ s. record { affordance = affordance.now; slot = s }) slot }
 {
-    is_kind(kind, affordance.kind) && name == affordance.name.as_str().as_bytes()
+    match slot {
+        Some(slot) => Some(Spot { affordance, slot }),
+        None => None,
+    }
+}
+
+/// How an affordance compares to one of this kind and name, in the order in which a Thing keeps them.
+fn compare(affordance: &Affordance, kind: Kind, name: &[u8]) -> Ordering
+    ensures { result ≡ slice_cmp nat_cmp (key_of affordance.now) (key kind name.now) }
+{
+    match rank(affordance.kind).cmp(&rank(kind)) {
+        Ordering::Equal => affordance.name.as_str().as_bytes().cmp(name),
+        order => order,
+    }
+}
+
+/// Properties are before actions, and these before events.
+fn rank(kind: Kind) -> u8
+    ensures { result ≡ rank_of kind }
+{
+    match kind {
+        Kind::Property => 0,
+        Kind::Action => 1,
+        Kind::Event => 2,
+    }
 }
 
 /// The slot with this number.

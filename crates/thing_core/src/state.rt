@@ -1,12 +1,15 @@
 //! What changes in a run: the state of the Thing machine.
 
-ghost use Rattle.std.specs.Prelude.{◌≡◌, ◌≤◌, length, option_map, IfOk};
+ghost use Rattle.std.specs.Prelude.{◌≡◌, ◌≤◌, ◌==◌, length, option_map, position, IfOk};
+ghost use Rattle.std.specs.Ordering.{nat_cmp};
 ghost use Rattle.thing_core.specs.Rooms.{room_size};
 ghost use Rattle.thing_core.specs.Course as course;
+ghost use Rattle.thing_core.specs.Ids.{IdsRise};
 
 use crate::NoMemory;
 use crate::room::Room;
 use std::alloc::Global;
+use std::cmp::Ordering;
 use std::marker::Model;
 
 /// How many invocations may run at a time, and stand at a time.
@@ -117,6 +120,20 @@ impl Invocation {
     /// The room of its output.
     pub fn into_room(self) -> Room {
         self.output
+    }
+}
+
+/// The place of the invocation of this id, found by halving.
+pub fn place_by_id(invocations: &[Invocation], id: u32) -> Option<usize>
+    requires { IdsRise invocations.now }
+    ensures { result ≡ position (λ i. i.id == id) invocations.now }
+{
+    let order = |invocation: &Invocation| -> Ordering
+        ensures { result ≡ nat_cmp invocation.now.id id }
+    { invocation.id().cmp(&id) };
+    match invocations.binary_search_by(order) {
+        Ok(index) => Some(index),
+        Err(_) => None,
     }
 }
 

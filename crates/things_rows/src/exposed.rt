@@ -1,204 +1,97 @@
-//! Things as they are exposed: what is wrong with slots, and what requests come to.
+//! Slots that don't fit a rack, and what stands for emissions.
 
-ghost use Rattle.std.specs.Prelude.{IfOk};
-ghost use Rattle.std.specs.List.{AllByRecursion};
-ghost use Rattle.wot_terms.specs.Faults.{IsValid};
-
+use crate::lamp::{FADE, PLAIN, STATUS, asked, lamp, slots};
 use std::alloc::Global;
 use std::test::Fail;
-use thing_core::{ExposeFault, Exposed, Slots};
-use thing_handler::{Cell, Handler, Handlers, Pulse, Rack};
-use thing_ops::{Accept, Format, Outcome, Request, Segments, Verb};
-use wot_json::{Text, Tree, read};
-use wot_terms::{Things, check};
+use thing_core::{ExposeFault, Exposed};
+use thing_handler::{Handler, Handlers, Rack, shipped_in};
+use thing_ops::{Outcome, Segments, Verb};
 
-/// A lamp of two properties and an event.
-const LAMP: &[u8] = br#"{"@context":"https://www.w3.org/2022/wot/td/v1.1","security":"n",
-"securityDefinitions":{"n":{"scheme":"nosec"}},"title":"Lamp",
-"properties":{"status":{"type":"integer","maximum":100,"observable":true,"forms":[{"href":"/a"}]},
-"key":{"type":"string","writeOnly":true,"forms":[{"href":"/b"}]}},
-"events":{"beat":{"data":{"type":"integer"},"forms":[{"href":"/c","op":"subscribeevent"}]}}}"#;
-
-/// The lamp as the one Thing.
-fn lamp(alloc: Global) -> Result<Things, Fail>
-    ensures { IfOk result (λ things. AllByRecursion (λ t. IsValid t.1) things) }
-{
-    let tree = read(alloc, LAMP)?;
-    check(alloc, &tree)?;
-    let mut things = Things::new(alloc);
-    things.push(Text::copy_of(alloc, "lamp")?, tree)?;
-    Ok(things)
-}
-
-/// The slots of its properties in this order, and of its event: key, status, beat.
-fn slots(alloc: Global, given: [usize; 3]) -> Result<Slots, Fail> {
-    let mut slots = Slots::new(alloc);
-    let pointers = ["/properties/key", "/properties/status", "/events/beat"];
-    for (pointer, slot) in pointers.iter().zip(given) {
-        slots.push(
-            Text::copy_of(alloc, "lamp")?,
-            Text::copy_of(alloc, pointer)?,
-            slot,
-        )?;
-    }
-    Ok(slots)
-}
-
-/// What a request without a body comes to, right after the lamp was exposed.
-fn asked<R: Handlers>(
-    alloc: Global,
-    rack: &mut R,
-    verb: Verb,
-    path: &[&str],
-) -> Result<Outcome, Fail> {
-    let things = lamp(alloc)?;
-    let slots = slots(alloc, [1, 0, 2])?;
-    let mut exposed = Exposed::new(alloc, things, &slots, rack)?;
-    let mut segments = Segments::new(alloc);
-    for segment in path {
-        segments.push(segment.as_bytes())?;
-    }
-    let request = Request {
-        verb,
-        path: segments,
-        query: b"",
-        accept: Accept {
-            json: true,
-            td: false,
-        },
-        format: Format::Absent,
-        body: b"",
-    };
-    Ok(exposed.perform(rack, &request))
-}
-
-#[test]
-fn a_property_is_read(rt: HostRuntime) -> Result<(), Fail> {
-    let alloc = rt.alloc();
-    let mut list: Vec<Box<dyn Handler>> = Vec::new(alloc);
-    list.push(Box::new(alloc, Cell::new(alloc, Tree::Int(7)))?)?;
-    list.push(Box::new(alloc, Cell::new(alloc, Tree::Bool(true)))?)?;
-    list.push(Box::new(alloc, Pulse::new(alloc, 1))?)?;
-    let mut rack = Rack::new(alloc, list);
-    match asked(
-        alloc,
-        &mut rack,
-        Verb::Get,
-        &["lamp", "properties", "status"],
-    )? {
-        Outcome::Content(text) => assert_eq!(rt; text.as_slice(), b"7".as_slice()),
-        _other => assert!(rt; false),
-    }
-    assert_eq!(rt; rack.len(), 3);
-    assert_eq!(rt; rack.turns(0).len(), 1);
-    assert_eq!(rt; rack.turns(1).len(), 0);
-    Ok(())
-}
-
-/// What a request is answered with: a word for each kind of outcome that the lamp gives without a call.
-fn answer(outcome: &Outcome) -> &'static str {
-    match outcome {
-        Outcome::Description(_, false) => "description",
-        Outcome::NotAllowed(_) => "method",
-        Outcome::NotFound => "missing",
-        Outcome::Empty => "empty",
-        Outcome::Wait(0) => "wait 0",
-        Outcome::Wait(2) => "wait 2",
-        _ => "other",
-    }
-}
-
-/// Requests that call no handler, and what they are answered with.
-const ROWS: [(Verb, &[&str], &str); 6] = [
-    (Verb::Head, &["lamp"], "description"),
-    (Verb::Get, &["lamp", "properties", "key"], "method"),
-    (Verb::Get, &["lamp", "properties", "none"], "missing"),
-    (Verb::Get, &["lamp", "events", "beat"], "empty"),
+/// Slots of the lamp's affordances, and what is wrong with them: with that of the status that there is no such slot,
+/// that its handler is none of a property, or that it is taken; and that the last event has none.
+const FAULTS: [(&[usize], &str, &str); 4] = [
     (
-        Verb::Get,
-        &["lamp", "events", "beat", "subscribe"],
-        "wait 2",
+        &[6, 10, 4, 2, 14, 64, 34, 32, 50, 48],
+        "no slot",
+        "/properties/status",
     ),
     (
-        Verb::Get,
-        &["lamp", "properties", "status", "observe"],
-        "wait 0",
+        &[6, 10, 4, 2, 14, 34, 34, 32, 50, 48],
+        "another kind",
+        "/properties/status",
     ),
+    (
+        &[6, 10, 4, 2, 14, 6, 34, 32, 50, 48],
+        "taken",
+        "/properties/status",
+    ),
+    (&[6, 10, 4, 2, 14, 0, 34, 32, 50], "no slot", "/events/beat"),
 ];
 
-#[test]
-fn requests_that_call_no_handler(rt: HostRuntime) -> Result<(), Fail> {
-    let alloc = rt.alloc();
-    let mut list: Vec<Box<dyn Handler>> = Vec::new(alloc);
-    list.push(Box::new(alloc, Cell::new(alloc, Tree::Int(7)))?)?;
-    list.push(Box::new(alloc, Cell::new(alloc, Tree::Bool(true)))?)?;
-    list.push(Box::new(alloc, Pulse::new(alloc, 1))?)?;
-    let mut rack = Rack::new(alloc, list);
-    for (verb, path, word) in ROWS {
-        let outcome = asked(alloc, &mut rack, verb, path)?;
-        assert_eq!(rt; answer(&outcome), word);
-    }
-    Ok(())
-}
-
-#[test]
-fn values_that_the_schema_refuses_are_no_answer(rt: HostRuntime) -> Result<(), Fail> {
-    let alloc = rt.alloc();
-    let mut list: Vec<Box<dyn Handler>> = Vec::new(alloc);
-    list.push(Box::new(alloc, Cell::new(alloc, Tree::Int(101)))?)?;
-    list.push(Box::new(alloc, Cell::new(alloc, Tree::Int(0)))?)?;
-    list.push(Box::new(alloc, Pulse::new(alloc, 1))?)?;
-    let mut rack = Rack::new(alloc, list);
-    let outcome = asked(
-        alloc,
-        &mut rack,
-        Verb::Get,
-        &["lamp", "properties", "status"],
-    )?;
-    assert!(rt; matches!(outcome, Outcome::BadAnswer));
-    assert_eq!(rt; rack.len(), 3);
-    assert_eq!(rt; rack.turns(0).len(), 1);
-    Ok(())
-}
-
-/// The fault of the lamp with these slots.
-fn fault<R: Handlers>(alloc: Global, rack: &R, given: [usize; 3]) -> Result<ExposeFault, Fail> {
+/// The fault of the lamp with these slots is this one.
+fn has_fault<R: Handlers>(
+    alloc: Global,
+    rack: &R,
+    given: &[usize],
+    word: &str,
+    place: &str,
+) -> Result<bool, Fail> {
     let things = lamp(alloc)?;
     let slots = slots(alloc, given)?;
-    match Exposed::new(alloc, things, &slots, rack) {
-        Ok(_) => Err(Fail::from("no fault")),
-        Err(fault) => Ok(fault),
+    Ok(match Exposed::new(alloc, things, &slots, rack) {
+        Ok(_) => false,
+        Err(fault) => is_fault(&fault, word, place),
+    })
+}
+
+/// The fault is this one, of this affordance.
+fn is_fault(fault: &ExposeFault, word: &str, place: &str) -> bool {
+    match fault {
+        ExposeFault::NoSlot(_, pointer) => word == "no slot" && pointer.as_str() == place,
+        ExposeFault::KindDiffers(_, pointer) => word == "another kind" && pointer.as_str() == place,
+        ExposeFault::SlotTwice(_, pointer) => word == "taken" && pointer.as_str() == place,
+        ExposeFault::NoMemory => false,
     }
 }
 
+/// Paths, and the targets of those that stand for emissions.
+const TARGETS: [(&[&str], Option<u32>); 5] = [
+    (STATUS, Some(0)),
+    (&["lamp", "events", "beat"], Some(48)),
+    (&["lamp", "properties", "name"], None),
+    (&["lamp", "properties", "status", "observe"], None),
+    (FADE, None),
+];
+
+/// The target of a path.
+fn target_of(alloc: Global, exposed: &Exposed, segments: &[&str]) -> Result<Option<u32>, Fail> {
+    let mut path = Segments::new(alloc);
+    for segment in segments {
+        path.push(segment.as_bytes())?;
+    }
+    Ok(exposed.target_of(&path))
+}
+
 #[test]
-fn slots_that_do_not_fit(rt: HostRuntime) -> Result<(), Fail> {
+fn slots_and_targets(rt: HostRuntime) -> Result<(), Fail> {
     let alloc = rt.alloc();
     let mut list: Vec<Box<dyn Handler>> = Vec::new(alloc);
-    list.push(Box::new(alloc, Cell::new(alloc, Tree::Int(7)))?)?;
-    list.push(Box::new(alloc, Cell::new(alloc, Tree::Int(0)))?)?;
-    list.push(Box::new(alloc, Pulse::new(alloc, 1))?)?;
-    let rack = Rack::new(alloc, list);
-    match fault(alloc, &rack, [1, 3, 2])? {
-        ExposeFault::NoSlot(segment, pointer) => {
-            assert_eq!(rt; segment.as_str(), "lamp");
-            assert_eq!(rt; pointer.as_str(), "/properties/status");
-        }
-        _other => assert!(rt; false),
+    for slot in 0..64 {
+        list.push(Box::new(alloc, shipped_in(alloc, slot))?)?;
     }
-    match fault(alloc, &rack, [1, 2, 0])? {
-        ExposeFault::KindDiffers(_, pointer) => assert_eq!(rt;
-            pointer.as_str(),
-            "/properties/status"
-        ),
-        _other => assert!(rt; false),
+    assert_eq!(rt; list.len(), 64);
+    let mut rack = Rack::new(alloc, list);
+    for (given, word, place) in FAULTS {
+        assert!(rt; has_fault(alloc, &rack, given, word, place)?);
     }
-    match fault(alloc, &rack, [1, 1, 2])? {
-        ExposeFault::SlotTwice(_, pointer) => assert_eq!(rt;
-            pointer.as_str(),
-            "/properties/status"
-        ),
-        _other => assert!(rt; false),
+    let things = lamp(alloc)?;
+    let slots = slots(alloc, &[6, 10, 4, 2, 14, 0, 34, 32, 50, 48])?;
+    let mut exposed = Exposed::new(alloc, things, &slots, &rack)?;
+    for (path, target) in TARGETS {
+        assert_eq!(rt; target_of(alloc, &exposed, path)?, target);
     }
+    let description = (Verb::Head, ["lamp"].as_slice(), PLAIN, b"".as_slice());
+    let (outcome, _) = asked(alloc, &mut exposed, &mut rack, description)?;
+    assert!(rt; matches!(outcome, Outcome::Description(_, false)));
     Ok(())
 }

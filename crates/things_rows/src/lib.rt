@@ -3,9 +3,15 @@
 #![tactic(auto)]
 
 #[cfg(test)]
+mod acts;
+#[cfg(test)]
+mod answers;
+#[cfg(test)]
 mod directory;
 #[cfg(test)]
 mod exposed;
+#[cfg(test)]
+mod lamp;
 #[cfg(test)]
 mod outcomes;
 #[cfg(test)]

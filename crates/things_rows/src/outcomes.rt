@@ -73,7 +73,7 @@ fn status_of(outcome: &Outcome) -> Option<u16> {
 }
 
 /// The class and the detail of the code, where there is one.
-fn code_of(outcome: &Outcome) -> Option<(u8, u8)> {
+pub fn code_of(outcome: &Outcome) -> Option<(u8, u8)> {
     match outcome {
         Outcome::Created(_)
         | Outcome::Listed(_)

@@ -16,7 +16,7 @@ returns-then-has_none_left-clause-fault c =
     (λ h. untrue (c.if-has_other_format.ensures.1 h)) c.in_ok-inputs.ensures.ok
     (λ h. untrue (c.if-is_any_long.ensures.1 (subst (λ (is : List InputInCode). SomeInput IsLong (map input_of is)) (sym c.as_slice.ensures.value) h)))
     (λ h. untrue (c.if-is_any_refused.ensures.1 (subst (λ (is : List InputInCode). SomeInput IsRefusedBySchema (map input_of is)) (sym c.as_slice-2.ensures.value) h)))
-    ((c.if-has_none_left.ensures c.args.machine.now.state (sym c.invocations.ensures)).0 refl)
+    ((c.if-has_none_left.ensures c.args.machine.now.state (sym c.invocations.ensures.items)).0 refl)
 
 pub returns-clause-ok : goal.returns-clause-ok
 returns-clause-ok c =
@@ -24,4 +24,4 @@ returns-clause-ok c =
     (λ h. untrue (c.if-has_other_format.ensures.1 h)) c.in_ok-inputs.ensures.ok
     (λ h. untrue (c.if-is_any_long.ensures.1 (subst (λ (is : List InputInCode). SomeInput IsLong (map input_of is)) (sym c.as_slice.ensures.value) h)))
     (λ h. untrue (c.if-is_any_refused.ensures.1 (subst (λ (is : List InputInCode). SomeInput IsRefusedBySchema (map input_of is)) (sym c.as_slice-2.ensures.value) h)))
-    (λ h. untrue ((c.if-has_none_left.ensures c.args.machine.now.state (sym c.invocations.ensures)).1 h))
+    (λ h. untrue ((c.if-has_none_left.ensures c.args.machine.now.state (sym c.invocations.ensures.items)).1 h))

@@ -1,7 +1,6 @@
-use Rattle.std.proofs.Common.{ℕ, ◌<◌, ◌≡◌, sym, subst, ◌∙◌, arith}
+use Rattle.std.proofs.Common.{ℕ, sym, subst, ◌∙◌, arith}
 use Rattle.std.specs.Prelude.{Ok, Err}
 use Rattle.thing_handler.specs.Handler.{CallsHandler}
-use Rattle.thing_core.specs.Thing.{most_turns}
 use Rattle.thing_core.proofs.MoveLaws.{call_full, call_missed, call_answered}
 use Rattle.thing_core.proofs.calling.call.Goals as goal
 

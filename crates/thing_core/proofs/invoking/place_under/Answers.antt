@@ -1,4 +1,4 @@
-use Rattle.std.proofs.Common.{◌≡◌, ◌∙◌, ◌+◌, ◌++◌, ℕ, List, [], ◌∷◌, drop, sym, ap, append_assoc}
+use Rattle.std.proofs.Common.{◌∙◌, ◌+◌, ◌++◌, ℕ, List, [], ◌∷◌, drop, sym, ap, append_assoc}
 use Rattle.thing_core.proofs.InvokeLaws.{next_segment}
 use Rattle.thing_core.proofs.invoking.place_under.Goals as goal
 

@@ -1,4 +1,4 @@
-use Rattle.std.proofs.Common.{◌≡◌, ◌∙◌, List, refl, sym, ap, subst}
+use Rattle.std.proofs.Common.{List, refl, subst}
 use Rattle.std.specs.Prelude.{Ok, Err}
 use Rattle.thing_ops.specs.declared.outcome.Outcome.TheVariants as outcome
 use Rattle.thing_core.specs.State.{Invocation, invocation_named}
@@ -16,7 +16,7 @@ returns-in-Err g c =
 pub returns-in-Ok-told : goal.returns-in-Ok-told
 returns-in-Ok-told g c =
     let told : IsTold (invocation_named c.args.spot.slot c.args.id c.args.machine.now.state.invocations) c.args.id (Ok c.in-Ok-told.outcome) =
-    subst (λ (is : List Invocation). IsTold (invocation_named c.args.spot.slot c.args.id is) c.args.id (Ok c.in-Ok-told.outcome)) c.invocations.ensures c.in-Ok-told.ensures in
+    subst (λ (is : List Invocation). IsTold (invocation_named c.args.spot.slot c.args.id is) c.args.id (Ok c.in-Ok-told.outcome)) c.invocations.ensures.items c.in-Ok-told.ensures in
     or_memory (OnInvocation (placed_spot c.args.spot) c.args.id (Queries (placed_spot c.args.spot) c.args.id)) c.in-Ok-told.outcome c.args.machine.now c.args.machine.now
     (g.R.Handlers.slots c.args.rack.now) (g.R.Handlers.slots c.args.rack.now)
     (told_done (placed_spot c.args.spot) c.args.id told.0 told.1 c.in-Ok-told.outcome c.args.machine.now (g.R.Handlers.slots c.args.rack.now) told.2 told.3 told.4)
@@ -24,7 +24,7 @@ returns-in-Ok-told g c =
 pub returns-in-NoNumber : goal.returns-in-NoNumber
 returns-in-NoNumber g c =
     let told : IsTold (invocation_named c.args.spot.slot c.args.id c.args.machine.now.state.invocations) c.args.id (Err c.in-Err-told.room) =
-    subst (λ (is : List Invocation). IsTold (invocation_named c.args.spot.slot c.args.id is) c.args.id (Err c.in-Err-told.room)) c.invocations.ensures c.in-Err-told.ensures in
+    subst (λ (is : List Invocation). IsTold (invocation_named c.args.spot.slot c.args.id is) c.args.id (Err c.in-Err-told.room)) c.invocations.ensures.items c.in-Err-told.ensures in
     let found = running_one (invocation_named c.args.spot.slot c.args.id c.args.machine.now.state.invocations) c.requires.stands told.0 in
     or_memory (OnInvocation (placed_spot c.args.spot) c.args.id (Queries (placed_spot c.args.spot) c.args.id)) outcome.CallsUsed c.args.machine.now c.call-called.new.machine
     (g.R.Handlers.slots c.args.rack.now) (g.R.Handlers.slots c.call-called.new.rack)
@@ -34,7 +34,7 @@ returns-in-NoNumber g c =
 pub returns-in-NoMemory : goal.returns-in-NoMemory
 returns-in-NoMemory g c =
     let told : IsTold (invocation_named c.args.spot.slot c.args.id c.args.machine.now.state.invocations) c.args.id (Err c.in-Err-told.room) =
-    subst (λ (is : List Invocation). IsTold (invocation_named c.args.spot.slot c.args.id is) c.args.id (Err c.in-Err-told.room)) c.invocations.ensures c.in-Err-told.ensures in
+    subst (λ (is : List Invocation). IsTold (invocation_named c.args.spot.slot c.args.id is) c.args.id (Err c.in-Err-told.room)) c.invocations.ensures.items c.in-Err-told.ensures in
     let found = running_one (invocation_named c.args.spot.slot c.args.id c.args.machine.now.state.invocations) c.requires.stands told.0 in
     or_memory (OnInvocation (placed_spot c.args.spot) c.args.id (Queries (placed_spot c.args.spot) c.args.id)) outcome.Memory c.args.machine.now c.call-called.new.machine
     (g.R.Handlers.slots c.args.rack.now) (g.R.Handlers.slots c.call-called.new.rack)
@@ -44,7 +44,7 @@ returns-in-NoMemory g c =
 pub returns-in-Gives : goal.returns-in-Gives
 returns-in-Gives g c =
     let told : IsTold (invocation_named c.args.spot.slot c.args.id c.args.machine.now.state.invocations) c.args.id (Err c.in-Err-told.room) =
-    subst (λ (is : List Invocation). IsTold (invocation_named c.args.spot.slot c.args.id is) c.args.id (Err c.in-Err-told.room)) c.invocations.ensures c.in-Err-told.ensures in
+    subst (λ (is : List Invocation). IsTold (invocation_named c.args.spot.slot c.args.id is) c.args.id (Err c.in-Err-told.room)) c.invocations.ensures.items c.in-Err-told.ensures in
     let found = running_one (invocation_named c.args.spot.slot c.args.id c.args.machine.now.state.invocations) c.requires.stands told.0 in
     or_memory (OnInvocation (placed_spot c.args.spot) c.args.id (Queries (placed_spot c.args.spot) c.args.id)) c.queried.result c.args.machine.now c.queried.new.machine
     (g.R.Handlers.slots c.args.rack.now) (g.R.Handlers.slots c.call-called.new.rack)

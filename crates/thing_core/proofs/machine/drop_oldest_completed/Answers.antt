@@ -1,5 +1,4 @@
-use Rattle.std.proofs.Common.{◌≡◌, ◌∙◌, ap, sym, not, arith}
-use Rattle.std.specs.Prelude.{Some}
+use Rattle.std.proofs.Common.{◌∙◌, ap, sym, not, arith}
 use Rattle.std.specs.List.{position}
 use Rattle.thing_core.specs.State.{is_running, running_count}
 use Rattle.thing_core.proofs.InvocationLists.{oldest_at, none_completed}

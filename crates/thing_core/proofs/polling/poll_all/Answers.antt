@@ -1,6 +1,6 @@
 use Rattle.std.proofs.Common.{◌≡◌, ◌+◌, ◌∙◌, ◌<◌, ℕ, List, [], ◌∷◌, ◌++◌, drop, get_or, length, length-append, refl, sym, ap, subst, arith, append_assoc}
 use Rattle.std.proofs.lemmas.List.{append-nil, at_drop_all, at_drop_more}
-use Rattle.thing_core.specs.declared.site.HeldThing.{HeldThing}
+use Rattle.thing_core.specs.declared.held.HeldThing.{HeldThing}
 use Rattle.thing_core.specs.Site.{Placed, events_of}
 use Rattle.thing_core.specs.Exposing.{held_site, placed_all}
 use Rattle.thing_core.specs.Performing.{AllStand, PollsSome}

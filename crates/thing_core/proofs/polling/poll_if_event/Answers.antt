@@ -1,5 +1,4 @@
-use Rattle.std.proofs.Common.{List, [], ◌∷◌, Bool, cond, sym, subst, ◌∙◌}
-use Rattle.thing_core.specs.Site.{Placed}
+use Rattle.std.proofs.Common.{[], ◌∷◌, Bool, cond, subst}
 use Rattle.thing_core.specs.Exposing.{placed_spot}
 use Rattle.thing_core.specs.Performing.{PollsSome}
 use Rattle.thing_core.proofs.PollLaws.{none_polled}

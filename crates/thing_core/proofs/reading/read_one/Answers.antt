@@ -1,6 +1,4 @@
-use Rattle.std.proofs.Common.{◌≡◌, ◌∙◌, ℕ, List, ◌++◌, sym, ap}
-use Rattle.std.specs.Prelude.{Ok, Err}
-use Rattle.wot_json.specs.Json.{text_of}
+use Rattle.std.proofs.Common.{◌∙◌, ℕ, List, sym, ap}
 use Rattle.wot_json.specs.Meaning.{json_of}
 use Rattle.thing_ops.specs.declared.outcome.Outcome.TheVariants as outcome
 use Rattle.thing_core.specs.Site.{Placed}

@@ -1,26 +1,18 @@
-use Rattle.std.proofs.Common.{◌+◌, drop, sym, ◌∙◌}
-use Rattle.thing_core.specs.Site.{Placed, affordance_named}
-use Rattle.thing_core.specs.Exposing.{placed_all}
-use Rattle.thing_core.proofs.PlacedLists.{placed_more, placed_end, named_here, named_further}
+use Rattle.std.proofs.Common.{[], ◌∙◌, None, false, rules}
+use Rattle.std.proofs.lemmas.Fn.{always_returns_same}
+use Rattle.thing_core.proofs.Halving.{order_of, found_by_halving, missing_by_halving}
 use Rattle.thing_core.proofs.site.spot_named.Goals as goal
 
-pub returns-in-None : goal.returns-in-None
-returns-in-None c =
-    sym (placed_end (affordance_named c.args.kind c.args.name.now) c.args.affordances.now c.args.slots.now c.loop-index.index (sym c.in-None.ensures))
-    ∙ c.loop-index.invariant
+pub returns-in-Ok : goal.returns-in-Ok
+returns-in-Ok c =
+    let searched = c.in-Ok.ensures in
+    c.spot_of.ensures
+    ∙ found_by_halving c.args.affordances.now c.args.slots.now c.args.kind c.args.name.now c.in-Ok.index c.index-affordances-index.result c.slot_at.result c.requires searched.bound
+    (searched.position (order_of c.args.kind c.args.name.now) (always_returns_same _ _ _ (λ a r g called. (search rules, search rules)))) c.index-affordances-index.is c.slot_at.ensures
 
-pub returns-then-is_named : goal.returns-then-is_named
-returns-then-is_named c =
-    let p : Placed = record { affordance = c.index-affordances-index.result; slot = c.in-Some.slot } in
-    sym (named_here c.args.kind c.args.name.now p (placed_all (drop (c.loop-index.index + 1) c.args.affordances.now) (drop (c.loop-index.index + 1) c.args.slots.now)) (sym c.if-is_named.ensures))
-    ∙ sym (placed_more (affordance_named c.args.kind c.args.name.now) c.args.affordances.now c.args.slots.now c.loop-index.index c.index-affordances-index.result c.in-Some.slot
-    c.loop-index-test.true c.index-affordances-index.is (sym c.in-Some.ensures))
-    ∙ c.loop-index.invariant
-
-pub loop-index-preserved : goal.loop-index-preserved
-loop-index-preserved c =
-    let p : Placed = record { affordance = c.index-affordances-index.result; slot = c.in-Some.slot } in
-    sym (named_further c.args.kind c.args.name.now p (placed_all (drop (c.loop-index.index + 1) c.args.affordances.now) (drop (c.loop-index.index + 1) c.args.slots.now)) (sym c.if-is_named.ensures))
-    ∙ sym (placed_more (affordance_named c.args.kind c.args.name.now) c.args.affordances.now c.args.slots.now c.loop-index.index c.index-affordances-index.result c.in-Some.slot
-    c.loop-index-test.true c.index-affordances-index.is (sym c.in-Some.ensures))
-    ∙ c.loop-index.invariant
+pub returns-in-Err : goal.returns-in-Err
+returns-in-Err c =
+    let searched = c.in-Err.ensures in
+    missing_by_halving c.args.affordances.now c.args.slots.now c.args.kind c.args.name.now c.in-Err.field-0
+    (record { kind = c.args.kind; name = []; input = None; output = None; read_only = false; write_only = false; observable = false }) c.requires
+    (searched.position (order_of c.args.kind c.args.name.now) (always_returns_same _ _ _ (λ a r g called. (search rules, search rules))))

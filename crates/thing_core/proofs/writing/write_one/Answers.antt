@@ -1,5 +1,4 @@
-use Rattle.std.proofs.Common.{◌≡◌, ◌∙◌, List, ℕ, ◌++◌, map, refl, ap, subst}
-use Rattle.wot_json.specs.Meaning.{json_of}
+use Rattle.std.proofs.Common.{◌≡◌, ◌∙◌, List, ◌++◌, map, refl, ap}
 use Rattle.thing_core.specs.State.{Emission, last_after}
 use Rattle.thing_core.specs.Exposing.{placed_spot}
 use Rattle.thing_core.specs.Thing.{emissions_of_write}

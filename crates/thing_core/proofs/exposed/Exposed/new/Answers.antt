@@ -1,4 +1,4 @@
-use Rattle.std.proofs.Common.{ℕ, List, subst, sym}
+use Rattle.std.proofs.Common.{◌∙◌, ℕ, List, subst, sym}
 use Rattle.std.specs.List.{AllByRecursion}
 use Rattle.wot_json.specs.Tree.{Json}
 use Rattle.wot_terms.specs.Faults.{IsValid}
@@ -15,5 +15,5 @@ place_all-requires g c =
 
 pub returns-clause-fits : goal.returns-clause-fits
 returns-clause-fits g c =
-    subst (λ (site : Site). Fits site (g.R.Handlers.slots c.args.rack.now)) (sym c.in_ok-held.ensures.0)
+    subst (λ (site : Site). Fits site (g.R.Handlers.slots c.args.rack.now)) (sym (c.in_ok-of.ensures ∙ c.in_ok-held.ensures.0))
     (faultless_fits (g.R.Handlers.slots c.args.rack.now) c.args.slots.now (kept_things c.as_slice.result.now) c.in_ok-held.ensures.1)

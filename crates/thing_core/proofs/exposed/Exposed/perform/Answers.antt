@@ -1,14 +1,11 @@
-use Rattle.std.proofs.Common.{◌≡◌, List, [], map, length, sym, ap, subst, ◌∙◌}
-use Rattle.std.specs.Prelude.{Ok, Err, Some}
+use Rattle.std.proofs.Common.{◌≡◌, List, map, length, sym, ap, subst, ◌∙◌}
 use Rattle.thing_ops.specs.Requests.{PlainRequest, plain_request}
 use Rattle.thing_handler.specs.Handler.{Seen}
-use Rattle.thing_core.specs.declared.site.HeldThing.{HeldThing}
 use Rattle.thing_core.specs.Site.{Site}
-use Rattle.thing_core.specs.Refusals.{Asked, act_asked, refusals, NoneStands}
-use Rattle.thing_core.specs.Exposing.{held_site}
+use Rattle.thing_core.specs.Refusals.{Asked}
 use Rattle.thing_core.specs.Found.{found_act}
 use Rattle.thing_core.specs.Kept.{Kept, Fits}
-use Rattle.thing_core.specs.Performing.{IsAdmitted, MakesAct, input_of}
+use Rattle.thing_core.specs.Performing.{MakesAct, input_of}
 use Rattle.thing_core.proofs.SlotLaws.{SiteStands, site_stands, slots_stand, inputs_fit, may_be_done}
 use Rattle.thing_core.proofs.LastLaws.{act_keeps}
 use Rattle.thing_core.proofs.PerformLaws.{done_makes, refusal_makes}
@@ -20,22 +17,22 @@ here slots old site same fits = site_stands slots site (subst (λ (x : Site). Fi
 
 pub act-requires-clause-slots : goal.act-requires-clause-slots
 act-requires-clause-slots g c =
-    let a : Asked = record { site = held_site c.as_slice.result.now; state = c.self.inside.machine.state; request = plain_request c.args.request.now } in
+    let a : Asked = record { site = c.self.inside.things; state = c.self.inside.machine.state; request = plain_request c.args.request.now } in
     slots_stand (length (g.R.Handlers.slots c.args.rack.now)) a (found_act c.in-Ok.task.act)
-    (here (g.R.Handlers.slots c.args.rack.now) c.args.self.now a.site (sym (ap (λ (k : Kept). k.site) c.self.view_is) ∙ ap held_site (sym c.as_slice.ensures.value)) c.requires.fits) c.in-Ok.ensures.0
+    (here (g.R.Handlers.slots c.args.rack.now) c.args.self.now a.site (sym (ap (λ (k : Kept). k.site) c.self.view_is)) c.requires.fits) c.in-Ok.ensures.0
 
 pub act-requires-clause-inputs : goal.act-requires-clause-inputs
 act-requires-clause-inputs g c =
-    let a : Asked = record { site = held_site c.as_slice.result.now; state = c.self.inside.machine.state; request = plain_request c.args.request.now } in
+    let a : Asked = record { site = c.self.inside.things; state = c.self.inside.machine.state; request = plain_request c.args.request.now } in
     inputs_fit (length (g.R.Handlers.slots c.args.rack.now)) a (found_act c.in-Ok.task.act) c.in-Ok.task.inputs.items
-    (here (g.R.Handlers.slots c.args.rack.now) c.args.self.now a.site (sym (ap (λ (k : Kept). k.site) c.self.view_is) ∙ ap held_site (sym c.as_slice.ensures.value)) c.requires.fits)
+    (here (g.R.Handlers.slots c.args.rack.now) c.args.self.now a.site (sym (ap (λ (k : Kept). k.site) c.self.view_is)) c.requires.fits)
     c.in-Ok.ensures.0 c.in-Ok.ensures.1 c.in-Ok.ensures.2
 
 pub act-requires-clause-state : goal.act-requires-clause-state
 act-requires-clause-state g c =
-    let a : Asked = record { site = held_site c.as_slice.result.now; state = c.self.inside.machine.state; request = plain_request c.args.request.now } in
+    let a : Asked = record { site = c.self.inside.things; state = c.self.inside.machine.state; request = plain_request c.args.request.now } in
     may_be_done (length (g.R.Handlers.slots c.args.rack.now)) a (found_act c.in-Ok.task.act)
-    (here (g.R.Handlers.slots c.args.rack.now) c.args.self.now a.site (sym (ap (λ (k : Kept). k.site) c.self.view_is) ∙ ap held_site (sym c.as_slice.ensures.value)) c.requires.fits)
+    (here (g.R.Handlers.slots c.args.rack.now) c.args.self.now a.site (sym (ap (λ (k : Kept). k.site) c.self.view_is)) c.requires.fits)
     c.in-Ok.ensures.0 c.in-Ok.ensures.2
 
 pub invariant_of-self : goal.invariant_of-self
@@ -47,20 +44,14 @@ invariant_of-self g c =
 pub returns-in-Ok : goal.returns-in-Ok
 returns-in-Ok g c =
     let q : PlainRequest = plain_request c.args.request.now in
-    let new : Kept = record { site = held_site c.self.inside.things.items; state = c.act.new.machine.state; pending = c.act.new.machine.pending } in
-    let asked : act_asked (record { site = held_site c.self.inside.things.items; state = c.self.inside.machine.state; request = q }) ≡ Some (found_act c.in-Ok.task.act) =
-    subst (λ (ts : List HeldThing). act_asked (record { site = held_site ts; state = c.self.inside.machine.state; request = q }) ≡ Some (found_act c.in-Ok.task.act)) c.as_slice.ensures.value c.in-Ok.ensures.0 in
-    let free : NoneStands refusals (record { site = held_site c.self.inside.things.items; state = c.self.inside.machine.state; request = q }) =
-    subst (λ (ts : List HeldThing). NoneStands refusals (record { site = held_site ts; state = c.self.inside.machine.state; request = q })) c.as_slice.ensures.value c.in-Ok.ensures.2 in
+    let new : Kept = record { site = c.self.inside.things; state = c.act.new.machine.state; pending = c.act.new.machine.pending } in
     subst (λ (k : Kept). MakesAct k new q c.act.result (g.R.Handlers.slots c.args.rack.now) (g.R.Handlers.slots c.act.new.rack)) c.self.view_is
-    (done_makes (held_site c.self.inside.things.items) q (found_act c.in-Ok.task.act) (map input_of c.in-Ok.task.inputs.items) c.act.result c.self.inside.machine c.act.new.machine
-    (g.R.Handlers.slots c.args.rack.now) (g.R.Handlers.slots c.act.new.rack) (ap (λ (k : Kept). k.pending) c.self.view_is ∙ c.requires.pending) asked c.in-Ok.ensures.1 free c.act.ensures)
+    (done_makes c.self.inside.things q (found_act c.in-Ok.task.act) (map input_of c.in-Ok.task.inputs.items) c.act.result c.self.inside.machine c.act.new.machine
+    (g.R.Handlers.slots c.args.rack.now) (g.R.Handlers.slots c.act.new.rack) (ap (λ (k : Kept). k.pending) c.self.view_is ∙ c.requires.pending) c.in-Ok.ensures.0 c.in-Ok.ensures.1 c.in-Ok.ensures.2 c.act.ensures)
 
 pub returns-in-Err : goal.returns-in-Err
 returns-in-Err g c =
     let q : PlainRequest = plain_request c.args.request.now in
-    let refused : IsAdmitted (record { site = held_site c.self.inside.things.items; state = c.self.inside.machine.state; request = q }) (Err c.in-Err.outcome) =
-    subst (λ (ts : List HeldThing). IsAdmitted (record { site = held_site ts; state = c.self.inside.machine.state; request = q }) (Err c.in-Err.outcome)) c.as_slice.ensures.value c.in-Err.ensures in
     subst (λ (k : Kept). MakesAct k k q c.in-Err.outcome (g.R.Handlers.slots c.args.rack.now) (g.R.Handlers.slots c.args.rack.now)) c.self.view_is
-    (refusal_makes (held_site c.self.inside.things.items) q c.in-Err.outcome c.self.inside.machine (g.R.Handlers.slots c.args.rack.now)
-    (ap (λ (k : Kept). k.pending) c.self.view_is ∙ c.requires.pending) refused)
+    (refusal_makes c.self.inside.things q c.in-Err.outcome c.self.inside.machine (g.R.Handlers.slots c.args.rack.now)
+    (ap (λ (k : Kept). k.pending) c.self.view_is ∙ c.requires.pending) c.in-Err.ensures)

@@ -1,5 +1,4 @@
-use Rattle.std.proofs.Common.{◌≡◌, List, [], ◌++◌, length, refl, sym, ap, subst, ◌∙◌, arith}
-use Rattle.thing_core.specs.declared.site.HeldThing.{HeldThing}
+use Rattle.std.proofs.Common.{◌≡◌, [], ◌++◌, length, refl, sym, ap, subst, ◌∙◌, arith}
 use Rattle.thing_core.specs.Site.{Site, events_of, emitters_of}
 use Rattle.thing_core.specs.Exposing.{held_site}
 use Rattle.thing_core.specs.Kept.{Kept, Fits}
@@ -13,17 +12,17 @@ pub poll_all-requires-clause-slots : goal.poll_all-requires-clause-slots
 poll_all-requires-clause-slots g c =
     all_events_stand (length (g.R.Handlers.slots c.args.rack.now)) (held_site c.as_slice.result.now)
     (site_stands (g.R.Handlers.slots c.args.rack.now) (held_site c.as_slice.result.now)
-    (subst (λ (x : Site). Fits x (g.R.Handlers.slots c.args.rack.now)) (sym (ap (λ (k : Kept). k.site) c.self.view_is) ∙ ap held_site (sym c.as_slice.ensures.value)) c.requires.fits))
+    (subst (λ (x : Site). Fits x (g.R.Handlers.slots c.args.rack.now)) (sym (ap (λ (k : Kept). k.site) c.self.view_is) ∙ sym c.as_slice.ensures) c.requires.fits))
 
 pub poll_all-requires-clause-room : goal.poll_all-requires-clause-room
 poll_all-requires-clause-room g c =
-    let kept : length c.self.inside.machine.state.last ≡ length (emitters_of (held_site c.self.inside.things.items)) = c.self.invariant in
+    let kept : length c.self.inside.machine.state.last ≡ length (emitters_of c.self.inside.things) = c.self.invariant in
     let none : c.self.inside.machine.pending ≡ [] = ap (λ (k : Kept). k.pending) c.self.view_is ∙ c.requires.pending in
     omega (
       arith,
       kept,
-      events_are_emitters (held_site c.self.inside.things.items),
-      ap (λ (ts : List HeldThing). length (events_of (held_site ts))) c.as_slice.ensures.value,
+      events_are_emitters c.self.inside.things,
+      ap (λ (site : Site). length (events_of site)) c.as_slice.ensures,
       c.emitters-room.ensures.count,
       c.emitters-room.ensures.room none,
     )
@@ -37,9 +36,9 @@ invariant_of-self g c =
 
 pub returns : goal.returns
 returns g c =
-    let new : Kept = record { site = held_site c.self.inside.things.items; state = c.poll_all.new.machine.state; pending = c.poll_all.new.machine.pending } in
+    let new : Kept = record { site = c.self.inside.things; state = c.poll_all.new.machine.state; pending = c.poll_all.new.machine.pending } in
     subst (λ (k : Kept). MakesPolls k new (g.R.Handlers.slots c.args.rack.now) (g.R.Handlers.slots c.poll_all.new.rack)) c.self.view_is
-    (polls_made (held_site c.self.inside.things.items) c.self.inside.machine c.poll_all.new.machine (g.R.Handlers.slots c.args.rack.now) (g.R.Handlers.slots c.poll_all.new.rack)
+    (polls_made c.self.inside.things c.self.inside.machine c.poll_all.new.machine (g.R.Handlers.slots c.args.rack.now) (g.R.Handlers.slots c.poll_all.new.rack)
     (ap (λ (k : Kept). k.pending) c.self.view_is ∙ c.requires.pending)
-    (subst (λ (ts : List HeldThing). PollsSome (events_of (held_site ts)) c.self.inside.machine c.poll_all.new.machine (g.R.Handlers.slots c.args.rack.now) (g.R.Handlers.slots c.poll_all.new.rack))
-    c.as_slice.ensures.value c.poll_all.ensures))
+    (subst (λ (site : Site). PollsSome (events_of site) c.self.inside.machine c.poll_all.new.machine (g.R.Handlers.slots c.args.rack.now) (g.R.Handlers.slots c.poll_all.new.rack))
+    c.as_slice.ensures c.poll_all.ensures))

@@ -1,4 +1,4 @@
-use Rattle.std.proofs.Common.{◌≡◌, ◌∙◌, ◌-◌, List, ap, sym, subst}
+use Rattle.std.proofs.Common.{◌≡◌, ◌∙◌, ◌-◌, List, ap, sym, subst, arith}
 use Rattle.std.specs.Prelude.{◌==◌}
 use Rattle.std.specs.List.{position}
 use Rattle.std.specs.VecDeque.{deque_capacity, deque_len}
@@ -6,7 +6,9 @@ use Rattle.thing_core.specs.State.{Invocation, without_invocation}
 use Rattle.thing_core.specs.Course.{Course}
 use Rattle.thing_core.specs.Thing.{with_invocations}
 use Rattle.thing_core.specs.declared.machine.Machine.TheInside.{Inside}
+use Rattle.thing_core.specs.Ids.{AreCounted}
 use Rattle.thing_core.proofs.InvocationLists.{removed_at, none_removed}
+use Rattle.thing_core.proofs.IdLaws.{counted_without}
 use Rattle.thing_core.proofs.machine.Machine.remove.Goals as goal
 
 -- what is seen of a machine with these invocations in the place of its own
@@ -17,12 +19,28 @@ seen m invocations = record {
   room = deque_capacity m.pending - deque_len m.pending;
 }
 
+pub invariant_of-self : goal.invariant_of-self
+invariant_of-self c =
+    let gone : c.take_back.new.invocations.items ≡ without_invocation c.args.id c.self.inside.invocations.items =
+    c.take_back.ensures.items
+    ∙ (removed_at c.args.id c.self.inside.invocations.items c.in-Some.index
+    (ap (position (λ i. i.id == c.args.id)) (sym c.as_slice.ensures.value) ∙ sym c.place_by_id.ensures ∙ c.in-Some.is)).1 in
+    record {
+      turns = c.self.invariant.turns;
+      ids = c.self.invariant.ids;
+      counted = subst (λ (is : List Invocation). AreCounted c.self.inside.next_invocation is) (sym gone) (counted_without c.self.inside.next_invocation c.args.id c.self.inside.invocations.items c.self.invariant.counted);
+      rooms = omega (arith, c.take_back.ensures.len, c.take_back.ensures.spare, c.self.invariant.rooms);
+      invocation_places = omega (arith, c.take_back.ensures.places, c.self.invariant.invocation_places);
+      spare_places = omega (arith, c.take_back.ensures.spare_places, c.self.invariant.spare_places);
+      pending_places = c.self.invariant.pending_places;
+    }
+
 pub returns-in-Some : goal.returns-in-Some
 returns-in-Some c =
     let gone : c.take_back.new.invocations.items ≡ without_invocation c.args.id c.self.inside.invocations.items =
     c.take_back.ensures.items
     ∙ (removed_at c.args.id c.self.inside.invocations.items c.in-Some.index
-    (ap (position (λ i. i.id == c.args.id)) (sym c.as_slice.ensures.value) ∙ sym c.place_of.ensures ∙ c.in-Some.is)).1 in
+    (ap (position (λ i. i.id == c.args.id)) (sym c.as_slice.ensures.value) ∙ sym c.place_by_id.ensures ∙ c.in-Some.is)).1 in
     subst (λ (k : Course). seen c.self.inside c.take_back.new.invocations.items ≡ record k { state = with_invocations (without_invocation c.args.id k.state.invocations) k.state })
     c.self.view_is (ap (seen c.self.inside) gone)
 
@@ -30,6 +48,6 @@ pub returns-in-None : goal.returns-in-None
 returns-in-None c =
     let stays : c.self.inside.invocations.items ≡ without_invocation c.args.id c.self.inside.invocations.items =
     sym (none_removed c.args.id c.self.inside.invocations.items
-    (ap (position (λ i. i.id == c.args.id)) (sym c.as_slice.ensures.value) ∙ sym c.place_of.ensures ∙ c.in-None.is)) in
+    (ap (position (λ i. i.id == c.args.id)) (sym c.as_slice.ensures.value) ∙ sym c.place_by_id.ensures ∙ c.in-None.is)) in
     subst (λ (k : Course). k ≡ record k { state = with_invocations (without_invocation c.args.id k.state.invocations) k.state })
     c.self.view_is (ap (seen c.self.inside) stays)

@@ -1,0 +1,87 @@
+-- What a request comes to that nothing stands against, and whose devices answer as they should.
+use Rattle.std.specs.Prelude.{◌≡◌, ◌⊎◌, ℕ, List, [], ◌∷◌, Option, Some, None}
+use Rattle.std.specs.List.{AllByRecursion}
+use Rattle.wot_json.specs.Tree.{Json}
+use Rattle.wot_json.specs.Json.{text_of}
+use Rattle.wot_json.specs.Meaning.{json_of}
+use Rattle.wot_json.specs.declared.tree.Tree.{Tree}
+use Rattle.thing_ops.specs.declared.outcome.Outcome.{Outcome}
+use Rattle.thing_ops.specs.declared.outcome.Outcome.TheVariants as outcome
+use Rattle.thing_ops.specs.Requests.{PlainRequest}
+use Rattle.thing_handler.specs.declared.handler.CallKind.{CallKind}
+use Rattle.thing_handler.specs.declared.handler.CallKind.TheVariants as call
+use Rattle.thing_handler.specs.declared.handler.Answer.{Answer}
+use Rattle.thing_handler.specs.declared.handler.Answer.TheVariants as answer
+use Rattle.thing_handler.specs.Turns.{HandlerCall, answered, missed}
+use Rattle.thing_core.specs.Site.{Placed, Site}
+use Rattle.thing_core.specs.State.{State}
+use Rattle.thing_core.specs.Places.{Act, describes, reads_all, writes_many, reads, writes, invokes, queries, cancels, reads_event, waits}
+use Rattle.thing_core.specs.Refusals.{act_asked, refusals, NoneStands}
+use Rattle.thing_core.specs.Thing.{Done, IsTaken, Acts, most_turns}
+use Rattle.thing_core.specs.Performing.{affordances_of_act}
+
+-- ---- answers in kind
+
+-- an output is taken, where there is one
+abbrev pub IsOutputTaken : Option Json → Option Tree → Type 0
+IsOutputTaken schema None = Unit {0}
+IsOutputTaken schema (Some tree) = IsTaken schema (json_of tree)
+
+-- such a call may be answered so; a value must be taken
+abbrev pub IsInKind : Option Json → CallKind → Answer → Type 0
+IsInKind schema call.Read (answer.Value tree) = IsTaken schema (json_of tree)
+IsInKind schema (call.Write value) answer.Done = Unit {0}
+IsInKind schema (call.Invoke id input) answer.Started = Unit {0}
+IsInKind schema (call.Invoke id input) (answer.Finished output) = IsOutputTaken schema output
+IsInKind schema (call.Query id) answer.Running = Unit {0}
+IsInKind schema (call.Query id) (answer.Finished output) = IsOutputTaken schema output
+IsInKind schema (call.Cancel id) answer.Cancelled = Unit {0}
+IsInKind schema call.Poll answer.Quiet = Unit {0}
+IsInKind schema call.Poll (answer.Fired tree) = IsTaken schema (json_of tree)
+IsInKind schema what a = ⊥
+
+-- whenever the handler of an affordance answered, it answered in kind
+abbrev pub AnswersInKind : List HandlerCall → Placed → Type 0
+AnswersInKind [] p = Unit {0}
+AnswersInKind (answered turn ∷ calls) p = (turn.slot ≡ p.slot → IsInKind p.affordance.output turn.what turn.answer) × AnswersInKind calls p
+AnswersInKind (missed slot ∷ calls) p = AnswersInKind calls p
+
+-- ---- successes
+
+abbrev pub IsContent : Outcome → Type 0
+IsContent o = (text : List ℕ) × (o ≡ outcome.Content text)
+
+-- an action is finished, without an output or with one, or goes on
+abbrev pub IsInvocation : Outcome → Type 0
+IsInvocation o =
+    (o ≡ outcome.Changed)
+    ⊎ (((text : List ℕ) × (o ≡ outcome.Output text)) ⊎ ((place : List (List ℕ)) × (text : List ℕ) × (o ≡ outcome.Started place text)))
+
+-- what each act comes to where it succeeds, by the table of acts
+abbrev pub IsSuccess : Act → PlainRequest → Outcome → Type 0
+IsSuccess (describes thing) q o = o ≡ outcome.Description (text_of thing.description) q.accept.td
+IsSuccess (reads_all thing) q o = IsContent o
+IsSuccess (writes_many thing) q o = o ≡ outcome.Changed
+IsSuccess (reads p) q o = IsContent o
+IsSuccess (writes p) q o = o ≡ outcome.Changed
+IsSuccess (invokes p) q o = IsInvocation o
+IsSuccess (queries p id) q o = IsContent o
+IsSuccess (cancels p id) q o = o ≡ outcome.Deleted
+IsSuccess (reads_event p) q o = (o ≡ outcome.Empty) ⊎ IsContent o
+IsSuccess (waits p) q o = o ≡ outcome.Wait p.slot
+
+-- a success; or memory is out, or the run has no number left for a turn
+pub data Succeeds (S : Outcome → Type 0) (o : Outcome) (t : State) : Type 0 where
+  succeeds : S o → Succeeds S o t
+  lacks_memory : o ≡ outcome.Memory → Succeeds S o t
+  lacks_numbers : o ≡ outcome.CallsUsed → t.turns ≡ most_turns → Succeeds S o t
+
+-- Where no refusal stands against a request, and the handlers that its act may call answer in kind, it comes to the success
+-- of its act; or memory is out, or the run has no number left for a turn.
+abbrev pub IsComplete : Site → PlainRequest → Type 0
+IsComplete site q =
+    (act : Act) (done : Done) (s t : State) (seen : List HandlerCall) → Acts site q done s seen t
+    → NoneStands refusals (record { site = site; state = s; request = q })
+    → act_asked (record { site = site; state = s; request = q }) ≡ Some act
+    → AllByRecursion (AnswersInKind seen) (affordances_of_act act)
+    → Succeeds (IsSuccess act q) done.outcome t

@@ -1,10 +1,15 @@
 pub mod TraceLaws
-pub mod StandsLaws
-pub mod MachineLaws
-mod ActLaws
-mod OrderLaws
-mod ReplyLengths
+pub mod PartLaws
+mod ConnectionLaws
+pub mod OutcomeLaws
+pub mod PathLaws
+pub mod NumberLaws
 mod PlanLaws
 mod PlanTexts
 mod PlanLists
+pub mod MachineLaws
+mod PromiseLaws
 mod ServingLaws
+mod MeaningLaws
+mod RunHistories
+mod MissLaws

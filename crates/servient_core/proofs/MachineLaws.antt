@@ -1,97 +1,176 @@
 -- What every move of the machine keeps.
-use Rattle.std.proofs.Common.{◌≡◌, ℕ, ◌+◌, List, [], ◌∷◌, ◌++◌, refl, sym, ap, subst, ◌∙◌, arith, max, length, length-append}
+use Rattle.std.proofs.Common.{◌≡◌, ℕ, ◌+◌, List, [], ◌∷◌, ◌++◌, map, refl, sym, ap, subst, ◌∙◌, arith, max, length, length-append, inl, inr, true, false}
 use Rattle.std.proofs.lemmas.List.{append-nil}
-use Rattle.thing_handler.specs.Turns.{RunTurn, AreNumberedFrom, turns_in}
+use Rattle.servient_base.specs.Moves.{Becomes, Stays, Until, is_done, goes_on}
+use Rattle.coap_msg.specs.declared.endpoint.Endpoint.{Endpoint}
+use Rattle.thing_handler.specs.Turns.{HandlerCall, RunTurn, AreNumberedFrom, turns_in}
 use Rattle.thing_handler.proofs.TurnLaws.{numbered_then}
+use Rattle.thing_core.specs.State.{State as ThingState}
+use Rattle.thing_core.specs.Thing.{Move as ThingMove, Acts, Polls}
+use Rattle.coap_bind.specs.declared.server.Server.{Server}
+use Rattle.coap_bind.specs.Server.{Heard, ignored, answered_at_once, asked, Hears, Answers}
+use Rattle.servient_edge.specs.declared.net.Act.{Act}
+use Rattle.servient_edge.specs.declared.net.Act.TheVariants as act
 use Rattle.servient_edge.specs.declared.net.What.{What}
 use Rattle.servient_edge.specs.declared.net.What.TheVariants as what
 use Rattle.servient_edge.specs.declared.net.EventWithBytes.{EventWithBytes}
-use Rattle.servient_edge.specs.Network.{Happening, broke, next_event, events_in, break_count}
+use Rattle.servient_edge.specs.Network.{Happening, did, broke, next_event, events_in, break_count}
 use Rattle.servient_edge.proofs.NetLaws.{break_count-append}
-use Rattle.coap_msg.specs.Grammar.{CoapOption}
-use Rattle.servient_core.specs.declared.outcome.Outcome.{Outcome}
 use Rattle.servient_core.specs.declared.serving.Served.{Served}
 use Rattle.servient_core.specs.declared.serving.Served.TheVariants as served
-use Rattle.servient_core.specs.Trace.{Sighting, happened_in, calls_in}
-use Rattle.servient_core.specs.Machine.{Site, State, ComesTo, is_elsewhere, has_no_number, finds_no_memory, reads, answers, ignores, Follows, Step, Run}
+use Rattle.servient_core.specs.Trace.{Sighting, at_network, at_handler, happened_in, calls_in}
+use Rattle.servient_core.specs.Machine.{Site, State, Move, OnHttp, OnCoap, OnThing, Does, Responds, Receives, acts_of_reply, Handles, TakesAndHandles, ClosesIdle, Follows, Step, Run}
+use Rattle.http_bind.specs.Streams.{Streams, Taken, asks, wants_continue, is_faulty, Opened, Ended, Lengthened, Takes, IsDry, Replies, Refuses, Closes, IsIdle, NoneIdle}
 use Rattle.servient_core.specs.Serving.{Serves, BreaksAtEnd}
+use Rattle.servient_core.proofs.PartLaws.{nothing_happened, the_calls}
+use Rattle.servient_core.proofs.NumberLaws.{Counts, acts_count, polls_count}
 use Rattle.servient_core.proofs.TraceLaws.{happened_in-append, events-append, breaks-append, turns-append}
 
--- turns that are all of one slot
-abbrev pub AreOfSlot : ℕ → List RunTurn → Type 0
-AreOfSlot slot [] = Unit {0}
-AreOfSlot slot (t ∷ ts) = (t.slot ≡ slot) × AreOfSlot slot ts
-
-of_slot-append : (slot : ℕ) (ps qs : List RunTurn) → AreOfSlot slot ps → AreOfSlot slot qs → AreOfSlot slot (ps ++ qs)
-of_slot-append slot [] qs a b = b
-of_slot-append slot (p ∷ ps) qs a b = (a.0, of_slot-append slot ps qs a.1 b)
-
--- These events are heard, the network doesn't break, and all turns are those of the site's slot, numbered on from those
--- that the state has.
-pub record Keeps (site : Site) (events : List EventWithBytes) (s : State) (seen : List Sighting) (t : State) : Type 0 where
+-- These events are heard, the network doesn't break, and the turns are numbered on from those that the state has.
+pub record Keeps (events : List EventWithBytes) (s : State) (seen : List Sighting) (t : State) : Type 0 where
   pub hears : events_in (happened_in seen) ≡ events
   pub unbroken : break_count (happened_in seen) ≡ 0
-  pub turns : AreOfSlot site.slot (turns_in (calls_in seen))
-  pub count : t.turns ≡ s.turns + length (turns_in (calls_in seen))
-  pub numbered : AreNumberedFrom s.turns (turns_in (calls_in seen))
+  pub count : t.thing.turns ≡ s.thing.turns + length (turns_in (calls_in seen))
+  pub numbered : AreNumberedFrom s.thing.turns (turns_in (calls_in seen))
 
-becomes_keeps : (site : Site) (events : List EventWithBytes) (s u t : State) (shown seen : List Sighting) → t ≡ u → seen ≡ shown → Keeps site events s shown u → Keeps site events s seen t
-becomes_keeps site events s u t shown seen next saw k =
-    subst (λ (z : List Sighting). Keeps site events s z t) (sym saw) (subst (λ (x : State). Keeps site events s shown x) (sym next) k)
+becomes_keeps : (events : List EventWithBytes) (s u t : State) (shown seen : List Sighting) → t ≡ u → seen ≡ shown → Keeps events s shown u → Keeps events s seen t
+becomes_keeps events s u t shown seen next saw k =
+    subst (λ (z : List Sighting). Keeps events s z t) (sym saw) (subst (λ (x : State). Keeps events s shown x) (sym next) k)
 
-stays_keeps : (site : Site) (s t : State) (seen : List Sighting) → t ≡ s → seen ≡ [] → Keeps site [] s seen t
-stays_keeps site s t seen next saw = becomes_keeps site [] s s t [] seen next saw (record { hears = refl; unbroken = refl; turns = tt; count = omega arith; numbered = tt })
+stays_keeps : (s t : State) (seen : List Sighting) → t ≡ s → seen ≡ [] → Keeps [] s seen t
+stays_keeps s t seen next saw = becomes_keeps [] s s t [] seen next saw (record { hears = refl; unbroken = refl; count = omega arith; numbered = tt })
 
-then_keeps : (site : Site) (es fs : List EventWithBytes) (s m t : State) (a b seen : List Sighting) → Keeps site es s a m → Keeps site fs m b t → seen ≡ a ++ b → Keeps site (es ++ fs) s seen t
-then_keeps site es fs s m t a b seen p q whole =
+then_keeps : (es fs : List EventWithBytes) (s m t : State) (a b seen : List Sighting) → Keeps es s a m → Keeps fs m b t → seen ≡ a ++ b → Keeps (es ++ fs) s seen t
+then_keeps es fs s m t a b seen p q whole =
     let turns = turns-append a b in
-    subst (λ (z : List Sighting). Keeps site (es ++ fs) s z t) (sym whole) (record {
+    subst (λ (z : List Sighting). Keeps (es ++ fs) s z t) (sym whole) (record {
       hears = events-append a b ∙ ap (λ (x : List EventWithBytes). x ++ events_in (happened_in b)) p.hears ∙ ap (λ (x : List EventWithBytes). es ++ x) q.hears;
       unbroken = omega (arith, breaks-append a b, p.unbroken, q.unbroken);
-      turns = subst (λ (ts : List RunTurn). AreOfSlot site.slot ts) (sym turns) (of_slot-append site.slot (turns_in (calls_in a)) (turns_in (calls_in b)) p.turns q.turns);
       count = omega (arith, p.count, q.count, ap (λ (ts : List RunTurn). length ts) turns, length-append (turns_in (calls_in a)) (turns_in (calls_in b)));
-      numbered = subst (λ (ts : List RunTurn). AreNumberedFrom s.turns ts) (sym turns)
-          (numbered_then s.turns (turns_in (calls_in a)) (turns_in (calls_in b)) p.numbered (subst (λ (n : ℕ). AreNumberedFrom n (turns_in (calls_in b))) p.count q.numbered));
+      numbered = subst (λ (ts : List RunTurn). AreNumberedFrom s.thing.turns ts) (sym turns)
+          (numbered_then s.thing.turns (turns_in (calls_in a)) (turns_in (calls_in b)) p.numbered (subst (λ (n : ℕ). AreNumberedFrom n (turns_in (calls_in b))) p.count q.numbered));
     })
 
-comes_keeps : (site : Site) (path : List CoapOption) (o : Outcome) (s : State) (seen : List Sighting) (t : State) → ComesTo site path o s seen t → Keeps site [] s seen t
-comes_keeps site path o s seen t (is_elsewhere away is move) = stays_keeps site s t seen move.next move.saw
-comes_keeps site path o s seen t (has_no_number at full is move) = stays_keeps site s t seen move.next move.saw
-comes_keeps site path o s seen t (finds_no_memory at room is move) =
-    becomes_keeps site [] s _ t _ seen move.next move.saw (record { hears = refl; unbroken = refl; turns = tt; count = omega arith; numbered = tt })
-comes_keeps site path o s seen t (reads answer at room is move) =
-    becomes_keeps site [] s _ t _ seen move.next move.saw (record { hears = refl; unbroken = refl; turns = (refl, tt); count = refl; numbered = (refl, tt) })
+-- ---- moves of one part
 
-follows_keeps : (site : Site) (w : What) (bytes : List ℕ) (s : State) (seen : List Sighting) (t : State) → Follows site w bytes s seen t → Keeps site [] s seen t
-follows_keeps site (what.Datagram from size) bytes s seen t (answers request asked is) =
+acts_alone : (acts : List Act) (s : State) → Keeps [] s (map (λ a. at_network (did a)) acts) s
+acts_alone [] s = record { hears = refl; unbroken = refl; count = omega arith; numbered = tt }
+acts_alone (act ∷ acts) s =
+    let k = acts_alone acts s in
+    record { hears = k.hears; unbroken = k.unbroken; count = k.count; numbered = k.numbered }
+
+does_keeps : (acts : List Act) (s : State) (seen : List Sighting) (t : State) → Does acts s seen t → Keeps [] s seen t
+does_keeps acts s seen t does = becomes_keeps [] s s t (map (λ a. at_network (did a)) acts) seen does.next does.saw (acts_alone acts s)
+
+coap_keeps : (Change : ℕ → Server → Server → Type 0) (s : State) (seen : List Sighting) (t : State) → OnCoap Change s seen t → Keeps [] s seen t
+coap_keeps Change s seen t on =
+    becomes_keeps [] s (record s { coap = on.0 }) t [] seen on.2.next on.2.saw (record { hears = refl; unbroken = refl; count = omega arith; numbered = tt })
+
+thing_keeps : (M : ThingMove) (s : State) (seen : List Sighting) (t : State) → ((x : ThingState) (calls : List HandlerCall) (y : ThingState) → M x calls y → Counts x calls y)
+    → OnThing M s seen t → Keeps [] s seen t
+thing_keeps M s seen t counts on =
+    let c = counts s.thing on.1 on.0 on.2 in
+    becomes_keeps [] s (record s { thing = on.0 }) t (map at_handler on.1) seen on.3.next on.3.saw (record {
+      hears = ap events_in (nothing_happened on.1);
+      unbroken = ap break_count (nothing_happened on.1);
+      count = omega (arith, c.count, ap (λ (cs : List HandlerCall). length (turns_in cs)) (the_calls on.1));
+      numbered = subst (λ (cs : List HandlerCall). AreNumberedFrom s.thing.turns (turns_in cs)) (sym (the_calls on.1)) c.numbered;
+    })
+
+-- ---- events
+
+responds_keeps : (site : Site) (from : Endpoint) (h : Heard) (s : State) (seen : List Sighting) (t : State) → Responds site from h s seen t → Keeps [] s seen t
+responds_keeps site from ignored s seen t stays = stays_keeps s t seen stays.next stays.saw
+responds_keeps site from (answered_at_once bytes) s seen t does = does_keeps (act.Datagram from bytes ∷ []) s seen t does
+responds_keeps site from (asked ask request) s seen t is =
+    let one = is.1 in
+    let two = one.other.1 in
+    then_keeps [] [] s one.mid t one.first one.second seen
+    (thing_keeps (Acts site ask.request is.0) s one.first one.mid (λ x calls y m. acts_count site ask.request is.0 x calls y m) one.one)
+    (then_keeps [] [] one.mid two.mid t two.first two.second one.second (coap_keeps (λ now. Answers request is.0.outcome one.other.0) one.mid two.first two.mid two.one) (does_keeps (act.Datagram from one.other.0 ∷ []) two.mid two.second t two.other) two.whole)
+    one.whole
+
+receives_keeps : (site : Site) (from : Endpoint) (bytes : List ℕ) (s : State) (seen : List Sighting) (t : State) → Receives site from bytes s seen t → Keeps [] s seen t
+receives_keeps site from bytes s seen t (inl long) = stays_keeps s t seen long.1.next long.1.saw
+receives_keeps site from bytes s seen t (inr heard) =
+    let both = heard.1.1 in
+    then_keeps [] [] s both.mid t both.first both.second seen (coap_keeps (λ now. Hears from bytes now heard.1.0) s both.first both.mid both.one) (responds_keeps site from heard.1.0 both.mid both.second t both.other) both.whole
+
+-- the connections change
+http_keeps : (Change : ℕ → Streams → Streams → Type 0) (s : State) (seen : List Sighting) (t : State) → OnHttp Change s seen t → Keeps [] s seen t
+http_keeps Change s seen t on =
+    becomes_keeps [] s (record s { http = on.0 }) t [] seen on.2.next on.2.saw (record { hears = refl; unbroken = refl; count = omega arith; numbered = tt })
+
+handles_keeps : (site : Site) (c : ℕ) (taken : Taken) (s : State) (seen : List Sighting) (t : State) → Handles site c taken s seen t → Keeps [] s seen t
+handles_keeps site c (asks q) s seen t is =
+    let one = is.1 in
+    let two = one.other.1 in
+    let reply = one.other.0 in
+    then_keeps [] [] s one.mid t one.first one.second seen
+    (thing_keeps (Acts site q is.0) s one.first one.mid (λ x calls y m. acts_count site q is.0 x calls y m) one.one)
+    (then_keeps [] [] one.mid two.mid t two.first two.second one.second
+    (http_keeps (λ now. Replies c q is.0.outcome now reply.0 reply.1) one.mid two.first two.mid two.one) (does_keeps (acts_of_reply c reply) two.mid two.second t two.other) two.whole)
+    one.whole
+handles_keeps site c wants_continue s seen t is =
     let both = is.1 in
-    then_keeps site [] [] s both.mid t both.first both.second seen
-    (comes_keeps site request.options is.0 s both.first both.mid both.one)
-    (becomes_keeps site [] both.mid _ t _ both.second both.other.next both.other.saw (record { hears = refl; unbroken = refl; turns = tt; count = omega arith; numbered = tt }))
-    both.whole
-follows_keeps site (what.Datagram from size) bytes s seen t (ignores never stays) = stays_keeps site s t seen stays.next stays.saw
-follows_keeps site what.Stop bytes s seen t stays = stays_keeps site s t seen stays.next stays.saw
+    then_keeps [] [] s both.mid t both.first both.second seen (http_keeps (λ now. Refuses c 100 is.0) s both.first both.mid both.one)
+    (does_keeps (acts_of_reply c (is.0, false)) both.mid both.second t both.other) both.whole
+handles_keeps site c (is_faulty status) s seen t is =
+    let both = is.1 in
+    then_keeps [] [] s both.mid t both.first both.second seen (http_keeps (λ now. Refuses c status is.0) s both.first both.mid both.one)
+    (does_keeps (acts_of_reply c (is.0, true)) both.mid both.second t both.other) both.whole
 
-step_keeps : (site : Site) (e : EventWithBytes) (s : State) (seen : List Sighting) (t : State) → Step site e s seen t → Keeps site [] s seen t
+takes_keeps : (site : Site) (c : ℕ) (s : State) (seen : List Sighting) (t : State) → TakesAndHandles site c s seen t → Keeps [] s seen t
+takes_keeps site c s seen t is =
+    let both = is.1 in
+    then_keeps [] [] s both.mid t both.first both.second seen (http_keeps (λ now. Takes c is.0) s both.first both.mid both.one)
+    (handles_keeps site c is.0 both.mid both.second t both.other) both.whole
+
+closes_keeps : (s : State) (seen : List Sighting) (t : State) → ClosesIdle s seen t → Keeps [] s seen t
+closes_keeps s seen t is =
+    let both = is.1 in
+    then_keeps [] [] s both.mid t both.first both.second seen (http_keeps (λ now h k. IsIdle is.0 now h × Closes is.0 h k) s both.first both.mid both.one)
+    (does_keeps (act.Closed is.0 ∷ []) both.mid both.second t both.other) both.whole
+
+-- a move that is made until nothing is left
+until_keeps : (P : Move) (IsDone : State → Type 0) → ((s : State) (seen : List Sighting) (t : State) → P s seen t → Keeps [] s seen t)
+    → (s : State) (seen : List Sighting) (t : State) → Until P IsDone s seen t → Keeps [] s seen t
+until_keeps P IsDone each s seen t (is_done s' seen' t' done stays) = stays_keeps s t seen stays.next stays.saw
+until_keeps P IsDone each s seen t (goes_on s' mid t' seen' first second one more whole) =
+    then_keeps [] [] s mid t first second seen (each s first mid one) (until_keeps P IsDone each mid second t more) whole
+
+follows_keeps : (site : Site) (w : What) (bytes : List ℕ) (s : State) (seen : List Sighting) (t : State) → Follows site w bytes s seen t → Keeps [] s seen t
+follows_keeps site (what.Opened c) bytes s seen t on = http_keeps (Opened c) s seen t on
+follows_keeps site (what.Bytes c size) bytes s seen t both =
+    then_keeps [] [] s both.mid t both.first both.second seen (http_keeps (Lengthened c bytes) s both.first both.mid both.one)
+    (until_keeps (TakesAndHandles site c) (λ (x : State). IsDry c x.http) (λ x calls y m. takes_keeps site c x calls y m) both.mid both.second t both.other) both.whole
+follows_keeps site (what.Ended c) bytes s seen t on = http_keeps (λ now. Ended c) s seen t on
+follows_keeps site (what.Datagram from size) bytes s seen t receives = receives_keeps site from bytes s seen t receives
+follows_keeps site what.Tick bytes s seen t polls = thing_keeps (Polls site polls.0) s seen t (λ x calls y m. polls_count site polls.0 x calls y m) polls.1
+follows_keeps site what.Stop bytes s seen t stays = stays_keeps s t seen stays.next stays.saw
+
+step_keeps : (site : Site) (e : EventWithBytes) (s : State) (seen : List Sighting) (t : State) → Step site e s seen t → Keeps [] s seen t
 step_keeps site e s seen t step =
-    let k = follows_keeps site e.event.what e.bytes (record s { moment = max s.moment e.event.moment }) seen t step in
-    record { hears = k.hears; unbroken = k.unbroken; turns = k.turns; count = k.count; numbered = k.numbered }
+    let moved : State = record s { moment = max s.moment e.event.moment } in
+    let k = then_keeps [] [] moved step.mid t step.first step.second seen (follows_keeps site e.event.what e.bytes moved step.first step.mid step.one)
+    (until_keeps ClosesIdle (λ (x : State). NoneIdle x.moment x.http) (λ x calls y m. closes_keeps x calls y m) step.mid step.second t step.other) step.whole in
+    record { hears = k.hears; unbroken = k.unbroken; count = k.count; numbered = k.numbered }
 
-pub run_keeps : (site : Site) (es : List EventWithBytes) (s : State) (seen : List Sighting) (t : State) → Run site es s seen t → Keeps site es s seen t
-run_keeps site [] s seen t r = stays_keeps site s t seen r.next r.saw
+pub run_keeps : (site : Site) (es : List EventWithBytes) (s : State) (seen : List Sighting) (t : State) → Run site es s seen t → Keeps es s seen t
+run_keeps site [] s seen t r = stays_keeps s t seen r.next r.saw
 run_keeps site (e ∷ es) s seen t r =
     let one = r.one in
-    then_keeps site (e ∷ []) es s r.mid t r.first r.second seen
-    (then_keeps site (e ∷ []) [] s one.mid r.mid one.first one.second r.first
-    (becomes_keeps site (e ∷ []) s s one.mid _ one.first one.one.next one.one.saw (record { hears = refl; unbroken = refl; turns = tt; count = omega arith; numbered = tt }))
+    then_keeps (e ∷ []) es s r.mid t r.first r.second seen
+    (then_keeps (e ∷ []) [] s one.mid r.mid one.first one.second r.first
+    (becomes_keeps (e ∷ []) s s one.mid _ one.first one.one.next one.one.saw (record { hears = refl; unbroken = refl; count = omega arith; numbered = tt }))
     (step_keeps site e one.mid one.second r.mid one.other) one.whole)
     (run_keeps site es r.mid r.second t r.other) r.whole
 
 -- a run that ended with nothing more
-pub ended_keeps : (site : Site) (es : List EventWithBytes) (s t : State) (seen first second : List Sighting) (mid : State) → Run site es s first mid → t ≡ mid → second ≡ [] → seen ≡ first ++ second → Keeps site es s seen t
+pub ended_keeps : (site : Site) (es : List EventWithBytes) (s t : State) (seen first second : List Sighting) (mid : State) → Run site es s first mid → t ≡ mid → second ≡ [] → seen ≡ first ++ second → Keeps es s seen t
 ended_keeps site es s t seen first second mid run next saw whole =
-    subst (λ (fs : List EventWithBytes). Keeps site fs s seen t) (append-nil es)
-    (then_keeps site es [] s mid t first second seen (run_keeps site es s first mid run) (stays_keeps site mid t second next saw) whole)
+    subst (λ (fs : List EventWithBytes). Keeps fs s seen t) (append-nil es)
+    (then_keeps es [] s mid t first second seen (run_keeps site es s first mid run) (stays_keeps mid t second next saw) whole)
 
 -- Serving answers Failed exactly where the network broke, which it did at the end and nowhere before.
 pub serves_breaks : (site : Site) (budget : ℕ) (result : Served) (s : State) (seen : List Sighting) (t : State) → Serves site budget result s seen t → (result ≡ served.Failed → BreaksAtEnd (happened_in seen)) × (¬ (result ≡ served.Failed) → break_count (happened_in seen) ≡ 0)
@@ -117,11 +196,11 @@ breaks_fails site budget served.Spent s seen t r b =
     absurd (broken (happened_in seen) b ((serves_breaks site budget served.Spent s seen t r).1 (λ is. cc)))
 
 -- the turns of serving are numbered one by one
-pub serves_numbered : (site : Site) (budget : ℕ) (result : Served) (s : State) (seen : List Sighting) (t : State) → Serves site budget result s seen t → AreNumberedFrom s.turns (turns_in (calls_in seen))
+pub serves_numbered : (site : Site) (budget : ℕ) (result : Served) (s : State) (seen : List Sighting) (t : State) → Serves site budget result s seen t → AreNumberedFrom s.thing.turns (turns_in (calls_in seen))
 serves_numbered site budget served.Stopped s seen t r = (ended_keeps site r.took s t seen r.run.first r.run.second r.run.mid r.run.one r.run.other.next r.run.other.saw r.run.whole).numbered
 serves_numbered site budget served.Spent s seen t r = (ended_keeps site r.took s t seen r.run.first r.run.second r.run.mid r.run.one r.run.other.next r.run.other.saw r.run.whole).numbered
 serves_numbered site budget served.Failed s seen t r =
-    subst (λ (ts : List RunTurn). AreNumberedFrom s.turns ts) (sym same) (run_keeps site r.took s r.run.first r.run.mid r.run.one).numbered
+    subst (λ (ts : List RunTurn). AreNumberedFrom s.thing.turns ts) (sym same) (run_keeps site r.took s r.run.first r.run.mid r.run.one).numbered
   where
     same : turns_in (calls_in seen) ≡ turns_in (calls_in r.run.first)
     same =

@@ -1,6 +1,10 @@
 pub mod Plan
-pub mod Outcomes
+pub mod BuiltIn
 pub mod Trace
-pub mod Requests
 pub mod Machine
+pub mod Keeping
 pub mod Serving
+pub mod Connections
+pub mod Promises
+pub mod Meaning
+pub mod Runs

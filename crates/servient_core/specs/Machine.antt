@@ -1,130 +1,157 @@
 -- The servient as one abstract machine: what it does to the network and which calls it makes of device handlers, event
--- by event. It knows no byte of a message beyond its spelling, and nothing of how the outside or the handlers are kept.
+-- by event. It knows no byte of a message, no exchange and no affordance: what these mean is said by the layers that it names.
 --
 -- A move relates the state before it, the list of what is seen of it in order, and the state after it. `Becomes`,
--- `Stays`, `Then`, `Passing` and `Each` put moves together (servient_base/specs/Moves.antt).
-use Rattle.std.specs.Prelude.{◌≡◌, ◌≢◌, ◌≤◌, ◌<◌, ◌+◌, ◌%◌, ◌^◌, ℕ, max, List, [], ◌∷◌, length, codes}
-use Rattle.servient_base.specs.Moves.{Becomes, Stays, Then, Passing, Each}
+-- `Stays`, `Then`, `Passing`, `Each` and `Until` put moves together (servient_base/specs/Moves.antt).
+use Rattle.std.specs.Prelude.{ℕ, ◌<◌, ◌≤◌, ◌⊎◌, max, List, [], ◌∷◌, map, length, Bool, true, false, if◌then◌else◌}
+use Rattle.servient_base.specs.Moves.{Becomes, Stays, Then, Passing, Each, Until}
 use Rattle.coap_msg.specs.declared.endpoint.Endpoint.{Endpoint}
-use Rattle.coap_msg.specs.declared.message.Type4.TheVariants.{Non}
-use Rattle.coap_msg.specs.Grammar.{CoapOption, CoapMessage, Spells, spelling}
-use Rattle.thing_handler.specs.declared.handler.CallKind.TheVariants.{Read}
-use Rattle.thing_handler.specs.declared.handler.Answer.{Answer}
-use Rattle.thing_handler.specs.Turns.{RunTurn, answered, missed}
+use Rattle.thing_ops.specs.Requests.{PlainRequest}
+use Rattle.thing_handler.specs.Turns.{HandlerCall}
+use Rattle.thing_core.specs.Site.{Site as Things}
+use Rattle.thing_core.specs.State.{State as ThingState, Emission, start as no_request_yet}
+use Rattle.thing_core.specs.Thing.{Move as ThingMove, Done, Acts, Polls}
+use Rattle.coap_bind.specs.declared.server.Server.{Server}
+use Rattle.coap_bind.specs.Server.{start as nothing_came, Heard, ignored, answered_at_once, asked, Hears, Answers}
+use Rattle.http_bind.specs.Streams.{Streams, none_open, Taken, asks, wants_continue, is_faulty, Opened, Ended, Lengthened, Takes, IsDry, Replies, Refuses, Closes, IsIdle, NoneIdle}
 use Rattle.servient_edge.specs.declared.net.What.{What}
 use Rattle.servient_edge.specs.declared.net.What.TheVariants as what
 use Rattle.servient_edge.specs.declared.net.EventWithBytes.{EventWithBytes}
+use Rattle.servient_edge.specs.declared.net.Act.{Act}
 use Rattle.servient_edge.specs.declared.net.Act.TheVariants as act
 use Rattle.servient_edge.specs.Network.{heard, did}
-use Rattle.servient_core.specs.declared.outcome.Outcome.{Outcome}
-use Rattle.servient_core.specs.declared.outcome.Outcome.TheVariants as outcome
-use Rattle.servient_core.specs.Requests.{IsPathRequest}
-use Rattle.servient_core.specs.Outcomes.{outcome_of, reply_of}
 use Rattle.servient_core.specs.Trace.{Sighting, at_network, at_handler}
 
--- what is constant in a run: the slot of the built-in property's handler
-pub record Site : Type 0 where
-  pub slot : ℕ
+-- what is constant in a run: the Things, each affordance with the slot of its handler
+abbrev pub Site : Type 0
+Site = Things
 
--- the machine's state: the greatest moment so far in milliseconds, the next message ID, and how many turns the run has
+-- The machine's state: the greatest moment so far in milliseconds; the connections with their whole streams; the CoAP server
+-- with its exchanges and the id of its next message; what the Things don't leave to their devices.
 pub record State : Type 0 where
   pub moment : ℕ
-  pub next_id : ℕ
-  pub turns : ℕ
+  pub http : Streams
+  pub coap : Server
+  pub thing : ThingState
 
--- before the first event
-abbrev pub start : State
-start = record { moment = 0; next_id = 0; turns = 0 }
+-- before the first event, where so many exchanges may live
+abbrev pub start : Site → ℕ → State
+start site exchanges = record { moment = 0; http = none_open; coap = nothing_came exchanges; thing = no_request_yet site }
 
--- how many turns a run may have
-abbrev pub most_turns : ℕ
-most_turns = 4294967295
+abbrev pub Move : Type 1
+Move = State → List Sighting → State → Type 0
 
--- how many bytes a datagram may have that is read
+-- ---- moves of one part, and acts
+
+-- the connections change, at the machine's moment
+abbrev pub OnHttp : (ℕ → Streams → Streams → Type 0) → Move
+OnHttp Does s seen t = (h : Streams) × Does s.moment s.http h × Becomes (record s { http = h }) [] seen t
+
+-- the CoAP server changes, at the machine's moment
+abbrev pub OnCoap : (ℕ → Server → Server → Type 0) → Move
+OnCoap Does s seen t = (c : Server) × Does s.moment s.coap c × Becomes (record s { coap = c }) [] seen t
+
+-- a move of the Thing machine, of which calls of handlers are seen
+abbrev pub OnThing : ThingMove → Move
+OnThing Does s seen t =
+    (x : ThingState) × (calls : List HandlerCall) × Does s.thing calls x
+    × Becomes (record s { thing = x }) (map at_handler calls) seen t
+
+-- this is done to the network
+abbrev pub Does : List Act → Move
+Does acts s = Becomes s (map (λ a. at_network (did a)) acts)
+
+-- ---- a request, whichever way it came
+
+-- What is emitted goes nowhere yet: nobody watches or waits.
+abbrev pub Performs : Site → PlainRequest → Done → Move
+Performs site q done = OnThing (Acts site q done)
+
+-- ---- CoAP (RFC 7252): a datagram is heard, and where it asks for something it is answered, once
+
+-- how many bytes a datagram may have that is heard
 abbrev pub longest_datagram : ℕ
 longest_datagram = 1280
 
--- ---- requests
+-- what follows on a datagram from this endpoint
+abbrev pub Responds : Site → Endpoint → Heard → Move
+Responds site from ignored s seen t = Stays s seen t
+Responds site from (answered_at_once bytes) s seen t = Does (act.Datagram from bytes ∷ []) s seen t
+Responds site from (asked ask request) s seen t =
+    Passing (Performs site ask.request)
+    (λ done. Passing (λ bytes. OnCoap (λ now. Answers request done.outcome bytes)) (λ bytes. Does (act.Datagram from bytes ∷ []))) s seen t
 
--- The built-in property is at the path /lamp/properties/status: three Uri-Path options (RFC 7252 section 5.10.1).
-abbrev pub status_path : List CoapOption
-status_path = (11, codes "lamp") ∷ (11, codes "properties") ∷ (11, codes "status") ∷ []
+-- it is too long and nothing is done, or it is heard
+abbrev pub Receives : Site → Endpoint → List ℕ → Move
+Receives site from bytes s seen t =
+    (longest_datagram < length bytes × Stays s seen t)
+    ⊎ (length bytes ≤ longest_datagram × Passing (λ h. OnCoap (λ now. Hears from bytes now h)) (Responds site from) s seen t)
 
--- A datagram that is a request: of at most 1,280 bytes, a Non-confirmable GET (RFC 7252 section 5.8.1) whose options, if
--- it has any, are all Uri-Path of at most 255 bytes.
-pub record IsRequest (m : CoapMessage) (bytes : List ℕ) : Type 0 where
-  pub size : length bytes ≤ longest_datagram
-  pub message : Spells m bytes
-  pub path : IsPathRequest m
-  pub get : m.code ≡ 1
+-- ---- HTTP (RFC 9112): the messages of a stream that weren't taken yet, one after another
 
--- the turn of a read: the run's next number, the property's slot, the call and the answer
-abbrev pub read_turn : Site → State → Answer → RunTurn
-read_turn site s answer = record { number = s.turns; slot = site.slot; what = Read; answer = answer }
+-- a reply is one act, and one that closes is followed by the close
+abbrev pub acts_of_reply : ℕ → List ℕ × Bool → List Act
+acts_of_reply c reply = act.Sent c reply.0 ∷ (if reply.1 then act.Closed c ∷ [] else [])
 
--- the property's handler is called and finds no memory
-abbrev pub Misses : Site → State → List Sighting → State → Type 0
-Misses site s = Becomes s (at_handler (missed site.slot) ∷ [])
+abbrev pub Sends : ℕ → List ℕ × Bool → Move
+Sends c reply = Does (acts_of_reply c reply)
 
--- it answers, which is the run's next turn
-abbrev pub Reads : Site → Answer → State → List Sighting → State → Type 0
-Reads site answer s = Becomes (record s { turns = s.turns + 1 }) (at_handler (answered (read_turn site s answer)) ∷ [])
+-- what follows on what was taken from a connection
+abbrev pub Handles : Site → ℕ → Taken → Move
+Handles site c (asks q) s seen t =
+    Passing (Performs site q)
+    (λ done. Passing (λ (reply : List ℕ × Bool). OnHttp (λ now. Replies c q done.outcome now reply.0 reply.1)) (Sends c)) s seen t
+Handles site c wants_continue s seen t =
+    Passing (λ bytes. OnHttp (λ now. Refuses c 100 bytes)) (λ bytes. Sends c (bytes, false)) s seen t
+Handles site c (is_faulty status) s seen t =
+    Passing (λ bytes. OnHttp (λ now. Refuses c status bytes)) (λ bytes. Sends c (bytes, true)) s seen t
 
--- What a request of a path comes to.
-pub data ComesTo (site : Site) (path : List CoapOption) (o : Outcome) (s : State) (seen : List Sighting) (t : State) : Type 0 where
-  -- there is nothing at any other path
-  is_elsewhere : path ≢ status_path → o ≡ outcome.NotFound → Stays s seen t → ComesTo site path o s seen t
-  -- the run has no number for another turn
-  has_no_number : path ≡ status_path → s.turns ≡ most_turns → o ≡ outcome.CallsUsed → Stays s seen t → ComesTo site path o s seen t
-  -- the handler finds no memory
-  finds_no_memory : path ≡ status_path → s.turns < most_turns → o ≡ outcome.Memory → Misses site s seen t → ComesTo site path o s seen t
-  -- the handler answers, and its answer decides
-  reads : (answer : Answer) → path ≡ status_path → s.turns < most_turns → o ≡ outcome_of answer → Reads site answer s seen t → ComesTo site path o s seen t
+-- something is taken from a connection, and handled
+abbrev pub TakesAndHandles : Site → ℕ → Move
+TakesAndHandles site c = Passing (λ taken. OnHttp (λ now. Takes c taken)) (Handles site c)
 
--- ---- replies
+-- one after another is, until nothing is left to take
+abbrev pub TakesMessages : Site → ℕ → Move
+TakesMessages site c = Until (TakesAndHandles site c) (λ s. IsDry c s.http)
 
--- The reply to a Non-confirmable request: Non-confirmable, with the servient's next message ID and the request's token
--- (RFC 7252 sections 5.2.3 and 5.3.1).
-abbrev pub reply : List ℕ → ℕ → Outcome → CoapMessage
-reply token id o = let r = reply_of o in
-    record { kind = Non; code = r.code; id = id; token = token; options = r.options; payload = r.payload }
+-- bytes come, and the messages that are whole now are taken
+abbrev pub ReceivesPiece : Site → ℕ → List ℕ → Move
+ReceivesPiece site c bytes = Then (OnHttp (Lengthened c bytes)) (TakesMessages site c)
 
--- the reply is sent as one datagram, and uses one message ID
-abbrev pub Replies : Endpoint → List ℕ → Outcome → State → List Sighting → State → Type 0
-Replies from token o s =
-    Becomes (record s { next_id = (s.next_id + 1) % 2 ^ 16 }) (at_network (did (act.Datagram from (spelling (reply token s.next_id o)))) ∷ [])
+-- an idle connection is closed
+abbrev pub ClosesIdle : Move
+ClosesIdle = Passing (λ c. OnHttp (λ now h k. IsIdle c now h × Closes c h k)) (λ c. Does (act.Closed c ∷ []))
+
+-- the lowest first, until none is idle
+abbrev pub ClosesAllIdle : Move
+ClosesAllIdle = Until ClosesIdle (λ s. NoneIdle s.moment s.http)
 
 -- ---- events
 
--- a request is acted on, and what it comes to is replied to its sender
-abbrev pub IsAnswered : Site → Endpoint → CoapMessage → State → List Sighting → State → Type 0
-IsAnswered site from request = Passing (ComesTo site request.options) (Replies from request.token)
-
--- What a datagram brings about.
-pub data Receives (site : Site) (from : Endpoint) (bytes : List ℕ) (s : State) (seen : List Sighting) (t : State) : Type 0 where
-  -- a request is answered
-  answers : (request : CoapMessage) → IsRequest request bytes → IsAnswered site from request s seen t → Receives site from bytes s seen t
-  -- any other datagram is ignored
-  ignores : ((m : CoapMessage) → ¬ (IsRequest m bytes)) → Stays s seen t → Receives site from bytes s seen t
-
 -- what follows when this comes, at the machine's moment
-abbrev pub Follows : Site → What → List ℕ → State → List Sighting → State → Type 0
+abbrev pub Follows : Site → What → List ℕ → Move
+Follows site (what.Opened c) bytes s seen t = OnHttp (Opened c) s seen t
+Follows site (what.Bytes c size) bytes s seen t = ReceivesPiece site c bytes s seen t
+Follows site (what.Ended c) bytes s seen t = OnHttp (λ now. Ended c) s seen t
 Follows site (what.Datagram from size) bytes s seen t = Receives site from bytes s seen t
+-- all events are polled, and what is emitted goes nowhere yet
+Follows site what.Tick bytes s seen t = (emissions : List Emission) × OnThing (Polls site emissions) s seen t
 -- the end of the run does nothing more
 Follows site what.Stop bytes s seen t = Stays s seen t
 
--- One event: the machine's moment becomes the greater of itself and the event's, and then what follows.
-abbrev pub Step : Site → EventWithBytes → State → List Sighting → State → Type 0
-Step site e s = Follows site e.event.what e.bytes (record s { moment = max s.moment e.event.moment })
+-- One event: the machine's moment becomes the greater of itself and the event's, then comes what follows, and then idle
+-- connections are closed.
+abbrev pub Step : Site → EventWithBytes → Move
+Step site e s = Then (Follows site e.event.what e.bytes) ClosesAllIdle (record s { moment = max s.moment e.event.moment })
 
 -- an event comes
-abbrev pub Hears : EventWithBytes → State → List Sighting → State → Type 0
-Hears e s = Becomes s (at_network (heard e) ∷ [])
+abbrev pub Comes : EventWithBytes → Move
+Comes e s = Becomes s (at_network (heard e) ∷ [])
 
 -- an event comes, and then the step on it is made, before another comes
-abbrev pub Takes : Site → EventWithBytes → State → List Sighting → State → Type 0
-Takes site e = Then (Hears e) (Step site e)
+abbrev pub TakesEvent : Site → EventWithBytes → Move
+TakesEvent site e = Then (Comes e) (Step site e)
 
 -- A run: one event after another is taken.
-abbrev pub Run : Site → List EventWithBytes → State → List Sighting → State → Type 0
-Run site = Each (Takes site)
+abbrev pub Run : Site → List EventWithBytes → Move
+Run site = Each (TakesEvent site)

@@ -1,6 +1,6 @@
 -- The plan: an object that says which Things a servient exposes, where, and with which handlers. Its format is the product's
 -- own; docs/PROFILE.md retells it.
-use Rattle.std.specs.Prelude.{◌≡◌, ℕ, pos, ◌==◌, ◌&&◌, ◌||◌, not, nat_le, nat_lt, Bool, true, false, List, [], ◌∷◌, ◌++◌, length, drop, codes, decimal, Option, Some, None, option_map, option_and_then, Result, Ok, Err, if◌then◌else◌}
+use Rattle.std.specs.Prelude.{◌≡◌, ◌≤◌, ℕ, pos, ◌==◌, ◌&&◌, ◌||◌, not, nat_le, nat_lt, Bool, true, false, List, [], ◌∷◌, ◌++◌, length, drop, codes, decimal, Option, Some, None, is_some, unwrap_or, option_map, option_and_then, Result, Ok, Err, if◌then◌else◌}
 use Rattle.std.specs.Char.{is_ascii_alphanumeric}
 use Rattle.std.specs.List.{list_all, position_or_len, before_first, after_first, starts_with}
 use Rattle.std.specs.Str.{bytes_eq}
@@ -10,6 +10,7 @@ use Rattle.wot_json.specs.Lookup.{member_list, member_named}
 use Rattle.wot_json.specs.Merge.{members_under}
 use Rattle.wot_terms.specs.Affordances.{part}
 use Rattle.tm_derive.specs.Submodels.{is_name_byte}
+use Rattle.servient_edge.specs.declared.place.Place.{Place}
 use Rattle.servient_core.specs.declared.plan.Plan.{Plan}
 use Rattle.servient_core.specs.declared.plan.PlanFault.{PlanFault}
 use Rattle.servient_core.specs.declared.plan.PlanFault.TheVariants.{At, NoMemory}
@@ -39,17 +40,21 @@ abbrev pub is_port : List ℕ → Bool
 is_port text =
     nat_le 1 (digits_value 10 text) && nat_le (digits_value 10 text) 65535 && bytes_eq text (decimal (digits_value 10 text))
 
+abbrev pub port_in : List ℕ → Option ℕ
+port_in text = if is_port text then Some (digits_value 10 text) else None
+
 abbrev pub is_colon : ℕ → Bool
 is_colon b = b == 58
 
--- HOST:PORT
-abbrev pub is_place : List ℕ → Bool
-is_place text =
-    nat_lt (position_or_len is_colon text) (length text) && is_host (before_first is_colon text) && is_port (after_first is_colon text)
+-- the host and the port of HOST:PORT
+abbrev pub point_in : List ℕ → Option (List ℕ × ℕ)
+point_in text =
+    if nat_lt (position_or_len is_colon text) (length text) && is_host (before_first is_colon text)
+    then option_map (λ port. (before_first is_colon text, port)) (port_in (after_first is_colon text)) else None
 
--- a scheme with `://`, and then HOST:PORT
-abbrev pub is_base : List ℕ → List ℕ → Bool
-is_base scheme text = starts_with (λ a b. a == b) text scheme && is_place (drop (length scheme) text)
+-- those of a base: a scheme with `://`, and then HOST:PORT
+abbrev pub base_point : List ℕ → List ℕ → Option (List ℕ × ℕ)
+base_point scheme text = if starts_with (λ a b. a == b) text scheme then point_in (drop (length scheme) text) else None
 
 -- the name of each of these members
 abbrev pub member_of : TextRow → List ℕ
@@ -63,8 +68,8 @@ member_of row.Root = codes "model"
 abbrev pub takes_text : TextRow → List ℕ → Bool
 takes_text row.Name text = is_root_segment text
 takes_text row.Id text = nat_lt 0 (length text)
-takes_text row.Http text = is_base (codes "http://") text
-takes_text row.Coap text = is_base (codes "coap://") text
+takes_text row.Http text = is_some (base_point (codes "http://") text)
+takes_text row.Coap text = is_some (base_point (codes "coap://") text)
 takes_text row.Root text = true
 
 -- ---- the values of members
@@ -189,3 +194,23 @@ is_object v = false
 
 abbrev pub plan_of : Json → Result Plan (List ℕ)
 plan_of v = if is_object v then plan_in (members_under v) else Err []
+
+-- as many exchanges may live as a server takes
+abbrev pub HasFewExchanges : Plan → Type 0
+HasFewExchanges plan = (16 ≤ plan.exchanges) × (plan.exchanges ≤ 65536)
+
+-- ---- where it listens
+
+-- the host and the port of a base; no host and port 0 where it has none, which no plan that was read has
+abbrev pub point_of : List ℕ → List ℕ → List ℕ × ℕ
+point_of scheme base = unwrap_or (base_point scheme base) ([], 0)
+
+-- at its bases, for so many milliseconds without traffic
+abbrev pub place_of : Plan → ℕ → Place
+place_of plan idle = record {
+  http_host = (point_of (codes "http://") plan.frame.bases.http).0;
+  http_port = (point_of (codes "http://") plan.frame.bases.http).1;
+  coap_host = (point_of (codes "coap://") plan.frame.bases.coap).0;
+  coap_port = (point_of (codes "coap://") plan.frame.bases.coap).1;
+  idle = idle;
+}

@@ -1,25 +1,47 @@
 -- What the calls of the servient promise: moves of the machine, which the network and the rack show.
 use Rattle.std.specs.Prelude.{◌≡◌, ◌≢◌, ◌≤◌, ◌<◌, ℕ, List, [], ◌∷◌, ◌++◌, length}
 use Rattle.servient_base.specs.Moves.{Becomes, Stays, Then}
-use Rattle.coap_msg.specs.declared.endpoint.Endpoint.{Endpoint}
-use Rattle.coap_msg.specs.Grammar.{CoapMessage}
 use Rattle.servient_edge.specs.declared.net.What.TheVariants as what
-use Rattle.servient_edge.specs.declared.net.Act.TheVariants as act
 use Rattle.servient_edge.specs.declared.net.EventWithBytes.{EventWithBytes}
-use Rattle.servient_edge.specs.Network.{Happening, did, broke, next_event, break_count}
+use Rattle.servient_edge.specs.Network.{Happening, broke, next_event, break_count}
+use Rattle.thing_handler.specs.Handler.{Seen}
+use Rattle.thing_core.specs.declared.fault.ExposeFault.{ExposeFault}
+use Rattle.thing_core.specs.Exposing.{IsFirst}
+use Rattle.thing_core.specs.Kept.{Fits}
+use Rattle.std.specs.List.{AllByRecursion}
+use Rattle.http_bind.specs.Slots.{StandsFor as ConnectionsStandFor, HasRoomFor, longest_piece}
 use Rattle.servient_core.specs.Trace.{Sighting, at_network}
-use Rattle.servient_core.specs.Machine.{Site, State, IsRequest, Run}
+use Rattle.servient_core.specs.Machine.{Site, State, Run}
+use Rattle.servient_core.specs.declared.parts.Parts.{Parts}
+use Rattle.servient_core.specs.declared.servient.OpenFault.{OpenFault}
+use Rattle.servient_core.specs.declared.servient.OpenFault.TheVariants.{Expose, NoMemory}
 use Rattle.servient_core.specs.declared.serving.Served.{Served}
 use Rattle.servient_core.specs.declared.serving.Served.TheVariants as served
 
--- What the code of a servient keeps: its site, and what stands for a state of the machine.
-pub record Kept : Type 0 where
-  pub site : Site
-  pub state : State
+-- What the code of a servient keeps is `Parts` of src/parts.rt: a part for each layer.
 
--- What is kept stands for a state: so far, for the same. Nothing outside of proofs/StandsLaws.antt uses that it is.
-pub record StandsFor (kept : Kept) (s : State) : Type 0 where
-  pub same : s ≡ kept.state
+-- the Things that it exposes
+abbrev pub site_of_parts : Parts → Site
+site_of_parts kept = kept.exposed.site
+
+-- What is kept stands for a state: each part for that of its layer, and what is held of a connection for its whole stream.
+pub record StandsFor (kept : Parts) (s : State) : Type 0 where
+  pub moment : s.moment ≡ kept.moment
+  pub http : ConnectionsStandFor kept.http s.http
+  pub coap : s.coap ≡ kept.coap
+  pub thing : s.thing ≡ kept.exposed.state
+
+-- Between two events: no emission waits to be handed out, the exchanges are at no later moment, and each connection has
+-- room for another piece.
+pub record IsReady (kept : Parts) : Type 0 where
+  pub pending : kept.exposed.pending ≡ []
+  pub moment : kept.coap.exchanges.moment ≤ kept.moment
+  pub room : AllByRecursion (HasRoomFor longest_piece) kept.http
+
+-- the fault of exposing, or that memory was out
+abbrev pub IsOpenFault : List ExposeFault → OpenFault → Type 0
+IsOpenFault faults (Expose fault) = IsFirst faults fault
+IsOpenFault faults NoMemory = Unit {0}
 
 -- no event is the end of the run
 abbrev pub HasNoStop : List EventWithBytes → Type 0
@@ -52,14 +74,3 @@ pub record Serves (site : Site) (budget : ℕ) (result : Served) (s : State) (se
 -- the network broke at the end of these and nowhere before
 abbrev pub BreaksAtEnd : List Happening → Type 0
 BreaksAtEnd happened = (prefix : List Happening) × (happened ≡ prefix ++ broke next_event ∷ []) × (break_count prefix ≡ 0)
-
--- a datagram that is a request, and whose it is
-pub record IsAsked (from : Endpoint) (e : EventWithBytes) : Type 0 where
-  pub size : ℕ
-  pub came : e.event.what ≡ what.Datagram from size
-  pub request : CoapMessage
-  pub asked : IsRequest request e.bytes
-
--- a datagram to this endpoint is sent before anything else
-abbrev pub BeginsWithReply : Endpoint → List Happening → Type 0
-BeginsWithReply to happened = (bytes : List ℕ) × (rest : List Happening) × (happened ≡ did (act.Datagram to bytes) ∷ rest)

@@ -1,16 +1,17 @@
-//! What follows from the clause of `serve`, whatever the network and the rack: contracts of functions that no code needs
-//! to call.
+//! What follows from the machine, whatever the network and the rack: contracts of functions that no code needs to call.
 
-ghost use Rattle.std.specs.Prelude.{◌≡◌, ◌↔◌, ◌++◌, ◌∷◌, ℕ, List};
-ghost use Rattle.coap_msg.specs.declared.endpoint.Endpoint.{Endpoint};
+ghost use Rattle.std.specs.Prelude.{◌≡◌, ◌↔◌, ℕ, List};
 ghost use Rattle.thing_handler.specs.Turns.{AreNumberedFrom, turns_in};
-ghost use Rattle.servient_edge.specs.declared.net.EventWithBytes.{EventWithBytes};
-ghost use Rattle.servient_edge.specs.Network.{Happening, heard, break_count};
+ghost use Rattle.servient_edge.specs.Network.{break_count};
 ghost use Rattle.servient_core.specs.declared.serving.Served.{Served};
 ghost use Rattle.servient_core.specs.declared.serving.Served.TheVariants as served;
 ghost use Rattle.servient_core.specs.Trace.{Sighting, happened_in, calls_in};
 ghost use Rattle.servient_core.specs.Machine.{Site, State};
-ghost use Rattle.servient_core.specs.Serving.{Serves, BreaksAtEnd, IsAsked, BeginsWithReply, Kept, StandsFor};
+ghost use Rattle.servient_core.specs.Serving.{Serves, BreaksAtEnd, StandsFor};
+ghost use Rattle.servient_core.specs.Promises.{RepeatsActOnNothing, FullTableActsOnNothing};
+ghost use Rattle.servient_core.specs.Meaning.{Message, IsWritten, HaveOneMeaning};
+ghost use Rattle.servient_core.specs.Runs.{EachRunHasAHistory, ServingHasAHistory, MissesAreCounted};
+ghost use Rattle.servient_core.specs.declared.parts.Parts.{Parts};
 
 /// Serving answers `Failed` exactly where the network broke, which it did at the end and nowhere before.
 pub fn failing_is_exact()
@@ -20,21 +21,44 @@ pub fn failing_is_exact()
         → Serves site budget result s seen t → ¬ (result ≡ served.Failed) → break_count (happened_in seen) ≡ 0 }
 {}
 
-/// A request that was heard is replied to before anything else happens.
-pub fn replies_come_next()
-    ensures { (site : Site) → (budget : ℕ) → (result : Served) → (s t : State) → (seen : List Sighting)
-        → Serves site budget result s seen t → (before rest : List Happening) → (e : EventWithBytes)
-        → happened_in seen ≡ before ++ heard e ∷ rest
-        → (from : Endpoint) → IsAsked from e → BeginsWithReply from rest }
-{}
-
 /// The turns of a run are numbered one by one, from the number of turns that the state had.
 pub fn turns_are_numbered()
     ensures { (site : Site) → (budget : ℕ) → (result : Served) → (s t : State) → (seen : List Sighting)
-        → Serves site budget result s seen t → AreNumberedFrom s.turns (turns_in (calls_in seen)) }
+        → Serves site budget result s seen t → AreNumberedFrom s.thing.turns (turns_in (calls_in seen)) }
 {}
 
 /// Whatever a servient keeps stands for some state of the machine.
 pub fn each_stands_for_a_state()
-    ensures { (kept : Kept) → (s : State) × StandsFor kept s }
+    ensures { (kept : Parts) → (s : State) × StandsFor kept s }
+{}
+
+/// A request that repeats one which was admitted and lives makes no turn and changes nothing of the Things (RFC 7252, section
+/// 4.5).
+pub fn repeats_act_on_nothing()
+    ensures { RepeatsActOnNothing }
+{}
+
+/// Where as many exchanges live as may, a request is answered once, makes no turn and is no exchange.
+pub fn full_table_acts_on_nothing()
+    ensures { FullTableActsOnNothing }
+{}
+
+/// By either binding an operation has one meaning: two messages that are read as the same request, where the Things are in the
+/// same state, the handlers give the same answers and memory isn't out, have the same calls, outcome and emissions, and what
+/// is written is that outcome.
+pub fn one_meaning()
+    ensures written { (site : Site) → (m : Message) → IsWritten site m }
+    ensures same { (site : Site) → (m n : Message) → HaveOneMeaning site m n }
+{}
+
+/// Each state of a run from the beginning has a history, which are the requests in the events of that run; so
+/// `repeats_act_on_nothing` holds of each.
+pub fn each_run_has_a_history()
+    ensures runs { EachRunHasAHistory }
+    ensures serving { ServingHasAHistory }
+{}
+
+/// Each handler's count of misses rises by how often it was out of memory, unless it is at its last value.
+pub fn misses_are_counted()
+    ensures { MissesAreCounted }
 {}

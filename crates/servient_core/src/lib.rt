@@ -6,23 +6,26 @@
 //! socket and no clock.
 #![tactic(auto)]
 
+mod built_in;
+mod connections;
 mod laws;
-mod outcome;
-mod path;
+mod parts;
 mod plan;
 mod plan_texts;
 mod plan_values;
-mod reply;
 mod servient;
 mod serving;
 
-pub use laws::{each_stands_for_a_state, failing_is_exact, replies_come_next, turns_are_numbered};
-pub use outcome::Outcome;
+pub use laws::{
+    each_stands_for_a_state, failing_is_exact, full_table_acts_on_nothing, repeats_act_on_nothing,
+    turns_are_numbered,
+};
 pub use plan::{ModelFiles, Plan, PlanFault};
-pub use servient::Servient;
+pub use servient::{OpenFault, Servient};
 pub use servient_edge::{
-    Act, Calls, Event, EventWithBytes, Events, FileRead, Files, FilesMemory, FilesReal, Got, Held,
-    HeldFile, Net, NetMemory, Next, Out, OutMemory, OutReal, Put, What,
+    Act, Calls, Dialled, Event, EventWithBytes, Events, FileRead, Files, FilesMemory, FilesReal,
+    Found, Got, Held, HeldFile, Listened, Net, NetMemory, Next, Out, OutMemory, OutReal, Place,
+    Put, What,
 };
 pub use serving::{Served, serve};
 pub use thing_core::Slots;

@@ -2,10 +2,11 @@
 
 ghost use Rattle.std.specs.Prelude.{◌≡◌, ◌⊎◌, ◌++◌, ◌∷◌, [], codes, IfOk, OnErr, OnOk};
 ghost use Rattle.wot_json.specs.Meaning.{json_of};
-ghost use Rattle.servient_core.specs.Plan.{plan_of, Reads};
+ghost use Rattle.servient_core.specs.Plan.{plan_of, place_of, Reads, HasFewExchanges};
 ghost use Rattle.servient_core.specs.Plan as spec;
 
-use crate::plan_texts::TextRow;
+use crate::Place;
+use crate::plan_texts::{TextRow, base_point};
 use crate::plan_values::{
     bindings_row, choices_row, exchanges_row, instance_row, models_row, slots_row, text_row,
 };
@@ -122,7 +123,8 @@ impl Plan {
     /// The plan that a tree is. Members that a plan doesn't have are ignored.
     #[tactic(auto, using(crate::proofs::PlanLaws::refused_there, crate::proofs::PlanLaws::goes_on_there))]
     pub fn read(alloc: Global, tree: &Tree) -> Result<Plan, PlanFault>
-        ensures { Reads result (plan_of (json_of tree.now)) }
+        ensures reads { Reads result (plan_of (json_of tree.now)) }
+        ensures exchanges { IfOk result HasFewExchanges }
     {
         if !is_object(tree) {
             return Err(PlanFault::At(Text::copy_of(alloc, "")?));
@@ -154,5 +156,30 @@ impl Plan {
             slots,
             exchanges,
         })
+    }
+
+    /// Where a servient of this plan listens: at its bases, for so many milliseconds without traffic.
+    pub fn place(&self, alloc: Global, idle: u64) -> Result<Place, NoMemory>
+        ensures { IfOk result (λ place. place ≡ place_of self.now idle) }
+    {
+        let (http_host, http_port) = point_of("http://", self.frame.bases.http.as_str());
+        let (coap_host, coap_port) = point_of("coap://", self.frame.bases.coap.as_str());
+        Ok(Place {
+            http_host: Text::copy_of(alloc, http_host)?,
+            http_port,
+            coap_host: Text::copy_of(alloc, coap_host)?,
+            coap_port,
+            idle,
+        })
+    }
+}
+
+/// The host and the port of a base; none and 0 where it has none, which no plan that was read has.
+fn point_of<'a>(scheme: &str, base: &'a str) -> (&'a str, u16)
+    ensures { spec.point_of scheme.now base.now ≡ (result.0.now, result.1) }
+{
+    match base_point(scheme, base) {
+        Some(point) => point,
+        None => ("", 0),
     }
 }

@@ -1,6 +1,6 @@
 //! The members of a plan that are texts.
 
-ghost use Rattle.std.specs.Prelude.{◌≡◌};
+ghost use Rattle.std.specs.Prelude.{◌≡◌, MatchOption, None, Some};
 ghost use Rattle.std.specs.List.{list_all};
 ghost use Rattle.tm_derive.specs.Submodels as submodels;
 ghost use Rattle.servient_core.specs.Plan as spec;
@@ -44,8 +44,8 @@ impl TextRow {
         match self {
             TextRow::Name => is_root_segment(text),
             TextRow::Id => !text.is_empty(),
-            TextRow::Http => is_base("http://", text),
-            TextRow::Coap => is_base("coap://", text),
+            TextRow::Http => base_point("http://", text).is_some(),
+            TextRow::Coap => base_point("coap://", text).is_some(),
             TextRow::Root => true,
         }
     }
@@ -103,32 +103,42 @@ fn is_host(text: &str) -> bool
     has_host_bytes(text.as_bytes()) && !text.is_empty() && text.len() <= MOST_HOST
 }
 
-/// The text is a port.
-fn is_port(text: &str) -> bool
-    ensures { result ≡ spec.is_port text.now }
+/// The number of a port, where the text is one.
+fn port_in(text: &str) -> Option<u16>
+    ensures { result ≡ spec.port_in text.now }
 {
     match parse_decimal(text, u64::from(u16::MAX)) {
-        Some(0) | None => false,
-        Some(_) => true,
+        Some(0) | None => None,
+        Some(port) => Some(port as u16),
     }
 }
 
-/// The text is HOST:PORT.
-fn is_place(text: &str) -> bool
-    ensures { result ≡ spec.is_place text.now }
+/// The host and the port of HOST:PORT, where the text is that.
+fn point_in(text: &str) -> Option<(&str, u16)>
+    ensures { MatchOption result (spec.point_in text.now ≡ None) (λ p. spec.point_in text.now ≡ Some (p.0.now, p.1)) }
 {
     match text.split_once(':') {
-        Some((host, port)) => is_host(host) && is_port(port),
-        None => false,
+        Some((host, port)) if is_host(host) => point_of(host, port_in(port)),
+        _ => None,
     }
 }
 
-/// The text is this scheme and a place.
-fn is_base(scheme: &str, text: &str) -> bool
-    ensures { result ≡ spec.is_base scheme.now text.now }
+/// A host and its port, where it has one.
+fn point_of(host: &str, port: Option<u16>) -> Option<(&str, u16)>
+    ensures { MatchOption result (port ≡ None) (λ p. (p.0.now ≡ host.now) × (port ≡ Some p.1)) }
+{
+    match port {
+        Some(port) => Some((host, port)),
+        None => None,
+    }
+}
+
+/// The host and the port of a base with this scheme, where the text is one.
+pub(crate) fn base_point<'a>(scheme: &str, text: &'a str) -> Option<(&'a str, u16)>
+    ensures { MatchOption result (spec.base_point scheme.now text.now ≡ None) (λ p. spec.base_point scheme.now text.now ≡ Some (p.0.now, p.1)) }
 {
     match text.strip_prefix(scheme) {
-        Some(place) => is_place(place),
-        None => false,
+        Some(place) => point_in(place),
+        None => None,
     }
 }

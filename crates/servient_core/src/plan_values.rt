@@ -1,6 +1,6 @@
 //! The members of a plan, each read as its row of the table says.
 
-ghost use Rattle.std.specs.Prelude.{◌≡◌, codes, option_and_then, option_map, Some, IfOk};
+ghost use Rattle.std.specs.Prelude.{◌≡◌, ◌≤◌, codes, option_and_then, option_map, Some, IfOk};
 ghost use Rattle.wot_json.specs.Meaning.{json_of};
 ghost use Rattle.wot_json.specs.Tree.{elements_of};
 ghost use Rattle.wot_json.specs.Merge.{members_under};
@@ -337,7 +337,8 @@ fn exchanges_in(value: Option<&Tree>) -> Option<u32>
 
 /// The member `exchanges`.
 pub(crate) fn exchanges_row(alloc: Global, tree: &Tree) -> Result<u32, PlanFault>
-    ensures { Reads result (spec.member_row (codes "exchanges") spec.exchanges_in (members_under (json_of tree.now))) }
+    ensures reads { Reads result (spec.member_row (codes "exchanges") spec.exchanges_in (members_under (json_of tree.now))) }
+    ensures few { IfOk result (λ n. (16 ≤ n) × (n ≤ 65536)) }
 {
     row(alloc, "exchanges", exchanges_in(tree.member("exchanges")))
 }

@@ -1,7 +1,8 @@
 //! Serving a network, event by event.
 
-ghost use Rattle.std.specs.Prelude.{◌≡◌, ◌<◌, length};
+ghost use Rattle.std.specs.Prelude.{◌≡◌};
 ghost use Rattle.servient_base.specs.Moves.{Refines};
+ghost use Rattle.thing_core.specs.Kept.{Fits};
 ghost use Rattle.servient_core.specs.Trace.{Shows, outside};
 ghost use Rattle.servient_core.specs.Serving.{StandsFor, Serves};
 
@@ -30,10 +31,10 @@ pub fn serve<N: Net, R: Handlers>(
     rack: &mut R,
     budget: u64,
 ) -> Served
-    requires { servient.old.site.slot < length (R.slots rack.old) }
-    ensures serves { Refines StandsFor Shows (Serves servient.old.site budget result) servient.old servient.new
+    requires { Fits servient.old.exposed.site (R.slots rack.old) }
+    ensures serves { Refines StandsFor Shows (Serves servient.old.exposed.site budget result) servient.old servient.new
         (outside (N.seen net.old) (R.slots rack.old)) (outside (N.seen net.new) (R.slots rack.new)) }
-    ensures site { servient.new.site ≡ servient.old.site }
+    ensures site { servient.new.exposed.site ≡ servient.old.exposed.site }
 {
     let mut buffer = [0u8; BUFFER_BYTES];
     for count in 0..budget {

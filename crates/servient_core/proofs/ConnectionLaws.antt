@@ -1,0 +1,250 @@
+-- What is done on one connection, put together.
+use Rattle.std.proofs.Common.{◌≡◌, ◌≢◌, ℕ, zero, suc, ◌<◌, ◌≤◌, List, [], ◌∷◌, ◌++◌, map, length, Bool, true, false, refl, sym, ap, subst, ◌∙◌, arith}
+use Rattle.std.specs.Prelude.{Option, Some, None, not, ◌==◌, IsSome}
+use Rattle.std.proofs.lemmas.Bool.{eqb-true}
+use Rattle.servient_base.specs.Moves.{Becomes, Stays, Then, Passing, Until, is_done, Makes, Refines}
+use Rattle.servient_base.proofs.MovesLaws.{refines_goes_on, refines_is_done}
+use Rattle.thing_ops.specs.declared.outcome.Outcome.{Outcome}
+use Rattle.thing_ops.specs.declared.outcome.Outcome.TheVariants as outcome
+use Rattle.thing_ops.specs.Requests.{PlainRequest}
+use Rattle.thing_handler.specs.Handler.{Seen}
+use Rattle.thing_handler.specs.Turns.{HandlerCall, RackShows}
+use Rattle.thing_handler.proofs.RackLaws.{rack_shows_none}
+use Rattle.thing_core.specs.Site.{Site}
+use Rattle.thing_core.specs.Thing.{Done, only, Acts, has_no_memory}
+use Rattle.thing_core.specs.Kept.{Kept}
+use Rattle.http_bind.specs.Replying.{fault_word}
+use Rattle.http_bind.specs.Streams.{Streams, asks, wants_continue, is_faulty, Takes, IsDry, Replies, Refuses, Ended, Closes, IsIdle, NoneIdle}
+use Rattle.http_bind.specs.Slots.{Held, Slots, Leads, StandsFor as ConnectionsStandFor, OthersStay, IsOpen, with_held, HasRoomFor, longest_piece}
+use Rattle.coap_bind.specs.declared.server.Server.{Server}
+use Rattle.std.specs.List.{AllByRecursion}
+use Rattle.http_bind.specs.Given.{StaysDry as StreamStaysDry}
+use Rattle.servient_edge.specs.declared.net.Act.{Act}
+use Rattle.servient_edge.specs.declared.net.Act.TheVariants as act
+use Rattle.servient_edge.specs.Network.{Happening, NetSeen, NetShows, did}
+use Rattle.servient_edge.proofs.NetLaws.{net_shows_then}
+use Rattle.servient_core.specs.Trace.{Sighting, at_network, at_handler, happened_in, calls_in, Outside, outside, Shows}
+use Rattle.servient_core.specs.Machine.{State, Move, OnHttp, Does, Performs, acts_of_reply, Sends, Handles, TakesAndHandles, TakesMessages, ClosesIdle, ClosesAllIdle}
+use Rattle.servient_core.specs.Serving.{StandsFor, IsReady}
+use Rattle.servient_core.specs.Connections.{IsOn, SendsReply, SendsRefusal, StaysDry, TakesOne}
+use Rattle.servient_core.specs.declared.parts.Parts.{Parts}
+use Rattle.servient_core.proofs.TraceLaws.{shows_in_order}
+use Rattle.servient_core.proofs.PartLaws.{refines_http, refines_thing, refines_act, passing_moves, then_moves, others_same, others_then}
+
+-- ---- acts
+
+happened_acts : (acts : List Act) → happened_in (map (λ a. at_network (did a)) acts) ≡ map did acts
+happened_acts [] = refl
+happened_acts (a ∷ acts) = ap (λ (h : List Happening). did a ∷ h) (happened_acts acts)
+
+pub no_calls : (acts : List Act) → calls_in (map (λ a. at_network (did a)) acts) ≡ []
+no_calls [] = refl
+no_calls (a ∷ acts) = no_calls acts
+
+pub refines_acts : (k : Parts) (n m : NetSeen) (slots : List Seen) (acts : List Act) → NetShows n m (map did acts)
+    → Refines StandsFor Shows (Does acts) k k (outside n slots) (outside m slots)
+refines_acts k n m slots acts shows = λ s stands. (
+  s,
+  stands,
+  record {
+    seen = map (λ a. at_network (did a)) acts;
+    move = record { next = refl; saw = refl };
+    shows = record {
+      net = subst (λ (h : List Happening). NetShows n m h) (sym (happened_acts acts)) shows;
+      rack = subst (λ (calls : List HandlerCall). RackShows slots slots calls) (sym (no_calls acts)) (rack_shows_none slots);
+    };
+  },
+)
+
+-- a reply was sent that closes the connection
+pub shows_closed : (c : ℕ) (bytes : List ℕ) (close : Bool) (n m l : NetSeen) → close ≡ true → NetShows n m (did (act.Sent c bytes) ∷ []) → NetShows m l (did (act.Closed c) ∷ [])
+    → NetShows n l (map did (acts_of_reply c (bytes, close)))
+shows_closed c bytes close n m l closes sent closed =
+    subst (λ (b : Bool). NetShows n l (map did (acts_of_reply c (bytes, b)))) (sym closes)
+    (net_shows_then n m l (did (act.Sent c bytes) ∷ []) (did (act.Closed c) ∷ []) sent closed)
+
+-- one that doesn't
+pub shows_kept : (c : ℕ) (bytes : List ℕ) (close : Bool) (n m : NetSeen) → close ≡ false → NetShows n m (did (act.Sent c bytes) ∷ [])
+    → NetShows n m (map did (acts_of_reply c (bytes, close)))
+shows_kept c bytes close n m stays sent = subst (λ (b : Bool). NetShows n m (map did (acts_of_reply c (bytes, b)))) (sym stays) sent
+
+-- ---- one message
+
+-- a request is taken, done and replied
+pub takes_request : (site : Site) (c : ℕ) (q : PlainRequest) (done : Done) (o : Outcome) (k : Parts) (b d : Slots) (e : Kept) (n m : NetSeen) (before after : List Seen)
+    → Leads (Takes c (asks q)) k.http b → Makes RackShows (Acts site q done) k.exposed.state e.state before after → done.outcome ≡ o → SendsReply c q o k.moment b d n m
+    → Refines StandsFor Shows (TakesAndHandles site c) k (record k { http = d; exposed = e }) (outside n before) (outside m after)
+takes_request site c q done o k b d e n m before after leads made comes sends =
+    let one : Parts = record k { http = b } in
+    let two : Parts = record k { http = b; exposed = e } in
+    let three : Parts = record k { http = d; exposed = e } in
+    let reply = sends.reply in
+    let replies = subst (λ (x : Outcome). Leads (Replies c q x k.moment reply.0 reply.1) b d) (sym comes) sends.leads in
+    passing_moves (λ taken. OnHttp (λ now. Takes c taken)) (Handles site c) (asks q) k one three (outside n before) (outside n before) (outside m after)
+    (refines_http (λ now. Takes c (asks q)) k b (outside n before) leads)
+    (passing_moves (Performs site q) (λ x. Passing (λ (r : List ℕ × Bool). OnHttp (λ now. Replies c q x.outcome now r.0 r.1)) (Sends c)) done
+    one two three (outside n before) (outside n after) (outside m after)
+    (refines_thing (Acts site q done) one e n before after made)
+    (passing_moves (λ (r : List ℕ × Bool). OnHttp (λ now. Replies c q done.outcome now r.0 r.1)) (Sends c) reply two three three (outside n after) (outside n after) (outside m after)
+    (refines_http (λ now. Replies c q done.outcome now reply.0 reply.1) two d (outside n after) replies)
+    (refines_acts three n m after (acts_of_reply c reply) sends.shows)))
+
+-- there is no memory to read it
+pub takes_unread : (site : Site) (c : ℕ) (q : PlainRequest) (k : Parts) (b d : Slots) (n m : NetSeen) (slots : List Seen)
+    → Leads (Takes c (asks q)) k.http b → SendsReply c q outcome.Memory k.moment b d n m
+    → Refines StandsFor Shows (TakesAndHandles site c) k (record k { http = d }) (outside n slots) (outside m slots)
+takes_unread site c q k b d n m slots leads sends =
+    takes_request site c q (only outcome.Memory) outcome.Memory k b d k.exposed n m slots slots leads
+    (record { seen = []; move = has_no_memory (refl, record { next = refl; saw = refl }); shows = rack_shows_none slots }) refl sends
+
+-- the 100 reply is sent
+pub takes_continue : (site : Site) (c : ℕ) (k : Parts) (b d : Slots) (n m : NetSeen) (slots : List Seen)
+    → Leads (Takes c wants_continue) k.http b → SendsRefusal c 100 b d n m
+    → Refines StandsFor Shows (TakesAndHandles site c) k (record k { http = d }) (outside n slots) (outside m slots)
+takes_continue site c k b d n m slots leads sends =
+    let one : Parts = record k { http = b } in
+    let two : Parts = record k { http = d } in
+    let w = outside n slots in
+    passing_moves (λ taken. OnHttp (λ now. Takes c taken)) (Handles site c) wants_continue k one two w w (outside m slots)
+    (refines_http (λ now. Takes c wants_continue) k b w leads)
+    (passing_moves (λ bytes. OnHttp (λ now. Refuses c 100 bytes)) (λ bytes. Sends c (bytes, false)) sends.bytes one two two w w (outside m slots)
+    (refines_http (λ now. Refuses c 100 sends.bytes) one d w sends.leads)
+    (refines_acts two n m slots (acts_of_reply c (sends.bytes, false)) sends.shows))
+
+-- a status with a word isn't 100
+pub not_100 : (status : ℕ) → IsSome (fault_word status) → not (status == 100) ≡ true
+not_100 status word = either (status == 100) (eqb-true status 100)
+  where
+    either : (t : Bool) → (t ≡ true → status ≡ 100) → not t ≡ true
+    either false is = refl
+    either true is = absurd (none (subst (λ (x : ℕ). IsSome (fault_word x)) (is refl) word))
+      where
+        none : IsSome (fault_word 100) → ⊥
+        none some = cc
+
+-- a fault is refused
+pub takes_fault : (site : Site) (c status : ℕ) (k : Parts) (b d : Slots) (n m : NetSeen) (slots : List Seen)
+    → Leads (Takes c (is_faulty status)) k.http b → IsSome (fault_word status) → SendsRefusal c status b d n m
+    → Refines StandsFor Shows (TakesAndHandles site c) k (record k { http = d }) (outside n slots) (outside m slots)
+takes_fault site c status k b d n m slots leads word sends =
+    let one : Parts = record k { http = b } in
+    let two : Parts = record k { http = d } in
+    let w = outside n slots in
+    passing_moves (λ taken. OnHttp (λ now. Takes c taken)) (Handles site c) (is_faulty status) k one two w w (outside m slots)
+    (refines_http (λ now. Takes c (is_faulty status)) k b w leads)
+    (passing_moves (λ bytes. OnHttp (λ now. Refuses c status bytes)) (λ bytes. Sends c (bytes, true)) sends.bytes one two two w w (outside m slots)
+    (refines_http (λ now. Refuses c status sends.bytes) one d w sends.leads)
+    (refines_acts two n m slots (acts_of_reply c (sends.bytes, true))
+    (subst (λ (t : Bool). NetShows n m (map did (acts_of_reply c (sends.bytes, t)))) (not_100 status word) sends.shows)))
+
+-- nothing is to be taken
+pub takes_nothing : (c : ℕ) (k : Parts) (d : Slots) (w : Outside) → Leads (StreamStaysDry c) k.http d → Refines StandsFor Shows (StaysDry c) k (record k { http = d }) w w
+takes_nothing c k d w leads = λ s stands.
+    let to = leads s.http stands.http in (
+      s,
+      record { moment = stands.moment; http = subst (λ (x : Streams). ConnectionsStandFor d x) to.2.0 to.1; coap = stands.coap; thing = stands.thing },
+      record { seen = []; move = (subst (λ (x : Streams). IsDry c x) to.2.0 to.2.1, record { next = refl; saw = refl }); shows = shows_in_order.none w },
+    )
+
+-- ---- one message after another
+
+-- what holds while messages are taken: whatever is taken from here on, was taken since the first
+pub record Taking (c : ℕ) (first k : Parts) (w v : Outside) : Type 0 where
+  pub onward : (e : Parts) (x : Outside) → Refines StandsFor Shows (TakesMessages first.exposed.site c) k e v x
+      → Refines StandsFor Shows (TakesMessages first.exposed.site c) first e w x
+  pub on : IsOn c k v.slots
+  pub others : OthersStay c first.http k.http
+  pub site : k.exposed.site ≡ first.exposed.site
+
+pub taking_begins : (c : ℕ) (k : Parts) (w : Outside) → IsOn c k w.slots → Taking c k k w w
+taking_begins c k w on = record { onward = λ e x rest. rest; on = on; others = others_same c k.http; site = refl }
+
+pub taking_more : (c : ℕ) (first k l : Parts) (w v u : Outside) → Taking c first k w v → Refines StandsFor Shows (TakesAndHandles k.exposed.site c) k l v u
+    → IsOn c l u.slots → OthersStay c k.http l.http → l.exposed.site ≡ k.exposed.site → Taking c first l w u
+taking_more c first k l w v u t step on others same = record {
+  onward = λ e x rest. t.onward e x
+      (refines_goes_on StandsFor Shows shows_in_order (TakesAndHandles first.exposed.site c) (λ (s : State). IsDry c s.http) k l e v u x
+      (subst (λ (site : Site). Refines StandsFor Shows (TakesAndHandles site c) k l v u) t.site step) rest);
+  on = on;
+  others = others_then c first.http k.http l.http t.others others;
+  site = same ∙ t.site;
+}
+
+pub taking_ends : (c : ℕ) (first k l : Parts) (w v u : Outside) → Taking c first k w v → Refines StandsFor Shows (StaysDry c) k l v u
+    → Refines StandsFor Shows (TakesMessages first.exposed.site c) first l w u
+taking_ends c first k l w v u t step = t.onward l u (λ s stands.
+    let a = step s stands in
+    (a.0, a.1, record { seen = a.2.seen; move = is_done s a.2.seen a.0 a.2.move.0 a.2.move.1; shows = a.2.shows }))
+
+-- ---- idle connections
+
+pub closes_one : (c : ℕ) (k : Parts) (d : Slots) (n m : NetSeen) (slots : List Seen) → ((s : Streams) → ConnectionsStandFor k.http s → IsIdle c k.moment s)
+    → Leads (Ended c) k.http d → NetShows n m (did (act.Closed c) ∷ [])
+    → Refines StandsFor Shows ClosesIdle k (record k { http = d }) (outside n slots) (outside m slots)
+closes_one c k d n m slots idle leads shows =
+    let two : Parts = record k { http = d } in
+    passing_moves (λ x. OnHttp (λ now h j. IsIdle x now h × Closes x h j)) (λ x. Does (act.Closed x ∷ [])) c k two two (outside n slots) (outside n slots) (outside m slots)
+    (refines_http (λ now h j. IsIdle c now h × Closes c h j) k d (outside n slots)
+    (λ s stands. let to = leads s stands in (to.0, to.1, (idle s stands, to.2))))
+    (refines_act two n m slots (act.Closed c) shows)
+
+-- what holds while they are closed
+pub record Closing (first k : Parts) (n m : NetSeen) : Type 0 where
+  pub onward : (e : Parts) (l : NetSeen) (slots : List Seen) → Refines StandsFor Shows ClosesAllIdle k e (outside m slots) (outside l slots)
+      → Refines StandsFor Shows ClosesAllIdle first e (outside n slots) (outside l slots)
+  pub exposed : k.exposed ≡ first.exposed
+  pub coap : k.coap ≡ first.coap
+  pub moment : k.moment ≡ first.moment
+
+pub closing_begins : (k : Parts) (n : NetSeen) → Closing k k n n
+closing_begins k n = record { onward = λ e l slots rest. rest; exposed = refl; coap = refl; moment = refl }
+
+pub closing_ready : (first k : Parts) (n m : NetSeen) → Closing first k n m → IsReady first → AllByRecursion (HasRoomFor longest_piece) k.http → IsReady k
+closing_ready first k n m t ready room = record {
+  pending = ap (λ (x : Kept). x.pending) t.exposed ∙ ready.pending;
+  moment = omega (arith, ap (λ (x : Server). x.exchanges.moment) t.coap, t.moment, ready.moment);
+  room = room;
+}
+
+pub closing_more : (c : ℕ) (first k : Parts) (d : Slots) (n m l : NetSeen) → Closing first k n m → ((s : Streams) → ConnectionsStandFor k.http s → IsIdle c k.moment s)
+    → Leads (Ended c) k.http d → NetShows m l (did (act.Closed c) ∷ []) → Closing first (record k { http = d }) n l
+closing_more c first k d n m l t idle leads shows = record {
+  onward = λ e j slots rest. t.onward e j slots
+      (refines_goes_on StandsFor Shows shows_in_order ClosesIdle (λ (s : State). NoneIdle s.moment s.http) k (record k { http = d }) e (outside m slots) (outside l slots) (outside j slots)
+      (closes_one c k d m l slots idle leads shows) rest);
+  exposed = t.exposed;
+  coap = t.coap;
+  moment = t.moment;
+}
+
+pub closing_ends : (first k : Parts) (n m : NetSeen) (slots : List Seen) → Closing first k n m → ((s : Streams) → ConnectionsStandFor k.http s → NoneIdle k.moment s)
+    → Refines StandsFor Shows ClosesAllIdle first k (outside n slots) (outside m slots)
+closing_ends first k n m slots t none =
+    t.onward k m slots (refines_is_done StandsFor Shows shows_in_order ClosesIdle (λ (s : State). NoneIdle s.moment s.http) k (outside m slots)
+    (λ s stands. subst (λ (x : ℕ). NoneIdle x s.http) (sym stands.moment) (none s.http stands.http)))
+
+-- ---- how many connections are open
+
+abbrev pub open_count : Slots → ℕ
+open_count [] = 0
+open_count (None ∷ b) = open_count b
+open_count (Some h ∷ b) = suc (open_count b)
+
+fewer : (h : Option Held) (b : Slots) → open_count b ≤ open_count (h ∷ b)
+fewer None b = omega arith
+fewer (Some h) b = omega arith
+
+same_front : (h : Option Held) (b d : Slots) → open_count b < open_count d → open_count (h ∷ b) < open_count (h ∷ d)
+same_front None b d less = less
+same_front (Some h) b d less = omega (arith, less)
+
+pub closing_leaves_fewer : (c : ℕ) (b : Slots) → IsOpen c b → open_count (with_held c None b) < open_count b
+closing_leaves_fewer c [] is_open = absurd (cc)
+closing_leaves_fewer zero (None ∷ b) is_open = absurd (cc)
+closing_leaves_fewer zero (Some h ∷ b) is_open = omega arith
+closing_leaves_fewer (suc c) (h ∷ b) is_open = same_front h (with_held c None b) b (closing_leaves_fewer c b is_open)
+
+-- a number that isn't there
+pub none_left : (o : Option ℕ) → ((x : ℕ) → o ≡ Some x → ⊥) → o ≡ None
+none_left None never = refl
+none_left (Some x) never = absurd (never x refl)

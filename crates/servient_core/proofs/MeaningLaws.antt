@@ -1,0 +1,62 @@
+-- Two messages that are read as one request have one meaning.
+use Rattle.std.proofs.Common.{◌≡◌, List, [], ◌∷◌, ◌++◌, map, refl, sym, ap, ap₂, subst, ◌∙◌}
+use Rattle.std.proofs.lemmas.List.{append-nil}
+use Rattle.thing_ops.specs.Requests.{PlainRequest}
+use Rattle.thing_handler.specs.Turns.{HandlerCall}
+use Rattle.thing_core.specs.State.{State as ThingState}
+use Rattle.thing_core.specs.Thing.{Done, Acts}
+use Rattle.thing_core.proofs.DeterminedLaws.{determined}
+use Rattle.servient_edge.specs.declared.net.Act.{Act}
+use Rattle.servient_edge.specs.declared.net.Act.TheVariants as act
+use Rattle.servient_edge.specs.Network.{did}
+use Rattle.servient_core.specs.Trace.{Sighting, at_network, calls_in}
+use Rattle.servient_core.specs.Machine.{Site, State, Does, acts_of_reply}
+use Rattle.servient_core.specs.Promises.{ActsOnNothing}
+use Rattle.servient_core.specs.Meaning.{Message, by_coap, by_http, request_of, Writes, ComesTo, IsWritten, HaveOneMeaning}
+use Rattle.servient_core.proofs.ConnectionLaws.{no_calls}
+use Rattle.servient_core.proofs.PartLaws.{the_calls}
+use Rattle.servient_core.proofs.PromiseLaws.{acts_as}
+use Rattle.servient_core.proofs.TraceLaws.{calls_in-append}
+
+-- ---- what calls nothing
+
+then_quiet : (s m t : State) (first second seen : List Sighting) → ActsOnNothing s first m → ActsOnNothing m second t → seen ≡ first ++ second → ActsOnNothing s seen t
+then_quiet s m t first second seen p q whole = record {
+  calls = ap calls_in whole ∙ calls_in-append first second ∙ ap₂ (λ (x y : List HandlerCall). x ++ y) p.calls q.calls;
+  thing = q.thing ∙ p.thing;
+}
+
+does_quiet : (acts : List Act) (s t : State) (seen : List Sighting) → Does acts s seen t → ActsOnNothing s seen t
+does_quiet acts s t seen does = acts_as s s t (map (λ a. at_network (did a)) acts) seen does refl (no_calls acts)
+
+-- what is written calls nothing
+writes_quiet : (m : Message) (done : Done) (s t : State) (seen : List Sighting) → Writes m done s seen t → ActsOnNothing s seen t
+writes_quiet (by_coap from ask request) done s t seen w =
+    then_quiet s w.1.mid t w.1.first w.1.second seen (acts_as s (record s { coap = w.1.one.0 }) w.1.mid [] w.1.first w.1.one.2 refl refl)
+    (does_quiet (act.Datagram from w.0 ∷ []) w.1.mid t w.1.second w.1.other) w.1.whole
+writes_quiet (by_http c q) done s t seen w =
+    then_quiet s w.1.mid t w.1.first w.1.second seen (acts_as s (record s { http = w.1.one.0 }) w.1.mid [] w.1.first w.1.one.2 refl refl)
+    (does_quiet (acts_of_reply c w.0) w.1.mid t w.1.second w.1.other) w.1.whole
+
+-- the calls of a message are those of its request, and so is what becomes of the Things
+act_of : (site : Site) (m : Message) (done : Done) (s t : State) (seen : List Sighting) → ComesTo site m done s seen t → Acts site (request_of m) done s.thing (calls_in seen) t.thing
+act_of site m done s t seen c =
+    let on = c.one in
+    let quiet = writes_quiet m done c.mid t c.second c.other in
+    let calls_are : on.1 ≡ calls_in seen =
+    sym (ap calls_in c.whole ∙ calls_in-append c.first c.second ∙ ap₂ (λ (x y : List HandlerCall). x ++ y) (ap calls_in on.3.saw ∙ the_calls on.1) quiet.calls ∙ append-nil on.1) in
+    let thing_is : on.0 ≡ t.thing = sym (quiet.thing ∙ ap (λ (x : State). x.thing) on.3.next) in
+    subst (λ (x : ThingState). Acts site (request_of m) done s.thing (calls_in seen) x) thing_is
+    (subst (λ (x : List HandlerCall). Acts site (request_of m) done s.thing x on.0) calls_are on.2)
+
+pub is_written : (site : Site) (m : Message) → IsWritten site m
+is_written site (by_coap from ask request) s t seen is = is
+is_written site (by_http c q) s t seen is = is
+
+pub one_meaning : (site : Site) (m n : Message) → HaveOneMeaning site m n
+one_meaning site m n answers done other s t r u seen shown same things one two on_seen on_shown had has =
+    let second : Acts site (request_of m) other s.thing (calls_in shown) u.thing =
+    subst (λ (x : ThingState). Acts site (request_of m) other x (calls_in shown) u.thing) (sym things)
+    (subst (λ (x : PlainRequest). Acts site x other r.thing (calls_in shown) u.thing) (sym same) (act_of site n other r u shown two)) in
+    determined site (request_of m) answers done other s.thing t.thing u.thing (calls_in seen) (calls_in shown)
+    (act_of site m done s t seen one) second on_seen on_shown had has

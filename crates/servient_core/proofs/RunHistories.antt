@@ -1,0 +1,263 @@
+-- Each run has a history of requests.
+use Rattle.std.proofs.Common.{◌≡◌, ℕ, ◌≤◌, ◌++◌, List, [], ◌∷◌, map, refl, sym, ap, subst, ◌∙◌, arith, max, inl, inr, false, append_assoc}
+use Rattle.std.proofs.lemmas.List.{append-nil}
+use Rattle.servient_base.specs.Moves.{Becomes, Until, is_done, goes_on}
+use Rattle.coap_msg.specs.declared.endpoint.Endpoint.{Endpoint}
+use Rattle.coap_msg.specs.declared.message.Type4.{Type4}
+use Rattle.coap_msg.specs.declared.message.Type4.TheVariants.{Con, Non, Ack, Rst}
+use Rattle.coap_msg.specs.Grammar.{CoapMessage}
+use Rattle.coap_msg.proofs.Messages.{at_most_one_message}
+use Rattle.coap_msg.proofs.FaultLaws.{no_fault_of_message}
+use Rattle.coap_exchange.specs.Admission.{Arrival}
+use Rattle.coap_exchange.specs.Table.{Table, at_moment, Meets}
+use Rattle.coap_exchange.specs.declared.met.Met.{Met}
+use Rattle.coap_exchange.specs.declared.met.Met.TheVariants.{Fresh, Repeat, Full}
+use Rattle.coap_bind.specs.declared.head.OpenRequest.{OpenRequest}
+use Rattle.coap_bind.specs.declared.server.Server.{Server}
+use Rattle.coap_bind.specs.Writing.{Reply}
+use Rattle.coap_bind.specs.Server.{Heard, ignored, answered_at_once, asked, arrival, is_request, with_id_used, with_kept, IsMet, Replies, Reads, bad_option, bad_option_ignored, for_proxy, asks as are_asked, no_memory, malformed, no_request, repeated, full, Hears, settled, admitted, Answers, opened}
+use Rattle.coap_bind.specs.Laws.{AreArrivals, Did, nothing, heard_of, answered}
+use Rattle.http_bind.specs.Streams.{Streams, Taken, asks, wants_continue, is_faulty, IsDry, NoneIdle}
+use Rattle.thing_ops.specs.declared.outcome.Outcome.{Outcome}
+use Rattle.thing_core.specs.State.{State as ThingState}
+use Rattle.servient_edge.specs.declared.net.What.{What}
+use Rattle.servient_edge.specs.declared.net.What.TheVariants as what
+use Rattle.servient_edge.specs.declared.net.EventWithBytes.{EventWithBytes}
+use Rattle.servient_core.specs.declared.serving.Served.{Served}
+use Rattle.servient_core.specs.declared.serving.Served.TheVariants as served
+use Rattle.servient_core.specs.Trace.{Sighting, at_handler}
+use Rattle.servient_core.specs.Machine.{Site, State, start, Move, OnCoap, Responds, Receives, Handles, TakesAndHandles, ClosesIdle, Follows, Step, Run}
+use Rattle.servient_core.specs.Serving.{Ends}
+use Rattle.servient_core.specs.Runs.{AreRequestsOf, AreRequestsFrom, HasHistory, EachRunHasAHistory, ServingHasAHistory}
+
+-- ---- a datagram
+
+-- the requests of a datagram that was heard
+one_arrival : (from : Endpoint) (bytes : List ℕ) (now : ℕ) (m : CoapMessage) (met : Met) (s t : Server) → IsMet from bytes now m met s t
+    → (new : List Arrival) × AreArrivals from bytes now new
+one_arrival from bytes now m met s t is = (arrival from now m ∷ [], (m, is.spells, is.request, refl))
+
+arrivals : (from : Endpoint) (bytes : List ℕ) (now : ℕ) (h : Heard) (s t : Server) → Hears from bytes now h s t → (new : List Arrival) × AreArrivals from bytes now new
+arrivals from bytes now h s t (settled (malformed f fault is same)) = ([], (λ m spells. absurd (no_fault_of_message f m bytes spells fault)))
+arrivals from bytes now h s t (settled (no_request n spells isnt is same)) =
+    ([], (λ m other. subst (λ (x : CoapMessage). is_request x ≡ false) (at_most_one_message n m bytes spells other) isnt))
+arrivals from bytes now h s t (settled (repeated m kept e met found is)) = one_arrival from bytes now m (Repeat kept) s t met
+arrivals from bytes now h s t (settled (full m u met is same)) = one_arrival from bytes now m Full s u met
+arrivals from bytes now h s t (admitted m slot u met reads) = one_arrival from bytes now m (Fresh slot) s u met
+
+-- ---- moments
+
+met_moment : (now : ℕ) (t u : Table) (a : Arrival) (met : Met) → Meets (at_moment now t) a met u → u.moment ≡ now
+met_moment now t u a (Fresh slot) is = ap (λ (x : Table). x.moment) is.1.2
+met_moment now t u a (Repeat kept) is = ap (λ (x : Table). x.moment) is.1
+met_moment now t u a Full is = ap (λ (x : Table). x.moment) is.1.1
+
+used_moment : (kind : Type4) (s : Server) → (with_id_used kind s).exchanges.moment ≡ s.exchanges.moment
+used_moment Con s = refl
+used_moment Non s = refl
+used_moment Ack s = refl
+used_moment Rst s = refl
+
+kept_moment : (kind : Type4) (slot : ℕ) (bytes : List ℕ) (s : Server) → (with_kept kind slot bytes s).exchanges.moment ≡ s.exchanges.moment
+kept_moment Con slot bytes s = refl
+kept_moment Non slot bytes s = refl
+kept_moment Ack slot bytes s = refl
+kept_moment Rst slot bytes s = refl
+
+replies_moment : (r : Reply) (request : OpenRequest) (bytes : List ℕ) (s t : Server) → Replies r request bytes s t → t.exchanges.moment ≡ s.exchanges.moment
+replies_moment r request bytes s t is =
+    ap (λ (x : Server). x.exchanges.moment) is.after ∙ kept_moment request.head.kind request.slot bytes (with_id_used request.head.kind s) ∙ used_moment request.head.kind s
+
+reads_moment : (m : CoapMessage) (slot : ℕ) (h : Heard) (s t : Server) → Reads m slot h s t → t.exchanges.moment ≡ s.exchanges.moment
+reads_moment m slot h s t (bad_option number bytes fault con replies is) = replies_moment _ (opened m slot) bytes s t replies
+reads_moment m slot h s t (bad_option_ignored number fault non is same) = ap (λ (x : Server). x.exchanges.moment) same
+reads_moment m slot h s t (for_proxy bytes fault replies is) = replies_moment _ (opened m slot) bytes s t replies
+reads_moment m slot h s t (are_asked none is same) = ap (λ (x : Server). x.exchanges.moment) same
+reads_moment m slot h s t (no_memory bytes none replies is) = replies_moment _ (opened m slot) bytes s t replies
+
+hears_moment : (from : Endpoint) (bytes : List ℕ) (now : ℕ) (h : Heard) (s t : Server) → Hears from bytes now h s t → s.exchanges.moment ≤ now → t.exchanges.moment ≤ now
+hears_moment from bytes now h s t (settled (malformed f fault is same)) early = omega (arith, ap (λ (x : Server). x.exchanges.moment) same, early)
+hears_moment from bytes now h s t (settled (no_request n spells isnt is same)) early = omega (arith, ap (λ (x : Server). x.exchanges.moment) same, early)
+hears_moment from bytes now h s t (settled (repeated m kept e met found is)) early =
+    omega (arith, met_moment now s.exchanges t.exchanges (arrival from now m) (Repeat kept) met.meets)
+hears_moment from bytes now h s t (settled (full m u met is same)) early =
+    omega (arith, ap (λ (x : Server). x.exchanges.moment) same, used_moment m.kind u, met_moment now s.exchanges u.exchanges (arrival from now m) Full met.meets)
+hears_moment from bytes now h s t (admitted m slot u met reads) early =
+    omega (arith, reads_moment m slot h u t reads, met_moment now s.exchanges u.exchanges (arrival from now m) (Fresh slot) met.meets)
+
+-- ---- moves
+
+-- At a moment, the server holds what it holds after a history.
+record Holds (k : ℕ) (history : List Arrival) (now : ℕ) (s : State) : Type 0 where
+  did : Did k history s.coap
+  early : s.coap.exchanges.moment ≤ now
+  at : s.moment ≡ now
+
+-- the same server at the same moment
+stays : (k : ℕ) (history : List Arrival) (now : ℕ) (s t : State) → t.coap ≡ s.coap → t.moment ≡ s.moment → Holds k history now s → Holds k history now t
+stays k history now s t same at h = record {
+  did = subst (Did k history) (sym same) h.did;
+  early = omega (arith, ap (λ (x : Server). x.exchanges.moment) same, h.early);
+  at = at ∙ h.at;
+}
+
+-- another state, which is known
+becomes : (k : ℕ) (history : List Arrival) (now : ℕ) (u t : State) → t ≡ u → Holds k history now u → Holds k history now t
+becomes k history now u t next h = subst (Holds k history now) (sym next) h
+
+http_stays : (k : ℕ) (history : List Arrival) (now : ℕ) (s t : State) (h : Streams) (seen : List Sighting) → Becomes (record s { http = h }) [] seen t → Holds k history now s → Holds k history now t
+http_stays k history now s t h seen b = stays k history now s t (ap (λ (x : State). x.coap) b.next) (ap (λ (x : State). x.moment) b.next)
+
+thing_stays : (k : ℕ) (history : List Arrival) (now : ℕ) (s t : State) (x : ThingState) (shown seen : List Sighting) → Becomes (record s { thing = x }) shown seen t
+    → Holds k history now s → Holds k history now t
+thing_stays k history now s t x shown seen b = stays k history now s t (ap (λ (y : State). y.coap) b.next) (ap (λ (y : State). y.moment) b.next)
+
+answers_holds : (k : ℕ) (history : List Arrival) (now : ℕ) (request : OpenRequest) (o : Outcome) (bytes : List ℕ) (s t : State) (seen : List Sighting)
+    → OnCoap (λ moment. Answers request o bytes) s seen t → Holds k history now s → Holds k history now t
+answers_holds k history now request o bytes s t seen on h =
+    becomes k history now (record s { coap = on.0 }) t on.2.next (record {
+      did = answered history s.coap on.0 request o bytes h.did on.1;
+      early = omega (arith, replies_moment _ request bytes s.coap on.0 on.1, h.early);
+      at = h.at;
+    })
+
+responds_holds : (k : ℕ) (history : List Arrival) (now : ℕ) (site : Site) (from : Endpoint) (heard : Heard) (s t : State) (seen : List Sighting) → Responds site from heard s seen t
+    → Holds k history now s → Holds k history now t
+responds_holds k history now site from ignored s t seen stays h = becomes k history now s t stays.next h
+responds_holds k history now site from (answered_at_once bytes) s t seen does h = becomes k history now s t does.next h
+responds_holds k history now site from (asked ask request) s t seen is h =
+    let one = is.1 in
+    let two = one.other.1 in
+    becomes k history now two.mid t two.other.next
+    (answers_holds k history now request is.0.outcome one.other.0 one.mid two.mid two.first two.one
+    (thing_stays k history now s one.mid one.one.0 (map at_handler one.one.1) one.first one.one.3 h))
+
+handles_holds : (k : ℕ) (history : List Arrival) (now : ℕ) (site : Site) (c : ℕ) (taken : Taken) (s t : State) (seen : List Sighting) → Handles site c taken s seen t
+    → Holds k history now s → Holds k history now t
+handles_holds k history now site c (asks q) s t seen is h =
+    let one = is.1 in
+    let two = one.other.1 in
+    becomes k history now two.mid t two.other.next
+    (http_stays k history now one.mid two.mid two.one.0 two.first two.one.2 (thing_stays k history now s one.mid one.one.0 (map at_handler one.one.1) one.first one.one.3 h))
+handles_holds k history now site c wants_continue s t seen is h =
+    becomes k history now is.1.mid t is.1.other.next (http_stays k history now s is.1.mid is.1.one.0 is.1.first is.1.one.2 h)
+handles_holds k history now site c (is_faulty status) s t seen is h =
+    becomes k history now is.1.mid t is.1.other.next (http_stays k history now s is.1.mid is.1.one.0 is.1.first is.1.one.2 h)
+
+takes_holds : (k : ℕ) (history : List Arrival) (now : ℕ) (site : Site) (c : ℕ) (s t : State) (seen : List Sighting) → TakesAndHandles site c s seen t
+    → Holds k history now s → Holds k history now t
+takes_holds k history now site c s t seen is h =
+    handles_holds k history now site c is.0 is.1.mid t is.1.second is.1.other (http_stays k history now s is.1.mid is.1.one.0 is.1.first is.1.one.2 h)
+
+closes_holds : (k : ℕ) (history : List Arrival) (now : ℕ) (s t : State) (seen : List Sighting) → ClosesIdle s seen t → Holds k history now s → Holds k history now t
+closes_holds k history now s t seen is h =
+    becomes k history now is.1.mid t is.1.other.next (http_stays k history now s is.1.mid is.1.one.0 is.1.first is.1.one.2 h)
+
+until_holds : (k : ℕ) (history : List Arrival) (now : ℕ) (P : Move) (IsDone : State → Type 0)
+    → ((s t : State) (seen : List Sighting) → P s seen t → Holds k history now s → Holds k history now t)
+    → (s t : State) (seen : List Sighting) → Until P IsDone s seen t → Holds k history now s → Holds k history now t
+until_holds k history now P IsDone each s t seen (is_done s' seen' t' done stays) h = becomes k history now s t stays.next h
+until_holds k history now P IsDone each s t seen (goes_on s' mid t' seen' first second one more whole) h =
+    until_holds k history now P IsDone each mid t second more (each s mid first one h)
+
+-- ---- events
+
+-- the history goes on by the requests of what comes
+record GoesOn (k : ℕ) (history : List Arrival) (now : ℕ) (w : What) (bytes : List ℕ) (t : State) : Type 0 where
+  new : List Arrival
+  requests : AreRequestsOf w bytes now new
+  holds : Holds k (history ++ new) now t
+
+-- by none
+nothing_new : (k : ℕ) (history : List Arrival) (now : ℕ) (t : State) → Holds k history now t → Holds k (history ++ []) now t
+nothing_new k history now t h = subst (λ (x : List Arrival). Holds k x now t) (sym (append-nil history)) h
+
+receives_goes_on : (k : ℕ) (history : List Arrival) (now : ℕ) (site : Site) (from : Endpoint) (size : ℕ) (bytes : List ℕ) (s t : State) (seen : List Sighting)
+    → Receives site from bytes s seen t → Holds k history now s → GoesOn k history now (what.Datagram from size) bytes t
+receives_goes_on k history now site from size bytes s t seen (inl long) h =
+    record { new = []; requests = inl (long.0, refl); holds = becomes k (history ++ []) now s t long.1.next (nothing_new k history now s h) }
+receives_goes_on k history now site from size bytes s t seen (inr heard) h =
+    let both = heard.1.1 in
+    let on = both.one in
+    let hears : Hears from bytes now heard.1.0 s.coap on.0 = subst (λ (n : ℕ). Hears from bytes n heard.1.0 s.coap on.0) h.at on.1 in
+    let new = arrivals from bytes now heard.1.0 s.coap on.0 hears in
+    record {
+      new = new.0;
+      requests = inr (heard.0, new.1);
+      holds = responds_holds k (history ++ new.0) now site from heard.1.0 both.mid t both.second both.other
+          (becomes k (history ++ new.0) now (record s { coap = on.0 }) both.mid on.2.next (record {
+            did = heard_of history new.0 s.coap on.0 from bytes now heard.1.0 h.did h.early hears new.1;
+            early = hears_moment from bytes now heard.1.0 s.coap on.0 hears h.early;
+            at = h.at;
+          }));
+    }
+
+follows_goes_on : (k : ℕ) (history : List Arrival) (now : ℕ) (site : Site) (w : What) (bytes : List ℕ) (s t : State) (seen : List Sighting) → Follows site w bytes s seen t
+    → Holds k history now s → GoesOn k history now w bytes t
+follows_goes_on k history now site (what.Opened c) bytes s t seen on h =
+    record { new = []; requests = refl; holds = nothing_new k history now t (http_stays k history now s t on.0 seen on.2 h) }
+follows_goes_on k history now site (what.Bytes c size) bytes s t seen both h = record {
+  new = [];
+  requests = refl;
+  holds = nothing_new k history now t
+      (until_holds k history now (TakesAndHandles site c) (λ (x : State). IsDry c x.http) (λ x y calls move. takes_holds k history now site c x y calls move) both.mid t both.second both.other
+      (http_stays k history now s both.mid both.one.0 both.first both.one.2 h));
+}
+follows_goes_on k history now site (what.Ended c) bytes s t seen on h =
+    record { new = []; requests = refl; holds = nothing_new k history now t (http_stays k history now s t on.0 seen on.2 h) }
+follows_goes_on k history now site (what.Datagram from size) bytes s t seen receives h = receives_goes_on k history now site from size bytes s t seen receives h
+follows_goes_on k history now site what.Tick bytes s t seen polls h =
+    record { new = []; requests = refl; holds = nothing_new k history now t (thing_stays k history now s t polls.1.0 (map at_handler polls.1.1) seen polls.1.3 h) }
+follows_goes_on k history now site what.Stop bytes s t seen ends h =
+    record { new = []; requests = refl; holds = nothing_new k history now t (becomes k history now s t ends.next h) }
+
+step_goes_on : (k : ℕ) (history : List Arrival) (now : ℕ) (site : Site) (e : EventWithBytes) (s t : State) (seen : List Sighting) → Step site e s seen t
+    → Holds k history now s → GoesOn k history (max now e.event.moment) e.event.what e.bytes t
+step_goes_on k history now site e s t seen step h =
+    let later : ℕ = max now e.event.moment in
+    let moved : State = record s { moment = max s.moment e.event.moment } in
+    let there : Holds k history later moved = record { did = h.did; early = omega (arith, h.early); at = ap (λ (n : ℕ). max n e.event.moment) h.at } in
+    let goes = follows_goes_on k history later site e.event.what e.bytes moved step.mid step.first step.one there in
+    record {
+      new = goes.new;
+      requests = goes.requests;
+      holds = until_holds k (history ++ goes.new) later ClosesIdle (λ (x : State). NoneIdle x.moment x.http)
+          (λ x y calls move. closes_holds k (history ++ goes.new) later x y calls move) step.mid t step.second step.other goes.holds;
+    }
+
+-- ---- runs
+
+record RunsOn (k : ℕ) (history : List Arrival) (now : ℕ) (es : List EventWithBytes) (t : State) : Type 0 where
+  new : List Arrival
+  requests : AreRequestsFrom now es new
+  later : ℕ
+  holds : Holds k (history ++ new) later t
+
+run_goes_on : (k : ℕ) (history : List Arrival) (now : ℕ) (site : Site) (es : List EventWithBytes) (s t : State) (seen : List Sighting) → Run site es s seen t
+    → Holds k history now s → RunsOn k history now es t
+run_goes_on k history now site [] s t seen r h =
+    record { new = []; requests = refl; later = now; holds = becomes k (history ++ []) now s t r.next (nothing_new k history now s h) }
+run_goes_on k history now site (e ∷ es) s t seen r h =
+    let one = step_goes_on k history now site e r.one.mid r.mid r.one.second r.one.other (becomes k history now s r.one.mid r.one.one.next h) in
+    let others = run_goes_on k (history ++ one.new) (max now e.event.moment) site es r.mid t r.second r.other one.holds in
+    record {
+      new = one.new ++ others.new;
+      requests = (one.new, others.new, one.requests, others.requests, refl);
+      later = others.later;
+      holds = subst (λ (x : List Arrival). Holds k x others.later t) (append_assoc history one.new others.new) others.holds;
+    }
+
+pub each_run_has_a_history : EachRunHasAHistory
+each_run_has_a_history site k took seen t r =
+    let run = run_goes_on k [] 0 site took (start site k) t seen r (record { did = nothing; early = omega arith; at = refl }) in
+    record { history = run.new; requests = run.requests; did = run.holds.did; moment = omega (arith, run.holds.early, run.holds.at) }
+
+-- the end of serving changes nothing
+ends_same : (result : Served) (s t : State) (seen : List Sighting) → Ends result s seen t → t ≡ s
+ends_same served.Stopped s t seen ends = ends.next
+ends_same served.Failed s t seen ends = ends.next
+ends_same served.Spent s t seen ends = ends.next
+
+pub serving_has_a_history : ServingHasAHistory
+serving_has_a_history site k budget result seen t r =
+    subst (HasHistory k r.took) (sym (ends_same result r.run.mid t r.run.second r.run.other)) (each_run_has_a_history site k r.took r.run.first r.run.mid r.run.one)

@@ -1,0 +1,23 @@
+use Rattle.http_bind.specs.Streams.{Lengthened}
+use Rattle.servient_core.specs.Trace.{outside}
+use Rattle.servient_core.specs.Machine.{OnHttp, TakesMessages}
+use Rattle.servient_core.proofs.PartLaws.{then_moves, refines_http, room_after, others_then}
+use Rattle.servient_core.proofs.parts.Parts.piece.Goals as goal
+
+pub returns : goal.returns
+returns g c =
+    let k = c.args.self.now in
+    let all = c.take_all.ensures in
+    let w = outside (g.N.Net.seen c.args.net.now) (g.R.Handlers.slots c.args.rack.now) in
+    let v = outside (g.N.Net.seen c.take_all.new.net) (g.R.Handlers.slots c.take_all.new.rack) in
+    record {
+      refines = then_moves (OnHttp (Lengthened c.args.c c.args.piece.now)) (TakesMessages k.exposed.site c.args.c) k (record k { http = c.bytes.new.self }) c.take_all.new.self w w v
+          (refines_http (Lengthened c.args.c c.args.piece.now) k c.bytes.new.self w c.bytes.ensures.leads) all.taken;
+      ready = record {
+        pending = all.on.pending;
+        moment = all.on.moment;
+        room = room_after c.args.c k.http c.take_all.new.self.http c.requires.ready.room
+            (others_then c.args.c k.http c.bytes.new.self c.take_all.new.self.http c.bytes.ensures.others all.others) all.room;
+      };
+      site = all.site;
+    }

@@ -1,0 +1,56 @@
+-- What an operation means doesn't depend on the binding by which it is asked for.
+use Rattle.std.specs.Prelude.{◌≡◌, ℕ, Bool, List, [], ◌∷◌}
+use Rattle.servient_base.specs.Moves.{Then, Passing}
+use Rattle.coap_msg.specs.declared.endpoint.Endpoint.{Endpoint}
+use Rattle.thing_ops.specs.Requests.{PlainRequest}
+use Rattle.thing_handler.specs.declared.handler.Answer.{Answer}
+use Rattle.thing_core.specs.Thing.{Done}
+use Rattle.thing_core.specs.Determined.{AreAnsweredBy, HadMemory}
+use Rattle.coap_opts.specs.Reading.{PlainAsk}
+use Rattle.coap_bind.specs.declared.head.OpenRequest.{OpenRequest}
+use Rattle.coap_bind.specs.Server.{asked, Answers}
+use Rattle.http_bind.specs.Streams.{asks, Replies}
+use Rattle.servient_edge.specs.declared.net.Act.TheVariants as act
+use Rattle.servient_core.specs.Trace.{Sighting, calls_in}
+use Rattle.servient_core.specs.Machine.{Site, State, Move, OnHttp, OnCoap, Does, Performs, Responds, Sends, Handles}
+
+-- A message that was read as a request: by CoAP from an endpoint, where it asks for this and is to be answered, or by HTTP on a
+-- connection.
+pub data Message : Type 0 where
+  by_coap : Endpoint → PlainAsk → OpenRequest → Message
+  by_http : ℕ → PlainRequest → Message
+
+-- the request as which it was read
+abbrev pub request_of : Message → PlainRequest
+request_of (by_coap from ask request) = ask.request
+request_of (by_http c q) = q
+
+-- what the machine does with it
+abbrev pub Handled : Site → Message → Move
+Handled site (by_coap from ask request) = Responds site from (asked ask request)
+Handled site (by_http c q) = Handles site c (asks q)
+
+-- what it came to is written as its binding writes that, and sent
+abbrev pub Writes : Message → Done → Move
+Writes (by_coap from ask request) done =
+    Passing (λ bytes. OnCoap (λ now. Answers request done.outcome bytes)) (λ bytes. Does (act.Datagram from bytes ∷ []))
+Writes (by_http c q) done =
+    Passing (λ (reply : List ℕ × Bool). OnHttp (λ now. Replies c q done.outcome now reply.0 reply.1)) (Sends c)
+
+-- the request is performed, comes to this, and that is written and sent
+abbrev pub ComesTo : Site → Message → Done → Move
+ComesTo site m done = Then (Performs site (request_of m) done) (Writes m done)
+
+-- Whatever the machine does with a message: its request comes to something, and that is what is written.
+abbrev pub IsWritten : Site → Message → Type 0
+IsWritten site m = (s t : State) (seen : List Sighting) → Handled site m s seen t → (done : Done) × ComesTo site m done s seen t
+
+-- Two messages, of either binding, are read as the same request. Where the Things are in the same state, the handlers give the
+-- same answers, and memory isn't out, they have the same calls, come to the same with the same emissions, and leave the
+-- Things in the same state.
+abbrev pub HaveOneMeaning : Site → Message → Message → Type 0
+HaveOneMeaning site m n =
+    (answers : ℕ → Answer) (done other : Done) (s t r u : State) (seen shown : List Sighting)
+    → request_of m ≡ request_of n → s.thing ≡ r.thing → ComesTo site m done s seen t → ComesTo site n other r shown u
+    → AreAnsweredBy answers (calls_in seen) → AreAnsweredBy answers (calls_in shown) → HadMemory done → HadMemory other
+    → (calls_in seen ≡ calls_in shown) × (done ≡ other) × (t.thing ≡ u.thing)

@@ -1,12 +1,12 @@
 //! Plans and their derivation: what `derive` prints.
 
 use servient_cli::servient_main;
-use servient_edge::{Calls, Events, FilesMemory, Held, HeldFile, NetMemory, OutMemory};
+use servient_edge::{Calls, Events, FilesMemory, Held, HeldFile, Net, NetMemory, OutMemory};
 use std::alloc::Global;
 use std::process::Abort;
 use std::test::Fail;
-use thing_handler::{Cell, Handler, Rack};
-use wot_json::{Bytes, Text, Tree};
+use thing_handler::{Handler, Rack, SHIPPED_SLOTS, shipped_in};
+use wot_json::{Bytes, Text};
 
 /// The models of the lamp.
 const DIM: &str =
@@ -19,7 +19,7 @@ const LAMP: &str =
     r#"{"@context":"https://www.w3.org/2022/wot/td/v1.1","@type":["Light","tm:ThingModel"],"title":"Lamp {{SERIAL}}","links":[{"rel":"tm:extends","href":"onoff.tm.json"},{"rel":"tm:submodel","href":"dim.tm.json","instanceName":"ring"}],"properties":{"dim":{"tm:ref":"dim.tm.json#/properties/level","maximum":null,"title":"Dim"}}}"#;
 
 /// The members of the lamp's plan but for its bindings.
-const PLAN: &str =
+pub const PLAN: &str =
     r#""name":"lamp","id":"urn:x:lamp","http":"http://127.0.0.1:8080","coap":"coap://127.0.0.1:5683","model":"https://models.example/lamp.tm.json","models":[{"url":"https://models.example/lamp.tm.json","file":"lamp"},{"url":"https://models.example/onoff.tm.json","file":"onoff"},{"url":"https://models.example/dim.tm.json","file":"dim"}]"#;
 
 /// What its root is derived into, and the Thing below it.
@@ -34,12 +34,12 @@ const SMALL: &str =
     r#""name":"a","id":"i","http":"http://h:1","coap":"coap://h:1","model":"https://m.example/a","models":[{"url":"https://m.example/a","file":"dim"}]"#;
 
 /// A plan of these members, of which the last of a name counts.
-fn plan(alloc: Global, members: &str, further: &str) -> Result<String, Fail> {
+pub fn plan(alloc: Global, members: &str, further: &str) -> Result<String, Fail> {
     Ok(format!(in alloc; "{{{members}{further}}}")?)
 }
 
 /// The files of a derivation: the plan, a further file that goes before the lamp's models, and those.
-fn files_of(alloc: Global, plan: &str, further: (&str, &str)) -> Result<Held, Fail> {
+pub fn files_of(alloc: Global, plan: &str, further: (&str, &str)) -> Result<Held, Fail> {
     let mut held = Held::new(alloc);
     hold(alloc, &mut held, "p.json", plan)?;
     hold(alloc, &mut held, further.0, further.1)?;
@@ -50,7 +50,7 @@ fn files_of(alloc: Global, plan: &str, further: (&str, &str)) -> Result<Held, Fa
 }
 
 /// Puts a file after the others.
-fn hold(alloc: Global, held: &mut Held, name: &str, text: &str) -> Result<(), Fail> {
+pub fn hold(alloc: Global, held: &mut Held, name: &str, text: &str) -> Result<(), Fail> {
     held.push(HeldFile {
         name: Text::copy_of(alloc, name)?,
         bytes: Bytes::copy_of(alloc, text.as_bytes())?,
@@ -58,25 +58,38 @@ fn hold(alloc: Global, held: &mut Held, name: &str, text: &str) -> Result<(), Fa
     Ok(())
 }
 
-/// The status and the output of `derive p.json` over these files.
-fn derived(alloc: Global, held: Held) -> Result<(u8, Vec<u8>), Fail> {
-    let mut words = Vec::new(alloc);
-    words.push(Text::copy_of(alloc, "derive")?)?;
-    words.push(Text::copy_of(alloc, "p.json")?)?;
-    let mut files = FilesMemory::new(alloc, held, Calls::new(alloc))?;
+/// The status and the output of these words over these files, on a rack of so many of the shipped handlers.
+pub fn run(alloc: Global, words: &[&str], held: Held, slots: usize) -> Result<(u8, Vec<u8>), Fail> {
     let mut net = NetMemory::new(alloc, Events::new(alloc), Calls::new(alloc))?;
+    run_over(alloc, words, held, slots, &mut net)
+}
+
+/// The same over this network.
+pub fn run_over<N: Net>(
+    alloc: Global,
+    words: &[&str],
+    held: Held,
+    slots: usize,
+    net: &mut N,
+) -> Result<(u8, Vec<u8>), Fail> {
+    let mut given = Vec::new(alloc);
+    for word in words {
+        given.push(Text::copy_of(alloc, word)?)?;
+    }
+    let mut files = FilesMemory::new(alloc, held, Calls::new(alloc))?;
     let mut out = OutMemory::new(alloc, 65_536, Calls::new(alloc))?;
     let mut list: Vec<Box<dyn Handler>> = Vec::new(alloc);
-    list.push(Box::new(alloc, Cell::new(alloc, Tree::Int(7)))?)?;
+    for slot in 0..SHIPPED_SLOTS {
+        if slot < slots {
+            list.push(Box::new(alloc, shipped_in(alloc, slot))?)?;
+        }
+    }
+    if list.len() > SHIPPED_SLOTS {
+        return Err("there are too many handlers")?;
+    }
     let mut rack = Rack::new(alloc, list);
-    let status = servient_main(
-        alloc,
-        words.as_slice(),
-        &mut files,
-        &mut net,
-        &mut rack,
-        &mut out,
-    );
+    let words = given.as_slice();
+    let status = servient_main(alloc, words, &mut files, net, &mut rack, &mut out);
     Ok((status, Vec::from_slice(alloc, out.written())?))
 }
 
@@ -89,7 +102,7 @@ pub fn derives<R: Abort + AllocGlobal>(
     output: &str,
 ) -> Result<(), Fail> {
     let held = files_of(rt.alloc(), plan, further)?;
-    let (found, shown) = derived(rt.alloc(), held)?;
+    let (found, shown) = run(rt.alloc(), &["derive", "p.json"], held, 1)?;
     assert_eq!(rt; found, status, "{output}");
     assert_eq!(rt; shown.as_slice(), output.as_bytes(), "{output}");
     Ok(())

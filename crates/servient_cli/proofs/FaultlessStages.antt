@@ -1,11 +1,11 @@
 -- A command with which nothing is wrong ends with status 0, unless it is out of memory: stage by stage.
-use Rattle.std.proofs.Common.{true, false, ◌≡◌, ◌<◌, ◌≤◌, ◌⊎◌, ℕ, List, [], ◌∷◌, ◌++◌, length, Result, Ok, Err, Option, Some, None, refl, sym, ap, ◌∙◌, subst, arith, inl, inr}
+use Rattle.std.proofs.Common.{◌≡◌, ◌<◌, ◌≤◌, ◌⊎◌, ℕ, List, [], ◌∷◌, ◌++◌, length, Result, Ok, Err, Option, Some, None, refl, sym, ap, ◌∙◌, subst, arith, inl, inr}
 use Rattle.std.specs.Prelude.{IfSome, IsSome, IsSomeAnd, slice_get}
 use Rattle.tm_parts.specs.Library.{Models, MayAdd, with_model}
 use Rattle.servient_core.specs.declared.plan.Plan.{Plan}
 use Rattle.servient_core.specs.Plan.{plan_of}
 use Rattle.std.proofs.lemmas.Option.{same_Some}
-use Rattle.servient_base.specs.Count.{Rose}
+use Rattle.servient_base.specs.Count.{Rose, RoseBy}
 use Rattle.wot_json.specs.Tree.{Json}
 use Rattle.wot_json.specs.Lookup.{member_named}
 use Rattle.wot_json.specs.Meaning.{json_of}
@@ -15,29 +15,36 @@ use Rattle.wot_terms.specs.Faults.{faults_of}
 use Rattle.servient_edge.specs.declared.files.HeldFile.{HeldFile}
 use Rattle.servient_edge.specs.declared.net.EventWithBytes.{EventWithBytes}
 use Rattle.servient_edge.specs.Files.{content_of}
-use Rattle.servient_edge.specs.Ending.{with_stop}
-use Rattle.command_words.specs.Grammar.{meaning_of}
-use Rattle.command_words.specs.declared.command.Command.{Command}
-use Rattle.command_words.specs.declared.command.Command.TheVariants.{Replay, Serve, Derive, Check, Consume, Storm}
+use Rattle.servient_edge.specs.Network.{heard, did, broke, break_count}
+use Rattle.wot_terms.specs.declared.kind.Kind.{Kind}
+use Rattle.thing_core.specs.Site.{Slots, site_of, expose_faults}
+use Rattle.thing_core.specs.Exposing.{IsFirst}
+use Rattle.thing_core.specs.declared.fault.ExposeFault.{ExposeFault}
+use Rattle.thing_core.specs.declared.fault.ExposeFault.TheVariants as misfit
+use Rattle.servient_core.specs.Trace.{at_network, at_handler, happened_in}
+use Rattle.servient_core.specs.Machine.{Site}
+use Rattle.servient_cli.specs.declared.derivation.Planned.{Planned}
+use Rattle.servient_cli.specs.declared.replay.Inputs.{Inputs}
 use Rattle.servient_cli.specs.Script.{IsScript}
-use Rattle.servient_cli.specs.Stages.{Deed, did_read, did_fail, did_call, did_write, HasFailed, Outcome, goes_on, ends, AndThen, ends_first, goes_further, Around}
-use Rattle.servient_cli.specs.Lines.{memory_line, usage_line}
-use Rattle.servient_cli.specs.Ending.{ComesOut}
-use Rattle.servient_cli.proofs.StageLaws.{line_alone, shows_wrote}
+use Rattle.servient_cli.specs.Stages.{Deed, did_read, did_fail, did_see, did_write, sightings_in, HasFailed, Outcome, goes_on, ends, AndThen, ends_first, goes_further}
 use Rattle.servient_cli.specs.Reading.{ReadsFile, is_read, is_absent, is_unreadable, is_long, file_memory, ReadsTree, is_tree, has_no_tree, tree_memory, longest_json, longest_script}
-use Rattle.servient_cli.specs.Replaying.{IsFaultlessScript, Replays, ReadsScript, is_script, is_no_script, script_memory, RunsScript, is_whole, is_spent, run_memory, event_budget}
-use Rattle.servient_cli.specs.Checking.{Checks, IsFaultlessDescription, Judges, is_valid, is_refused, judge_memory}
-use Rattle.servient_cli.specs.Deriving.{ReadsPlan, is_plan, is_no_plan, plan_memory, AddsModel, is_added, is_not_added, add_memory, IsNotTaken, has_bad_url, is_there_twice, is_no_model, TakesModel, TakesModels, Derives, is_derived, derive_memory, derived_of, DerivesPlan, AreFaultlessModels, IsFaultlessPlan}
+use Rattle.servient_cli.specs.Replaying.{built_in, Plans, is_built_in, built_in_memory, ReadsEvents, ReadsInputs, HasRead, has_read, ReadsScript, is_script, is_no_script, script_memory, run_events, RunsOn, RunsScript, is_whole, is_spent, run_memory}
+use Rattle.servient_cli.specs.Opening.{Exposes, is_exposed, is_misfit, expose_memory, Opens}
+use Rattle.servient_cli.specs.Checking.{Judges, is_valid, is_refused, judge_memory}
+use Rattle.servient_cli.specs.Deriving.{ReadsPlan, is_plan, is_no_plan, plan_memory, AddsModel, is_added, is_not_added, add_memory, IsNotTaken, has_bad_url, is_there_twice, is_no_model, TakesModel, TakesModels, IsPlanned, is_planned, ReadsPlanned, Derives, is_derived, derive_memory, derived_of, Prints, is_printed, print_memory, AreFaultlessModels, IsFaultlessPlan}
 use Rattle.servient_cli.specs.Deriving as plans
-use Rattle.servient_cli.specs.Command.{IsFaultless, HasFaultlessFile, IsReported, OutSeen, Ends, Does, Commands, IsNoCommand, is_built, is_no_command, is_command, words_memory}
+use Rattle.servient_cli.specs.Command.{HoldsFaultless, IsPlannedBy, IsFaultlessReplay}
 
 -- a stage goes on with such a value, or is out of memory
-abbrev GoesOn : {A : Type 0} → (A → Type 0) → Outcome A → Type 0
+abbrev pub GoesOn : {A : Type 0} → (A → Type 0) → Outcome A → Type 0
 GoesOn {A} Good o = ((value : A) × Good value × (o ≡ goes_on value)) ⊎ (o ≡ ends 9)
 
 -- the command ends as it should, or is out of memory
-abbrev EndsWell : Outcome (Unit {0}) → Type 0
+abbrev pub EndsWell : Outcome (Unit {0}) → Type 0
 EndsWell o = (o ≡ ends 0) ⊎ (o ≡ ends 9)
+
+pub by_memory : (o : Outcome (Unit {0})) → o ≡ ends 9 → EndsWell o
+by_memory o nine = inr nine
 
 same_value : {A : Type 0} (a b : A) → goes_on a ≡ goes_on b → a ≡ b
 same_value a b e = cc
@@ -48,65 +55,103 @@ on_no_end a status e = cc
 end_no_on : {A : Type 0} (a : A) (status : ℕ) → goes_on a ≡ ends status → ⊥
 end_no_on a status e = cc
 
-same_status : {A : Type 0} (m n : ℕ) → ◌≡◌ {A = Outcome A} (ends m) (ends n) → m ≡ n
+pub same_status : {A : Type 0} (m n : ℕ) → ◌≡◌ {A = Outcome A} (ends m) (ends n) → m ≡ n
 same_status m n e = cc
 
--- no read failed among these, and so none among the first and none among the others
-quiet_before : (a b : List Deed) → ¬ (HasFailed (a ++ b)) → ¬ (HasFailed a)
-quiet_before [] b quiet = λ failed. failed
-quiet_before (did_read file ∷ a) b quiet = quiet_before a b quiet
-quiet_before (did_fail file ∷ a) b quiet = λ failed. quiet tt
-quiet_before (did_call call ∷ a) b quiet = quiet_before a b quiet
-quiet_before (did_write text ∷ a) b quiet = quiet_before a b quiet
+-- a read or a call of the network failed among these
+abbrev pub HasTrouble : List Deed → Type 0
+HasTrouble [] = ⊥
+HasTrouble (did_read file ∷ seen) = HasTrouble seen
+HasTrouble (did_fail file ∷ seen) = Unit {0}
+HasTrouble (did_see (at_network (heard e)) ∷ seen) = HasTrouble seen
+HasTrouble (did_see (at_network (did act)) ∷ seen) = HasTrouble seen
+HasTrouble (did_see (at_network (broke call)) ∷ seen) = Unit {0}
+HasTrouble (did_see (at_handler call) ∷ seen) = HasTrouble seen
+HasTrouble (did_write text ∷ seen) = HasTrouble seen
 
-quiet_after : (a b : List Deed) → ¬ (HasFailed (a ++ b)) → ¬ (HasFailed b)
-quiet_after [] b quiet = quiet
-quiet_after (did_read file ∷ a) b quiet = quiet_after a b quiet
-quiet_after (did_fail file ∷ a) b quiet = λ failed. quiet tt
-quiet_after (did_call call ∷ a) b quiet = quiet_after a b quiet
-quiet_after (did_write text ∷ a) b quiet = quiet_after a b quiet
+-- it did among the first or among the others, and so among all
+pub trouble_before : (a b : List Deed) → HasTrouble a → HasTrouble (a ++ b)
+trouble_before [] b trouble = absurd trouble
+trouble_before (did_read file ∷ a) b trouble = trouble_before a b trouble
+trouble_before (did_fail file ∷ a) b trouble = tt
+trouble_before (did_see (at_network (heard e)) ∷ a) b trouble = trouble_before a b trouble
+trouble_before (did_see (at_network (did act)) ∷ a) b trouble = trouble_before a b trouble
+trouble_before (did_see (at_network (broke call)) ∷ a) b trouble = tt
+trouble_before (did_see (at_handler call) ∷ a) b trouble = trouble_before a b trouble
+trouble_before (did_write text ∷ a) b trouble = trouble_before a b trouble
 
--- one stage and then the next, where no read failed
-then_well : {A : Type 0} (P : List Deed → Outcome A → Type 0) (Q : A → List Deed → Outcome (Unit {0}) → Type 0) (Good : A → Type 0) (seen : List Deed) (o : Outcome (Unit {0})) → ¬ (HasFailed seen)
-    → ((s : List Deed) (r : Outcome A) → ¬ (HasFailed s) → P s r → GoesOn Good r) → ((value : A) → Good value → (s : List Deed) → ¬ (HasFailed s) → Q value s o → EndsWell o) → AndThen P Q seen o → EndsWell o
-then_well P Q Good seen o quiet p q (ends_first status stage is) = elim (p seen (ends status) quiet stage) [
+pub trouble_after : (a b : List Deed) → HasTrouble b → HasTrouble (a ++ b)
+trouble_after [] b trouble = trouble
+trouble_after (did_read file ∷ a) b trouble = trouble_after a b trouble
+trouble_after (did_fail file ∷ a) b trouble = tt
+trouble_after (did_see (at_network (heard e)) ∷ a) b trouble = trouble_after a b trouble
+trouble_after (did_see (at_network (did act)) ∷ a) b trouble = trouble_after a b trouble
+trouble_after (did_see (at_network (broke call)) ∷ a) b trouble = tt
+trouble_after (did_see (at_handler call) ∷ a) b trouble = trouble_after a b trouble
+trouble_after (did_write text ∷ a) b trouble = trouble_after a b trouble
+
+-- a read failed, or the network broke
+pub what_trouble : (seen : List Deed) → HasTrouble seen → HasFailed seen ⊎ (1 ≤ break_count (happened_in (sightings_in seen)))
+what_trouble [] trouble = absurd trouble
+what_trouble (did_read file ∷ a) trouble = what_trouble a trouble
+what_trouble (did_fail file ∷ a) trouble = inl tt
+what_trouble (did_see (at_network (heard e)) ∷ a) trouble = what_trouble a trouble
+what_trouble (did_see (at_network (did act)) ∷ a) trouble = what_trouble a trouble
+what_trouble (did_see (at_network (broke call)) ∷ a) trouble = inr (omega arith)
+what_trouble (did_see (at_handler call) ∷ a) trouble = what_trouble a trouble
+what_trouble (did_write text ∷ a) trouble = what_trouble a trouble
+
+-- a count that rose by so much rose
+pub rose_some : (more before now : ℕ) → 1 ≤ more → RoseBy more before now → Rose before now
+rose_some more before now some rose = omega (arith, some, rose)
+
+quiet_before : (a b : List Deed) → ¬ (HasTrouble (a ++ b)) → ¬ (HasTrouble a)
+quiet_before a b quiet = λ trouble. quiet (trouble_before a b trouble)
+
+quiet_after : (a b : List Deed) → ¬ (HasTrouble (a ++ b)) → ¬ (HasTrouble b)
+quiet_after a b quiet = λ trouble. quiet (trouble_after a b trouble)
+
+-- one stage and then the next, where nothing failed
+pub then_well : {A : Type 0} (Well : Outcome (Unit {0}) → Type 0) → ((o : Outcome (Unit {0})) → o ≡ ends 9 → Well o) → (P : List Deed → Outcome A → Type 0) (Q : A → List Deed → Outcome (Unit {0}) → Type 0) (Good : A → Type 0) (seen : List Deed) (o : Outcome (Unit {0})) → ¬ (HasTrouble seen)
+    → ((s : List Deed) (r : Outcome A) → ¬ (HasTrouble s) → P s r → GoesOn Good r) → ((value : A) → Good value → (s : List Deed) → ¬ (HasTrouble s) → Q value s o → Well o) → AndThen P Q seen o → Well o
+then_well Well memory P Q Good seen o quiet p q (ends_first status stage is) = elim (p seen (ends status) quiet stage) [
   | inl goes ↦ absurd (on_no_end goes.0 status goes.2)
-  | inr nine ↦ inr (is ∙ ap (λ (n : ℕ). ends n) (same_status status 9 nine))
+  | inr nine ↦ memory o (is ∙ ap (λ (n : ℕ). ends n) (same_status status 9 nine))
 ]
-then_well P Q Good seen o quiet p q (goes_further value before after one other whole) =
-    let all : ¬ (HasFailed (before ++ after)) = subst (λ (s : List Deed). ¬ (HasFailed s)) whole quiet in
+then_well Well memory P Q Good seen o quiet p q (goes_further value before after one other whole) =
+    let all : ¬ (HasTrouble (before ++ after)) = subst (λ (s : List Deed). ¬ (HasTrouble s)) whole quiet in
     elim (p before (goes_on value) (quiet_before before after all) one) [
       | inl goes ↦ q value (subst Good (sym (same_value value goes.0 goes.2)) goes.1) after (quiet_after before after all) other
       | inr nine ↦ absurd (end_no_on value 9 nine)
     ]
 
 -- the same of stages that may go on
-then_goes : {A B : Type 0} (P : List Deed → Outcome A → Type 0) (Q : A → List Deed → Outcome B → Type 0) (Good : A → Type 0) (Fine : B → Type 0) (seen : List Deed) (o : Outcome B) → ¬ (HasFailed seen)
-    → ((s : List Deed) (r : Outcome A) → ¬ (HasFailed s) → P s r → GoesOn Good r) → ((value : A) → Good value → (s : List Deed) → ¬ (HasFailed s) → Q value s o → GoesOn Fine o) → AndThen P Q seen o → GoesOn Fine o
+then_goes : {A B : Type 0} (P : List Deed → Outcome A → Type 0) (Q : A → List Deed → Outcome B → Type 0) (Good : A → Type 0) (Fine : B → Type 0) (seen : List Deed) (o : Outcome B) → ¬ (HasTrouble seen)
+    → ((s : List Deed) (r : Outcome A) → ¬ (HasTrouble s) → P s r → GoesOn Good r) → ((value : A) → Good value → (s : List Deed) → ¬ (HasTrouble s) → Q value s o → GoesOn Fine o) → AndThen P Q seen o → GoesOn Fine o
 then_goes P Q Good Fine seen o quiet p q (ends_first status stage is) = elim (p seen (ends status) quiet stage) [
   | inl goes ↦ absurd (on_no_end goes.0 status goes.2)
   | inr nine ↦ inr (is ∙ ap (λ (n : ℕ). ends n) (same_status status 9 nine))
 ]
 then_goes P Q Good Fine seen o quiet p q (goes_further value before after one other whole) =
-    let all : ¬ (HasFailed (before ++ after)) = subst (λ (s : List Deed). ¬ (HasFailed s)) whole quiet in
+    let all : ¬ (HasTrouble (before ++ after)) = subst (λ (s : List Deed). ¬ (HasTrouble s)) whole quiet in
     elim (p before (goes_on value) (quiet_before before after all) one) [
       | inl goes ↦ q value (subst Good (sym (same_value value goes.0 goes.2)) goes.1) after (quiet_after before after all) other
       | inr nine ↦ absurd (end_no_on value 9 nine)
     ]
 
 -- what is told of the files
-told : (held : Option (List HeldFile)) (files : List HeldFile) (P : List HeldFile → Type 0) → held ≡ Some files → IfSome held P → P files
+pub told : (held : Option (List HeldFile)) (files : List HeldFile) (P : List HeldFile → Type 0) → held ≡ Some files → IfSome held P → P files
 told held files P is known = subst (λ (h : Option (List HeldFile)). IfSome h P) is known
 
 -- a file that is held, and isn't too long, is read
-read_well : (held : Option (List HeldFile)) (limit : ℕ) (name content : List ℕ) (files : List HeldFile) (seen : List Deed) (o : Outcome (List ℕ)) → held ≡ Some files → content_of files name ≡ Some content → length content ≤ limit
-    → ¬ (HasFailed seen) → ReadsFile held limit name seen o → GoesOn (λ c. c ≡ content) o
+pub read_well : (held : Option (List HeldFile)) (limit : ℕ) (name content : List ℕ) (files : List HeldFile) (seen : List Deed) (o : Outcome (List ℕ)) → held ≡ Some files → content_of files name ≡ Some content → length content ≤ limit
+    → ¬ (HasTrouble seen) → ReadsFile held limit name seen o → GoesOn (λ c. c ≡ content) o
 read_well held limit name content files seen o is_held holds short quiet (is_read other fits was saw is) =
     inl (other, same_Some other content (sym (told held files (λ fs. content_of fs name ≡ Some other) is_held was) ∙ holds), is)
 read_well held limit name content files seen o is_held holds short quiet (is_absent none end) =
     let gone : content_of files name ≡ None = told held files (λ fs. content_of fs name ≡ None) is_held none in
     absurd cc
-read_well held limit name content files seen o is_held holds short quiet (is_unreadable end) = absurd (quiet (subst HasFailed (sym end.0) tt))
+read_well held limit name content files seen o is_held holds short quiet (is_unreadable end) = absurd (quiet (subst HasTrouble (sym end.0) tt))
 read_well held limit name content files seen o is_held holds short quiet (is_long long end) =
     let longer : limit < length content = subst (λ (c : Option (List ℕ)). IsSomeAnd c (λ x. limit < length x)) holds (told held files (λ fs. IsSomeAnd (content_of fs name) (λ x. limit < length x)) is_held long) in
     absurd (omega (arith, longer, short))
@@ -119,13 +164,13 @@ script_well name content events seen o script (is_no_script line bad none end) =
 script_well name content events seen o script (script_memory end) = inr end.1
 
 -- a script within the budget is run to its end
-run_well : (events : List EventWithBytes) (seen : List Deed) (o : Outcome (Unit {0})) → length (with_stop events) ≤ event_budget → RunsScript events seen o → EndsWell o
-run_well events seen o few (is_whole ran end fits run ends_so) = inl ends_so.1
-run_well events seen o few (is_spent ran end more run ends_so) = absurd (omega (arith, few, more))
-run_well events seen o few (run_memory ran end count run ends_so) = inr ends_so.1
+run_well : (budget : ℕ) (events : List EventWithBytes) (exchanges : ℕ) (site : Site) (seen : List Deed) (o : Outcome (Unit {0})) → length (run_events events) ≤ budget → RunsScript budget events exchanges site seen o → EndsWell o
+run_well budget events exchanges site seen o few (is_whole ran end fits run ends_so) = inl ends_so.1
+run_well budget events exchanges site seen o few (is_spent ran end more run ends_so) = absurd (omega (arith, few, more))
+run_well budget events exchanges site seen o few (run_memory ran end count run ends_so) = inr ends_so.1
 
 -- a JSON text is read
-tree_well : (name content : List ℕ) (v : Json) (seen : List Deed) (o : Outcome Tree) → tree_of content ≡ Some v → ReadsTree name content seen o → GoesOn (λ tree. json_of tree ≡ v) o
+pub tree_well : (name content : List ℕ) (v : Json) (seen : List Deed) (o : Outcome Tree) → tree_of content ≡ Some v → ReadsTree name content seen o → GoesOn (λ tree. json_of tree ≡ v) o
 tree_well name content v seen o read (is_tree tree is saw goes) = inl (tree, same_Some (json_of tree) v (sym is ∙ read), goes)
 tree_well name content v seen o read (has_no_tree what none why end) = absurd cc
 tree_well name content v seen o read (tree_memory end) = inr end.1
@@ -135,13 +180,13 @@ no_fault [] number pointer none some = absurd cc
 no_fault (f ∷ fs) number pointer none some = absurd cc
 
 -- a description without a fault is valid
-judge_well : (tree : Tree) (seen : List Deed) (o : Outcome (Unit {0})) → faults_of (json_of tree) ≡ [] → Judges tree seen o → EndsWell o
+pub judge_well : (tree : Tree) (seen : List Deed) (o : Outcome (Unit {0})) → faults_of (json_of tree) ≡ [] → Judges tree seen o → EndsWell o
 judge_well tree seen o none (is_valid also end) = inl end.1
 judge_well tree seen o none (is_refused number pointer fault end) = absurd (no_fault (faults_of (json_of tree)) number pointer none fault)
 judge_well tree seen o none (judge_memory end) = inr end.1
 
 -- a plan is read
-same_ok : {A : Type 0} (a b : A) → ◌≡◌ {A = Result A (List ℕ)} (Ok a) (Ok b) → a ≡ b
+same_ok : {A E : Type 0} (a b : A) → ◌≡◌ {A = Result A E} (Ok a) (Ok b) → a ≡ b
 same_ok a b e = cc
 
 not_both : {A : Type 0} (a : A) (pointer : List ℕ) → ◌≡◌ {A = Result A (List ℕ)} (Ok a) (Err pointer) → ⊥
@@ -168,7 +213,7 @@ add_well models url file tree v seen o same may (add_memory end) = inr end.1
 
 -- the models of a plan are there, one after another
 take_well : (held : Option (List HeldFile)) (files : List HeldFile) (model : List ℕ × List ℕ) (models : Models) (content : List ℕ) (v : Json) (seen : List Deed) (o : Outcome Models) → held ≡ Some files
-    → content_of files model.1 ≡ Some content → length content ≤ longest_json → tree_of content ≡ Some v → MayAdd model.0 v models → ¬ (HasFailed seen) → TakesModel held model models seen o → GoesOn (λ all. all ≡ with_model model.0 v models) o
+    → content_of files model.1 ≡ Some content → length content ≤ longest_json → tree_of content ≡ Some v → MayAdd model.0 v models → ¬ (HasTrouble seen) → TakesModel held model models seen o → GoesOn (λ all. all ≡ with_model model.0 v models) o
 take_well held files model models content v seen o is_held holds short read may quiet stage =
     then_goes (ReadsFile held longest_json model.1) (λ c. AndThen (ReadsTree model.1 c) (AddsModel models model.0 model.1)) (λ c. c ≡ content) (λ all. all ≡ with_model model.0 v models) seen o quiet
     (λ s r q p. read_well held longest_json model.1 content files s r is_held holds short q p)
@@ -176,7 +221,7 @@ take_well held files model models content v seen o is_held holds short read may 
     (λ s2 r q2 p2. tree_well model.1 c v s2 r (ap tree_of same ∙ read) p2)
     (λ tree is s2 q2 p2. add_well models model.0 model.1 tree v s2 o is may p2) p) stage
 
-models_well : (held : Option (List HeldFile)) (files : List HeldFile) (left : List (List ℕ × List ℕ)) (models all : Models) (seen : List Deed) (o : Outcome Models) → held ≡ Some files → AreFaultlessModels files left models all → ¬ (HasFailed seen) → TakesModels held left models seen o
+models_well : (held : Option (List HeldFile)) (files : List HeldFile) (left : List (List ℕ × List ℕ)) (models all : Models) (seen : List Deed) (o : Outcome Models) → held ≡ Some files → AreFaultlessModels files left models all → ¬ (HasTrouble seen) → TakesModels held left models seen o
     → GoesOn (λ ms. ms ≡ all) o
 models_well held files [] models all seen o is_held fine quiet stage = inl (models, sym fine, stage.1)
 models_well held files (model ∷ left) models all seen o is_held fine quiet stage =
@@ -188,89 +233,88 @@ models_well held files (model ∷ left) models all seen o is_held fine quiet sta
 no_err : {A E : Type 0} (a : A) (e : E) → ◌≡◌ {A = Result A E} (Ok a) (Err e) → ⊥
 no_err a e same = cc
 
-derive_well : (plan : Plan) (models : Models) (things : List (List ℕ × Json)) (seen : List Deed) (o : Outcome (Unit {0})) → derived_of plan models ≡ Ok things → Derives plan models seen o → EndsWell o
-derive_well plan models things seen o fine (is_derived others also end) = inl end.1
-derive_well plan models things seen o fine (plans.is_refused fault is end) = absurd (no_err things fault (sym fine ∙ is))
-derive_well plan models things seen o fine (derive_memory end) = inr end.1
+pub derive_well : (p : Planned) (things : List (List ℕ × Json)) (seen : List Deed) (o : Outcome (List (List ℕ × Json))) → derived_of p ≡ Ok things → Derives p seen o → GoesOn (λ ts. ts ≡ things) o
+derive_well p things seen o fine (is_derived others also saw goes) = inl (others, same_ok others things (sym also ∙ fine), goes)
+derive_well p things seen o fine (plans.is_refused fault is end) = absurd (no_err things fault (sym fine ∙ is))
+derive_well p things seen o fine (derive_memory end) = inr end.1
 
-plan_file_well : (held : Option (List HeldFile)) (files : List HeldFile) (name content : List ℕ) (seen : List Deed) (o : Outcome (Unit {0})) → held ≡ Some files → IsFaultlessPlan files content → ¬ (HasFailed seen) → DerivesPlan held name content seen o → EndsWell o
-plan_file_well held files name content seen o is_held fine quiet stage =
-    then_well (ReadsTree name content) (λ tree. AndThen (ReadsPlan name tree) (λ plan. AndThen (TakesModels held plan.models []) (Derives plan))) (λ tree. json_of tree ≡ fine.value) seen o quiet
-    (λ s r q p. tree_well name content fine.value s r fine.read p)
-    (λ tree same s q p. then_well (ReadsPlan name tree) (λ plan. AndThen (TakesModels held plan.models []) (Derives plan)) (λ plan. plan ≡ fine.plan) s o q
-    (λ s2 r q2 p2. plan_well name tree fine.value fine.plan s2 r same fine.plan_is p2)
-    (λ plan is s2 q2 p2. then_well (TakesModels held plan.models []) (Derives plan) (λ ms. ms ≡ fine.models) s2 o q2
-    (λ s3 r q3 p3. models_well held files plan.models [] fine.models s3 r is_held (subst (λ (x : Plan). AreFaultlessModels files x.models [] fine.models) (sym is) fine.taken) q3 p3)
-    (λ ms all s3 q3 p3. derive_well plan ms fine.things s3 o (ap (λ (x : Plan). derived_of x ms) is ∙ ap (λ (x : Models). derived_of fine.plan x) all ∙ fine.derived_is) p3) p2) p) stage
+pub print_well : (things : List (List ℕ × Json)) (seen : List Deed) (o : Outcome (Unit {0})) → Prints things seen o → EndsWell o
+print_well things seen o (is_printed end) = inl end.1
+print_well things seen o (print_memory end) = inr end.1
 
--- a command whose file is faultless
-does_well : (held : Option (List HeldFile)) (files : List HeldFile) (command : Command) (seen : List Deed) (o : Outcome (Unit {0})) → held ≡ Some files → HasFaultlessFile files command → ¬ (HasFailed seen) → Does held command seen o → EndsWell o
-does_well held files (Replay script plan events) seen o is_held fine quiet stage =
-    then_well (ReadsFile held longest_script script) (Replays script) (λ c. c ≡ fine.content) seen o quiet
-    (λ s r q p. read_well held longest_script script fine.content files s r is_held fine.holds fine.short q p)
-    (λ content same s q p. let good = subst IsFaultlessScript (sym same) fine.good in
-    then_well (ReadsScript script content) RunsScript (λ es. es ≡ good.0) s o q (λ s2 r q2 p2. script_well script content good.0 s2 r good.1 p2)
-    (λ es is s2 q2 p2. run_well es s2 o (subst (λ (x : List EventWithBytes). length (with_stop x) ≤ event_budget) (sym is) good.2) p2) p) stage
-does_well held files (Check description) seen o is_held fine quiet stage =
-    then_well (ReadsFile held longest_json description) (Checks description) (λ c. c ≡ fine.content) seen o quiet
-    (λ s r q p. read_well held longest_json description fine.content files s r is_held fine.holds fine.short q p)
-    (λ content same s q p. let good = subst IsFaultlessDescription (sym same) fine.good in
-    then_well (ReadsTree description content) Judges (λ tree. json_of tree ≡ good.0) s o q (λ s2 r q2 p2. tree_well description content good.0 s2 r good.1 p2)
-    (λ tree is s2 q2 p2. judge_well tree s2 o (ap faults_of is ∙ good.2) p2) p) stage
-does_well held files (Derive plan) seen o is_held fine quiet stage =
-    then_well (ReadsFile held longest_json plan) (DerivesPlan held plan) (λ c. c ≡ fine.content) seen o quiet
-    (λ s r q p. read_well held longest_json plan fine.content files s r is_held fine.holds fine.short q p)
-    (λ content same s q p. plan_file_well held files plan content s o is_held (subst (IsFaultlessPlan files) (sym same) fine.good) q p) stage
-does_well held files (Serve plan events idle) seen o is_held fine quiet stage = absurd fine
-does_well held files (Consume consumption) seen o is_held fine quiet stage = absurd fine
-does_well held files (Storm seed events) seen o is_held fine quiet stage = absurd fine
+-- a plan and its models are read
+abbrev with_parts : (plan : Plan) (models : Models) → Planned
+with_parts plan models = record { plan = plan; library = models }
 
-command_well : (held : Option (List HeldFile)) (words : List (List ℕ)) (seen : List Deed) (o : Outcome (Unit {0})) → IsFaultless words held → ¬ (HasFailed seen) → Commands held words seen o → EndsWell o
-command_well held words seen o fine quiet (is_no_command none end) =
-    let bad : is_built fine.command ≡ false = rw fine.meaning at none in
-    let no : true ≡ false = sym fine.built ∙ bad in cc
-command_well held words seen o fine quiet (is_command command meaning built does) =
-    let same : command ≡ fine.command = same_Some command fine.command (sym meaning ∙ fine.meaning) in
-    does_well held fine.files fine.command seen o fine.told fine.faultless quiet (subst (λ (x : Command). Does held x seen o) same does)
-command_well held words seen o fine quiet (words_memory out) = inr out.1
+pub planned_well : (held : Option (List HeldFile)) (files : List HeldFile) (name : List ℕ) (p : Planned) (seen : List Deed) (o : Outcome Planned) → held ≡ Some files → HoldsFaultless files longest_json name (IsFaultlessPlan files p) → ¬ (HasTrouble seen) → ReadsPlanned held name seen o → GoesOn (λ q. q ≡ p) o
+planned_well held files name p seen o is_held fine quiet stage =
+    then_goes (ReadsFile held longest_json name) (λ content. AndThen (ReadsTree name content) (λ tree. AndThen (ReadsPlan name tree) (λ plan. AndThen (TakesModels held plan.models []) (IsPlanned plan)))) (λ c. c ≡ fine.content) (λ q. q ≡ p) seen o quiet
+    (λ s r q st. read_well held longest_json name fine.content files s r is_held fine.holds fine.short q st)
+    (λ content same s q st. then_goes (ReadsTree name content) (λ tree. AndThen (ReadsPlan name tree) (λ plan. AndThen (TakesModels held plan.models []) (IsPlanned plan))) (λ tree. json_of tree ≡ fine.good.value) (λ x. x ≡ p) s o q
+    (λ s2 r q2 st2. tree_well name content fine.good.value s2 r (ap tree_of same ∙ fine.good.read) st2)
+    (λ tree is s2 q2 st2. then_goes (ReadsPlan name tree) (λ plan. AndThen (TakesModels held plan.models []) (IsPlanned plan)) (λ plan. plan ≡ p.plan) (λ x. x ≡ p) s2 o q2
+    (λ s3 r q3 st3. plan_well name tree fine.good.value p.plan s3 r is fine.good.plan_is st3)
+    (λ plan is_plan_of s3 q3 st3. then_goes (TakesModels held plan.models []) (IsPlanned plan) (λ ms. ms ≡ p.library) (λ x. x ≡ p) s3 o q3
+    (λ s4 r q4 st4. models_well held files plan.models [] p.library s4 r is_held (subst (λ (x : Plan). AreFaultlessModels files x.models [] p.library) (sym is_plan_of) fine.good.taken) q4 st4)
+    (λ ms all s4 q4 st4. made plan ms is_plan_of all s4 st4) st3) st2) st) stage
+  where
+    made : (plan : Plan) (ms : Models) → plan ≡ p.plan → ms ≡ p.library → (s : List Deed) → IsPlanned plan ms s o → GoesOn (λ x. x ≡ p) o
+    made plan ms a b s (is_planned saw goes) =
+        inl (with_parts plan ms, ap (λ (x : Plan). with_parts x ms) a ∙ ap (λ (y : Models). with_parts p.plan y) b, goes)
 
--- the whole call, from the command that came out and what was reported of it
-pub call_ends : (words : List (List ℕ)) (before now : Around) (out out_now : OutSeen) (command : Command) (text shown : List ℕ) (status result : ℕ) → meaning_of words ≡ Some command → is_built command ≡ true → ComesOut (Does before.files.held command) before now (ends status) text
-    → shown ≡ text → IsReported status shown out.written out_now.written out.faults out_now.faults result → Ends words before now out out_now result
-call_ends words before now out out_now command text shown status result meaning built comes is reported = record {
-  seen = comes.seen;
-  status = status;
-  command = is_command command meaning built comes.stage;
-  shows = comes.shows;
-  reported = subst (λ (t : List ℕ). IsReported status t out.written out_now.written out.faults out_now.faults result) (is ∙ sym comes.text_is) reported;
-}
+plans_well : (held : Option (List HeldFile)) (files : List HeldFile) (plan : Option (List ℕ)) (p : Planned) (seen : List Deed) (o : Outcome Planned) → held ≡ Some files → IsPlannedBy files plan p → ¬ (HasTrouble seen) → Plans held plan seen o → GoesOn (λ q. q ≡ p) o
+plans_well held files None p seen o is_held fine quiet (is_built_in saw goes) = inl (built_in, sym fine, goes)
+plans_well held files None p seen o is_held fine quiet (built_in_memory end) = inr end.1
+plans_well held files (Some name) p seen o is_held fine quiet stage = planned_well held files name p seen o is_held fine quiet stage
 
--- words that are no command line, or mean what isn't built
-pub usage_ends : (words : List (List ℕ)) (a : Around) (out out_now : OutSeen) (result : ℕ) → IsNoCommand words → IsReported 2 usage_line out.written out_now.written out.faults out_now.faults result → Ends words a a out out_now result
-usage_ends words a out out_now result none reported = record {
-  seen = did_write usage_line ∷ [];
-  status = 2;
-  command = is_no_command none (refl, refl);
-  shows = shows_wrote a usage_line;
-  reported = subst (λ (t : List ℕ). IsReported 2 t out.written out_now.written out.faults out_now.faults result) (sym (line_alone usage_line)) reported;
-}
+-- what a replay reads
+abbrev pub with_events : (p : Planned) (events : List EventWithBytes) → Inputs
+with_events p events = record { planned = p; events = events }
 
--- there was no memory for the words
-pub words_memory_ends : (words : List (List ℕ)) (a : Around) (out out_now : OutSeen) (result : ℕ) → IsReported 9 memory_line out.written out_now.written out.faults out_now.faults result → Ends words a a out out_now result
-words_memory_ends words a out out_now result reported = record {
-  seen = did_write memory_line ∷ [];
-  status = 9;
-  command = words_memory (refl, refl);
-  shows = shows_wrote a memory_line;
-  reported = subst (λ (t : List ℕ). IsReported 9 t out.written out_now.written out.faults out_now.faults result) (sym (line_alone memory_line)) reported;
-}
+pub inputs_well : (held : Option (List HeldFile)) (files : List HeldFile) (kinds : List Kind) (script : List ℕ) (plan : Option (List ℕ)) (budget : ℕ) (fine : IsFaultlessReplay files kinds script plan budget) (seen : List Deed) (o : Outcome Inputs) → held ≡ Some files → ¬ (HasTrouble seen) → ReadsInputs held plan script seen o
+    → GoesOn (λ read. read ≡ with_events fine.planned fine.script_is.good.0) o
+inputs_well held files kinds script plan budget fine seen o is_held quiet stage =
+    then_goes (Plans held plan) (λ p. AndThen (ReadsEvents held script) (HasRead p)) (λ p. p ≡ fine.planned) Right seen o quiet
+    (λ s r q st. plans_well held files plan fine.planned s r is_held fine.by_plan q st)
+    (λ p same s q st. then_goes (ReadsEvents held script) (HasRead p) (λ es. es ≡ events) Right s o q
+    (λ s2 r q2 st2. then_goes (ReadsFile held longest_script script) (ReadsScript script) (λ c. c ≡ fine.script_is.content) (λ es. es ≡ events) s2 r q2
+    (λ s3 r3 q3 st3. read_well held longest_script script fine.script_is.content files s3 r3 is_held fine.script_is.holds fine.script_is.short q3 st3)
+    (λ content is s3 q3 st3. script_well script content events s3 r (subst (λ (c : List ℕ). IsScript c events) (sym is) fine.script_is.good.1) st3) st2)
+    (λ es is s2 q2 st2. made p es same is s2 st2) st) stage
+  where
+    events : List EventWithBytes
+    events = fine.script_is.good.0
 
--- where nothing is wrong and nothing failed, the whole call ends well
-pub ends_well : (words : List (List ℕ)) (before now : Around) (out out_now : OutSeen) (result : ℕ) → Ends words before now out out_now result → IsFaultless words before.files.held → ¬ (Rose before.files.faults now.files.faults) → ¬ (Rose out.faults out_now.faults) → (result ≡ 0) ⊎ (result ≡ 9)
-ends_well words before now out out_now result e fine kept put = elim e.reported [
-  | inl done ↦ elim (command_well before.files.held words e.seen (ends e.status) fine (λ failed. kept (e.shows.failed failed)) e.command) [
-    | inl well ↦ inl (done.0 ∙ same_status e.status 0 well)
-    | inr nine ↦ inr (done.0 ∙ same_status e.status 9 nine)
-  ]
-  | inr failed ↦ absurd (put failed.1)
-]
+    Right : Inputs → Type 0
+    Right read = read ≡ with_events fine.planned fine.script_is.good.0
+
+    made : (p : Planned) (es : List EventWithBytes) → p ≡ fine.planned → es ≡ fine.script_is.good.0 → (s : List Deed) → HasRead p es s o → GoesOn (λ read. read ≡ with_events fine.planned fine.script_is.good.0) o
+    made p es a b s (has_read saw goes) =
+        inl (with_events p es, ap (λ (x : Planned). with_events x es) a ∙ ap (λ (y : List EventWithBytes). with_events fine.planned y) b, goes)
+
+-- Things that fit are exposed
+no_first : (faults : List ExposeFault) (fault : ExposeFault) → faults ≡ [] → ¬ (fault ≡ misfit.NoMemory) → IsFirst faults fault → ⊥
+no_first faults (misfit.NoSlot segment pointer) none known first = let gone = rw none at first in absurd cc
+no_first faults (misfit.KindDiffers segment pointer) none known first = let gone = rw none at first in absurd cc
+no_first faults (misfit.SlotTwice segment pointer) none known first = let gone = rw none at first in absurd cc
+no_first faults misfit.NoMemory none known first = known refl
+
+expose_well : (name : List ℕ) (kinds : List Kind) (slots : Slots) (things : List (List ℕ × Json)) (seen : List Deed) (o : Outcome Site) → expose_faults kinds slots things ≡ [] → Exposes name kinds slots things seen o → GoesOn (λ site. Unit {0}) o
+expose_well name kinds slots things seen o none (is_exposed also saw goes) = inl (site_of slots things, tt, goes)
+expose_well name kinds slots things seen o none (is_misfit fault known first end) = absurd (no_first (expose_faults kinds slots things) fault none known first)
+expose_well name kinds slots things seen o none (expose_memory end) = inr end.1
+
+-- a servient is opened
+pub open_well : (name : List ℕ) (kinds : List Kind) (p : Planned) (things : List (List ℕ × Json)) (seen : List Deed) (o : Outcome Site) → derived_of p ≡ Ok things → expose_faults kinds p.plan.slots things ≡ [] → ¬ (HasTrouble seen) → Opens name kinds p seen o → GoesOn (λ site. Unit {0}) o
+open_well name kinds p things seen o derives fits quiet stage =
+    let slots = p.plan.slots in
+    then_goes (Derives p) (Exposes name kinds slots) (λ ts. ts ≡ things) (λ site. Unit {0}) seen o quiet
+    (λ s r q st. derive_well p things s r derives st)
+    (λ ts same s q st. expose_well name kinds slots ts s o (ap (expose_faults kinds slots) same ∙ fits) st) stage
+
+pub run_on_well : (name : List ℕ) (kinds : List Kind) (budget : ℕ) (read : Inputs) (things : List (List ℕ × Json)) (seen : List Deed) (o : Outcome (Unit {0})) → derived_of read.planned ≡ Ok things → expose_faults kinds read.planned.plan.slots things ≡ [] → length (run_events read.events) ≤ budget → ¬ (HasTrouble seen)
+    → RunsOn name kinds budget read seen o → EndsWell o
+run_on_well name kinds budget read things seen o derives fits few quiet stage =
+    then_well EndsWell by_memory (Opens name kinds read.planned) (RunsScript budget read.events read.planned.plan.exchanges) (λ site. Unit {0}) seen o quiet
+    (λ s r q st. open_well name kinds read.planned things s r derives fits q st)
+    (λ site any s q st. run_well budget read.events read.planned.plan.exchanges site s o few st) stage

@@ -1,5 +1,5 @@
 -- The fields of a line: which bytes they are made of, and that a line is cut into them in one way.
-use Rattle.std.proofs.Common.{◌≡◌, ◌≢◌, ℕ, ◌^◌, ◌<◌, true, false, ◌==◌, List, [], ◌∷◌, ◌++◌, length, map, All, Option, MatchOption, Bor, codes, decimal, refl, sym, ap, ◌∙◌, append_assoc, arith, Some, None}
+use Rattle.std.proofs.Common.{◌≡◌, ◌≢◌, ℕ, ◌^◌, ◌<◌, Bool, true, false, ◌==◌, ◌&&◌, nat_le, List, [], ◌∷◌, ◌++◌, length, map, All, Option, MatchOption, Bor, codes, decimal, refl, sym, ap, ◌∙◌, append_assoc, arith, Some, None}
 use Rattle.std.specs.Int.{IsInRange}
 use Rattle.std.specs.List.{AllByRecursion, IsFirstAndRest, slice_split}
 use Rattle.std.specs.Iterator.{Drains, YieldsThen}
@@ -50,13 +50,29 @@ IsGraphic-hex_text (b ∷ bs) each =
     All-weaker (λ c. is_lower_digit c ≡ true) IsGraphic lower_is_graphic (encode_lower (b ∷ bs))
     (all_lower-encode_lower (b ∷ bs) each)
 
--- the word of a datagram
-pub IsGraphic-data : All IsGraphic (codes "data")
-IsGraphic-data =
-    All-cons IsGraphic 100 (codes "ata") (omega arith, omega arith)
-    (All-cons IsGraphic 97 (codes "ta") (omega arith, omega arith)
-    (All-cons IsGraphic 116 (codes "a") (omega arith, omega arith)
-    (All-cons IsGraphic 97 [] (omega arith, omega arith) (All-nil IsGraphic))))
+-- a word, byte by byte
+abbrev is_graphic : ℕ → Bool
+is_graphic b = nat_le 33 b && nat_le b 126
+
+graphic_byte : (b : ℕ) → is_graphic b ≡ true → IsGraphic b
+graphic_byte b is = (grind (arith, nat_tests), grind (arith, nat_tests))
+
+abbrev pub are_graphic : List ℕ → Bool
+are_graphic [] = true
+are_graphic (b ∷ word) = is_graphic b && are_graphic word
+
+pub IsGraphic-word : (word : List ℕ) → are_graphic word ≡ true → All IsGraphic word
+IsGraphic-word [] is = All-nil IsGraphic
+IsGraphic-word (b ∷ word) is =
+    All-cons IsGraphic b word (graphic_byte b (and_first (is_graphic b) (are_graphic word) is)) (IsGraphic-word word (and_second (is_graphic b) (are_graphic word) is))
+  where
+    and_first : (x y : Bool) → (x && y) ≡ true → x ≡ true
+    and_first true y e = refl
+    and_first false y e = absurd cc
+
+    and_second : (x y : Bool) → (x && y) ≡ true → y ≡ true
+    and_second true y e = e
+    and_second false y e = absurd cc
 
 -- ---- lists of fields
 

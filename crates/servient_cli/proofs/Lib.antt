@@ -1,9 +1,13 @@
 mod HexTexts
 mod FieldTexts
 mod LineTexts
+mod EventFields
 mod ScriptTexts
 mod StageLaws
 mod FaultlessStages
+mod ServedStages
+mod CommandStages
 mod UsageStages
 mod RunLaws
 mod ModelStages
+mod MergeLaws

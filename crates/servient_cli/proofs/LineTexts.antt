@@ -1,29 +1,41 @@
 -- The line of an event.
-use Rattle.std.proofs.Common.{◌≡◌, ℕ, ◌<◌, ◌≤◌, List, ◌++◌, length, All, codes, decimal, arith}
+use Rattle.std.proofs.Common.{◌≡◌, ℕ, ◌<◌, ◌≤◌, List, ◌++◌, length, All, codes, decimal, arith, refl}
 use Rattle.std.specs.Str.{IsUtf8}
 use Rattle.std.proofs.lemmas.List.{append_cancel_right}
 use Rattle.std.proofs.lemmas.List.Elements.{All-weaker}
 use Rattle.std.proofs.lemmas.Str.{IsUtf8-from_ascii}
 use Rattle.std.proofs.lemmas.Str.Ascii.{IsAscii-from_all}
 use Rattle.servient_edge.specs.declared.net.What.{What}
-use Rattle.servient_edge.specs.declared.net.What.TheVariants.{Datagram, Stop}
+use Rattle.servient_edge.specs.declared.net.What.TheVariants.{Opened, Bytes, Ended, Datagram, Tick, Stop}
 use Rattle.servient_edge.specs.declared.net.EventWithBytes.{EventWithBytes}
+use Rattle.servient_edge.specs.Network.{MayCome}
 use Rattle.servient_cli.specs.Fields.{AreFields, fields_text}
 use Rattle.servient_cli.specs.Script.{IsScriptEvent, IsScriptWhat, line_fields, line_text, what_fields}
-use Rattle.servient_cli.proofs.FieldTexts.{AreGraphic, IsGraphic-data, IsGraphic-decimal, IsGraphic-endpoint_text, IsGraphic-hex_text, IsPrintable, IsPrintable-fields_text, graphic_are_fields}
+use Rattle.servient_cli.proofs.FieldTexts.{AreGraphic, IsGraphic-decimal, IsGraphic-endpoint_text, IsGraphic-hex_text, IsGraphic-word, IsPrintable, IsPrintable-fields_text, graphic_are_fields}
 
 -- ---- a case for each kind of line
 
 -- the fields that say what came have graphic bytes alone
-AreGraphic-what_fields : (what : What) (bytes : List ℕ) → IsScriptWhat what → All (λ b. b < 256) bytes
+AreGraphic-what_fields : (what : What) (bytes : List ℕ) → MayCome what → IsScriptWhat what → All (λ b. b < 256) bytes
     → AreGraphic (what_fields what bytes)
-AreGraphic-what_fields (Datagram from count) bytes is each =
-    (IsGraphic-data, (IsGraphic-endpoint_text from is, (IsGraphic-hex_text bytes each, tt)))
-AreGraphic-what_fields Stop bytes is each = absurd is
+AreGraphic-what_fields (Opened c) bytes may is each =
+    (IsGraphic-word (codes "open") refl, (IsGraphic-decimal c (omega (arith, may)), tt))
+AreGraphic-what_fields (Bytes c count) bytes may is each =
+    (IsGraphic-word (codes "bytes") refl, (IsGraphic-decimal c (omega (arith, may.0)), (IsGraphic-hex_text bytes each, tt)))
+AreGraphic-what_fields (Ended c) bytes may is each =
+    (IsGraphic-word (codes "end") refl, (IsGraphic-decimal c (omega (arith, may)), tt))
+AreGraphic-what_fields (Datagram from count) bytes may is each =
+    (IsGraphic-word (codes "data") refl, (IsGraphic-endpoint_text from is, (IsGraphic-hex_text bytes each, tt)))
+AreGraphic-what_fields Tick bytes may is each = (IsGraphic-word (codes "tick") refl, tt)
+AreGraphic-what_fields Stop bytes may is each = (IsGraphic-word (codes "stop") refl, tt)
 
 -- and there are no more of them than code looks at
 length-what_fields : (what : What) (bytes : List ℕ) → length (what_fields what bytes) ≤ 3
+length-what_fields (Opened c) bytes = omega arith
+length-what_fields (Bytes c count) bytes = omega arith
+length-what_fields (Ended c) bytes = omega arith
 length-what_fields (Datagram from count) bytes = omega arith
+length-what_fields Tick bytes = omega arith
 length-what_fields Stop bytes = omega arith
 
 -- ---- the same for each
@@ -31,7 +43,7 @@ length-what_fields Stop bytes = omega arith
 AreGraphic-line_fields : (e : EventWithBytes) → IsScriptEvent e → AreGraphic (line_fields e)
 AreGraphic-line_fields e is =
     let latest = is.bounds.event.moment in
-    let what = AreGraphic-what_fields e.event.what e.bytes is.what is.bytes in
+    let what = AreGraphic-what_fields e.event.what e.bytes is.bounds.event.what is.what is.bytes in
     (IsGraphic-decimal e.event.moment (omega (arith, latest)), what)
 
 pub AreFields-line_fields : (e : EventWithBytes) → IsScriptEvent e → AreFields (line_fields e)

@@ -1,24 +1,35 @@
 -- The models of a plan, one after another, as a loop takes them.
 use Rattle.std.proofs.Common.{◌≡◌, ◌≢◌, ◌⊎◌, inl, inr, ℕ, ◌+◌, ◌<◌, ◌≤◌, suc, List, [], ◌∷◌, length, drop, get_or, Result, Ok, Err, refl, sym, subst, add-one, drop-cons, ◌∙◌, ap}
-use Rattle.std.specs.Prelude.{Option, IfOk, OnOk}
+use Rattle.std.specs.Prelude.{Option, IfOk, OnOk, MatchResult}
+use Rattle.wot_json.specs.Tree.{Json}
 use Rattle.std.specs.declared.alloc.AllocError.{AllocError}
 use Rattle.std.proofs.lemmas.List.{drop_all}
-use Rattle.thing_handler.specs.Handler.{Seen}
-use Rattle.tm_parts.specs.Library.{Models}
+use Rattle.tm_parts.specs.Library.{Models, with_model}
 use Rattle.servient_edge.specs.declared.files.HeldFile.{HeldFile}
 use Rattle.wot_json.specs.declared.tree.Tree.{Tree}
 use Rattle.tm_derive.specs.declared.fault.DeriveFault.{DeriveFault}
 use Rattle.tm_derive.specs.declared.fault.DeriveFault.TheVariants.{NoMemory}
 use Rattle.servient_core.specs.declared.plan.Plan.{Plan}
+use Rattle.wot_terms.specs.declared.kind.Kind.{Kind}
+use Rattle.thing_core.specs.Site.{Slots, expose_faults}
+use Rattle.thing_core.specs.Exposing.{IsFirst}
+use Rattle.thing_core.specs.declared.fault.ExposeFault.{ExposeFault}
+use Rattle.thing_core.specs.declared.fault.ExposeFault.TheVariants as misfit
+use Rattle.servient_edge.specs.declared.net.EventWithBytes.{EventWithBytes}
+use Rattle.servient_core.specs.Trace.{Outside}
+use Rattle.servient_core.specs.Machine.{Site}
+use Rattle.servient_cli.specs.declared.derivation.Planned.{Planned}
+use Rattle.servient_cli.specs.declared.replay.Inputs.{Inputs}
+use Rattle.servient_cli.specs.Opening.{Exposes, is_misfit, expose_memory}
 use Rattle.servient_cli.specs.declared.ending.Ending.{Ending}
 use Rattle.servient_cli.specs.declared.ending.Ended.{Ended}
 use Rattle.servient_cli.specs.declared.ending.Ended.TheVariants as ended
-use Rattle.servient_cli.specs.Lines.{memory_line}
+use Rattle.servient_cli.specs.Lines.{input_line}
 use Rattle.servient_cli.specs.Stages.{Deed, Outcome, goes_on, ends, AndThen, FilesSeen, Around, around}
 use Rattle.servient_cli.specs.Reading.{ReadsFile, ReadsTree, longest_json}
-use Rattle.servient_cli.specs.FaultLines.{refused_line}
-use Rattle.servient_cli.specs.Deriving.{AddsModel, ReadsPlan, TakesModel, TakesModels, Derives, is_refused, derive_memory, derived_of}
-use Rattle.servient_cli.specs.Ending.{ComesOut, Performs, Finishes}
+use Rattle.servient_cli.specs.FaultLines.{misfit_text, refused_line}
+use Rattle.servient_cli.specs.Deriving.{AddsModel, ReadsPlan, TakesModel, TakesModels, IsPlanned, ReadsPlanned, Derives, is_refused, derive_memory, derived_of}
+use Rattle.servient_cli.specs.Ending.{ComesOut, Performs, status_of, text_of}
 use Rattle.servient_cli.proofs.StageLaws.{first_ends, goes_quietly, second_comes, error_performs, then_performs, ends_line, ends_memory}
 
 -- a limit that is given by an equation
@@ -28,11 +39,11 @@ read_limit held m n name a b e is p = subst (λ (k : ℕ). Performs {A = List �
 -- Models were taken, these are left, and however it comes out with those, all come out so.
 abbrev pub TakesOn : Option (List HeldFile) → List (List ℕ × List ℕ) → List (List ℕ × List ℕ) → Models → FilesSeen → FilesSeen → Type 0
 TakesOn held all left models before now =
-    (slots : List Seen) (later : Around) (o : Outcome Models) (text : List ℕ) → ComesOut (TakesModels held left models) (around now slots) later o text → ComesOut (TakesModels held all []) (around before slots) later o text
+    (w : Outside) (later : Around) (o : Outcome Models) (text : List ℕ) → ComesOut (TakesModels held left models) (around now w) later o text → ComesOut (TakesModels held all []) (around before w) later o text
 
 -- before the first
 pub takes_first : (held : Option (List HeldFile)) (all : List (List ℕ × List ℕ)) (before : FilesSeen) → TakesOn held all (drop 0 all) [] before before
-takes_first held all before = λ slots later o text p. p
+takes_first held all before = λ w later o text p. p
 
 -- what is left at an index begins with what is there
 left_at : (all : List (List ℕ × List ℕ)) (i : ℕ) (d model : List ℕ × List ℕ) → i < length all → model ≡ get_or all i d → drop i all ≡ model ∷ drop (i + 1) all
@@ -40,27 +51,24 @@ left_at all i d model within is = drop-cons all i d within ∙ ap (λ (m : List 
 
 -- one more
 pub takes_more : (held : Option (List HeldFile)) (all : List (List ℕ × List ℕ)) (i : ℕ) (d model : List ℕ × List ℕ) (models grown : Models) (before now next : FilesSeen) → i < length all → model ≡ get_or all i d
-    → TakesOn held all (drop i all) models before now → ((slots : List Seen) → ComesOut (TakesModel held model models) (around now slots) (around next slots) (goes_on grown) []) → TakesOn held all (drop (i + 1) all) grown before next
-takes_more held all i d model models grown before now next within is so_far one = λ slots later o text p.
-    so_far slots later o text (subst (λ (left : List (List ℕ × List ℕ)). ComesOut (TakesModels held left models) (around now slots) later o text) (sym (left_at all i d model within is))
-    (second_comes (TakesModel held model models) (TakesModels held (drop (i + 1) all)) (around now slots) (around next slots) later grown o text (one slots) p))
+    → TakesOn held all (drop i all) models before now → ((w : Outside) → ComesOut (TakesModel held model models) (around now w) (around next w) (goes_on grown) []) → TakesOn held all (drop (i + 1) all) grown before next
+takes_more held all i d model models grown before now next within is so_far one = λ w later o text p.
+    so_far w later o text (subst (λ (left : List (List ℕ × List ℕ)). ComesOut (TakesModels held left models) (around now w) later o text) (sym (left_at all i d model within is))
+    (second_comes (TakesModel held model models) (TakesModels held (drop (i + 1) all)) (around now w) (around next w) later grown o text (one w) p))
 
 -- one that isn't taken ends all
-pub takes_none : (held : Option (List HeldFile)) (all : List (List ℕ × List ℕ)) (i : ℕ) (d model : List ℕ × List ℕ) (models : Models) (before now next : FilesSeen) (slots : List Seen) (e : Ended) → i < length all → model ≡ get_or all i d
-    → TakesOn held all (drop i all) models before now → Performs {A = Models} (TakesModel held model models) (around now slots) (around next slots) (Err e) → Performs {A = Models} (TakesModels held all []) (around before slots) (around next slots) (Err e)
-takes_none held all i d model models before now next slots (ended.With ending) within is so_far one =
-    so_far slots (around next slots) (ends ending.status) ending.text (subst (λ (left : List (List ℕ × List ℕ)). ComesOut (TakesModels held left models) (around now slots) (around next slots) (ends ending.status) ending.text) (sym (left_at all i d model within is))
-    (first_ends (TakesModel held model models) (TakesModels held (drop (i + 1) all)) (around now slots) (around next slots) ending.status ending.text one))
-takes_none held all i d model models before now next slots ended.NoMemory within is so_far one =
-    so_far slots (around next slots) (ends 9) memory_line (subst (λ (left : List (List ℕ × List ℕ)). ComesOut (TakesModels held left models) (around now slots) (around next slots) (ends 9) memory_line) (sym (left_at all i d model within is))
-    (first_ends (TakesModel held model models) (TakesModels held (drop (i + 1) all)) (around now slots) (around next slots) 9 memory_line one))
+pub takes_none : (held : Option (List HeldFile)) (all : List (List ℕ × List ℕ)) (i : ℕ) (d model : List ℕ × List ℕ) (models : Models) (before now next : FilesSeen) (w : Outside) (e : Ended) → i < length all → model ≡ get_or all i d
+    → TakesOn held all (drop i all) models before now → Performs {A = Models} (TakesModel held model models) (around now w) (around next w) (Err e) → Performs {A = Models} (TakesModels held all []) (around before w) (around next w) (Err e)
+takes_none held all i d model models before now next w e within is so_far one =
+    so_far w (around next w) (ends (status_of e)) (text_of e) (subst (λ (left : List (List ℕ × List ℕ)). ComesOut (TakesModels held left models) (around now w) (around next w) (ends (status_of e)) (text_of e)) (sym (left_at all i d model within is))
+    (first_ends (TakesModel held model models) (TakesModels held (drop (i + 1) all)) (around now w) (around next w) (status_of e) (text_of e) one))
 
 -- after the last
-pub takes_last : (held : Option (List HeldFile)) (all : List (List ℕ × List ℕ)) (i : ℕ) (models : Models) (before now : FilesSeen) (slots : List Seen) → length all ≤ i → TakesOn held all (drop i all) models before now
-    → ComesOut (TakesModels held all []) (around before slots) (around now slots) (goes_on models) []
-takes_last held all i models before now slots past so_far =
-    so_far slots (around now slots) (goes_on models) [] (subst (λ (left : List (List ℕ × List ℕ)). ComesOut (TakesModels held left models) (around now slots) (around now slots) (goes_on models) []) (sym (drop_all i all past))
-    (goes_quietly (TakesModels held [] models) (around now slots) models (refl, refl)))
+pub takes_last : (held : Option (List HeldFile)) (all : List (List ℕ × List ℕ)) (i : ℕ) (models : Models) (before now : FilesSeen) (w : Outside) → length all ≤ i → TakesOn held all (drop i all) models before now
+    → ComesOut (TakesModels held all []) (around before w) (around now w) (goes_on models) []
+takes_last held all i models before now w past so_far =
+    so_far w (around now w) (goes_on models) [] (subst (λ (left : List (List ℕ × List ℕ)). ComesOut (TakesModels held left models) (around now w) (around now w) (goes_on models) []) (sym (drop_all i all past))
+    (goes_quietly (TakesModels held [] models) (around now w) models (refl, refl)))
 
 -- ---- one model
 
@@ -97,15 +105,57 @@ taken_tree held model models url file content bytes tree a b r url_is is same p 
 -- ---- the root
 
 -- it has a fault, or memory is out
-pub refused_finishes : (plan : Plan) (models : Models) (a : Around) (r : Result Ending AllocError) (e : DeriveFault) → IfOk r (λ x. (x.status ≡ 5) × (x.text ≡ refused_line e)) → OnOk r (e ≢ NoMemory) → (e ≡ NoMemory) ⊎ (derived_of plan models ≡ Err e)
-    → Finishes (Derives plan models) a a r
-refused_finishes plan models a (Err none) e line known why = ends_memory (Derives plan models) a (derive_memory (refl, refl))
-refused_finishes plan models a (Ok ending) e line known (inl memory) = absurd (known memory)
-refused_finishes plan models a (Ok ending) e line known (inr is) = ends_line (Derives plan models) a ending 5 (refused_line e) line (is_refused e is (refl, refl))
+pub refused_ends : (p : Planned) (a : Around) (r : Result Ending AllocError) (e : DeriveFault) (ended_so : Ended) → IfOk r (λ x. (x.status ≡ 5) × (x.text ≡ refused_line e)) → OnOk r (e ≢ NoMemory) → MatchResult r (λ x. ended_so ≡ ended.With x) (λ _. ended_so ≡ ended.NoMemory)
+    → (e ≡ NoMemory) ⊎ (derived_of p ≡ Err e) → Performs {A = List (List ℕ × Json)} (Derives p) a a (Err ended_so)
+refused_ends p a (Err none) e ended_so line known comes why =
+    subst (λ (x : Ended). Performs {A = List (List ℕ × Json)} (Derives p) a a (Err x)) (sym comes) (ends_memory (Derives p) a (derive_memory (refl, refl)))
+refused_ends p a (Ok ending) e ended_so line known comes (inl memory) = absurd (known memory)
+refused_ends p a (Ok ending) e ended_so line known comes (inr is) =
+    subst (λ (x : Ended). Performs {A = List (List ℕ × Json)} (Derives p) a a (Err x)) (sym comes) (ends_line (Derives p) a ending 5 (refused_line e) line (is_refused e is (refl, refl)))
 
--- what follows the tree of a plan, and what follows the plan
-abbrev pub after_plan : Option (List HeldFile) → Plan → List Deed → Outcome (Unit {0}) → Type 0
-after_plan held plan = AndThen (TakesModels held plan.models []) (Derives plan)
+-- ---- a plan and its models
 
-abbrev pub after_tree : Option (List HeldFile) → List ℕ → Tree → List Deed → Outcome (Unit {0}) → Type 0
+-- what follows the content of a plan, its tree, and the plan
+abbrev pub after_plan : Option (List HeldFile) → Plan → List Deed → Outcome Planned → Type 0
+after_plan held plan = AndThen (TakesModels held plan.models []) (IsPlanned plan)
+
+abbrev pub after_tree : Option (List HeldFile) → List ℕ → Tree → List Deed → Outcome Planned → Type 0
 after_tree held name tree = AndThen (ReadsPlan name tree) (after_plan held)
+
+abbrev pub after_content : Option (List HeldFile) → List ℕ → List ℕ → List Deed → Outcome Planned → Type 0
+after_content held name content = AndThen (ReadsTree name content) (after_tree held name)
+
+-- the plan's content was read, and then its tree, which is a plan
+pub content_then : (held : Option (List HeldFile)) (name content : List ℕ) (a b c : Around) (r : Result Planned Ended) → ComesOut (ReadsFile held longest_json name) a b (goes_on content) [] → Performs (after_content held name content) b c r → Performs (ReadsPlanned held name) a c r
+content_then held name content a b c r p q = then_performs (ReadsFile held longest_json name) (after_content held name) a b c content r p q
+
+pub tree_then : (held : Option (List HeldFile)) (name content : List ℕ) (a b c : Around) (tree : Tree) (r : Result Planned Ended) → ComesOut (ReadsFile held longest_json name) a b (goes_on content) [] → ComesOut (ReadsTree name content) b b (goes_on tree) [] → Performs (after_tree held name tree) b c r → Performs (ReadsPlanned held name) a c r
+tree_then held name content a b c tree r p q s = content_then held name content a b c r p (then_performs (ReadsTree name content) (after_tree held name) b b c tree r q s)
+
+pub plan_then : (held : Option (List HeldFile)) (name content : List ℕ) (a b c : Around) (tree : Tree) (plan : Plan) (r : Result Planned Ended) → ComesOut (ReadsFile held longest_json name) a b (goes_on content) [] → ComesOut (ReadsTree name content) b b (goes_on tree) [] → ComesOut (ReadsPlan name tree) b b (goes_on plan) []
+    → Performs (after_plan held plan) b c r → Performs (ReadsPlanned held name) a c r
+plan_then held name content a b c tree plan r p q s t = tree_then held name content a b c tree r p q (then_performs (ReadsPlan name tree) (after_plan held) b b c plan r s t)
+
+abbrev pub planned : Plan → Models → Planned
+planned plan models = record { plan = plan; library = models }
+
+-- the same plan, with one model under the same URL
+pub same_planned : (plan other : Plan) (library models : Models) (url place : List ℕ) (v model : Json) → plan ≡ other → library ≡ with_model url v models → url ≡ place → v ≡ model → models ≡ [] → goes_on (planned plan library) ≡ goes_on (planned other (with_model place model []))
+same_planned plan other library models url place v model same added at is none =
+    ap (λ (x : Plan). goes_on (planned x library)) same
+    ∙ ap (λ (x : Models). goes_on (planned other x))
+    (added ∙ ap (λ (x : List ℕ). with_model x v models) at ∙ ap (λ (x : Json). with_model place x models) is ∙ ap (λ (x : Models). with_model place model x) none)
+
+-- ---- a replay
+
+abbrev pub inputs : Planned → List EventWithBytes → Inputs
+inputs p events = record { planned = p; events = events }
+
+-- its Things don't fit the rack, or memory is out
+pub misfit_ends : (name : List ℕ) (kinds : List Kind) (slots : Slots) (things : List (List ℕ × Json)) (a : Around) (r : Result Ending AllocError) (fault : ExposeFault) (ended_so : Ended) → IfOk r (λ x. (x.status ≡ 4) × (x.text ≡ input_line name (misfit_text fault))) → OnOk r (fault ≢ misfit.NoMemory)
+    → MatchResult r (λ x. ended_so ≡ ended.With x) (λ _. ended_so ≡ ended.NoMemory) → IsFirst (expose_faults kinds slots things) fault → Performs {A = Site} (Exposes name kinds slots things) a a (Err ended_so)
+misfit_ends name kinds slots things a (Err none) fault ended_so line known comes first =
+    subst (λ (x : Ended). Performs {A = Site} (Exposes name kinds slots things) a a (Err x)) (sym comes) (ends_memory (Exposes name kinds slots things) a (expose_memory (refl, refl)))
+misfit_ends name kinds slots things a (Ok ending) fault ended_so line known comes first =
+    subst (λ (x : Ended). Performs {A = Site} (Exposes name kinds slots things) a a (Err x)) (sym comes)
+    (ends_line (Exposes name kinds slots things) a ending 4 (input_line name (misfit_text fault)) line (is_misfit fault known first (refl, refl)))

@@ -5,7 +5,11 @@ use Rattle.std.specs.declared.alloc.AllocError.{AllocError}
 use Rattle.std.proofs.lemmas.List.{append-nil}
 use Rattle.thing_handler.specs.Handler.{Seen}
 use Rattle.thing_handler.specs.Turns.{HandlerCall, RackShows}
-use Rattle.thing_handler.proofs.RackLaws.{rack_shows_none, rack_shows_then}
+use Rattle.thing_handler.proofs.RackLaws.{rack_shows_none}
+use Rattle.servient_edge.specs.Network.{Happening, NetSeen, NetShows}
+use Rattle.servient_edge.proofs.NetLaws.{net_shows_none}
+use Rattle.servient_core.specs.Trace.{Sighting, at_network, at_handler, happened_in, calls_in, Outside, outside, Shows}
+use Rattle.servient_core.proofs.TraceLaws.{shows_in_order}
 use Rattle.servient_edge.specs.declared.files.FileRead.{FileRead}
 use Rattle.servient_edge.specs.Told.{Continues}
 use Rattle.servient_edge.proofs.ToldLaws.{continues_same, continues_then}
@@ -14,28 +18,28 @@ use Rattle.servient_cli.specs.declared.ending.Ended.{Ended}
 use Rattle.servient_cli.specs.declared.ending.Ended.TheVariants as ended
 use Rattle.servient_cli.specs.Lines.{memory_line}
 use Rattle.servient_base.specs.Count.{Rose}
-use Rattle.servient_cli.specs.Stages.{Deed, did_read, did_fail, did_call, did_write, HasFailed, reads_in, handler_calls_in, text_in, Outcome, goes_on, ends, AndThen, ends_first, goes_further, FilesSeen, Around, around, ShowsDeeds}
-use Rattle.servient_cli.specs.Ending.{ComesOut, Performs, Finishes, EndsBy}
+use Rattle.servient_cli.specs.Stages.{Deed, did_read, did_fail, did_see, did_write, sees, HasFailed, reads_in, sightings_in, text_in, Outcome, goes_on, ends, AndThen, ends_first, goes_further, FilesSeen, Around, around, ShowsDeeds}
+use Rattle.servient_cli.specs.Ending.{ComesOut, Performs, Finishes, EndsBy, status_of, text_of, final_status, final_text}
 
 reads_in-append : (a b : List Deed) → reads_in (a ++ b) ≡ reads_in a ++ reads_in b
 reads_in-append [] b = refl
 reads_in-append (did_read file ∷ a) b = ap (λ (files : List FileRead). file ∷ files) (reads_in-append a b)
 reads_in-append (did_fail file ∷ a) b = ap (λ (files : List FileRead). file ∷ files) (reads_in-append a b)
-reads_in-append (did_call call ∷ a) b = reads_in-append a b
+reads_in-append (did_see sighting ∷ a) b = reads_in-append a b
 reads_in-append (did_write text ∷ a) b = reads_in-append a b
 
-handler_calls_in-append : (a b : List Deed) → handler_calls_in (a ++ b) ≡ handler_calls_in a ++ handler_calls_in b
-handler_calls_in-append [] b = refl
-handler_calls_in-append (did_read file ∷ a) b = handler_calls_in-append a b
-handler_calls_in-append (did_fail file ∷ a) b = handler_calls_in-append a b
-handler_calls_in-append (did_call call ∷ a) b = ap (λ (calls : List HandlerCall). call ∷ calls) (handler_calls_in-append a b)
-handler_calls_in-append (did_write text ∷ a) b = handler_calls_in-append a b
+sightings_in-append : (a b : List Deed) → sightings_in (a ++ b) ≡ sightings_in a ++ sightings_in b
+sightings_in-append [] b = refl
+sightings_in-append (did_read file ∷ a) b = sightings_in-append a b
+sightings_in-append (did_fail file ∷ a) b = sightings_in-append a b
+sightings_in-append (did_see sighting ∷ a) b = ap (λ (sightings : List Sighting). sighting ∷ sightings) (sightings_in-append a b)
+sightings_in-append (did_write text ∷ a) b = sightings_in-append a b
 
 text_in-append : (a b : List Deed) → text_in (a ++ b) ≡ text_in a ++ text_in b
 text_in-append [] b = refl
 text_in-append (did_read file ∷ a) b = text_in-append a b
 text_in-append (did_fail file ∷ a) b = text_in-append a b
-text_in-append (did_call call ∷ a) b = text_in-append a b
+text_in-append (did_see sighting ∷ a) b = text_in-append a b
 text_in-append (did_write text ∷ a) b =
     ap (λ (more : List ℕ). text ++ more) (text_in-append a b) ∙ sym (append_assoc text (text_in a) (text_in b))
 
@@ -43,7 +47,7 @@ failed_before : (a b : List Deed) → HasFailed (a ++ b) → HasFailed a ⊎ Has
 failed_before [] b failed = inr failed
 failed_before (did_read file ∷ a) b failed = failed_before a b failed
 failed_before (did_fail file ∷ a) b failed = inl tt
-failed_before (did_call call ∷ a) b failed = failed_before a b failed
+failed_before (did_see sighting ∷ a) b failed = failed_before a b failed
 failed_before (did_write text ∷ a) b failed = failed_before a b failed
 
 -- a count that rose goes on having risen
@@ -59,10 +63,10 @@ line_alone line = append-nil line
 
 -- what is shown where only a text was written, and where nothing was done
 pub shows_wrote : (a : Around) (text : List ℕ) → ShowsDeeds a a (did_write text ∷ [])
-shows_wrote a text = record { reads = continues_same a.files.reads; faults = omega arith; failed = λ none. absurd none; slots = rack_shows_none a.slots }
+shows_wrote a text = record { reads = continues_same a.files.reads; faults = omega arith; failed = λ none. absurd none; outside = shows_in_order.none a.outside }
 
 pub shows_nothing : (a : Around) → ShowsDeeds a a []
-shows_nothing a = record { reads = continues_same a.files.reads; faults = omega arith; failed = λ none. absurd none; slots = rack_shows_none a.slots }
+shows_nothing a = record { reads = continues_same a.files.reads; faults = omega arith; failed = λ none. absurd none; outside = shows_in_order.none a.outside }
 
 -- what is shown at one time and then at another
 pub shows_then : (a b c : Around) (first second : List Deed) → ShowsDeeds a b first → ShowsDeeds b c second → ShowsDeeds a c (first ++ second)
@@ -74,19 +78,19 @@ shows_then a b c first second p q = record {
     | inl before ↦ rose_then a.files.faults b.files.faults c.files.faults (p.failed before) q.faults
     | inr after ↦ then_rose a.files.faults b.files.faults c.files.faults p.faults (q.failed after)
   ];
-  slots = subst (λ (calls : List HandlerCall). RackShows a.slots c.slots calls) (sym (handler_calls_in-append first second))
-      (rack_shows_then a.slots b.slots c.slots (handler_calls_in first) (handler_calls_in second) p.slots q.slots);
+  outside = subst (λ (sightings : List Sighting). Shows a.outside c.outside sightings) (sym (sightings_in-append first second))
+      (shows_in_order.more a.outside b.outside c.outside (sightings_in first) (sightings_in second) p.outside q.outside);
 }
 
 -- a file was read; a read failed; there was none
-pub shows_read : (before now : FilesSeen) (slots : List Seen) (file : FileRead) → Continues before.reads now.reads (file ∷ []) → before.faults ≤ now.faults → ShowsDeeds (around before slots) (around now slots) (did_read file ∷ [])
-shows_read before now slots file reads faults = record { reads = reads; faults = faults; failed = λ none. absurd none; slots = rack_shows_none slots }
+pub shows_read : (before now : FilesSeen) (w : Outside) (file : FileRead) → Continues before.reads now.reads (file ∷ []) → before.faults ≤ now.faults → ShowsDeeds (around before w) (around now w) (did_read file ∷ [])
+shows_read before now w file reads faults = record { reads = reads; faults = faults; failed = λ none. absurd none; outside = shows_in_order.none w }
 
-pub shows_failed : (before now : FilesSeen) (slots : List Seen) (file : FileRead) → Continues before.reads now.reads (file ∷ []) → before.faults ≤ now.faults → Rose before.faults now.faults → ShowsDeeds (around before slots) (around now slots) (did_fail file ∷ [])
-shows_failed before now slots file reads faults rose = record { reads = reads; faults = faults; failed = λ failed. rose; slots = rack_shows_none slots }
+pub shows_failed : (before now : FilesSeen) (w : Outside) (file : FileRead) → Continues before.reads now.reads (file ∷ []) → before.faults ≤ now.faults → Rose before.faults now.faults → ShowsDeeds (around before w) (around now w) (did_fail file ∷ [])
+shows_failed before now w file reads faults rose = record { reads = reads; faults = faults; failed = λ failed. rose; outside = shows_in_order.none w }
 
-pub shows_no_read : (before now : FilesSeen) (slots : List Seen) → Continues before.reads now.reads [] → before.faults ≤ now.faults → ShowsDeeds (around before slots) (around now slots) []
-shows_no_read before now slots reads faults = record { reads = reads; faults = faults; failed = λ none. absurd none; slots = rack_shows_none slots }
+pub shows_no_read : (before now : FilesSeen) (w : Outside) → Continues before.reads now.reads [] → before.faults ≤ now.faults → ShowsDeeds (around before w) (around now w) []
+shows_no_read before now w reads faults = record { reads = reads; faults = faults; failed = λ none. absurd none; outside = shows_in_order.none w }
 
 -- ---- stages that go on, or write a line at the end
 
@@ -159,13 +163,11 @@ second_ends P Q a b c value status text p q = record {
 
 pub then_ends : {A : Type 0} (P : List Deed → Outcome A → Type 0) (Q : A → List Deed → Outcome (Unit {0}) → Type 0) (a b c : Around) (value : A) (r : Result Ending Ended) → ComesOut P a b (goes_on value) [] → EndsBy (Q value) b c r → EndsBy (AndThen P Q) a c r
 then_ends P Q a b c value (Ok ending) p q = second_ends P Q a b c value ending.status ending.text p q
-then_ends P Q a b c value (Err (ended.With ending)) p q = second_ends P Q a b c value ending.status ending.text p q
-then_ends P Q a b c value (Err ended.NoMemory) p q = second_ends P Q a b c value 9 memory_line p q
+then_ends P Q a b c value (Err e) p q = second_ends P Q a b c value (status_of e) (text_of e) p q
 
 -- the error of a stage ends the whole
 pub error_ends : {A : Type 0} (P : List Deed → Outcome A → Type 0) (Q : A → List Deed → Outcome (Unit {0}) → Type 0) (a b : Around) (e : Ended) → Performs P a b (Err e) → EndsBy (AndThen P Q) a b (Err e)
-error_ends P Q a b (ended.With ending) p = first_ends P Q a b ending.status ending.text p
-error_ends P Q a b ended.NoMemory p = first_ends P Q a b 9 memory_line p
+error_ends P Q a b e p = first_ends P Q a b (status_of e) (text_of e) p
 
 -- the same of a stage that may go on
 pub second_comes : {A B : Type 0} (P : List Deed → Outcome A → Type 0) (Q : A → List Deed → Outcome B → Type 0) (a b c : Around) (value : A) (o : Outcome B) (text : List ℕ) → ComesOut P a b (goes_on value) [] → ComesOut (Q value) b c o text → ComesOut (AndThen P Q) a c o text
@@ -178,71 +180,130 @@ second_comes P Q a b c value o text p q = record {
 
 pub then_performs : {A B : Type 0} (P : List Deed → Outcome A → Type 0) (Q : A → List Deed → Outcome B → Type 0) (a b c : Around) (value : A) (r : Result B Ended) → ComesOut P a b (goes_on value) [] → Performs (Q value) b c r → Performs (AndThen P Q) a c r
 then_performs P Q a b c value (Ok further) p q = second_comes P Q a b c value (goes_on further) [] p q
-then_performs P Q a b c value (Err (ended.With ending)) p q = second_comes P Q a b c value (ends ending.status) ending.text p q
-then_performs P Q a b c value (Err ended.NoMemory) p q = second_comes P Q a b c value (ends 9) memory_line p q
+then_performs P Q a b c value (Err e) p q = second_comes P Q a b c value (ends (status_of e)) (text_of e) p q
 
 pub error_performs : {A B : Type 0} (P : List Deed → Outcome A → Type 0) (Q : A → List Deed → Outcome B → Type 0) (a b : Around) (e : Ended) → Performs P a b (Err e) → Performs (AndThen P Q) a b (Err e)
-error_performs P Q a b (ended.With ending) p = first_ends P Q a b ending.status ending.text p
-error_performs P Q a b ended.NoMemory p = first_ends P Q a b 9 memory_line p
+error_performs P Q a b e p = first_ends P Q a b (status_of e) (text_of e) p
 
 -- the result of the last stage, as that of a command
 pub finished : (P : List Deed → Outcome (Unit {0}) → Type 0) (a b : Around) (r : Result Ending AllocError) (ending : Ending) → r ≡ Ok ending → Finishes P a b r → EndsBy P a b (Ok ending)
 finished P a b r ending is p = subst (λ (x : Result Ending AllocError). Finishes P a b x) is p
 
+-- however a stage comes out that is the last of a command
+pub ends_so : (P : List Deed → Outcome (Unit {0}) → Type 0) (a b : Around) (r : Result Ending Ended) → EndsBy P a b r → ComesOut P a b (ends (final_status r)) (final_text r)
+ends_so P a b (Ok ending) p = p
+ends_so P a b (Err e) p = p
+
+-- ---- what is seen at the network and at the handlers, and then what is written
+
+seen_alone : (seen : List Sighting) → sightings_in (sees seen) ≡ seen
+seen_alone [] = refl
+seen_alone (sighting ∷ seen) = ap (λ (more : List Sighting). sighting ∷ more) (seen_alone seen)
+
+no_reads : (seen : List Sighting) → reads_in (sees seen) ≡ []
+no_reads [] = refl
+no_reads (sighting ∷ seen) = no_reads seen
+
+pub no_text : (seen : List Sighting) → text_in (sees seen) ≡ []
+no_text [] = refl
+no_text (sighting ∷ seen) = no_text seen
+
+none_failed : (seen : List Sighting) → HasFailed (sees seen) → ⊥
+none_failed [] failed = failed
+none_failed (sighting ∷ seen) failed = none_failed seen failed
+
+pub shows_seen : (files : FilesSeen) (w v : Outside) (seen : List Sighting) → Shows w v seen → ShowsDeeds (around files w) (around files v) (sees seen)
+shows_seen files w v seen shows = record {
+  reads = subst (λ (made : List FileRead). Continues files.reads files.reads made) (sym (no_reads seen)) (continues_same files.reads);
+  faults = omega arith;
+  failed = λ failed. absurd (none_failed seen failed);
+  outside = subst (λ (made : List Sighting). Shows w v made) (sym (seen_alone seen)) shows;
+}
+
+-- something was seen, and then a text was written with which the command ends
+pub seen_end : {A : Type 0} (P : List Deed → Outcome A → Type 0) (files : FilesSeen) (w v : Outside) (seen : List Sighting) (status : ℕ) (line text : List ℕ) → Shows w v seen → text ≡ line
+    → P (sees seen ++ did_write line ∷ []) (ends status) → ComesOut P (around files w) (around files v) (ends status) text
+seen_end P files w v seen status line text shows is stage = record {
+  seen = sees seen ++ did_write line ∷ [];
+  stage = stage;
+  shows = shows_then (around files w) (around files v) (around files v) (sees seen) (did_write line ∷ []) (shows_seen files w v seen shows) (shows_wrote (around files v) line);
+  text_is = text_after (sees seen) line (no_text seen) ∙ sym is;
+}
+
+-- ---- what happens at the network
+
+happened_alone : (happened : List Happening) → happened_in (map (λ h. at_network h) happened) ≡ happened
+happened_alone [] = refl
+happened_alone (h ∷ happened) = ap (λ (more : List Happening). h ∷ more) (happened_alone happened)
+
+no_calls : (happened : List Happening) → calls_in (map (λ h. at_network h) happened) ≡ []
+no_calls [] = refl
+no_calls (h ∷ happened) = no_calls happened
+
+-- while no handler is called
+shows_network : (n m : NetSeen) (slots : List Seen) (happened : List Happening) → NetShows n m happened → Shows (outside n slots) (outside m slots) (map (λ h. at_network h) happened)
+shows_network n m slots happened shows = record {
+  net = subst (λ (all : List Happening). NetShows n m all) (sym (happened_alone happened)) shows;
+  rack = subst (λ (calls : List HandlerCall). RackShows slots slots calls) (sym (no_calls happened)) (rack_shows_none slots);
+}
+
+-- and then the stage goes on
+pub happens_goes : {A : Type 0} (P : List Deed → Outcome A → Type 0) (files : FilesSeen) (n m : NetSeen) (slots : List Seen) (happened : List Happening) (value : A) → NetShows n m happened → P (sees (map (λ h. at_network h) happened)) (goes_on value)
+    → ComesOut P (around files (outside n slots)) (around files (outside m slots)) (goes_on value) []
+happens_goes P files n m slots happened value shows stage =
+    let seen = map (λ h. at_network h) happened in
+    goes_after P (around files (outside n slots)) (around files (outside m slots)) (sees seen) value (shows_seen files (outside n slots) (outside m slots) seen (shows_network n m slots happened shows)) (no_text seen) stage
+
+-- or a text is written with which the command ends
+pub happens_end : {A : Type 0} (P : List Deed → Outcome A → Type 0) (files : FilesSeen) (n m : NetSeen) (slots : List Seen) (happened : List Happening) (status : ℕ) (line : List ℕ) → NetShows n m happened → P (sees (map (λ h. at_network h) happened) ++ did_write line ∷ []) (ends status)
+    → ComesOut P (around files (outside n slots)) (around files (outside m slots)) (ends status) line
+happens_end P files n m slots happened status line shows stage =
+    seen_end P files (outside n slots) (outside m slots) (map (λ h. at_network h) happened) status line line (shows_network n m slots happened shows) refl stage
+
 -- ---- calls of handlers, and then what is written
 
-calls_alone : (calls : List HandlerCall) → handler_calls_in (map (λ call. did_call call) calls) ≡ calls
-calls_alone [] = refl
-calls_alone (call ∷ calls) = ap (λ (more : List HandlerCall). call ∷ more) (calls_alone calls)
+pub handlers_alone : (calls : List HandlerCall) → calls_in (map (λ call. at_handler call) calls) ≡ calls
+handlers_alone [] = refl
+handlers_alone (call ∷ calls) = ap (λ (more : List HandlerCall). call ∷ more) (handlers_alone calls)
 
-no_reads : (calls : List HandlerCall) → reads_in (map (λ call. did_call call) calls) ≡ []
-no_reads [] = refl
-no_reads (call ∷ calls) = no_reads calls
+nothing_there : (calls : List HandlerCall) → happened_in (map (λ call. at_handler call) calls) ≡ []
+nothing_there [] = refl
+nothing_there (call ∷ calls) = nothing_there calls
 
-no_text : (calls : List HandlerCall) → text_in (map (λ call. did_call call) calls) ≡ []
-no_text [] = refl
-no_text (call ∷ calls) = no_text calls
-
-none_failed : (calls : List HandlerCall) → HasFailed (map (λ call. did_call call) calls) → ⊥
-none_failed [] failed = failed
-none_failed (call ∷ calls) failed = none_failed calls failed
-
-shows_calls : (files : FilesSeen) (before now : List Seen) (calls : List HandlerCall) → RackShows before now calls → ShowsDeeds (around files before) (around files now) (map (λ call. did_call call) calls)
-shows_calls files before now calls shows = record {
-  reads = subst (λ (made : List FileRead). Continues files.reads files.reads made) (sym (no_reads calls)) (continues_same files.reads);
-  faults = omega arith;
-  failed = λ failed. absurd (none_failed calls failed);
-  slots = subst (λ (made : List HandlerCall). RackShows before now made) (sym (calls_alone calls)) shows;
+-- calls of handlers, while nothing happens at the network
+pub shows_handlers : (net : NetSeen) (before now : List Seen) (calls : List HandlerCall) → RackShows before now calls → Shows (outside net before) (outside net now) (map (λ call. at_handler call) calls)
+shows_handlers net before now calls shows = record {
+  net = subst (λ (happened : List Happening). NetShows net net happened) (sym (nothing_there calls)) (net_shows_none net);
+  rack = subst (λ (made : List HandlerCall). RackShows before now made) (sym (handlers_alone calls)) shows;
 }
 
 -- handlers were called, and then a text was written with which the command ends
-pub calls_end : {A : Type 0} (P : List Deed → Outcome A → Type 0) (files : FilesSeen) (before now : List Seen) (calls : List HandlerCall) (status : ℕ) (line text : List ℕ) → RackShows before now calls → text ≡ line
-    → P (map (λ call. did_call call) calls ++ did_write line ∷ []) (ends status) → ComesOut P (around files before) (around files now) (ends status) text
-calls_end P files before now calls status line text shows is stage = record {
-  seen = map (λ call. did_call call) calls ++ did_write line ∷ [];
-  stage = stage;
-  shows = shows_then (around files before) (around files now) (around files now) (map (λ call. did_call call) calls) (did_write line ∷ []) (shows_calls files before now calls shows) (shows_wrote (around files now) line);
-  text_is = text_in-append (map (λ call. did_call call) calls) (did_write line ∷ []) ∙ ap (λ (more : List ℕ). more ++ text_in (did_write line ∷ [])) (no_text calls) ∙ line_alone line ∙ sym is;
-}
+pub calls_end : {A : Type 0} (P : List Deed → Outcome A → Type 0) (files : FilesSeen) (net : NetSeen) (before now : List Seen) (calls : List HandlerCall) (status : ℕ) (line text : List ℕ) → RackShows before now calls → text ≡ line
+    → P (sees (map (λ call. at_handler call) calls) ++ did_write line ∷ []) (ends status) → ComesOut P (around files (outside net before)) (around files (outside net now)) (ends status) text
+calls_end P files net before now calls status line text shows is stage =
+    seen_end P files (outside net before) (outside net now) (map (λ call. at_handler call) calls) status line text (shows_handlers net before now calls shows) is stage
 
 -- and two texts
-pub calls_end_twice : {A : Type 0} (P : List Deed → Outcome A → Type 0) (files : FilesSeen) (before now : List Seen) (calls : List HandlerCall) (status : ℕ) (print line text : List ℕ) → RackShows before now calls → text ≡ print ++ line
-    → P ((map (λ call. did_call call) calls ++ did_write print ∷ []) ++ did_write line ∷ []) (ends status) → ComesOut P (around files before) (around files now) (ends status) text
-calls_end_twice P files before now calls status print line text shows is stage =
+pub calls_end_twice : {A : Type 0} (P : List Deed → Outcome A → Type 0) (files : FilesSeen) (net : NetSeen) (before now : List Seen) (calls : List HandlerCall) (status : ℕ) (print line text : List ℕ) → RackShows before now calls → text ≡ print ++ line
+    → P ((sees (map (λ call. at_handler call) calls) ++ did_write print ∷ []) ++ did_write line ∷ []) (ends status) → ComesOut P (around files (outside net before)) (around files (outside net now)) (ends status) text
+calls_end_twice P files net before now calls status print line text shows is stage =
+    let made = sees (map (λ call. at_handler call) calls) in
+    let w = around files (outside net before) in
+    let v = around files (outside net now) in
     record {
-      seen = (map (λ call. did_call call) calls ++ did_write print ∷ []) ++ did_write line ∷ [];
+      seen = (made ++ did_write print ∷ []) ++ did_write line ∷ [];
       stage = stage;
-      shows = shows_then (around files before) (around files now) (around files now) (map (λ call. did_call call) calls ++ did_write print ∷ []) (did_write line ∷ [])
-          (shows_then (around files before) (around files now) (around files now) (map (λ call. did_call call) calls) (did_write print ∷ []) (shows_calls files before now calls shows) (shows_wrote (around files now) print))
-          (shows_wrote (around files now) line);
-      text_is = text_in-append (map (λ call. did_call call) calls ++ did_write print ∷ []) (did_write line ∷ [])
-          ∙ ap (λ (more : List ℕ). more ++ text_in (did_write line ∷ [])) (text_in-append (map (λ call. did_call call) calls) (did_write print ∷ []) ∙ ap (λ (more : List ℕ). more ++ text_in (did_write print ∷ [])) (no_text calls) ∙ line_alone print)
+      shows = shows_then w v v (made ++ did_write print ∷ []) (did_write line ∷ [])
+          (shows_then w v v made (did_write print ∷ []) (shows_seen files (outside net before) (outside net now) (map (λ call. at_handler call) calls) (shows_handlers net before now calls shows)) (shows_wrote v print))
+          (shows_wrote v line);
+      text_is = text_in-append (made ++ did_write print ∷ []) (did_write line ∷ [])
+          ∙ ap (λ (more : List ℕ). more ++ text_in (did_write line ∷ [])) (text_after made print (no_text (map (λ call. at_handler call) calls)))
           ∙ ap (λ (more : List ℕ). print ++ more) (line_alone line) ∙ sym is;
     }
 
 -- the same of a result, which is out of memory where there is no ending
-pub calls_finish_twice : (P : List Deed → Outcome (Unit {0}) → Type 0) (files : FilesSeen) (before now : List Seen) (calls : List HandlerCall) (r : Result Ending AllocError) (status : ℕ) (print line : List ℕ) → RackShows before now calls → IfOk r (λ e. (e.status ≡ status) × (e.text ≡ print ++ line))
-    → P ((map (λ call. did_call call) calls ++ did_write print ∷ []) ++ did_write line ∷ []) (ends status) → P (map (λ call. did_call call) calls ++ did_write memory_line ∷ []) (ends 9) → Finishes P (around files before) (around files now) r
-calls_finish_twice P files before now calls (Ok ending) status print line shows is stage memory =
-    subst (λ (n : ℕ). ComesOut P (around files before) (around files now) (ends n) ending.text) (sym is.0) (calls_end_twice P files before now calls status print line ending.text shows is.1 stage)
-calls_finish_twice P files before now calls (Err none) status print line shows is stage memory = calls_end P files before now calls 9 memory_line memory_line shows refl memory
+pub calls_finish_twice : (P : List Deed → Outcome (Unit {0}) → Type 0) (files : FilesSeen) (net : NetSeen) (before now : List Seen) (calls : List HandlerCall) (r : Result Ending AllocError) (status : ℕ) (print line : List ℕ) → RackShows before now calls → IfOk r (λ e. (e.status ≡ status) × (e.text ≡ print ++ line))
+    → P ((sees (map (λ call. at_handler call) calls) ++ did_write print ∷ []) ++ did_write line ∷ []) (ends status) → P (sees (map (λ call. at_handler call) calls) ++ did_write memory_line ∷ []) (ends 9) → Finishes P (around files (outside net before)) (around files (outside net now)) r
+calls_finish_twice P files net before now calls (Ok ending) status print line shows is stage memory =
+    subst (λ (n : ℕ). ComesOut P (around files (outside net before)) (around files (outside net now)) (ends n) ending.text) (sym is.0) (calls_end_twice P files net before now calls status print line ending.text shows is.1 stage)
+calls_finish_twice P files net before now calls (Err none) status print line shows is stage memory = calls_end P files net before now calls 9 memory_line memory_line shows refl memory

@@ -1,19 +1,29 @@
 -- No stage of a command that is built ends with status 2, so that this status is left to words that are no such command.
-use Rattle.std.proofs.Common.{◌≡◌, ◌⊎◌, ◌∙◌, ℕ, Bool, true, false, List, [], ◌∷◌, Option, Some, ap, arith, inl, inr, subst, sym}
-use Rattle.std.specs.Prelude.{IfSome}
-use Rattle.command_words.specs.Grammar.{meaning_of}
+use Rattle.std.proofs.Common.{◌≡◌, ◌*◌, ◌⊎◌, ◌∙◌, ℕ, true, false, List, [], ◌∷◌, Option, Some, None, ap, arith, inl, inr, sym}
 use Rattle.command_words.specs.declared.command.Command.{Command}
 use Rattle.command_words.specs.declared.command.Command.TheVariants.{Replay, Serve, Derive, Check, Consume, Storm}
 use Rattle.wot_json.specs.declared.tree.Tree.{Tree}
 use Rattle.tm_parts.specs.Library.{Models}
+use Rattle.wot_json.specs.Tree.{Json}
+use Rattle.wot_terms.specs.declared.kind.Kind.{Kind}
+use Rattle.thing_core.specs.Site.{Slots}
+use Rattle.thing_core.specs.Exposing.{kinds_of}
+use Rattle.servient_edge.specs.declared.place.Place.{Place}
+use Rattle.servient_core.specs.declared.serving.Served.TheVariants as served
+use Rattle.servient_core.specs.Plan.{place_of}
+use Rattle.servient_core.specs.Machine.{Site}
 use Rattle.servient_core.specs.declared.plan.Plan.{Plan}
+use Rattle.servient_cli.specs.declared.derivation.Planned.{Planned}
+use Rattle.servient_cli.specs.declared.replay.Inputs.{Inputs}
 use Rattle.servient_edge.specs.declared.files.HeldFile.{HeldFile}
 use Rattle.servient_edge.specs.declared.net.EventWithBytes.{EventWithBytes}
 use Rattle.servient_cli.specs.Stages.{Around, Deed, Outcome, goes_on, ends, AndThen, ends_first, goes_further}
 use Rattle.servient_cli.specs.Reading.{ReadsFile, is_read, is_absent, is_unreadable, is_long, file_memory, ReadsTree, is_tree, has_no_tree, tree_memory, longest_json, longest_script}
-use Rattle.servient_cli.specs.Replaying.{ReadsScript, Replays, is_script, is_no_script, script_memory, RunsScript, is_whole, is_spent, run_memory}
+use Rattle.servient_cli.specs.Replaying.{Plans, is_built_in, built_in_memory, plan_name, ReadsEvents, ReadsInputs, HasRead, has_read, RunsOn, ReadsScript, is_script, is_no_script, script_memory, RunsScript, is_whole, is_spent, run_memory}
+use Rattle.servient_cli.specs.Opening.{Exposes, is_exposed, is_misfit, expose_memory, Opens}
+use Rattle.servient_cli.specs.Listening.{Listens, is_listening, cannot_listen, place_memory, listen_memory, ServesEvents, has_served, ServesPlanned}
 use Rattle.servient_cli.specs.Checking.{Checks, Judges, is_valid, is_refused, judge_memory}
-use Rattle.servient_cli.specs.Deriving.{DerivesPlan, ReadsPlan, is_plan, is_no_plan, plan_memory, AddsModel, is_added, is_not_added, add_memory, TakesModel, TakesModels, Derives, is_derived, derive_memory}
+use Rattle.servient_cli.specs.Deriving.{IsPlanned, is_planned, ReadsPlanned, Prints, is_printed, print_memory, DerivesAndPrints, ReadsPlan, is_plan, is_no_plan, plan_memory, AddsModel, is_added, is_not_added, add_memory, TakesModel, TakesModels, Derives, is_derived, derive_memory}
 use Rattle.servient_cli.specs.Deriving as plans
 use Rattle.servient_cli.specs.Command.{Commands, Does, Ends, IsNoCommand, OutSeen, is_built, is_command, is_no_command, words_memory}
 
@@ -54,10 +64,15 @@ script_not name content seen o (is_script events a b d is) = goes_by o events is
 script_not name content seen o (is_no_script line a b e) = by_status o 4 e.1 (omega arith)
 script_not name content seen o (script_memory e) = by_status o 9 e.1 (omega arith)
 
-run_not : (events : List EventWithBytes) (seen : List Deed) (o : Outcome (Unit {0})) → RunsScript events seen o → NotUsage o
-run_not events seen o (is_whole ran end a b e) = by_status o 0 e.1 (omega arith)
-run_not events seen o (is_spent ran end a b e) = by_status o 8 e.1 (omega arith)
-run_not events seen o (run_memory ran end count b e) = by_status o 9 e.1 (omega arith)
+run_not : (budget : ℕ) (events : List EventWithBytes) (exchanges : ℕ) (site : Site) (seen : List Deed) (o : Outcome (Unit {0})) → RunsScript budget events exchanges site seen o → NotUsage o
+run_not budget events exchanges site seen o (is_whole ran end a b e) = by_status o 0 e.1 (omega arith)
+run_not budget events exchanges site seen o (is_spent ran end a b e) = by_status o 8 e.1 (omega arith)
+run_not budget events exchanges site seen o (run_memory ran end count b e) = by_status o 9 e.1 (omega arith)
+
+expose_not : (name : List ℕ) (kinds : List Kind) (slots : Slots) (things : List (List ℕ × Json)) (seen : List Deed) (o : Outcome Site) → Exposes name kinds slots things seen o → NotUsage o
+expose_not name kinds slots things seen o (is_exposed a b is) = goes_by o _ is
+expose_not name kinds slots things seen o (is_misfit fault a b e) = by_status o 4 e.1 (omega arith)
+expose_not name kinds slots things seen o (expose_memory e) = by_status o 9 e.1 (omega arith)
 
 judge_not : (tree : Tree) (seen : List Deed) (o : Outcome (Unit {0})) → Judges tree seen o → NotUsage o
 judge_not tree seen o (is_valid a e) = by_status o 0 e.1 (omega arith)
@@ -85,46 +100,93 @@ models_not held [] models seen o stage = goes_by o models stage.1
 models_not held (model ∷ left) models seen o stage =
     then_not (TakesModel held model models) (TakesModels held left) seen o (take_not held model models) (models_not held left) stage
 
-derive_not : (plan : Plan) (models : Models) (seen : List Deed) (o : Outcome (Unit {0})) → Derives plan models seen o → NotUsage o
-derive_not plan models seen o (is_derived things a e) = by_status o 0 e.1 (omega arith)
-derive_not plan models seen o (plans.is_refused fault a e) = by_status o 5 e.1 (omega arith)
-derive_not plan models seen o (derive_memory e) = by_status o 9 e.1 (omega arith)
+derive_not : (p : Planned) (seen : List Deed) (o : Outcome (List (List ℕ × Json))) → Derives p seen o → NotUsage o
+derive_not p seen o (is_derived things a b is) = goes_by o things is
+derive_not p seen o (plans.is_refused fault a e) = by_status o 5 e.1 (omega arith)
+derive_not p seen o (derive_memory e) = by_status o 9 e.1 (omega arith)
 
-plan_file_not : (held : Option (List HeldFile)) (name content : List ℕ) (seen : List Deed) (o : Outcome (Unit {0})) → DerivesPlan held name content seen o → NotUsage o
-plan_file_not held name content seen o stage =
-    then_not (ReadsTree name content) (λ tree. AndThen (ReadsPlan name tree) (λ plan. AndThen (TakesModels held plan.models []) (Derives plan))) seen o (tree_not name content)
-    (λ tree s r p. then_not (ReadsPlan name tree) (λ plan. AndThen (TakesModels held plan.models []) (Derives plan)) s r (plan_not name tree)
-    (λ plan s2 r2 p2. then_not (TakesModels held plan.models []) (Derives plan) s2 r2 (models_not held plan.models []) (derive_not plan) p2) p) stage
+print_not : (things : List (List ℕ × Json)) (seen : List Deed) (o : Outcome (Unit {0})) → Prints things seen o → NotUsage o
+print_not things seen o (is_printed e) = by_status o 0 e.1 (omega arith)
+print_not things seen o (print_memory e) = by_status o 9 e.1 (omega arith)
 
-does_not_end_so : (held : Option (List HeldFile)) (command : Command) (seen : List Deed) (o : Outcome (Unit {0})) → Does held command seen o → NotUsage o
-does_not_end_so held (Replay script plan events) seen o stage =
-    then_not (ReadsFile held longest_script script) (Replays script) seen o (file_not held longest_script script)
-    (λ content s r p. then_not (ReadsScript script content) RunsScript s r (script_not script content) run_not p) stage
-does_not_end_so held (Check description) seen o stage =
+whole_not : (plan : Plan) (models : Models) (seen : List Deed) (o : Outcome Planned) → IsPlanned plan models seen o → NotUsage o
+whole_not plan models seen o (is_planned a is) = goes_by o _ is
+
+planned_not : (held : Option (List HeldFile)) (name : List ℕ) (seen : List Deed) (o : Outcome Planned) → ReadsPlanned held name seen o → NotUsage o
+planned_not held name seen o stage =
+    then_not (ReadsFile held longest_json name) (λ content. AndThen (ReadsTree name content) (λ tree. AndThen (ReadsPlan name tree) (λ plan. AndThen (TakesModels held plan.models []) (IsPlanned plan)))) seen o (file_not held longest_json name)
+    (λ content s r p. then_not (ReadsTree name content) (λ tree. AndThen (ReadsPlan name tree) (λ plan. AndThen (TakesModels held plan.models []) (IsPlanned plan))) s r (tree_not name content)
+    (λ tree s2 r2 p2. then_not (ReadsPlan name tree) (λ plan. AndThen (TakesModels held plan.models []) (IsPlanned plan)) s2 r2 (plan_not name tree)
+    (λ plan s3 r3 p3. then_not (TakesModels held plan.models []) (IsPlanned plan) s3 r3 (models_not held plan.models []) (whole_not plan) p3) p2) p) stage
+
+plans_not : (held : Option (List HeldFile)) (plan : Option (List ℕ)) (seen : List Deed) (o : Outcome Planned) → Plans held plan seen o → NotUsage o
+plans_not held None seen o (is_built_in a is) = goes_by o _ is
+plans_not held None seen o (built_in_memory e) = by_status o 9 e.1 (omega arith)
+plans_not held (Some name) seen o stage = planned_not held name seen o stage
+
+read_not : (p : Planned) (events : List EventWithBytes) (seen : List Deed) (o : Outcome Inputs) → HasRead p events seen o → NotUsage o
+read_not p events seen o (has_read a is) = goes_by o _ is
+
+inputs_not : (held : Option (List HeldFile)) (plan : Option (List ℕ)) (script : List ℕ) (seen : List Deed) (o : Outcome Inputs) → ReadsInputs held plan script seen o → NotUsage o
+inputs_not held plan script seen o stage =
+    then_not (Plans held plan) (λ p. AndThen (ReadsEvents held script) (HasRead p)) seen o (plans_not held plan)
+    (λ p s r st. then_not (ReadsEvents held script) (HasRead p) s r
+    (λ s2 r2 st2. then_not (ReadsFile held longest_script script) (ReadsScript script) s2 r2 (file_not held longest_script script) (script_not script) st2) (read_not p) st) stage
+
+open_not : (name : List ℕ) (kinds : List Kind) (p : Planned) (seen : List Deed) (o : Outcome Site) → Opens name kinds p seen o → NotUsage o
+open_not name kinds p seen o stage = then_not (Derives p) (Exposes name kinds p.plan.slots) seen o (derive_not p) (expose_not name kinds p.plan.slots) stage
+
+run_on_not : (name : List ℕ) (kinds : List Kind) (budget : ℕ) (read : Inputs) (seen : List Deed) (o : Outcome (Unit {0})) → RunsOn name kinds budget read seen o → NotUsage o
+run_on_not name kinds budget read seen o stage =
+    then_not (Opens name kinds read.planned) (RunsScript budget read.events read.planned.plan.exchanges) seen o (open_not name kinds read.planned) (run_not budget read.events read.planned.plan.exchanges) stage
+
+listen_not : (place : Place) (seen : List Deed) (o : Outcome (Unit {0})) → Listens place seen o → NotUsage o
+listen_not place seen o (is_listening a is) = goes_by o tt is
+listen_not place seen o (cannot_listen e) = by_status o 6 e.1 (omega arith)
+listen_not place seen o (place_memory e) = by_status o 9 e.1 (omega arith)
+listen_not place seen o (listen_memory e) = by_status o 9 e.1 (omega arith)
+
+serve_not : (budget exchanges : ℕ) (site : Site) (seen : List Deed) (o : Outcome (Unit {0})) → ServesEvents budget exchanges site seen o → NotUsage o
+serve_not budget exchanges site seen o (has_served served.Stopped ran end serves e) = by_status o 0 e.1 (omega arith)
+serve_not budget exchanges site seen o (has_served served.Failed ran end serves e) = by_status o 6 e.1 (omega arith)
+serve_not budget exchanges site seen o (has_served served.Spent ran end serves e) = by_status o 8 e.1 (omega arith)
+
+serving_not : (name : List ℕ) (kinds : List Kind) (budget idle : ℕ) (p : Planned) (seen : List Deed) (o : Outcome (Unit {0})) → ServesPlanned name kinds budget idle p seen o → NotUsage o
+serving_not name kinds budget idle p seen o stage =
+    then_not (Opens name kinds p) (λ site. AndThen (Listens (place_of p.plan (idle * 1000))) (λ _. ServesEvents budget p.plan.exchanges site)) seen o (open_not name kinds p)
+    (λ site s r st. then_not (Listens (place_of p.plan (idle * 1000))) (λ _. ServesEvents budget p.plan.exchanges site) s r (listen_not (place_of p.plan (idle * 1000)))
+    (λ u. serve_not budget p.plan.exchanges site) st) stage
+
+does_not_end_so : (held : Option (List HeldFile)) (kinds : List Kind) (command : Command) (seen : List Deed) (o : Outcome (Unit {0})) → Does held kinds command seen o → NotUsage o
+does_not_end_so held kinds (Replay script plan events) seen o stage =
+    then_not (ReadsInputs held plan script) (RunsOn (plan_name plan) kinds events) seen o (inputs_not held plan script) (run_on_not (plan_name plan) kinds events) stage
+does_not_end_so held kinds (Check description) seen o stage =
     then_not (ReadsFile held longest_json description) (Checks description) seen o (file_not held longest_json description)
     (λ content s r p. then_not (ReadsTree description content) Judges s r (tree_not description content) judge_not p) stage
-does_not_end_so held (Derive plan) seen o stage =
-    then_not (ReadsFile held longest_json plan) (DerivesPlan held plan) seen o (file_not held longest_json plan) (plan_file_not held plan) stage
-does_not_end_so held (Serve plan events idle) seen o stage = absurd stage
-does_not_end_so held (Consume consumption) seen o stage = absurd stage
-does_not_end_so held (Storm seed events) seen o stage = absurd stage
+does_not_end_so held kinds (Derive plan) seen o stage =
+    then_not (ReadsPlanned held plan) DerivesAndPrints seen o (planned_not held plan)
+    (λ p s r st. then_not (Derives p) Prints s r (derive_not p) print_not st) stage
+does_not_end_so held kinds (Serve plan events idle) seen o stage =
+    then_not (ReadsPlanned held plan) (ServesPlanned plan kinds events idle) seen o (planned_not held plan) (serving_not plan kinds events idle) stage
+does_not_end_so held kinds (Consume consumption) seen o stage = absurd stage
+does_not_end_so held kinds (Storm seed events) seen o stage = absurd stage
 
 -- the words lead to status 2 exactly where they are no command, unless there is no memory for them
-two_is_no_command : (held : Option (List HeldFile)) (words : List (List ℕ)) (seen : List Deed) (status : ℕ) → Commands held words seen (ends status)
+two_is_no_command : (held : Option (List HeldFile)) (kinds : List Kind) (words : List (List ℕ)) (seen : List Deed) (status : ℕ) → Commands held kinds words seen (ends status)
     → (status ≡ 2 → IsNoCommand words) × (IsNoCommand words → (status ≡ 2) ⊎ (status ≡ 9))
-two_is_no_command held words seen status (is_no_command none e) = (λ two. none, λ n. inl (ap status_of e.1))
-two_is_no_command held words seen status (is_command command meaning built stage) = (
-  (λ two. absurd (does_not_end_so held command seen (ends status) stage two)),
+two_is_no_command held kinds words seen status (is_no_command none e) = (λ two. none, λ n. inl (ap status_of e.1))
+two_is_no_command held kinds words seen status (is_command command meaning built stage) = (
+  (λ two. absurd (does_not_end_so held kinds command seen (ends status) stage two)),
   (λ none. let bad : is_built command ≡ false = rw meaning at none in let no : true ≡ false = sym built ∙ bad in cc),
 )
-two_is_no_command held words seen status (words_memory e) =
+two_is_no_command held kinds words seen status (words_memory e) =
     ((λ two. let bad : 9 ≡ 2 = sym (ap status_of e.1) ∙ two in absurd (omega (arith, bad))), λ n. inr (ap status_of e.1))
 
 -- and so does the whole call, unless the output fails
 pub usage_is_exact : (words : List (List ℕ)) (before now : Around) (out out_now : OutSeen) (result : ℕ) → Ends words before now out out_now result
     → (result ≡ 2 → IsNoCommand words) × (IsNoCommand words → (result ≡ 2) ⊎ (result ≡ 7) ⊎ (result ≡ 9))
 usage_is_exact words before now out out_now result e =
-    let exact = two_is_no_command before.files.held words e.seen e.status e.command in
+    let exact = two_is_no_command before.files.held (kinds_of before.outside.slots) words e.seen e.status e.command in
     elim e.reported [
       | inl done ↦ (
         (λ two. exact.0 (sym done.0 ∙ two)),

@@ -1,49 +1,63 @@
 -- The commands, and what the program reports of them.
 --
--- What the words mean is the grammar's, `meaning_of` of `command_words`. Three of its commands are built so far. `replay SCRIPT` reads the
--- script, runs its events on the built-in property, and prints the acts and the turns. `check TD` reads a Thing Description and says whether
--- it is valid, or its first fault. `derive PLAN` reads a plan and its models, and prints the descriptions of its Things, or the first
--- fault. Each is a row of stages, in a file of its own.
-use Rattle.std.specs.Prelude.{◌≡◌, ◌≤◌, ◌⊎◌, ◌&&◌, ℕ, Bool, true, false, not, ◌==◌, List, [], ◌++◌, Option, Some, IfSome, is_some, length}
+-- What the words mean is the grammar's, `meaning_of` of `command_words`. Four of its commands are built so far. `replay SCRIPT
+-- [PLAN]` reads the plan and its models, if a plan is named, and the script, runs its events, and prints the acts and the turns.
+-- `serve PLAN` reads a plan and its models, listens at the plan's place, and serves what comes there. `check TD` reads a Thing
+-- Description and says whether it is valid, or its first fault. `derive PLAN` reads a plan and its models, and prints the
+-- descriptions of its Things, or the first fault. Each is a row of stages, in a file of its own.
+use Rattle.std.specs.Prelude.{◌≡◌, ◌≤◌, ◌⊎◌, ℕ, Bool, true, false, List, [], ◌++◌, Option, Some, None, Ok, IfSome, length}
 use Rattle.servient_base.specs.Count.{Rose}
+use Rattle.wot_json.specs.Tree.{Json}
+use Rattle.wot_terms.specs.declared.kind.Kind.{Kind}
+use Rattle.thing_core.specs.Site.{expose_faults}
+use Rattle.thing_core.specs.Exposing.{kinds_of}
 use Rattle.command_words.specs.Grammar.{meaning_of}
 use Rattle.command_words.specs.declared.command.Command.{Command}
-use Rattle.command_words.specs.declared.command.Command.TheVariants.{Replay, Check, Derive}
+use Rattle.command_words.specs.declared.command.Command.TheVariants.{Replay, Serve, Check, Derive}
 use Rattle.servient_edge.specs.declared.files.HeldFile.{HeldFile}
 use Rattle.servient_edge.specs.Told.{Continues}
 use Rattle.servient_edge.specs.Files.{content_of}
+use Rattle.servient_cli.specs.declared.derivation.Planned.{Planned}
 use Rattle.servient_cli.specs.Lines.{usage_line}
 use Rattle.servient_cli.specs.Stages.{Deed, text_in, Outcome, ends, EndsWith, RunsOut, AndThen, Around, ShowsDeeds}
 use Rattle.servient_cli.specs.Reading.{ReadsFile, longest_script, longest_json}
-use Rattle.servient_cli.specs.Replaying.{Replays, IsFaultlessScript, event_budget}
+use Rattle.servient_cli.specs.Replaying.{Replays, IsFaultlessScript, built_in}
+use Rattle.servient_cli.specs.Listening.{ServesPlan}
 use Rattle.servient_cli.specs.Checking.{Checks, IsFaultlessDescription}
-use Rattle.servient_cli.specs.Deriving.{DerivesPlan, IsFaultlessPlan}
+use Rattle.servient_cli.specs.Deriving.{ReadsPlanned, DerivesAndPrints, IsFaultlessPlan, derived_of}
 
 -- ---- the table of commands
 
--- the commands that are built so far: of `replay`, what has no plan and the budget that it has without an option
+-- the commands that are built so far
 abbrev pub is_built : Command → Bool
-is_built (Replay script plan events) = not (is_some plan) && events == event_budget
+is_built (Replay script plan events) = true
+is_built (Serve plan events idle) = true
 is_built (Check description) = true
 is_built (Derive plan) = true
 is_built command = false
 
--- What each of them does, where the files hold this, so far as that is recorded: its file is read, and then its task done.
-abbrev pub Does : Option (List HeldFile) → Command → List Deed → Outcome (Unit {0}) → Type 0
-Does held (Replay script plan events) = AndThen (ReadsFile held longest_script script) (Replays script)
-Does held (Check description) = AndThen (ReadsFile held longest_json description) (Checks description)
-Does held (Derive plan) = AndThen (ReadsFile held longest_json plan) (DerivesPlan held plan)
-Does held command = λ seen o. ⊥
+-- What each of them does, where the files hold this, so far as that is recorded, and the rack has handlers of these kinds.
+abbrev pub Does : Option (List HeldFile) → List Kind → Command → List Deed → Outcome (Unit {0}) → Type 0
+Does held kinds (Replay script plan events) = Replays held kinds script plan events
+Does held kinds (Serve plan events idle) = ServesPlan held kinds plan events idle
+Does held kinds (Check description) = AndThen (ReadsFile held longest_json description) (Checks description)
+Does held kinds (Derive plan) = AndThen (ReadsPlanned held plan) DerivesAndPrints
+Does held kinds command = λ seen o. ⊥
+
+-- the words mean that a plan is served
+abbrev pub is_serving : Option Command → Bool
+is_serving (Some (Serve plan events idle)) = true
+is_serving command = false
 
 -- the words are outside the grammar, or mean a command that isn't built yet
 abbrev pub IsNoCommand : List (List ℕ) → Type 0
 IsNoCommand words = IfSome (meaning_of words) (λ command. is_built command ≡ false)
 
 -- What the words of the command line lead to.
-pub data Commands (held : Option (List HeldFile)) (words : List (List ℕ)) (seen : List Deed) (o : Outcome (Unit {0})) : Type 0 where
-  is_no_command : IsNoCommand words → EndsWith [] 2 usage_line seen o → Commands held words seen o
-  is_command : (command : Command) → meaning_of words ≡ Some command → is_built command ≡ true → Does held command seen o → Commands held words seen o
-  words_memory : RunsOut [] seen o → Commands held words seen o
+pub data Commands (held : Option (List HeldFile)) (kinds : List Kind) (words : List (List ℕ)) (seen : List Deed) (o : Outcome (Unit {0})) : Type 0 where
+  is_no_command : IsNoCommand words → EndsWith [] 2 usage_line seen o → Commands held kinds words seen o
+  is_command : (command : Command) → meaning_of words ≡ Some command → is_built command ≡ true → Does held kinds command seen o → Commands held kinds words seen o
+  words_memory : RunsOut [] seen o → Commands held kinds words seen o
 
 -- ---- the whole call
 
@@ -63,12 +77,12 @@ pub record OutSeen : Type 0 where
 abbrev pub out_seen : Option (List ℕ) → ℕ → OutSeen
 out_seen written faults = record { written = written; faults = faults }
 
--- What the top call did: the command of its words ended with a status, the files and the handlers show what it did, and
--- the output shows what it wrote.
+-- What the top call did: the command of its words ended with a status, the files, the network and the handlers show what it
+-- did, and the output shows what it wrote.
 pub record Ends (words : List (List ℕ)) (before now : Around) (out out_now : OutSeen) (result : ℕ) : Type 0 where
   pub seen : List Deed
   pub status : ℕ
-  pub command : Commands before.files.held words seen (ends status)
+  pub command : Commands before.files.held (kinds_of before.outside.slots) words seen (ends status)
   pub shows : ShowsDeeds before now seen
   pub reported : IsReported status (text_in seen) out.written out_now.written out.faults out_now.faults result
 
@@ -79,18 +93,58 @@ pub record HoldsFaultless (files : List HeldFile) (limit : ℕ) (name : List ℕ
   pub short : length content ≤ limit
   pub good : Good content
 
--- nothing is wrong with the file of a command, nor with the files that it names
-abbrev pub HasFaultlessFile : List HeldFile → Command → Type 0
-HasFaultlessFile files (Replay script plan events) = HoldsFaultless files longest_script script IsFaultlessScript
-HasFaultlessFile files (Check description) = HoldsFaultless files longest_json description IsFaultlessDescription
-HasFaultlessFile files (Derive plan) = HoldsFaultless files longest_json plan (IsFaultlessPlan files)
-HasFaultlessFile files command = ⊥
+-- This plan with its models is that of the file, with which nothing is wrong, or the built-in Thing where no plan is named.
+abbrev pub IsPlannedBy : List HeldFile → Option (List ℕ) → Planned → Type 0
+IsPlannedBy files None p = p ≡ built_in
+IsPlannedBy files (Some name) p = HoldsFaultless files longest_json name (IsFaultlessPlan files p)
 
--- Nothing is wrong with the words and the files: the words mean a command that is built, and nothing is wrong with its file.
-pub record IsFaultless (words : List (List ℕ)) (held : Option (List HeldFile)) : Type 0 where
+-- Nothing is wrong with a replay: its root is derived, its Things fit the rack, and the budget is enough for the script.
+pub record IsFaultlessReplay (files : List HeldFile) (kinds : List Kind) (script : List ℕ) (plan : Option (List ℕ)) (budget : ℕ) : Type 0 where
+  pub planned : Planned
+  pub things : List (List ℕ × Json)
+  pub by_plan : IsPlannedBy files plan planned
+  pub derived_is : derived_of planned ≡ Ok things
+  pub fits : expose_faults kinds planned.plan.slots things ≡ []
+  pub script_is : HoldsFaultless files longest_script script (IsFaultlessScript budget)
+
+-- nothing is wrong with a plan, its root is derived, and its Things fit the rack
+pub record IsFaultlessServing (files : List HeldFile) (kinds : List Kind) (plan : List ℕ) : Type 0 where
+  pub planned : Planned
+  pub things : List (List ℕ × Json)
+  pub by_plan : HoldsFaultless files longest_json plan (IsFaultlessPlan files planned)
+  pub derived_is : derived_of planned ≡ Ok things
+  pub fits : expose_faults kinds planned.plan.slots things ≡ []
+
+-- nothing is wrong with a plan, and its root is derived
+pub record IsFaultlessDerivation (files : List HeldFile) (plan : List ℕ) : Type 0 where
+  pub planned : Planned
+  pub things : List (List ℕ × Json)
+  pub by_plan : HoldsFaultless files longest_json plan (IsFaultlessPlan files planned)
+  pub derived_is : derived_of planned ≡ Ok things
+
+-- nothing is wrong with the files that a command reads, nor with what it makes of them
+abbrev pub HasFaultlessFiles : List HeldFile → List Kind → Command → Type 0
+HasFaultlessFiles files kinds (Replay script plan events) = IsFaultlessReplay files kinds script plan events
+HasFaultlessFiles files kinds (Serve plan events idle) = IsFaultlessServing files kinds plan
+HasFaultlessFiles files kinds (Check description) = HoldsFaultless files longest_json description IsFaultlessDescription
+HasFaultlessFiles files kinds (Derive plan) = IsFaultlessDerivation files plan
+HasFaultlessFiles files kinds command = ⊥
+
+-- Nothing is wrong with the words, the files and the rack: the words mean a command that is built, and nothing is wrong with it.
+pub record IsFaultless (words : List (List ℕ)) (held : Option (List HeldFile)) (kinds : List Kind) : Type 0 where
   pub command : Command
   pub meaning : meaning_of words ≡ Some command
   pub built : is_built command ≡ true
   pub files : List HeldFile
   pub told : held ≡ Some files
-  pub faultless : HasFaultlessFile files command
+  pub faultless : HasFaultlessFiles files kinds command
+
+-- What is known to have failed: reads of files, calls of the network, the output. None of them did.
+pub record NothingFailed (before now : Around) (out out_now : OutSeen) : Type 0 where
+  pub no_read : ¬ (Rose before.files.faults now.files.faults)
+  pub no_call : ¬ (Rose before.outside.net.faults now.outside.net.faults)
+  pub no_write : ¬ (Rose out.faults out_now.faults)
+
+-- The command did what it is for, or was out of memory; serving may have spent its budget.
+abbrev pub IsWell : List (List ℕ) → ℕ → Type 0
+IsWell words result = (result ≡ 0) ⊎ (result ≡ 9) ⊎ ((is_serving (meaning_of words) ≡ true) × (result ≡ 8))

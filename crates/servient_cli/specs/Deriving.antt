@@ -1,4 +1,4 @@
--- `derive PLAN`: a plan and then its models are read, and the descriptions are printed that the root is derived into.
+-- Plans and their models are read, and the root is derived. `derive PLAN` prints the descriptions.
 use Rattle.std.specs.Prelude.{◌≡◌, ◌≤◌, ℕ, List, [], ◌∷◌, ◌++◌, length, Option, Some, Result, Ok, Err, codes}
 use Rattle.std.specs.List.{flat_map}
 use Rattle.wot_json.specs.Tree.{Json}
@@ -14,6 +14,7 @@ use Rattle.servient_edge.specs.declared.files.HeldFile.{HeldFile}
 use Rattle.servient_edge.specs.Files.{content_of}
 use Rattle.servient_core.specs.declared.plan.Plan.{Plan}
 use Rattle.servient_core.specs.Plan.{plan_of}
+use Rattle.servient_cli.specs.declared.derivation.Planned.{Planned}
 use Rattle.servient_cli.specs.Lines.{input_line}
 use Rattle.servient_cli.specs.FaultLines.{refused_line}
 use Rattle.servient_cli.specs.Stages.{Deed, Outcome, goes_on, EndsWith, RunsOut, AndThen}
@@ -52,7 +53,27 @@ abbrev pub TakesModels : Option (List HeldFile) → List (List ℕ × List ℕ) 
 TakesModels held [] models seen o = (seen ≡ []) × (o ≡ goes_on models)
 TakesModels held (model ∷ left) models seen o = AndThen (TakesModel held model models) (TakesModels held left) seen o
 
+-- a plan and its models, with nothing done
+pub data IsPlanned (plan : Plan) (models : Models) (seen : List Deed) (o : Outcome Planned) : Type 0 where
+  is_planned : seen ≡ [] → o ≡ goes_on (record { plan = plan; library = models }) → IsPlanned plan models seen o
+
+-- Reading a plan and then its models.
+abbrev pub ReadsPlanned : Option (List HeldFile) → List ℕ → List Deed → Outcome Planned → Type 0
+ReadsPlanned held name =
+    AndThen (ReadsFile held longest_json name) (λ content. AndThen (ReadsTree name content) (λ tree.
+    AndThen (ReadsPlan name tree) (λ plan. AndThen (TakesModels held plan.models []) (IsPlanned plan))))
+
 -- ---- the descriptions
+
+-- what the plan's root is derived into
+abbrev pub derived_of : Planned → Result (List (List ℕ × Json)) DeriveFault
+derived_of p = derived p.library p.plan.bindings p.plan.choices p.plan.frame p.plan.root
+
+-- Deriving the root: all descriptions, the root's first, or the first fault.
+pub data Derives (p : Planned) (seen : List Deed) (o : Outcome (List (List ℕ × Json))) : Type 0 where
+  is_derived : (things : List (List ℕ × Json)) → derived_of p ≡ Ok things → seen ≡ [] → o ≡ goes_on things → Derives p seen o
+  is_refused : (fault : DeriveFault) → derived_of p ≡ Err fault → EndsWith [] 5 (refused_line fault) seen o → Derives p seen o
+  derive_memory : RunsOut [] seen o → Derives p seen o
 
 -- each description's text, and a line feed
 abbrev pub thing_text : List ℕ × Json → List ℕ
@@ -61,20 +82,14 @@ thing_text thing = text_of thing.1 ++ codes "\n"
 abbrev pub things_text : List (List ℕ × Json) → List ℕ
 things_text = flat_map thing_text
 
--- what the plan's root is derived into
-abbrev pub derived_of : Plan → Models → Result (List (List ℕ × Json)) DeriveFault
-derived_of plan models = derived models plan.bindings plan.choices plan.frame plan.root
+-- Printing them.
+pub data Prints (things : List (List ℕ × Json)) (seen : List Deed) (o : Outcome (Unit {0})) : Type 0 where
+  is_printed : EndsWith [] 0 (things_text things) seen o → Prints things seen o
+  print_memory : RunsOut [] seen o → Prints things seen o
 
--- Deriving the root: all descriptions, the root's first, or the first fault.
-pub data Derives (plan : Plan) (models : Models) (seen : List Deed) (o : Outcome (Unit {0})) : Type 0 where
-  is_derived : (things : List (List ℕ × Json)) → derived_of plan models ≡ Ok things → EndsWith [] 0 (things_text things) seen o → Derives plan models seen o
-  is_refused : (fault : DeriveFault) → derived_of plan models ≡ Err fault → EndsWith [] 5 (refused_line fault) seen o → Derives plan models seen o
-  derive_memory : RunsOut [] seen o → Derives plan models seen o
-
--- what is done with the content of a plan
-abbrev pub DerivesPlan : Option (List HeldFile) → List ℕ → List ℕ → List Deed → Outcome (Unit {0}) → Type 0
-DerivesPlan held name content =
-    AndThen (ReadsTree name content) (λ tree. AndThen (ReadsPlan name tree) (λ plan. AndThen (TakesModels held plan.models []) (Derives plan)))
+-- what `derive` does with a plan and its models
+abbrev pub DerivesAndPrints : Planned → List Deed → Outcome (Unit {0}) → Type 0
+DerivesAndPrints p = AndThen (Derives p) Prints
 
 -- ---- a plan with which nothing is wrong
 
@@ -85,13 +100,9 @@ AreFaultlessModels files (model ∷ left) models all =
     (content : List ℕ) × (v : Json) × (content_of files model.1 ≡ Some content) × (length content ≤ longest_json)
     × (tree_of content ≡ Some v) × MayAdd model.0 v models × AreFaultlessModels files left (with_model model.0 v models) all
 
--- it is a plan, its models are there, and the root is derived
-pub record IsFaultlessPlan (files : List HeldFile) (content : List ℕ) : Type 0 where
+-- the bytes are this plan, and its models are there
+pub record IsFaultlessPlan (files : List HeldFile) (p : Planned) (content : List ℕ) : Type 0 where
   pub value : Json
-  pub plan : Plan
-  pub models : Models
-  pub things : List (List ℕ × Json)
   pub read : tree_of content ≡ Some value
-  pub plan_is : plan_of value ≡ Ok plan
-  pub taken : AreFaultlessModels files plan.models [] models
-  pub derived_is : derived_of plan models ≡ Ok things
+  pub plan_is : plan_of value ≡ Ok p.plan
+  pub taken : AreFaultlessModels files p.plan.models [] p.library

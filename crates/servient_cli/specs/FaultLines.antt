@@ -1,4 +1,4 @@
--- The line on the first fault of a derivation. Names and pointers in it are JSON texts.
+-- The lines on the first fault of a derivation, and on what doesn't fit the rack. Names and pointers in them are JSON texts.
 use Rattle.std.specs.Prelude.{ℕ, List, [], ◌∷◌, ◌++◌, codes, decimal}
 use Rattle.std.specs.List.{flat_map}
 use Rattle.wot_json.specs.Json.{json_string}
@@ -7,6 +7,8 @@ use Rattle.tm_resolve.specs.declared.fault.ResolveKind.TheVariants as kind
 use Rattle.tm_resolve.specs.declared.fault.ResolveFault.TheVariants as resolve
 use Rattle.tm_derive.specs.declared.fault.DeriveFault.{DeriveFault}
 use Rattle.tm_derive.specs.declared.fault.DeriveFault.TheVariants as fault
+use Rattle.thing_core.specs.declared.fault.ExposeFault.{ExposeFault}
+use Rattle.thing_core.specs.declared.fault.ExposeFault.TheVariants as misfit
 use Rattle.servient_cli.specs.Lines.{memory_line}
 
 -- a kind of faults of a model's value, in a word
@@ -41,3 +43,15 @@ refused_line (fault.TwiceInstance segment pointer) = fault_line segment (codes "
 refused_line (fault.Unbound segment name pointer) = fault_line segment (codes "unbound") (name ∷ pointer ∷ [])
 refused_line (fault.Invalid segment found) = fault_line segment (codes "invalid " ++ decimal found.number) (found.pointer ∷ [])
 refused_line fault.NoMemory = memory_line
+
+-- ---- the fit to the rack
+
+-- what doesn't fit, and of which Thing and affordance it is said
+abbrev pub misfit_fields : List ℕ → List ℕ → List ℕ → List ℕ
+misfit_fields word segment pointer = word ++ field_text segment ++ field_text pointer
+
+abbrev pub misfit_text : ExposeFault → List ℕ
+misfit_text (misfit.NoSlot segment pointer) = misfit_fields (codes "noslot") segment pointer
+misfit_text (misfit.KindDiffers segment pointer) = misfit_fields (codes "kind") segment pointer
+misfit_text (misfit.SlotTwice segment pointer) = misfit_fields (codes "slottwice") segment pointer
+misfit_text misfit.NoMemory = []

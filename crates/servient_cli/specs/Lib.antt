@@ -1,11 +1,14 @@
 pub mod Fields
 pub mod Script
 pub mod Print
+pub mod Merging
 pub mod Lines
 pub mod FaultLines
 pub mod Stages
 pub mod Reading
+pub mod Opening
 pub mod Replaying
+pub mod Listening
 pub mod Checking
 pub mod Deriving
 pub mod Command

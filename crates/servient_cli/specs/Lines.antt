@@ -11,6 +11,9 @@ file_line name what = codes "servient: file " ++ json_string name ++ codes " " +
 abbrev pub input_line : List ℕ → List ℕ → List ℕ
 input_line name what = codes "servient: input " ++ json_string name ++ codes " " ++ what ++ codes "\n"
 
+abbrev pub network_line : List ℕ
+network_line = codes "servient: net\n"
+
 abbrev pub spent_line : List ℕ
 spent_line = codes "servient: spent\n"
 

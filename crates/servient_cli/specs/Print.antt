@@ -1,5 +1,5 @@
 -- What a replay prints: its acts in order, and then its turns by number, each on a line of its own.
-use Rattle.std.specs.Prelude.{ℕ, List, ◌++◌, codes, decimal, length, Option, Some, None}
+use Rattle.std.specs.Prelude.{ℕ, List, [], ◌∷◌, ◌++◌, codes, decimal, Option, Some, None}
 use Rattle.std.specs.List.{flat_map}
 use Rattle.wot_json.specs.declared.tree.Tree.{Tree}
 use Rattle.wot_json.specs.Json.{json_text}
@@ -11,17 +11,17 @@ use Rattle.thing_handler.specs.declared.handler.Turn.{Turn}
 use Rattle.thing_handler.specs.Turns.{RunTurn}
 use Rattle.servient_edge.specs.declared.net.Act.{Act}
 use Rattle.servient_edge.specs.declared.net.Act.TheVariants as act
-use Rattle.servient_edge.specs.declared.net.What.TheVariants.{Datagram}
 use Rattle.servient_cli.specs.Fields.{fields_text}
-use Rattle.servient_cli.specs.Script.{what_fields}
+use Rattle.servient_cli.specs.Script.{endpoint_text, hex_text}
 
--- the fields of an act: those that a script has for the datagram
-abbrev pub act_fields : Act → List (List ℕ)
-act_fields (act.Datagram to bytes) = what_fields (Datagram to (length bytes)) bytes
-
--- the line of an act
+-- The line of an act. A run of a script neither listens nor dials nor looks anything up, and there is no line for that.
 abbrev pub act_line : Act → List ℕ
-act_line act = fields_text (act_fields act) ++ codes "\n"
+act_line (act.Sent c bytes) = fields_text (codes "send" ∷ decimal c ∷ hex_text bytes ∷ []) ++ codes "\n"
+act_line (act.Closed c) = fields_text (codes "close" ∷ decimal c ∷ []) ++ codes "\n"
+act_line (act.Datagram to bytes) = fields_text (codes "data" ∷ endpoint_text to ∷ hex_text bytes ∷ []) ++ codes "\n"
+act_line (act.Listened place) = []
+act_line (act.Dialled host port c) = []
+act_line (act.Looked host port endpoint) = []
 
 -- the JSON text of a value, or `-` where there is none
 abbrev pub text_if_any : Option Tree → List ℕ

@@ -1,12 +1,11 @@
 -- Stages of a command: each goes on with a value, or ends the command with a status. What is seen of a stage is a list
--- of what it reads, calls and writes, in order, and a command is one stage after another.
-use Rattle.std.specs.Prelude.{◌≡◌, ◌≤◌, ℕ, List, [], ◌∷◌, ◌++◌, Option}
+-- of what it reads, does at the network, calls and writes, in order, and a command is one stage after another.
+use Rattle.std.specs.Prelude.{◌≡◌, ◌≤◌, ℕ, List, [], ◌∷◌, ◌++◌, map, Option}
 use Rattle.servient_base.specs.Count.{Rose}
-use Rattle.thing_handler.specs.Handler.{Seen}
-use Rattle.thing_handler.specs.Turns.{HandlerCall, RackShows}
 use Rattle.servient_edge.specs.declared.files.HeldFile.{HeldFile}
 use Rattle.servient_edge.specs.declared.files.FileRead.{FileRead}
 use Rattle.servient_edge.specs.Told.{Continues}
+use Rattle.servient_core.specs.Trace.{Sighting, Outside, Shows}
 use Rattle.servient_cli.specs.Lines.{memory_line}
 
 -- One thing that a command does.
@@ -15,8 +14,8 @@ pub data Deed : Type 0 where
   did_read : FileRead → Deed
   -- a read of a file failed
   did_fail : FileRead → Deed
-  -- a device handler was called
-  did_call : HandlerCall → Deed
+  -- something happened at the network, or a device handler was called
+  did_see : Sighting → Deed
   -- a text was written
   did_write : List ℕ → Deed
 
@@ -25,7 +24,7 @@ abbrev pub reads_in : List Deed → List FileRead
 reads_in [] = []
 reads_in (did_read file ∷ seen) = file ∷ reads_in seen
 reads_in (did_fail file ∷ seen) = file ∷ reads_in seen
-reads_in (did_call call ∷ seen) = reads_in seen
+reads_in (did_see sighting ∷ seen) = reads_in seen
 reads_in (did_write text ∷ seen) = reads_in seen
 
 -- one of these reads failed
@@ -33,23 +32,27 @@ abbrev pub HasFailed : List Deed → Type 0
 HasFailed [] = ⊥
 HasFailed (did_read file ∷ seen) = HasFailed seen
 HasFailed (did_fail file ∷ seen) = Unit {0}
-HasFailed (did_call call ∷ seen) = HasFailed seen
+HasFailed (did_see sighting ∷ seen) = HasFailed seen
 HasFailed (did_write text ∷ seen) = HasFailed seen
 
--- the calls of handlers among them, in order
-abbrev pub handler_calls_in : List Deed → List HandlerCall
-handler_calls_in [] = []
-handler_calls_in (did_read file ∷ seen) = handler_calls_in seen
-handler_calls_in (did_fail file ∷ seen) = handler_calls_in seen
-handler_calls_in (did_call call ∷ seen) = call ∷ handler_calls_in seen
-handler_calls_in (did_write text ∷ seen) = handler_calls_in seen
+-- what is seen at the network and at the handlers, in order
+abbrev pub sightings_in : List Deed → List Sighting
+sightings_in [] = []
+sightings_in (did_read file ∷ seen) = sightings_in seen
+sightings_in (did_fail file ∷ seen) = sightings_in seen
+sightings_in (did_see sighting ∷ seen) = sighting ∷ sightings_in seen
+sightings_in (did_write text ∷ seen) = sightings_in seen
+
+-- these were seen
+abbrev pub sees : List Sighting → List Deed
+sees = map (λ sighting. did_see sighting)
 
 -- all that was written, one text after another
 abbrev pub text_in : List Deed → List ℕ
 text_in [] = []
 text_in (did_read file ∷ seen) = text_in seen
 text_in (did_fail file ∷ seen) = text_in seen
-text_in (did_call call ∷ seen) = text_in seen
+text_in (did_see sighting ∷ seen) = text_in seen
 text_in (did_write text ∷ seen) = text ++ text_in seen
 
 -- How a stage comes out.
@@ -82,18 +85,18 @@ pub record FilesSeen : Type 0 where
 abbrev pub files_seen : Option (List HeldFile) → Option (List FileRead) → ℕ → FilesSeen
 files_seen held reads faults = record { held = held; reads = reads; faults = faults }
 
--- What is known at one time of the files and of the handlers, in the order of their slots.
+-- What is known at one time of the files, and of the network and the handlers.
 pub record Around : Type 0 where
   pub files : FilesSeen
-  pub slots : List Seen
+  pub outside : Outside
 
-abbrev pub around : FilesSeen → List Seen → Around
-around files slots = record { files = files; slots = slots }
+abbrev pub around : FilesSeen → Outside → Around
+around files outside = record { files = files; outside = outside }
 
--- From one time to another the files show these reads, and the handlers these calls, and no others. Where a read failed, the
--- count of failures rose; it never falls.
+-- From one time to another the files show these reads, and the network and the handlers what was seen of them, and nothing
+-- else. Where a read failed, the count of failures rose; it never falls.
 pub record ShowsDeeds (before now : Around) (seen : List Deed) : Type 0 where
   pub reads : Continues before.files.reads now.files.reads (reads_in seen)
   pub faults : before.files.faults ≤ now.files.faults
   pub failed : HasFailed seen → Rose before.files.faults now.files.faults
-  pub slots : RackShows before.slots now.slots (handler_calls_in seen)
+  pub outside : Shows before.outside now.outside (sightings_in seen)

@@ -4,7 +4,6 @@ ghost use Rattle.std.specs.Prelude.{◌≡◌};
 ghost use Rattle.servient_cli.specs.Command.{is_built as built};
 ghost use Rattle.servient_cli.specs.Words.{TakesWords};
 
-use crate::replay::EVENT_BUDGET;
 use command_words::{Command, WordsFault};
 use std::alloc::Global;
 use wot_json::Text;
@@ -21,14 +20,15 @@ pub fn command_of(alloc: Global, words: &[Text]) -> Result<Command, WordsFault>
     }
 }
 
-/// The command is built: `replay` has no plan yet, and no budget of its own.
+/// The command is built.
 fn is_built(command: &Command) -> bool
     ensures { result ≡ built command.now }
 {
     match command {
-        Command::Replay { plan, events, .. } => plan.is_none()
-            && u64::from(*events) == EVENT_BUDGET,
-        Command::Check { .. } | Command::Derive { .. } => true,
-        Command::Serve { .. } | Command::Consume(_) | Command::Storm { .. } => false,
+        Command::Replay { .. }
+        | Command::Serve { .. }
+        | Command::Check { .. }
+        | Command::Derive { .. } => true,
+        Command::Consume(_) | Command::Storm { .. } => false,
     }
 }

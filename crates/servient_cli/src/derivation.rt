@@ -1,44 +1,71 @@
-//! Deriving the Things of a plan.
+//! Reading a plan and its models, and deriving its Things.
 
 ghost use Rattle.std.specs.Prelude.{◌≡◌, ◌++◌, [], List, IfOk, OnOk};
-ghost use Rattle.thing_handler.specs.Handler.{Seen};
+ghost use Rattle.servient_core.specs.Trace.{Outside};
+ghost use Rattle.std.specs.List.{AllByRecursion};
+ghost use Rattle.wot_terms.specs.Faults.{IsValid};
 ghost use Rattle.wot_terms.specs.ThingLists.{kept_thing, kept_things};
-ghost use Rattle.servient_cli.specs.Stages.{Around, around, files_seen};
+ghost use Rattle.servient_core.specs.Plan.{HasFewExchanges};
+ghost use Rattle.servient_cli.specs.Stages.{AndThen, Around, around, files_seen};
 ghost use Rattle.servient_cli.specs.Reading.{ReadsFile, longest_json};
-ghost use Rattle.servient_cli.specs.Deriving.{AddsModel, Derives, DerivesPlan, ReadsPlan, TakesModel, TakesModels, thing_text, things_text};
-ghost use Rattle.servient_cli.specs.Ending.{EndsBy, Finishes, Performs};
+ghost use Rattle.servient_cli.specs.Deriving.{AddsModel, Derives, DerivesAndPrints, ReadsPlan, ReadsPlanned, TakesModel, TakesModels, thing_text, things_text};
+ghost use Rattle.servient_cli.specs.Ending.{EndsBy, Performs};
 
 use crate::ending::{Ended, Ending, end_with};
 use crate::fault_lines::refused;
 use crate::reading::{LONGEST_JSON, read_file, read_tree};
 use servient_core::{ModelFiles, Plan, PlanFault};
 use servient_edge::Files;
-use std::alloc::{AllocError, Global};
+use std::alloc::Global;
 use tm_derive::derive;
 use tm_parts::{AddFault, Library};
 use wot_json::{Bytes, NoMemory, Text, Tree, text_of};
-use wot_terms::Thing;
+use wot_terms::{Thing, Things};
 
-/// Reads the plan that the content of a file is, and its models, and prints the descriptions of its Things.
-pub fn derive_plan<F: Files>(
-    alloc: Global,
-    name: &str,
-    content: &[u8],
-    files: &mut F,
-) -> Result<Ending, Ended>
+/// A plan, and the library of its models.
+#[derive(Drop)]
+pub struct Planned {
+    pub plan: Plan,
+    pub library: Library,
+}
+
+/// Reads a plan and its models, derives the root, and prints the descriptions of its Things.
+pub fn derive_plan<F: Files>(alloc: Global, name: &str, files: &mut F) -> Result<Ending, Ended>
     ensures { let before = files_seen (F.held files.old) (F.reads files.old) (F.faults files.old) in
         let now = files_seen (F.held files.new) (F.reads files.new) (F.faults files.new) in
-        (slots : List Seen) → EndsBy (DerivesPlan (F.held files.old) name.now content.now) (around before slots) (around now slots) result }
+        (w : Outside) → EndsBy (AndThen (ReadsPlanned (F.held files.old) name.now) DerivesAndPrints) (around before w) (around now w) result }
 {
-    let tree = read_tree(alloc, name, content)?;
+    let planned = read_planned(alloc, name, files)?;
+    derive_and_print(alloc, &planned)
+}
+
+/// Derives the root of a plan, and prints the descriptions of its Things.
+fn derive_and_print(alloc: Global, planned: &Planned) -> Result<Ending, Ended>
+    ensures { (a : Around) → EndsBy (DerivesAndPrints planned.now) a a result }
+{
+    let things = derive_things(alloc, planned)?;
+    Ok(printed(alloc, things.as_slice())?)
+}
+
+/// Reads a plan and then its models.
+pub fn read_planned<F: Files>(alloc: Global, name: &str, files: &mut F) -> Result<Planned, Ended>
+    ensures stage { let before = files_seen (F.held files.old) (F.reads files.old) (F.faults files.old) in
+        let now = files_seen (F.held files.new) (F.reads files.new) (F.faults files.new) in
+        (w : Outside) → Performs (ReadsPlanned (F.held files.old) name.now) (around before w) (around now w) result }
+    ensures held { F.held files.new ≡ F.held files.old }
+    ensures exchanges { IfOk result (λ p. HasFewExchanges p.plan) }
+{
+    let content = read_file(alloc, name, LONGEST_JSON, files)?;
+    let tree = read_tree(alloc, name, content.as_slice())?;
     let plan = read_plan(alloc, name, &tree)?;
     let library = take_models(alloc, &plan.models, files)?;
-    Ok(derive_things(alloc, &plan, &library)?)
+    Ok(Planned { plan, library })
 }
 
 /// The plan that a tree is.
 fn read_plan(alloc: Global, name: &str, tree: &Tree) -> Result<Plan, Ended>
-    ensures { (a : Around) → Performs (ReadsPlan name.now tree.now) a a result }
+    ensures stage { (a : Around) → Performs (ReadsPlan name.now tree.now) a a result }
+    ensures exchanges { IfOk result HasFewExchanges }
 {
     match Plan::read(alloc, tree) {
         Ok(plan) => Ok(plan),
@@ -55,9 +82,10 @@ fn take_models<F: Files>(
     models: &ModelFiles,
     files: &mut F,
 ) -> Result<Library, Ended>
-    ensures { let before = files_seen (F.held files.old) (F.reads files.old) (F.faults files.old) in
+    ensures stage { let before = files_seen (F.held files.old) (F.reads files.old) (F.faults files.old) in
         let now = files_seen (F.held files.new) (F.reads files.new) (F.faults files.new) in
-        (slots : List Seen) → Performs (TakesModels (F.held files.old) models.now []) (around before slots) (around now slots) result }
+        (w : Outside) → Performs (TakesModels (F.held files.old) models.now []) (around before w) (around now w) result }
+    ensures held { F.held files.new ≡ F.held files.old }
 {
     let mut library = Library::new(alloc);
     for model in models.as_slice() {
@@ -75,7 +103,7 @@ fn take_model<F: Files>(
 ) -> Result<Library, Ended>
     ensures stage { let before = files_seen (F.held files.old) (F.reads files.old) (F.faults files.old) in
         let now = files_seen (F.held files.new) (F.reads files.new) (F.faults files.new) in
-        (slots : List Seen) → Performs (TakesModel (F.held files.old) model.now library) (around before slots) (around now slots) result }
+        (w : Outside) → Performs (TakesModel (F.held files.old) model.now library) (around before w) (around now w) result }
     ensures held { F.held files.new ≡ F.held files.old }
 {
     let (url, file) = (model.0.as_str(), model.1.as_str());
@@ -88,7 +116,7 @@ fn take_model<F: Files>(
 fn read_model<F: Files>(alloc: Global, file: &str, files: &mut F) -> Result<Bytes, Ended>
     ensures stage { let before = files_seen (F.held files.old) (F.reads files.old) (F.faults files.old) in
         let now = files_seen (F.held files.new) (F.reads files.new) (F.faults files.new) in
-        (slots : List Seen) → Performs (ReadsFile (F.held files.old) longest_json file.now) (around before slots) (around now slots) result }
+        (w : Outside) → Performs (ReadsFile (F.held files.old) longest_json file.now) (around before w) (around now w) result }
     ensures held { F.held files.new ≡ F.held files.old }
 {
     read_file(alloc, file, LONGEST_JSON, files)
@@ -114,21 +142,23 @@ fn add_model(
     }
 }
 
-/// The print of the Things of a plan, or its first fault.
-fn derive_things(alloc: Global, plan: &Plan, library: &Library) -> Result<Ending, NoMemory>
-    ensures { (a : Around) → Finishes (Derives plan.now library.now) a a result }
+/// The Things that the root of a plan is derived into.
+pub fn derive_things(alloc: Global, planned: &Planned) -> Result<Things, Ended>
+    ensures stage { (a : Around) → Performs (Derives planned.now) a a result }
+    ensures valid { IfOk result (AllByRecursion (λ thing. IsValid thing.1)) }
 {
+    let plan = &planned.plan;
     let root = plan.root.as_str();
     match derive(
         alloc,
-        library,
+        &planned.library,
         root,
         &plan.bindings,
         &plan.choices,
         &plan.frame,
     ) {
-        Ok(things) => printed(alloc, things.as_slice()),
-        Err(fault) => refused(alloc, &fault),
+        Ok(things) => Ok(things),
+        Err(fault) => Err(end_with(refused(alloc, &fault))),
     }
 }
 

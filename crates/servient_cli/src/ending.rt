@@ -5,8 +5,12 @@ ghost use Rattle.wot_json.specs.Json.{json_string};
 ghost use Rattle.servient_cli.specs.Lines.{file_line, input_line, invalid_line, valid_line};
 
 use crate::print::put_number;
+use command_words::WordsFault;
 use std::alloc::Global;
 use wot_json::{Bytes, NoMemory, quoted};
+
+/// The line where the events were more than the budget.
+pub const SPENT_LINE: &[u8] = b"servient: spent\n";
 
 /// How a command ends.
 #[derive(Drop)]
@@ -22,8 +26,27 @@ pub struct Ending {
 pub enum Ended {
     /// The command ends so.
     With(Ending),
+    /// The words are no command that is built.
+    Usage,
+    /// The network failed.
+    Network,
+    /// The budget of events was taken.
+    Spent,
     /// There was no memory.
     NoMemory,
+}
+
+impl From<WordsFault> for Ended {
+    ghost use Rattle.servient_cli.specs.Words.{EndsAs};
+
+    ghost from_gives = { λ fault e. EndsAs fault e };
+
+    fn from(fault: WordsFault) -> Self {
+        match fault {
+            WordsFault::Usage => Ended::Usage,
+            WordsFault::NoMemory => Ended::NoMemory,
+        }
+    }
 }
 
 impl From<NoMemory> for Ended {
@@ -64,8 +87,15 @@ impl Ending {
     pub fn input(alloc: Global, name: &str, what: &str) -> Result<Ending, NoMemory>
         ensures { IfOk result (λ e. (e.status ≡ 4) × (e.text ≡ input_line name.now what.now)) }
     {
+        Ending::input_bytes(alloc, name, what.as_bytes())
+    }
+
+    /// The content of a file is refused, as these bytes say.
+    pub fn input_bytes(alloc: Global, name: &str, what: &[u8]) -> Result<Ending, NoMemory>
+        ensures { IfOk result (λ e. (e.status ≡ 4) × (e.text ≡ input_line name.now what.now)) }
+    {
         let mut text = input_text(alloc, name)?;
-        text.extend(what.as_bytes())?;
+        text.extend(what)?;
         text.extend(b"\n")?;
         Ok(Ending { status: 4, text })
     }

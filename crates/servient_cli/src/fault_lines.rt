@@ -1,11 +1,13 @@
-//! The line on the first fault of a derivation.
+//! The lines on the first fault of a derivation, and on what doesn't fit the rack.
 
 ghost use Rattle.std.specs.Prelude.{◌≡◌, ◌≢◌, ◌++◌, [], ◌∷◌, codes, IfOk, OnOk};
 ghost use Rattle.wot_json.specs.Json.{json_string};
-ghost use Rattle.servient_cli.specs.FaultLines.{field_text, fault_line as line_of, kind_word as word_of, refused_line};
+ghost use Rattle.servient_cli.specs.FaultLines.{field_text, fault_line as line_of, kind_word as word_of, misfit_fields, misfit_text, refused_line};
+ghost use Rattle.servient_cli.specs.Lines.{input_line};
 
 use crate::ending::Ending;
 use std::alloc::{AllocError, Global};
+use thing_core::ExposeFault;
 use tm_derive::DeriveFault;
 use tm_resolve::{ResolveFault, ResolveKind};
 use wot_json::{Bytes, NoMemory, Text, quoted};
@@ -122,4 +124,40 @@ fn put_field(alloc: Global, text: &mut Bytes, field: &Text) -> Result<(), NoMemo
     let field = quoted(alloc, field.as_str())?;
     text.extend(b" ")?;
     text.extend(field.as_slice())
+}
+
+/// How a plan ends whose Things don't fit the rack, this first.
+pub fn misfit(alloc: Global, name: &str, fault: &ExposeFault) -> Result<Ending, NoMemory>
+    ensures line { IfOk result (λ e. (e.status ≡ 4) × (e.text ≡ input_line name.now (misfit_text fault.now))) }
+    ensures known { OnOk result (fault.now ≢ ExposeFault.NoMemory) }
+{
+    match fault {
+        ExposeFault::NoSlot(segment, pointer) => {
+            misfit_line(alloc, name, b"noslot ", segment, pointer)
+        }
+        ExposeFault::KindDiffers(segment, pointer) => {
+            misfit_line(alloc, name, b"kind ", segment, pointer)
+        }
+        ExposeFault::SlotTwice(segment, pointer) => {
+            misfit_line(alloc, name, b"slottwice ", segment, pointer)
+        }
+        ExposeFault::NoMemory => Err(AllocError),
+    }
+}
+
+/// The ending with the line on an affordance that doesn't fit; `word` ends with a blank.
+fn misfit_line(
+    alloc: Global,
+    name: &str,
+    word: &[u8],
+    segment: &Text,
+    pointer: &Text,
+) -> Result<Ending, NoMemory>
+    ensures { IfOk result (λ e. (e.status ≡ 4) × (e.text
+        ≡ input_line name.now (word.now ++ json_string segment.now ++ field_text pointer.now))) }
+{
+    let mut what = Bytes::copy_of(alloc, word)?;
+    what.extend(quoted(alloc, segment.as_str())?.as_slice())?;
+    put_field(alloc, &mut what, pointer)?;
+    Ending::input_bytes(alloc, name, what.as_slice())
 }

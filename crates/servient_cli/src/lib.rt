@@ -11,11 +11,14 @@ mod derivation;
 mod ending;
 mod fault_lines;
 mod laws;
+mod listening;
 mod main_call;
+mod opening;
 mod print;
 mod reading;
 mod replay;
 mod script;
+mod turns;
 
 pub use laws::{each_event_has_fields, lines_are_cut_in_one_way};
 pub use main_call::servient_main;

@@ -1,14 +1,16 @@
 //! The top call: from the words of the command line to the exit status.
 
-ghost use Rattle.std.specs.Prelude.{◌≡◌, ◌<◌, ◌⊎◌, length};
-ghost use Rattle.servient_base.specs.Count.{Rose};
+ghost use Rattle.std.specs.Prelude.{◌≡◌, ◌⊎◌, false};
+ghost use Rattle.thing_core.specs.Exposing.{kinds_of};
 ghost use Rattle.servient_cli.specs.Stages.{around, files_seen};
-ghost use Rattle.servient_cli.specs.Command.{Ends, IsFaultless, IsNoCommand, IsReported, out_seen};
+ghost use Rattle.command_words.specs.Grammar.{meaning_of};
+ghost use Rattle.servient_core.specs.Trace.{outside};
+ghost use Rattle.servient_cli.specs.Command.{Commands, Ends, IsFaultless, IsNoCommand, IsReported, IsWell, NothingFailed, is_serving, out_seen};
+ghost use Rattle.servient_cli.specs.Ending.{EndsBy, final_status as status_in, final_text as text_in};
 
 use crate::command::command_of;
 use crate::commands::run_command;
-use crate::ending::Ended;
-use command_words::WordsFault;
+use crate::ending::{Ended, Ending, SPENT_LINE};
 use servient_edge::{Files, Net, Out, Put};
 use std::alloc::Global;
 use thing_handler::Handlers;
@@ -17,11 +19,13 @@ use wot_json::Text;
 /// The line for words that are no command line.
 const USAGE_LINE: &[u8] = b"usage: servient replay|serve|derive|check|consume|storm ..\n";
 
+/// The line where the network failed.
+const NETWORK_LINE: &[u8] = b"servient: net\n";
+
 /// The line for being out of memory.
 const MEMORY_LINE: &[u8] = b"servient: memory\n";
 
-/// Does what the words after the program's name say, and gives the exit status. The built-in property
-/// is in slot 0 of the rack.
+/// Does what the words after the program's name say, and gives the exit status.
 pub fn servient_main<F: Files, N: Net, R: Handlers, O: Out>(
     alloc: Global,
     words: &[Text],
@@ -30,59 +34,88 @@ pub fn servient_main<F: Files, N: Net, R: Handlers, O: Out>(
     rack: &mut R,
     out: &mut O,
 ) -> u8
-    requires { 0 < length (R.slots rack.old) }
     // The command of the words ended with a status, and what it wrote and the status were reported.
     ensures ends { let files_before = files_seen (F.held files.old) (F.reads files.old) (F.faults files.old) in
         let files_now = files_seen (F.held files.new) (F.reads files.new) (F.faults files.new) in
-        Ends words.now (around files_before (R.slots rack.old)) (around files_now (R.slots rack.new))
+        Ends words.now
+        (around files_before (outside (N.seen net.old) (R.slots rack.old)))
+        (around files_now (outside (N.seen net.new) (R.slots rack.new)))
         (out_seen (O.written out.old) (O.faults out.old))
         (out_seen (O.written out.new) (O.faults out.new)) result }
-    // Where nothing is wrong and nothing failed, the command does what it is for, unless it is out of memory.
-    ensures complete { IsFaultless words.now (F.held files.old)
-        → ¬ (Rose (F.faults files.old) (F.faults files.new)) → ¬ (Rose (O.faults out.old) (O.faults out.new))
-        → (result ≡ 0) ⊎ (result ≡ 9) }
+    // Where nothing is wrong and nothing failed, the command does what it is for, unless it is out of memory; and serving may
+    // spend its budget.
+    ensures complete { let files_before = files_seen (F.held files.old) (F.reads files.old) (F.faults files.old) in
+        let files_now = files_seen (F.held files.new) (F.reads files.new) (F.faults files.new) in
+        IsFaultless words.now (F.held files.old) (kinds_of (R.slots rack.old))
+        → NothingFailed
+        (around files_before (outside (N.seen net.old) (R.slots rack.old)))
+        (around files_now (outside (N.seen net.new) (R.slots rack.new)))
+        (out_seen (O.written out.old) (O.faults out.old))
+        (out_seen (O.written out.new) (O.faults out.new))
+        → IsWell words.now result }
     // Status 2 says that the words are no command that is built, and nothing else does, unless the output failed or there was no memory.
     ensures usage { (result ≡ 2 → IsNoCommand words.now) × (IsNoCommand words.now → (result ≡ 2) ⊎ (result ≡ 7) ⊎ (result ≡ 9)) }
-    ensures net { net.new ≡ net.old }
+    // Where no plan is served, nothing is done to the network.
+    ensures net { is_serving (meaning_of words.now) ≡ false → net.new ≡ net.old }
 {
-    let _ = net;
-    do_words(alloc, words, files, rack, out)
+    let ended = do_words(alloc, words, files, net, rack);
+    report(out, &ended)
 }
 
-/// Does what the words say, and reports it.
-fn do_words<F: Files, R: Handlers, O: Out>(
+/// Does what the words say.
+fn do_words<F: Files, N: Net, R: Handlers>(
     alloc: Global,
     words: &[Text],
     files: &mut F,
+    net: &mut N,
     rack: &mut R,
-    out: &mut O,
-) -> u8
-    requires { 0 < length (R.slots rack.old) }
-    ensures { let files_before = files_seen (F.held files.old) (F.reads files.old) (F.faults files.old) in
+) -> Result<Ending, Ended>
+    ensures ends { let files_before = files_seen (F.held files.old) (F.reads files.old) (F.faults files.old) in
         let files_now = files_seen (F.held files.new) (F.reads files.new) (F.faults files.new) in
-        Ends words.now (around files_before (R.slots rack.old)) (around files_now (R.slots rack.new))
-        (out_seen (O.written out.old) (O.faults out.old))
-        (out_seen (O.written out.new) (O.faults out.new)) result }
+        EndsBy (Commands (F.held files.old) (kinds_of (R.slots rack.old)) words.now)
+        (around files_before (outside (N.seen net.old) (R.slots rack.old)))
+        (around files_now (outside (N.seen net.new) (R.slots rack.new))) result }
+    ensures net { is_serving (meaning_of words.now) ≡ false → net.new ≡ net.old }
 {
-    let command = match command_of(alloc, words) {
-        Ok(command) => command,
-        Err(WordsFault::Usage) => return report(out, USAGE_LINE, 2),
-        Err(WordsFault::NoMemory) => return report(out, MEMORY_LINE, 9),
-    };
-    match run_command(alloc, &command, files, rack) {
-        Ok(ending) => report(out, ending.text.as_slice(), ending.status),
-        Err(Ended::With(ending)) => report(out, ending.text.as_slice(), ending.status),
-        Err(Ended::NoMemory) => report(out, MEMORY_LINE, 9),
+    let command = command_of(alloc, words)?;
+    run_command(alloc, &command, files, net, rack)
+}
+
+/// Writes the text with which a command ended, and gives its status, or 7 where the output failed.
+fn report<O: Out>(out: &mut O, ended: &Result<Ending, Ended>) -> u8
+    ensures { IsReported (status_in ended.now) (text_in ended.now) (O.written out.old) (O.written out.new)
+        (O.faults out.old) (O.faults out.new) result }
+{
+    match out.put(final_text(ended)) {
+        Put::Done => final_status(ended),
+        Put::Failed => 7,
     }
 }
 
-/// Writes the text of a command, and gives its status, or 7 where the output failed.
-fn report<O: Out>(out: &mut O, text: &[u8], status: u8) -> u8
-    ensures { IsReported status text.now (O.written out.old) (O.written out.new)
-        (O.faults out.old) (O.faults out.new) result }
+/// The status of a command that ended so.
+fn final_status(ended: &Result<Ending, Ended>) -> u8
+    ensures { result ≡ status_in ended.now }
 {
-    match out.put(text) {
-        Put::Done => status,
-        Put::Failed => 7,
+    match ended {
+        Ok(ending) => ending.status,
+        Err(Ended::With(ending)) => ending.status,
+        Err(Ended::Usage) => 2,
+        Err(Ended::Network) => 6,
+        Err(Ended::Spent) => 8,
+        Err(Ended::NoMemory) => 9,
+    }
+}
+
+/// The text of a command that ended so.
+fn final_text(ended: &Result<Ending, Ended>) -> &[u8]
+    ensures { result.now ≡ text_in ended.now }
+{
+    match ended {
+        Ok(ending) => ending.text.as_slice(),
+        Err(Ended::With(ending)) => ending.text.as_slice(),
+        Err(Ended::Usage) => USAGE_LINE,
+        Err(Ended::Network) => NETWORK_LINE,
+        Err(Ended::Spent) => SPENT_LINE,
+        Err(Ended::NoMemory) => MEMORY_LINE,
     }
 }

@@ -19,26 +19,34 @@ pub fn put_acts(alloc: Global, out: &mut Bytes, acts: &[Act]) -> Result<(), NoMe
     ensures { OnOk result (out.new ≡ out.old ++ flat_map act_line acts.now) }
 {
     for act in acts {
-        match act {
-            Act::Datagram(to, bytes) => put_datagram(alloc, out, *to, bytes.as_slice())?,
-        }
+        put_act(alloc, out, act)?;
     }
     Ok(())
 }
 
-/// Puts the lines of turns of one slot at the end, in order.
-pub fn put_turns(
-    alloc: Global,
-    out: &mut Bytes,
-    slot: usize,
-    turns: &[Turn],
-) -> Result<(), NoMemory>
-    ensures { OnOk result (out.new ≡ out.old ++ flat_map turn_line (map (in_slot slot) turns.now)) }
+/// Puts the line of an act at the end, if it has one.
+fn put_act(alloc: Global, out: &mut Bytes, act: &Act) -> Result<(), NoMemory>
+    ensures { OnOk result (out.new ≡ out.old ++ act_line act.now) }
 {
-    for turn in turns {
-        put_turn(alloc, out, slot, turn)?;
+    match act {
+        Act::Sent(c, bytes) => put_sent(alloc, out, *c, bytes.as_slice()),
+        Act::Closed(c) => {
+            put_with_number(out, b"close ", *c)?;
+            out.extend(b"\n")
+        }
+        Act::Datagram(to, bytes) => put_datagram(alloc, out, *to, bytes.as_slice()),
+        Act::Listened(_) | Act::Dialled(_, _, _) | Act::Looked(_, _, _) => Ok(()),
     }
-    Ok(())
+}
+
+/// Puts the line of bytes that were sent on a connection at the end.
+fn put_sent(alloc: Global, out: &mut Bytes, c: u32, bytes: &[u8]) -> Result<(), NoMemory>
+    ensures { OnOk result (out.new ≡ out.old ++ act_line (act.Sent c bytes.now)) }
+{
+    put_with_number(out, b"send ", c)?;
+    out.extend(b" ")?;
+    put_hex(alloc, out, bytes)?;
+    out.extend(b"\n")
 }
 
 /// Puts the line of a datagram at the end.
@@ -54,8 +62,8 @@ fn put_datagram(alloc: Global, out: &mut Bytes, to: Endpoint, bytes: &[u8]) -> R
     out.extend(b"\n")
 }
 
-/// Puts the line of a turn at the end.
-fn put_turn(alloc: Global, out: &mut Bytes, slot: usize, turn: &Turn) -> Result<(), NoMemory>
+/// Puts the line of a turn of a slot at the end.
+pub fn put_turn(alloc: Global, out: &mut Bytes, slot: usize, turn: &Turn) -> Result<(), NoMemory>
     ensures { OnOk result (out.new ≡ out.old ++ turn_line (in_slot slot turn.now)) }
 {
     out.extend(b"turn ")?;

@@ -1,7 +1,7 @@
 //! Reading files, and the JSON texts in them.
 
 ghost use Rattle.std.specs.Prelude.{◌≡◌, ◌≤◌, List, length, IfOk};
-ghost use Rattle.thing_handler.specs.Handler.{Seen};
+ghost use Rattle.servient_core.specs.Trace.{Outside};
 ghost use Rattle.servient_cli.specs.Stages.{Around, around, files_seen};
 ghost use Rattle.servient_cli.specs.Reading.{ReadsFile, ReadsTree};
 ghost use Rattle.servient_cli.specs.Ending.{Performs};
@@ -26,7 +26,7 @@ pub fn read_file<F: Files>(
 ) -> Result<Bytes, Ended>
     ensures stage { let before = files_seen (F.held files.old) (F.reads files.old) (F.faults files.old) in
         let now = files_seen (F.held files.new) (F.reads files.new) (F.faults files.new) in
-        (slots : List Seen) → Performs (ReadsFile (F.held files.old) limit name.now) (around before slots) (around now slots) result }
+        (w : Outside) → Performs (ReadsFile (F.held files.old) limit name.now) (around before w) (around now w) result }
     ensures within { IfOk result (λ content. length content ≤ limit) }
     ensures held { F.held files.new ≡ F.held files.old }
 {

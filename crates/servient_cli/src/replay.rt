@@ -1,54 +1,117 @@
-//! Running a script, and what the run prints.
+//! Running a script on the Things of a plan, and what the run prints.
 
-ghost use Rattle.std.specs.Prelude.{◌≡◌, ◌<◌, ◌≤◌, ◌++◌, length, map, IfOk};
-ghost use Rattle.std.specs.List.{AllByRecursion, flat_map};
-ghost use Rattle.servient_cli.specs.Script.{IsScriptEvent};
-ghost use Rattle.servient_cli.specs.Print.{act_line, in_slot, turn_line};
+ghost use Rattle.std.specs.Prelude.{◌≡◌, ◌≤◌, ◌++◌, ℕ, List, length, map, IfOk};
+ghost use Rattle.thing_handler.specs.Turns.{RunTurn};
+ghost use Rattle.servient_edge.specs.Network.{NetSeen};
+ghost use Rattle.servient_core.specs.Trace.{Outside, outside};
+ghost use Rattle.thing_core.specs.Exposing.{kinds_of};
+ghost use Rattle.thing_core.specs.Kept.{Fits};
+ghost use Rattle.servient_core.specs.Plan.{HasFewExchanges};
+ghost use Rattle.servient_core.specs.Machine.{start};
+ghost use Rattle.servient_core.specs.Serving.{StandsFor};
+ghost use Rattle.servient_cli.specs.Script.{StopsAtEnd};
+ghost use Rattle.servient_cli.specs.Print.{print_text};
+ghost use Rattle.servient_cli.specs.Merging.{IsMerged};
 ghost use Rattle.servient_cli.specs.Lines.{spent_line};
-ghost use Rattle.servient_cli.specs.Stages.{Around, FilesSeen, around};
+ghost use Rattle.servient_cli.specs.Stages.{Around, FilesSeen, around, files_seen};
 ghost use Rattle.servient_cli.specs.Reading.{longest_script};
-ghost use Rattle.servient_cli.specs.Replaying.{ReadsScript, Replays, RunsScript};
+ghost use Rattle.servient_cli.specs.Replaying.{Plans, ReadsEvents, ReadsInputs, ReadsScript, RunsOn, RunsScript, TakesBuiltIn, plan_name as name_of_plan};
 ghost use Rattle.servient_cli.specs.Ending.{EndsBy, Finishes, Performs};
 
-use crate::ending::{Ended, Ending, end_with};
-use crate::print::{put_acts, put_turns};
+use crate::derivation::{Planned, read_planned};
+use crate::ending::{Ended, Ending, SPENT_LINE, end_with};
+use crate::opening::open;
+use crate::print::put_acts;
+use crate::reading::{LONGEST_SCRIPT, read_file};
 use crate::script::{Script, ScriptFault};
-use servient_core::{Served, Servient, serve};
-use servient_edge::{Act, Calls, Events, NetMemory};
+use crate::turns::{put_turns, turn_counts, turns_since};
+use servient_core::{Plan, Served, Servient, serve};
+use servient_edge::{Act, Calls, Events, Files, NetMemory};
 use std::alloc::{AllocError, Global};
 use thing_handler::{Handlers, Turn};
-use wot_json::{Bytes, NoMemory};
+use tm_parts::Library;
+use wot_json::{Bytes, NoMemory, Text};
 
-/// The most events of a run; `event_budget` of specs/Replaying.antt.
-pub const EVENT_BUDGET: u64 = 100_000;
+/// What a replay has read: its plan with the plan's models, and the events of its script.
+#[derive(Drop)]
+pub struct Inputs {
+    pub planned: Planned,
+    pub events: Events,
+}
 
-/// The slot of the built-in property's handler.
-const SLOT: usize = 0;
-
-/// What follows the print where the events were more than the budget.
-const SPENT_LINE: &[u8] = b"servient: spent\n";
-
-/// Reads a script and runs it on the built-in property.
-pub fn replay<R: Handlers>(
-    alloc: Global,
-    name: &str,
-    content: &[u8],
-    rack: &mut R,
-) -> Result<Ending, Ended>
-    requires slot { 0 < length (R.slots rack.old) }
-    requires length { length content.now ≤ longest_script }
-    ensures { (files : FilesSeen) → EndsBy (Replays name.now content.now)
-        (around files (R.slots rack.old)) (around files (R.slots rack.new)) result }
+/// How a line on the fit to the rack names the plan.
+pub fn plan_name(plan: &Option<Text>) -> &str
+    ensures { result.now ≡ name_of_plan plan.now }
 {
-    let events = read_script(alloc, name, content)?;
-    Ok(run_script(alloc, events, rack)?)
+    match plan {
+        Some(name) => name.as_str(),
+        None => "builtin",
+    }
+}
+
+/// Reads the plan, if one is named, with its models, and then the script.
+pub fn read_inputs<F: Files>(
+    alloc: Global,
+    plan: &Option<Text>,
+    script: &str,
+    files: &mut F,
+) -> Result<Inputs, Ended>
+    ensures stage { let before = files_seen (F.held files.old) (F.reads files.old) (F.faults files.old) in
+        let now = files_seen (F.held files.new) (F.reads files.new) (F.faults files.new) in
+        (w : Outside) → Performs (ReadsInputs (F.held files.old) plan.now script.now) (around before w) (around now w) result }
+    ensures exchanges { IfOk result (λ read. HasFewExchanges read.planned.plan) }
+    ensures ends { IfOk result (λ read. StopsAtEnd read.events) }
+{
+    let planned = plan_of(alloc, plan, files)?;
+    let events = read_events(alloc, script, files)?;
+    Ok(Inputs { planned, events })
+}
+
+/// The plan of this file with its models, or the built-in Thing where none is named.
+fn plan_of<F: Files>(alloc: Global, plan: &Option<Text>, files: &mut F) -> Result<Planned, Ended>
+    ensures stage { let before = files_seen (F.held files.old) (F.reads files.old) (F.faults files.old) in
+        let now = files_seen (F.held files.new) (F.reads files.new) (F.faults files.new) in
+        (w : Outside) → Performs (Plans (F.held files.old) plan.now) (around before w) (around now w) result }
+    ensures held { F.held files.new ≡ F.held files.old }
+    ensures exchanges { IfOk result (λ p. HasFewExchanges p.plan) }
+{
+    match plan {
+        Some(name) => read_planned(alloc, name.as_str(), files),
+        None => built_in(alloc),
+    }
+}
+
+/// The plan of the built-in Thing, and the library of its one model.
+fn built_in(alloc: Global) -> Result<Planned, Ended>
+    ensures stage { (a : Around) → Performs TakesBuiltIn a a result }
+    ensures exchanges { IfOk result (λ p. HasFewExchanges p.plan) }
+{
+    let plan = Plan::built_in(alloc)?;
+    let model = Plan::built_in_model(alloc)?;
+    let mut library = Library::new(alloc);
+    match library.add(plan.root.as_str(), model) {
+        Ok(()) => Ok(Planned { plan, library }),
+        // The library takes this model: a test replays the built-in Thing.
+        Err(_) => Err(Ended::NoMemory),
+    }
+}
+
+/// Reads the events of a script.
+fn read_events<F: Files>(alloc: Global, name: &str, files: &mut F) -> Result<Events, Ended>
+    ensures stage { let before = files_seen (F.held files.old) (F.reads files.old) (F.faults files.old) in
+        let now = files_seen (F.held files.new) (F.reads files.new) (F.faults files.new) in
+        (w : Outside) → Performs (ReadsEvents (F.held files.old) name.now) (around before w) (around now w) result }
+    ensures ends { IfOk result StopsAtEnd }
+{
+    let content = read_file(alloc, name, LONGEST_SCRIPT, files)?;
+    events_of(alloc, name, content.as_slice())
 }
 
 /// The events of a script.
-fn read_script(alloc: Global, name: &str, content: &[u8]) -> Result<Events, Ended>
+fn events_of(alloc: Global, name: &str, content: &[u8]) -> Result<Events, Ended>
     requires { length content.now ≤ longest_script }
     ensures stage { (a : Around) → Performs (ReadsScript name.now content.now) a a result }
-    ensures events { IfOk result (AllByRecursion IsScriptEvent) }
+    ensures ends { IfOk result StopsAtEnd }
 {
     match Script::read(alloc, content) {
         Ok(script) => Ok(script.into_events()),
@@ -57,22 +120,47 @@ fn read_script(alloc: Global, name: &str, content: &[u8]) -> Result<Events, Ende
     }
 }
 
-/// Runs the events of a script, and then a Stop, on the built-in property, and prints the acts and the turns.
-fn run_script<R: Handlers>(alloc: Global, events: Events, rack: &mut R) -> Result<Ending, NoMemory>
-    requires slot { 0 < length (R.slots rack.old) }
-    requires events { AllByRecursion IsScriptEvent events }
-    ensures { (files : FilesSeen) → Finishes (RunsScript events)
-        (around files (R.slots rack.old)) (around files (R.slots rack.new)) result }
+/// Derives the Things of what was read, gives them their handlers, and runs the events with this budget.
+pub fn run_inputs<R: Handlers>(
+    alloc: Global,
+    name: &str,
+    inputs: Inputs,
+    budget: u64,
+    rack: &mut R,
+) -> Result<Ending, Ended>
+    requires exchanges { HasFewExchanges inputs.planned.plan }
+    requires ends { StopsAtEnd inputs.events }
+    ensures { (files : FilesSeen) → (net : NetSeen) → EndsBy (RunsOn name.now (kinds_of (R.slots rack.old)) budget inputs)
+        (around files (outside net (R.slots rack.old))) (around files (outside net (R.slots rack.new))) result }
 {
-    let turns_before = rack.turns(SLOT).len();
+    let Inputs { planned, events } = inputs;
+    let servient = open(alloc, name, &planned, rack)?;
+    Ok(run_script(alloc, servient, events, budget, rack)?)
+}
+
+/// Runs the events of a script, with a Stop after them where none of them is one, and prints the acts and the turns.
+fn run_script<R: Handlers>(
+    alloc: Global,
+    servient: Servient,
+    events: Events,
+    budget: u64,
+    rack: &mut R,
+) -> Result<Ending, NoMemory>
+    requires fits { Fits servient.exposed.site (R.slots rack.old) }
+    requires ends { StopsAtEnd events }
+    ensures { (files : FilesSeen) → (net : NetSeen) → (exchanges : ℕ) → StandsFor servient (start servient.exposed.site exchanges)
+        → Finishes (RunsScript budget events exchanges servient.exposed.site)
+        (around files (outside net (R.slots rack.old))) (around files (outside net (R.slots rack.new))) result }
+{
+    let counts = turn_counts(alloc, rack)?;
     let mut net = NetMemory::new(alloc, events, Calls::new(alloc))?;
-    let mut servient = Servient::new(SLOT);
-    let served = serve(&mut servient, &mut net, rack, EVENT_BUDGET);
+    let mut servient = servient;
+    let served = serve(&mut servient, &mut net, rack, budget);
     if net.lost() != 0 {
         return Err(AllocError);
     }
-    let (_, turns) = rack.turns(SLOT).split_at(turns_before);
-    let text = print(alloc, net.acts(), turns)?;
+    let mut by_slot = turns_since(alloc, rack, counts.as_slice())?;
+    let text = print(alloc, net.acts(), by_slot.as_mut_slice())?;
     match served {
         Served::Stopped => Ok(Ending { status: 0, text }),
         Served::Spent => spent(text),
@@ -80,14 +168,14 @@ fn run_script<R: Handlers>(alloc: Global, events: Events, rack: &mut R) -> Resul
     }
 }
 
-/// The print of acts and of turns of the built-in property's handler.
-fn print(alloc: Global, acts: &[Act], turns: &[Turn]) -> Result<Bytes, NoMemory>
-    ensures { IfOk result (λ text. text
-        ≡ flat_map act_line acts.now ++ flat_map turn_line (map (in_slot SLOT) turns.now)) }
+/// The print of acts and of turns, which each slot has its own of.
+fn print(alloc: Global, acts: &[Act], by_slot: &mut [&[Turn]]) -> Result<Bytes, NoMemory>
+    ensures { (turns : List RunTurn) → IsMerged 0 (map (λ left. left.now) by_slot.old) turns
+        → IfOk result (λ text. text ≡ print_text acts.now turns) }
 {
     let mut text = Bytes::new(alloc);
     put_acts(alloc, &mut text, acts)?;
-    put_turns(alloc, &mut text, SLOT, turns)?;
+    put_turns(alloc, &mut text, by_slot)?;
     Ok(text)
 }
 

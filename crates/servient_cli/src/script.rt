@@ -11,7 +11,7 @@ ghost use Rattle.std.specs.Str.{IsUtf8};
 ghost use Rattle.coap_msg.specs.declared.endpoint.Endpoint.{Endpoint};
 ghost use Rattle.servient_edge.specs.declared.net.EventWithBytes.{EventWithBytes};
 ghost use Rattle.servient_cli.specs.Fields.{fields_text, AreFields};
-ghost use Rattle.servient_cli.specs.Script.{hex_text, endpoint_text, what_fields, line_fields, line_text, IsScriptEndpoint, IsScriptEvent, IsScript, IsFirstBadLine};
+ghost use Rattle.servient_cli.specs.Script.{hex_text, endpoint_text, line_text, has_stop, IsScriptEndpoint, IsScriptEvent, StopsAtEnd, IsScript, IsFirstBadLine, ReadsEvent};
 ghost use Rattle.servient_cli.specs.Reading.{longest_script};
 
 use arrayvec::ArrayVec;
@@ -28,8 +28,13 @@ use wot_json::{Bytes, NoMemory};
 /// The latest moment of an event, in milliseconds.
 const LATEST_MOMENT: u64 = 1_000_000_000_000_000;
 
-/// The most bytes of a datagram.
-const MOST_BYTES: usize = 2048;
+/// The most bytes of a datagram, and those that come at once on a connection.
+const LONGEST_DATAGRAM: usize = 2048;
+
+const LONGEST_PIECE: usize = 4096;
+
+/// The highest number of a connection.
+const LAST_CONNECTION: u64 = 63;
 
 /// The most fields of a line.
 const MOST_FIELDS: usize = 4;
@@ -81,18 +86,29 @@ fn has_upper_case(text: &str) -> bool
     text.bytes().any(|byte| byte.is_ascii_uppercase())
 }
 
-/// The bytes that HEX writes: at least two lower-case digits, or `-` for none.
-fn bytes_of(alloc: Global, text: &str) -> Result<Option<Bytes>, NoMemory>
+/// The number of a connection.
+fn connection_of(text: &str) -> Option<u32>
+    ensures ok { IfSome result (λ c. text.now ≡ decimal c) }
+    ensures bounds { IfSome result (λ c. c < 64) }
+    ensures complete { (c : ℕ) → c < 64 → text.now ≡ decimal c → result ≡ Some c }
+{
+    let number = parse_decimal(text, LAST_CONNECTION)?;
+    Some(number as u32)
+}
+
+/// The bytes that HEX writes, at most so many: at least two lower-case digits, or `-` for none.
+fn bytes_of(alloc: Global, text: &str, most: usize) -> Result<Option<Bytes>, NoMemory>
+    requires { most ≤ 4096 }
     ensures ok { IfOk result (λ o. IfSome o (λ bytes. text.now ≡ hex_text bytes)) }
     ensures bounds { IfOk result (λ o.
-        IfSome o (λ bytes. (length bytes ≤ MOST_BYTES) × All (λ b. b < 256) bytes)) }
-    ensures complete { (bytes : List ℕ) → length bytes ≤ MOST_BYTES → All (λ b. b < 256) bytes
+        IfSome o (λ bytes. (length bytes ≤ most) × All (λ b. b < 256) bytes)) }
+    ensures complete { (bytes : List ℕ) → length bytes ≤ most → All (λ b. b < 256) bytes
         → text.now ≡ hex_text bytes → IfOk result (λ o. o ≡ Some bytes) }
 {
     if text == "-" {
         return Ok(Some(Bytes::new(alloc)));
     }
-    if text.is_empty() || text.len() > 2 * MOST_BYTES || has_upper_case(text) {
+    if text.is_empty() || text.len() > 2 * most || has_upper_case(text) {
         return Ok(None);
     }
     match hex::decode(alloc, text) {
@@ -104,6 +120,60 @@ fn bytes_of(alloc: Global, text: &str) -> Result<Option<Bytes>, NoMemory>
     }
 }
 
+/// The event at a moment that has no bytes.
+fn event_alone(alloc: Global, moment: u64, what: What) -> EventWithBytes
+    ensures { result ≡ record { event = record { moment = moment; what = what }; bytes = [] } }
+{
+    EventWithBytes {
+        event: Event { moment, what },
+        bytes: Bytes::new(alloc),
+    }
+}
+
+/// That a connection was opened at a moment, from the field after `open`.
+fn opened_at(alloc: Global, moment: u64, c: &str) -> Option<EventWithBytes>
+    requires { moment ≤ LATEST_MOMENT }
+    ensures { ReadsEvent moment (codes "open" ∷ c.now ∷ []) result }
+{
+    let c = connection_of(c)?;
+    Some(event_alone(alloc, moment, What::Opened(c)))
+}
+
+/// That a connection has ended at a moment, from the field after `end`.
+fn ended_at(alloc: Global, moment: u64, c: &str) -> Option<EventWithBytes>
+    requires { moment ≤ LATEST_MOMENT }
+    ensures { ReadsEvent moment (codes "end" ∷ c.now ∷ []) result }
+{
+    let c = connection_of(c)?;
+    Some(event_alone(alloc, moment, What::Ended(c)))
+}
+
+/// The bytes that came on a connection at a moment, from the fields after `bytes`.
+fn bytes_at(
+    alloc: Global,
+    moment: u64,
+    c: &str,
+    digits: &str,
+) -> Result<Option<EventWithBytes>, NoMemory>
+    requires { moment ≤ LATEST_MOMENT }
+    ensures { IfOk result (ReadsEvent moment (codes "bytes" ∷ c.now ∷ digits.now ∷ [])) }
+{
+    let Some(c) = connection_of(c) else {
+        return Ok(None);
+    };
+    let Some(bytes) = bytes_of(alloc, digits, LONGEST_PIECE)? else {
+        return Ok(None);
+    };
+    if bytes.is_empty() {
+        return Ok(None);
+    }
+    let what = What::Bytes(c, bytes.len());
+    Ok(Some(EventWithBytes {
+        event: Event { moment, what },
+        bytes,
+    }))
+}
+
 /// The datagram at a moment, from the fields after `data`.
 fn datagram_at(
     alloc: Global,
@@ -112,17 +182,12 @@ fn datagram_at(
     digits: &str,
 ) -> Result<Option<EventWithBytes>, NoMemory>
     requires { moment ≤ LATEST_MOMENT }
-    ensures ok { IfOk result (λ o. IfSome o (λ e. (e.event.moment ≡ moment)
-        × (codes "data" ∷ from.now ∷ digits.now ∷ [] ≡ what_fields e.event.what e.bytes))) }
-    ensures bounds { IfOk result (λ o. IfSome o IsScriptEvent) }
-    ensures complete { (e : EventWithBytes) → IsScriptEvent e → e.event.moment ≡ moment
-        → codes "data" ∷ from.now ∷ digits.now ∷ [] ≡ what_fields e.event.what e.bytes
-        → IfOk result (λ o. o ≡ Some e) }
+    ensures { IfOk result (ReadsEvent moment (codes "data" ∷ from.now ∷ digits.now ∷ [])) }
 {
     let Some(from) = endpoint_of(from) else {
         return Ok(None);
     };
-    let Some(bytes) = bytes_of(alloc, digits)? else {
+    let Some(bytes) = bytes_of(alloc, digits, LONGEST_DATAGRAM)? else {
         return Ok(None);
     };
     let what = What::Datagram(from, bytes.len());
@@ -135,15 +200,15 @@ fn datagram_at(
 /// The event at a moment, from the fields after it: a pattern for each kind of line.
 fn event_at(alloc: Global, moment: u64, fields: &[&str]) -> Result<Option<EventWithBytes>, NoMemory>
     requires { moment ≤ LATEST_MOMENT }
-    ensures ok { IfOk result (λ o. IfSome o (λ e. (e.event.moment ≡ moment)
-        × (map (λ field. field.now) fields.now ≡ what_fields e.event.what e.bytes))) }
-    ensures bounds { IfOk result (λ o. IfSome o IsScriptEvent) }
-    ensures complete { (e : EventWithBytes) → IsScriptEvent e → e.event.moment ≡ moment
-        → map (λ field. field.now) fields.now ≡ what_fields e.event.what e.bytes
-        → IfOk result (λ o. o ≡ Some e) }
+    ensures { IfOk result (ReadsEvent moment (map (λ field. field.now) fields.now)) }
 {
     match *fields {
+        ["open", c] => Ok(opened_at(alloc, moment, c)),
+        ["bytes", c, digits] => bytes_at(alloc, moment, c, digits),
+        ["end", c] => Ok(ended_at(alloc, moment, c)),
         ["data", from, digits] => datagram_at(alloc, moment, from, digits),
+        ["tick"] => Ok(Some(event_alone(alloc, moment, What::Tick))),
+        ["stop"] => Ok(Some(event_alone(alloc, moment, What::Stop))),
         _ => Ok(None),
     }
 }
@@ -193,6 +258,17 @@ fn first_line(bytes: &[u8]) -> Option<(&[u8], &[u8])>
     Some((&bytes[..place], &bytes[place + 1..]))
 }
 
+/// One of these events is the end of the run, which none follows.
+fn ends_run(events: &Events) -> bool
+    requires { StopsAtEnd events.now }
+    ensures { result ≡ has_stop events.now }
+{
+    match events.len().checked_sub(1) {
+        Some(last) => matches!(events.at(last).event.what, What::Stop),
+        None => false,
+    }
+}
+
 /// The events of a script. Contracts see the list of them.
 #[derive(Drop)]
 pub struct Script {
@@ -221,6 +297,9 @@ impl Script {
         let mut rest = bytes;
         'lines: while !rest.is_empty() {
             let number = events.len() as u32 + 1;
+            if ends_run(&events) {
+                return Err(ScriptFault::Line(number));
+            }
             let Some((line, more)) = first_line(rest) else {
                 return Err(ScriptFault::Line(number));
             };

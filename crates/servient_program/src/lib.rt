@@ -1,5 +1,5 @@
-//! The whole program below `main`: it makes the real files, the output and the rack, and does what the program's
-//! words say.
+//! The whole program below `main`: it makes the real files, the network over sockets, the output and the shipped rack, and
+//! does what the program's words say.
 //!
 //! It is a library so that each program crate is this one call: `servient`, and each stored run of it with
 //! words and an exit status of its own.
@@ -7,16 +7,13 @@
 
 use servient_base::NoMemory;
 use servient_cli::servient_main;
-use servient_edge::{Calls, Events, FilesReal, NetMemory, Out, OutReal, Put};
+use servient_edge::{FilesReal, MioNet, Out, OutReal, Put};
 use std::alloc::AllocError;
 use std::io::ErrorKind;
 use std::process::ExitCode;
 use std::{env, io};
-use thing_handler::{Cell, Handler, Rack};
-use wot_json::{Text, Tree};
-
-/// The value of the built-in property at the start.
-const STATUS: i64 = 7;
+use thing_handler::{Handler, Rack, SHIPPED_SLOTS, shipped_in};
+use wot_json::Text;
 
 /// Does what the words after the program's name say, and gives the exit status. README.md has the table of these.
 pub fn run(rt: &HostRuntime) -> ExitCode {
@@ -31,10 +28,11 @@ fn run_words(rt: &HostRuntime) -> Result<u8, NoMemory> {
     let alloc = rt.alloc();
     let words = words(rt)?;
     let mut files = FilesReal::new(rt.clone()?);
-    let mut net = NetMemory::new(alloc, Events::new(alloc), Calls::new(alloc))?;
-    // The rack of the built-in Thing: its property in slot 0.
+    let mut net = MioNet::new(rt.clone()?);
     let mut list: Vec<Box<dyn Handler>> = Vec::new(alloc);
-    list.push(Box::new(alloc, Cell::new(alloc, Tree::Int(STATUS)))?)?;
+    for slot in 0..SHIPPED_SLOTS {
+        list.push(Box::new(alloc, shipped_in(alloc, slot))?)?;
+    }
     let mut rack = Rack::new(alloc, list);
     let mut out = OutReal::new(io::writer(rt));
     let words = words.as_slice();

@@ -1,13 +1,13 @@
-//! Tests of the whole servient, and of the crates of the Thing, the edge and the top. They call the top call, `serve` or
-//! the call of one crate, with objects in memory.
+//! Tests of the whole servient and of the crate of its command line. They call the top call, or the call of that crate,
+//! with objects in memory.
 #![tactic(auto)]
 
 #[cfg(test)]
 mod checks;
 #[cfg(test)]
-mod edges;
+mod connections;
 #[cfg(test)]
-mod handlers;
+mod cuts;
 #[cfg(test)]
 mod outcomes;
 #[cfg(test)]
@@ -16,3 +16,5 @@ mod replays;
 mod scripts;
 #[cfg(test)]
 mod statuses;
+#[cfg(test)]
+mod texts;

@@ -20,9 +20,9 @@ fn refused(alloc: Global, text: &[u8]) -> Result<Option<u32>, AllocError>
     }
 }
 
-/// `0 data 1:1 HEX` with as many bytes.
-fn line_of_bytes(alloc: Global, count: u32) -> Result<Vec<u8>, AllocError> {
-    let mut text = Vec::from_slice(alloc, b"0 data 1:1 ")?;
+/// A line that begins so, with as many bytes after it.
+fn line_of_bytes(alloc: Global, begin: &[u8], count: u32) -> Result<Vec<u8>, AllocError> {
+    let mut text = Vec::from_slice(alloc, begin)?;
     for _ in 0..count {
         text.extend_from_slice(b"a0")?;
     }
@@ -30,43 +30,65 @@ fn line_of_bytes(alloc: Global, count: u32) -> Result<Vec<u8>, AllocError> {
     Ok(text)
 }
 
+/// A line of each kind.
+const LINES: &[u8] =
+    b"0 open 0\n1 bytes 63 00ff\n2 end 63\n10 data 4294967295:65535 -\n11 data 1:5683 6e6f7065\n3 tick\n1000000000000000 stop\n";
+
 #[test]
-fn reads_datagrams(rt: HostRuntime) -> Result<(), Fail> {
-    let text = b"0 data 1:5683 51010001bbb46e6f7065\n10 data 4294967295:65535 -\n";
-    let events = Script::read(rt.alloc(), text)?.into_events();
+fn reads_a_line_of_each_kind(rt: HostRuntime) -> Result<(), Fail> {
+    let events = Script::read(rt.alloc(), LINES)?.into_events();
+    let far = Endpoint {
+        host: 4_294_967_295,
+        port: 65_535,
+    };
+    let near = Endpoint {
+        host: 1,
+        port: 5683,
+    };
     let rows = [
-        (0, 1, 5683, b"\x51\x01\x00\x01\xbb\xb4nope".as_slice()),
-        (10, 4294967295, 65535, b"".as_slice()),
+        (0, What::Opened(0), b"".as_slice()),
+        (1, What::Bytes(63, 2), b"\x00\xff".as_slice()),
+        (2, What::Ended(63), b"".as_slice()),
+        (10, What::Datagram(far, 0), b"".as_slice()),
+        (11, What::Datagram(near, 4), b"nope".as_slice()),
+        (3, What::Tick, b"".as_slice()),
+        (1_000_000_000_000_000, What::Stop, b"".as_slice()),
     ];
     assert_eq!(rt; events.len(), rows.len());
-    for (place, (moment, host, port, bytes)) in rows.iter().enumerate() {
+    for (place, (moment, what, bytes)) in rows.iter().enumerate() {
         assert!(rt; place < events.len());
         let read = events.at(place);
-        let from = Endpoint {
-            host: *host,
-            port: *port,
+        let event = Event {
+            moment: *moment,
+            what: *what,
         };
-        let what = What::Datagram(from, bytes.len());
-        assert_eq!(rt;
-            read.event,
-            Event {
-                moment: *moment,
-                what
-            }
-        );
+        assert_eq!(rt; read.event, event);
         assert_eq!(rt; read.bytes.as_slice(), *bytes);
     }
     Ok(())
 }
 
 /// Scripts, each with the line that is refused, or none.
-const SCRIPTS: [(&[u8], Option<u32>); 33] = [
+const SCRIPTS: [(&[u8], Option<u32>); 46] = [
     (b"", None),
     (b"1000000000000000 data 0:0 00\n", None),
     (b"0 data 1:1 -\n0 data 1:1 -\n", None),
     (b"\n", Some(1)),
-    (b"0 tick\n", Some(1)),
-    (b"0 stop\n", Some(1)),
+    (b"0 tick\n0 stop\n", None),
+    (b"0 stop\n0 tick\n", Some(2)),
+    (b"0 stop\n0 stop\n", Some(2)),
+    (b"0 stop\n\n", Some(2)),
+    (b"0 stop 1\n", Some(1)),
+    (b"0 tick \n", Some(1)),
+    (b"0 Tick\n", Some(1)),
+    (b"0 open\n", Some(1)),
+    (b"0 open 64\n", Some(1)),
+    (b"0 open 01\n", Some(1)),
+    (b"0 end 64\n", Some(1)),
+    (b"0 bytes 0 -\n", Some(1)),
+    (b"0 bytes 64 00\n", Some(1)),
+    (b"0 bytes 0\n", Some(1)),
+    (b"0 close 0\n", Some(1)),
     (b"0 data 1:1 -", Some(1)),
     (b"0 data 1:1 -\n0 data 1:1 -", Some(2)),
     (b"0 data 1:1 -\r\n", Some(1)),
@@ -108,11 +130,19 @@ fn refuses_lines(rt: HostRuntime) -> Result<(), Fail> {
     Ok(())
 }
 
+/// How lines of many bytes begin, how many they have, and the line that is refused, if it is.
+const LONG_LINES: [(&[u8], u32, Option<u32>); 4] = [
+    (b"0 data 1:1 ", 2048, None),
+    (b"0 data 1:1 ", 2049, Some(1)),
+    (b"0 bytes 0 ", 4096, None),
+    (b"0 bytes 0 ", 4097, Some(1)),
+];
+
 #[test]
-fn takes_2048_bytes(rt: HostRuntime) -> Result<(), Fail> {
-    for (count, line) in [(2048, None), (2049, Some(1))] {
-        let text = line_of_bytes(rt.alloc(), count)?;
-        assert!(rt; text.len() <= 5000);
+fn takes_as_many_bytes_as_may_come(rt: HostRuntime) -> Result<(), Fail> {
+    for (begin, count, line) in LONG_LINES {
+        let text = line_of_bytes(rt.alloc(), begin, count)?;
+        assert!(rt; text.len() <= 9000);
         assert_eq!(rt;
             refused(rt.alloc(), text.as_slice())?,
             line,

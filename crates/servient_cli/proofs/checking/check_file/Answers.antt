@@ -9,7 +9,7 @@ use Rattle.servient_cli.proofs.checking.check_file.Goals as goal
 pub returns-in_err-tree : goal.returns-in_err-tree
 returns-in_err-tree c = λ a.
     let error = err_from_is_err_and c.from_residual.result c.from_residual.ensures.1 in
-    rw (error.1, error.2) (error_ends (ReadsTree c.args.name.now c.args.content.now) Judges a a _ (c.in_err-tree.ensures a))
+    rw (error.1, error.2) (error_ends (ReadsTree c.args.name.now c.args.content.now) Judges a a c.in_err-tree.field-0.0 (c.in_err-tree.ensures a))
 
 pub returns-in_err-judge : goal.returns-in_err-judge
 returns-in_err-judge c = λ a.

@@ -8,18 +8,18 @@ use Rattle.servient_cli.proofs.StageLaws.{then_ends, error_ends}
 use Rattle.servient_cli.proofs.commands.check_from.Goals as goal
 
 pub returns-in_err-content : goal.returns-in_err-content
-returns-in_err-content g c = λ slots.
+returns-in_err-content g c = λ w.
     let held = g.F.Files.held c.args.files.now in
     let before = files_seen held (g.F.Files.reads c.args.files.now) (g.F.Files.faults c.args.files.now) in
     let now = files_seen (g.F.Files.held c.read_file.new.files) (g.F.Files.reads c.read_file.new.files) (g.F.Files.faults c.read_file.new.files) in
     let error = err_from_is_err_and c.from_residual.result c.from_residual.ensures.1 in
-    rw (error.1, error.2) (error_ends (ReadsFile held longest_json c.args.name.now) (Checks c.args.name.now) (around before slots) (around now slots) _ (c.in_err-content.ensures.stage slots))
+    rw (error.1, error.2) (error_ends (ReadsFile held longest_json c.args.name.now) (Checks c.args.name.now) (around before w) (around now w) c.in_err-content.field-0.0 (c.in_err-content.ensures.stage w))
 
 pub returns : goal.returns
-returns g c = λ slots.
+returns g c = λ w.
     let held = g.F.Files.held c.args.files.now in
     let before = files_seen held (g.F.Files.reads c.args.files.now) (g.F.Files.faults c.args.files.now) in
     let now = files_seen (g.F.Files.held c.read_file.new.files) (g.F.Files.reads c.read_file.new.files) (g.F.Files.faults c.read_file.new.files) in
-    let done = subst (λ (bytes : List ℕ). EndsBy (Checks c.args.name.now bytes) (around now slots) (around now slots) c.check_file.result) c.as_slice.ensures (c.check_file.ensures (around now slots)) in
-    then_ends (ReadsFile held longest_json c.args.name.now) (Checks c.args.name.now) (around before slots) (around now slots) (around now slots)
-    c.in_ok-content.content c.check_file.result (c.in_ok-content.ensures.stage slots) done
+    let done = subst (λ (bytes : List ℕ). EndsBy (Checks c.args.name.now bytes) (around now w) (around now w) c.check_file.result) c.as_slice.ensures (c.check_file.ensures (around now w)) in
+    then_ends (ReadsFile held longest_json c.args.name.now) (Checks c.args.name.now) (around before w) (around now w) (around now w)
+    c.in_ok-content.content c.check_file.result (c.in_ok-content.ensures.stage w) done

@@ -1,25 +1,82 @@
 use Rattle.std.proofs.Common.{List, ℕ, subst, sym}
+use Rattle.std.specs.Prelude.{Err}
+use Rattle.std.proofs.lemmas.Result.{err_from_is_err_and}
 use Rattle.command_words.specs.declared.command.Command.{Command}
-use Rattle.command_words.specs.declared.command.Command.TheVariants.{Check, Derive}
-use Rattle.servient_cli.specs.Stages.{AndThen, around, files_seen}
+use Rattle.command_words.specs.declared.command.Command.TheVariants.{Check, Derive, Serve}
+use Rattle.thing_core.specs.Exposing.{kinds_of}
+use Rattle.servient_core.specs.Trace.{outside}
+use Rattle.servient_cli.specs.Stages.{around, files_seen}
 use Rattle.servient_cli.specs.Command.{Does}
 use Rattle.servient_cli.specs.Ending.{EndsBy}
+use Rattle.servient_cli.specs.Replaying.{ReadsInputs, RunsOn, Replays, plan_name}
+use Rattle.servient_cli.proofs.StageLaws.{then_ends, error_ends}
 use Rattle.servient_cli.proofs.commands.run_command.Goals as goal
 
-pub returns-in-Check : goal.returns-in-Check
-returns-in-Check g c =
+pub returns-in-Check-clause-ends : goal.returns-in-Check-clause-ends
+returns-in-Check-clause-ends g c =
     let held = g.F.Files.held c.args.files.now in
     let slots = g.R.Handlers.slots c.args.rack.now in
-    let before = around (files_seen held (g.F.Files.reads c.args.files.now) (g.F.Files.faults c.args.files.now)) slots in
-    let now = around (files_seen (g.F.Files.held c.check_from.new.files) (g.F.Files.reads c.check_from.new.files) (g.F.Files.faults c.check_from.new.files)) slots in
-    let named = subst (λ (name : List ℕ). EndsBy (Does held (Check name)) before now c.check_from.result) c.as_str-in-Check.ensures (c.check_from.ensures slots) in
-    subst (λ (command : Command). EndsBy (Does held command) before now c.check_from.result) (sym c.in-Check.is) named
+    let kinds = kinds_of slots in
+    let w = outside (g.N.Net.seen c.args.net.now) slots in
+    let before = around (files_seen held (g.F.Files.reads c.args.files.now) (g.F.Files.faults c.args.files.now)) w in
+    let now = around (files_seen (g.F.Files.held c.check_from.new.files) (g.F.Files.reads c.check_from.new.files) (g.F.Files.faults c.check_from.new.files)) w in
+    let named = subst (λ (name : List ℕ). EndsBy (Does held kinds (Check name)) before now c.check_from.result) c.as_str-in-Check.ensures (c.check_from.ensures w) in
+    subst (λ (command : Command). EndsBy (Does held kinds command) before now c.check_from.result) (sym c.in-Check.is) named
 
-pub returns-in-Derive : goal.returns-in-Derive
-returns-in-Derive g c =
+pub returns-in-Derive-clause-ends : goal.returns-in-Derive-clause-ends
+returns-in-Derive-clause-ends g c =
     let held = g.F.Files.held c.args.files.now in
     let slots = g.R.Handlers.slots c.args.rack.now in
-    let before = around (files_seen held (g.F.Files.reads c.args.files.now) (g.F.Files.faults c.args.files.now)) slots in
-    let now = around (files_seen (g.F.Files.held c.derive_from.new.files) (g.F.Files.reads c.derive_from.new.files) (g.F.Files.faults c.derive_from.new.files)) slots in
-    let named = subst (λ (name : List ℕ). EndsBy (Does held (Derive name)) before now c.derive_from.result) c.as_str-in-Derive.ensures (c.derive_from.ensures slots) in
-    subst (λ (command : Command). EndsBy (Does held command) before now c.derive_from.result) (sym c.in-Derive.is) named
+    let kinds = kinds_of slots in
+    let w = outside (g.N.Net.seen c.args.net.now) slots in
+    let before = around (files_seen held (g.F.Files.reads c.args.files.now) (g.F.Files.faults c.args.files.now)) w in
+    let now = around (files_seen (g.F.Files.held c.derive_plan.new.files) (g.F.Files.reads c.derive_plan.new.files) (g.F.Files.faults c.derive_plan.new.files)) w in
+    let named = subst (λ (name : List ℕ). EndsBy (Does held kinds (Derive name)) before now c.derive_plan.result) c.as_str-in-Derive.ensures (c.derive_plan.ensures w) in
+    subst (λ (command : Command). EndsBy (Does held kinds command) before now c.derive_plan.result) (sym c.in-Derive.is) named
+
+pub returns-in_err-inputs-in-Replay-clause-ends : goal.returns-in_err-inputs-in-Replay-clause-ends
+returns-in_err-inputs-in-Replay-clause-ends g c =
+    let held = g.F.Files.held c.args.files.now in
+    let slots = g.R.Handlers.slots c.args.rack.now in
+    let kinds = kinds_of slots in
+    let w = outside (g.N.Net.seen c.args.net.now) slots in
+    let a = around (files_seen held (g.F.Files.reads c.args.files.now) (g.F.Files.faults c.args.files.now)) w in
+    let b = around (files_seen (g.F.Files.held c.read_inputs.new.files) (g.F.Files.reads c.read_inputs.new.files) (g.F.Files.faults c.read_inputs.new.files)) w in
+    let plan = c.in-Replay.plan in
+    let events = c.in-Replay.events in
+    let e = c.in_err-inputs-in-Replay.field-0.0 in
+    let error = err_from_is_err_and c.from_residual.result c.from_residual.ensures.1 in
+    rw (error.1, error.2) (subst (λ (command : Command). EndsBy (Does held kinds command) a b (Err e)) (sym c.in-Replay.is)
+    (subst (λ (name : List ℕ). EndsBy (Replays held kinds name plan events) a b (Err e)) c.as_str.ensures
+    (error_ends (ReadsInputs held plan c.as_str.result.now) (RunsOn (plan_name plan) kinds events) a b e (c.in_err-inputs-in-Replay.ensures.stage w))))
+
+pub returns-in_ok-inputs-in-Replay-clause-ends : goal.returns-in_ok-inputs-in-Replay-clause-ends
+returns-in_ok-inputs-in-Replay-clause-ends g c =
+    let held = g.F.Files.held c.args.files.now in
+    let slots = g.R.Handlers.slots c.args.rack.now in
+    let kinds = kinds_of slots in
+    let now = files_seen (g.F.Files.held c.read_inputs.new.files) (g.F.Files.reads c.read_inputs.new.files) (g.F.Files.faults c.read_inputs.new.files) in
+    let w = outside (g.N.Net.seen c.args.net.now) slots in
+    let a = around (files_seen held (g.F.Files.reads c.args.files.now) (g.F.Files.faults c.args.files.now)) w in
+    let b = around now w in
+    let d = around now (outside (g.N.Net.seen c.args.net.now) (g.R.Handlers.slots c.run_inputs.new.rack)) in
+    let plan = c.in-Replay.plan in
+    let events = c.in-Replay.events in
+    let read = c.in_ok-inputs-in-Replay.inputs in
+    let result = c.run_inputs.result in
+    let ran = subst (λ (n : ℕ). EndsBy (RunsOn (plan_name plan) kinds n read) b d result) c.from.ensures
+    (subst (λ (name : List ℕ). EndsBy (RunsOn name kinds c.from.result read) b d result) c.plan_name.ensures (c.run_inputs.ensures now (g.N.Net.seen c.args.net.now))) in
+    subst (λ (command : Command). EndsBy (Does held kinds command) a d result) (sym c.in-Replay.is)
+    (subst (λ (name : List ℕ). EndsBy (Replays held kinds name plan events) a d result) c.as_str.ensures
+    (then_ends (ReadsInputs held plan c.as_str.result.now) (RunsOn (plan_name plan) kinds events) a b d read result (c.in_ok-inputs-in-Replay.ensures.stage w) ran))
+
+pub returns-in-Serve-clause-ends : goal.returns-in-Serve-clause-ends
+returns-in-Serve-clause-ends g c =
+    let held = g.F.Files.held c.args.files.now in
+    let slots = g.R.Handlers.slots c.args.rack.now in
+    let kinds = kinds_of slots in
+    let a = around (files_seen held (g.F.Files.reads c.args.files.now) (g.F.Files.faults c.args.files.now)) (outside (g.N.Net.seen c.args.net.now) slots) in
+    let b = around (files_seen (g.F.Files.held c.serve_plan.new.files) (g.F.Files.reads c.serve_plan.new.files) (g.F.Files.faults c.serve_plan.new.files))
+    (outside (g.N.Net.seen c.serve_plan.new.net) (g.R.Handlers.slots c.serve_plan.new.rack)) in
+    subst (λ (command : Command). EndsBy (Does held kinds command) a b c.serve_plan.result) (sym c.in-Serve.is)
+    (subst (λ (name : List ℕ). EndsBy (Does held kinds (Serve name c.in-Serve.events c.in-Serve.idle)) a b c.serve_plan.result) c.as_str-in-Serve.ensures c.serve_plan.ensures)

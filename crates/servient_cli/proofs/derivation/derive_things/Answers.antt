@@ -1,22 +1,20 @@
 use Rattle.std.proofs.Common.{◌≡◌, ◌∙◌, ◌⊎◌, List, ℕ, refl, ap, sym, subst}
-use Rattle.std.specs.Prelude.{Ok, Err}
-use Rattle.wot_terms.specs.ThingLists.{kept_things}
+use Rattle.std.specs.Prelude.{Err}
 use Rattle.tm_derive.specs.Derivation.{derived}
 use Rattle.tm_derive.specs.declared.fault.DeriveFault.TheVariants.{NoMemory}
-use Rattle.servient_cli.specs.Deriving.{Derives, is_derived, derive_memory, things_text}
-use Rattle.servient_cli.proofs.StageLaws.{finishes_line}
-use Rattle.servient_cli.proofs.ModelStages.{refused_finishes}
+use Rattle.servient_cli.specs.Deriving.{Derives, is_derived}
+use Rattle.servient_cli.proofs.StageLaws.{goes_quietly}
+use Rattle.servient_cli.proofs.ModelStages.{refused_ends}
 use Rattle.servient_cli.proofs.derivation.derive_things.Goals as goal
 
-pub returns-in-Ok : goal.returns-in-Ok
-returns-in-Ok c = λ a.
-    let plan = c.args.plan.now in
-    let root = ap (λ (r : List ℕ). derived c.args.library.now plan.bindings plan.choices plan.frame r) (sym c.as_str-root.ensures) in
-    finishes_line (Derives plan c.args.library.now) a c.printed.result 0 (things_text (kept_things c.as_slice.result.now)) c.printed.ensures
-    (is_derived (kept_things c.as_slice.result.now) (root ∙ c.in-Ok.ensures.ok ∙ ap (λ things. Ok things) (sym c.as_slice.ensures)) (refl, refl)) (derive_memory (refl, refl))
+pub returns-in-Ok-clause-stage : goal.returns-in-Ok-clause-stage
+returns-in-Ok-clause-stage c = λ a.
+    let p = c.args.planned.now in
+    let root = ap (λ (r : List ℕ). derived p.library p.plan.bindings p.plan.choices p.plan.frame r) (sym c.as_str-root.ensures) in
+    goes_quietly (Derives p) a c.in-Ok.things (is_derived c.in-Ok.things (root ∙ c.in-Ok.ensures.ok) refl refl)
 
-pub returns-in-Err : goal.returns-in-Err
-returns-in-Err c = λ a.
-    let plan = c.args.plan.now in
-    refused_finishes plan c.args.library.now a c.refused.result c.in-Err.fault c.refused.ensures.line c.refused.ensures.known
-    (subst (λ (r : List ℕ). (c.in-Err.fault ≡ NoMemory) ⊎ (derived c.args.library.now plan.bindings plan.choices plan.frame r ≡ Err c.in-Err.fault)) c.as_str-root.ensures c.in-Err.ensures.fault)
+pub returns-in-Err-clause-stage : goal.returns-in-Err-clause-stage
+returns-in-Err-clause-stage c = λ a.
+    let p = c.args.planned.now in
+    refused_ends p a c.refused.result c.in-Err.fault c.end_with.result c.refused.ensures.line c.refused.ensures.known c.end_with.ensures
+    (subst (λ (r : List ℕ). (c.in-Err.fault ≡ NoMemory) ⊎ (derived p.library p.plan.bindings p.plan.choices p.plan.frame r ≡ Err c.in-Err.fault)) c.as_str-root.ensures c.in-Err.ensures.fault)

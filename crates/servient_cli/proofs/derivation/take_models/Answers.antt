@@ -16,16 +16,16 @@ loop-model-init g c =
     let all = c.as_slice-model-items.result.now in
     record { held = refl; so_far = subst (λ (models : Models). TakesOn held all all models before before) (sym c.new-library.ensures) (takes_first held all before) }
 
-pub returns-in_err-library : goal.returns-in_err-library
-returns-in_err-library g c = λ slots.
+pub returns-in_err-library-clause-stage : goal.returns-in_err-library-clause-stage
+returns-in_err-library-clause-stage g c = λ w.
     let held = g.F.Files.held c.args.files.now in
     let before = files_seen held (g.F.Files.reads c.args.files.now) (g.F.Files.faults c.args.files.now) in
     let now = files_seen (g.F.Files.held c.loop-model.files) (g.F.Files.reads c.loop-model.files) (g.F.Files.faults c.loop-model.files) in
     let next = files_seen (g.F.Files.held c.take_model.new.files) (g.F.Files.reads c.take_model.new.files) (g.F.Files.faults c.take_model.new.files) in
     let error = err_from_is_err_and c.from_residual.result c.from_residual.ensures.1 in
-    let one = subst (λ (h : Option (List HeldFile)). Performs {A = Models} (TakesModel h c.model-item.result c.loop-model.library) (around now slots) (around next slots) (Err c.in_err-library.field-0.0)) c.loop-model.invariant.held (c.in_err-library.ensures.stage slots) in
-    let all = takes_none held c.as_slice-model-items.result.now c.loop-model.model-index _ c.model-item.result c.loop-model.library before now next slots c.in_err-library.field-0.0 (omega (arith, c.loop-model-test.true)) c.model-item.is c.loop-model.invariant.so_far one in
-    rw (error.1, error.2) (subst (λ (ms : List (List ℕ × List ℕ)). Performs {A = Models} (TakesModels held ms []) (around before slots) (around next slots) (Err c.in_err-library.field-0.0)) c.as_slice-model-items.ensures all)
+    let one = subst (λ (h : Option (List HeldFile)). Performs {A = Models} (TakesModel h c.model-item.result c.loop-model.library) (around now w) (around next w) (Err c.in_err-library.field-0.0)) c.loop-model.invariant.held (c.in_err-library.ensures.stage w) in
+    let all = takes_none held c.as_slice-model-items.result.now c.loop-model.model-index _ c.model-item.result c.loop-model.library before now next w c.in_err-library.field-0.0 (omega (arith, c.loop-model-test.true)) c.model-item.is c.loop-model.invariant.so_far one in
+    rw (error.1, error.2) (subst (λ (ms : List (List ℕ × List ℕ)). Performs {A = Models} (TakesModels held ms []) (around before w) (around next w) (Err c.in_err-library.field-0.0)) c.as_slice-model-items.ensures all)
 
 pub loop-model-preserved : goal.loop-model-preserved
 loop-model-preserved g c =
@@ -36,13 +36,13 @@ loop-model-preserved g c =
     record {
       held = c.take_model.ensures.held ∙ c.loop-model.invariant.held;
       so_far = takes_more held c.as_slice-model-items.result.now c.loop-model.model-index _ c.model-item.result c.loop-model.library c.in_ok-library.library before now next (omega (arith, c.loop-model-test.true)) c.model-item.is c.loop-model.invariant.so_far
-          (λ slots. subst (λ (h : Option (List HeldFile)). ComesOut (TakesModel h c.model-item.result c.loop-model.library) (around now slots) (around next slots) (goes_on c.in_ok-library.library) []) c.loop-model.invariant.held (c.in_ok-library.ensures.stage slots));
+          (λ w. subst (λ (h : Option (List HeldFile)). ComesOut (TakesModel h c.model-item.result c.loop-model.library) (around now w) (around next w) (goes_on c.in_ok-library.library) []) c.loop-model.invariant.held (c.in_ok-library.ensures.stage w));
     }
 
-pub returns : goal.returns
-returns g c = λ slots.
+pub returns-clause-stage : goal.returns-clause-stage
+returns-clause-stage g c = λ w.
     let held = g.F.Files.held c.args.files.now in
     let before = files_seen held (g.F.Files.reads c.args.files.now) (g.F.Files.faults c.args.files.now) in
     let now = files_seen (g.F.Files.held c.loop-model.files) (g.F.Files.reads c.loop-model.files) (g.F.Files.faults c.loop-model.files) in
-    subst (λ (ms : List (List ℕ × List ℕ)). ComesOut (TakesModels held ms []) (around before slots) (around now slots) (goes_on c.loop-model.library) []) c.as_slice-model-items.ensures
-    (takes_last held c.as_slice-model-items.result.now c.loop-model.model-index c.loop-model.library before now slots (omega (arith, c.loop-model-test.false)) c.loop-model.invariant.so_far)
+    subst (λ (ms : List (List ℕ × List ℕ)). ComesOut (TakesModels held ms []) (around before w) (around now w) (goes_on c.loop-model.library) []) c.as_slice-model-items.ensures
+    (takes_last held c.as_slice-model-items.result.now c.loop-model.model-index c.loop-model.library before now w (omega (arith, c.loop-model-test.false)) c.loop-model.invariant.so_far)

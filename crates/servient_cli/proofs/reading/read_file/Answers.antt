@@ -7,49 +7,49 @@ use Rattle.servient_cli.proofs.StageLaws.{goes_after, writes_after, memory_after
 use Rattle.servient_cli.proofs.reading.read_file.Goals as goal
 
 pub returns-in-Whole-clause-stage : goal.returns-in-Whole-clause-stage
-returns-in-Whole-clause-stage g c = λ slots.
+returns-in-Whole-clause-stage g c = λ w.
     let held = g.F.Files.held c.args.files.now in
     let before = files_seen held (g.F.Files.reads c.args.files.now) (g.F.Files.faults c.args.files.now) in
     let now = files_seen (g.F.Files.held c.read.new.self) (g.F.Files.reads c.read.new.self) (g.F.Files.faults c.read.new.self) in
     let read = file_read c.args.limit c.args.name.now in
-    goes_after (ReadsFile held c.args.limit c.args.name.now) (around before slots) (around now slots) (did_read read ∷ []) c.read.new.into
-    (shows_read before now slots read c.in-Whole.ensures.reads c.in-Whole.ensures.faults) refl
+    goes_after (ReadsFile held c.args.limit c.args.name.now) (around before w) (around now w) (did_read read ∷ []) c.read.new.into
+    (shows_read before now w read c.in-Whole.ensures.reads c.in-Whole.ensures.faults) refl
     (is_read c.read.new.into c.in-Whole.ensures.answer.0 c.in-Whole.ensures.answer.1 refl refl)
 
 pub returns-in-Absent-clause-stage : goal.returns-in-Absent-clause-stage
-returns-in-Absent-clause-stage g c = λ slots.
+returns-in-Absent-clause-stage g c = λ w.
     let held = g.F.Files.held c.args.files.now in
     let before = files_seen held (g.F.Files.reads c.args.files.now) (g.F.Files.faults c.args.files.now) in
     let now = files_seen (g.F.Files.held c.read.new.self) (g.F.Files.reads c.read.new.self) (g.F.Files.faults c.read.new.self) in
     let read = file_read c.args.limit c.args.name.now in
-    writes_after (ReadsFile held c.args.limit c.args.name.now) (around before slots) (around now slots) (did_read read ∷ []) c.file.result c.end_with.result 3 (file_line c.args.name.now (codes "absent"))
-    (shows_read before now slots read c.in-Absent.ensures.reads c.in-Absent.ensures.faults) refl c.file.ensures c.end_with.ensures
+    writes_after (ReadsFile held c.args.limit c.args.name.now) (around before w) (around now w) (did_read read ∷ []) c.file.result c.end_with.result 3 (file_line c.args.name.now (codes "absent"))
+    (shows_read before now w read c.in-Absent.ensures.reads c.in-Absent.ensures.faults) refl c.file.ensures c.end_with.ensures
     (is_absent c.in-Absent.ensures.answer (refl, refl)) (file_memory (did_read read ∷ []) (has_been_read refl) (refl, refl))
 
 pub returns-in-Failed-clause-stage : goal.returns-in-Failed-clause-stage
-returns-in-Failed-clause-stage g c = λ slots.
+returns-in-Failed-clause-stage g c = λ w.
     let held = g.F.Files.held c.args.files.now in
     let before = files_seen held (g.F.Files.reads c.args.files.now) (g.F.Files.faults c.args.files.now) in
     let now = files_seen (g.F.Files.held c.read.new.self) (g.F.Files.reads c.read.new.self) (g.F.Files.faults c.read.new.self) in
     let read = file_read c.args.limit c.args.name.now in
-    writes_after (ReadsFile held c.args.limit c.args.name.now) (around before slots) (around now slots) (did_fail read ∷ []) c.file-in-Failed.result c.end_with-in-Failed.result 3 (file_line c.args.name.now (codes "failed"))
-    (shows_failed before now slots read c.in-Failed.ensures.reads c.in-Failed.ensures.faults (c.in-Failed.ensures.fault refl)) refl c.file-in-Failed.ensures c.end_with-in-Failed.ensures
+    writes_after (ReadsFile held c.args.limit c.args.name.now) (around before w) (around now w) (did_fail read ∷ []) c.file-in-Failed.result c.end_with-in-Failed.result 3 (file_line c.args.name.now (codes "failed"))
+    (shows_failed before now w read c.in-Failed.ensures.reads c.in-Failed.ensures.faults (c.in-Failed.ensures.fault refl)) refl c.file-in-Failed.ensures c.end_with-in-Failed.ensures
     (is_unreadable (refl, refl)) (file_memory (did_fail read ∷ []) (has_failed refl) (refl, refl))
 
 pub returns-in-TooLong-clause-stage : goal.returns-in-TooLong-clause-stage
-returns-in-TooLong-clause-stage g c = λ slots.
+returns-in-TooLong-clause-stage g c = λ w.
     let held = g.F.Files.held c.args.files.now in
     let before = files_seen held (g.F.Files.reads c.args.files.now) (g.F.Files.faults c.args.files.now) in
     let now = files_seen (g.F.Files.held c.read.new.self) (g.F.Files.reads c.read.new.self) (g.F.Files.faults c.read.new.self) in
     let read = file_read c.args.limit c.args.name.now in
-    writes_after (ReadsFile held c.args.limit c.args.name.now) (around before slots) (around now slots) (did_read read ∷ []) c.input.result c.end_with-in-TooLong.result 4 (input_line c.args.name.now (codes "long"))
-    (shows_read before now slots read c.in-TooLong.ensures.reads c.in-TooLong.ensures.faults) refl c.input.ensures c.end_with-in-TooLong.ensures
+    writes_after (ReadsFile held c.args.limit c.args.name.now) (around before w) (around now w) (did_read read ∷ []) c.input.result c.end_with-in-TooLong.result 4 (input_line c.args.name.now (codes "long"))
+    (shows_read before now w read c.in-TooLong.ensures.reads c.in-TooLong.ensures.faults) refl c.input.ensures c.end_with-in-TooLong.ensures
     (is_long c.in-TooLong.ensures.answer (refl, refl)) (file_memory (did_read read ∷ []) (has_been_read refl) (refl, refl))
 
 pub returns-in-NoMemory-clause-stage : goal.returns-in-NoMemory-clause-stage
-returns-in-NoMemory-clause-stage g c = λ slots.
+returns-in-NoMemory-clause-stage g c = λ w.
     let held = g.F.Files.held c.args.files.now in
     let before = files_seen held (g.F.Files.reads c.args.files.now) (g.F.Files.faults c.args.files.now) in
     let now = files_seen (g.F.Files.held c.read.new.self) (g.F.Files.reads c.read.new.self) (g.F.Files.faults c.read.new.self) in
-    memory_after (ReadsFile held c.args.limit c.args.name.now) (around before slots) (around now slots) []
-    (shows_no_read before now slots c.in-NoMemory.ensures.reads c.in-NoMemory.ensures.faults) refl (file_memory [] (is_not_read refl) (refl, refl))
+    memory_after (ReadsFile held c.args.limit c.args.name.now) (around before w) (around now w) []
+    (shows_no_read before now w c.in-NoMemory.ensures.reads c.in-NoMemory.ensures.faults) refl (file_memory [] (is_not_read refl) (refl, refl))

@@ -7,7 +7,7 @@ use Rattle.std.proofs.lemmas.Slice.Eq.{slice_eq-Decides}
 use Rattle.hex.proofs.HexLemmas.{decode_of-same}
 use Rattle.servient_cli.proofs.HexTexts.{decoded_bounds, hex_text-decoded, hex_text_cases}
 use Rattle.servient_cli.proofs.script.bytes_of.Goals as goal
-use Rattle.servient_cli.proofs.script.bytes_of.Goals.{then-is_empty-via-then-is_empty, then-is_empty-via-else-is_empty+then-text, then-is_empty-via-else-is_empty+else-text+then-has_upper_case}
+use Rattle.servient_cli.proofs.script.bytes_of.Goals.{then-is_empty-via-then-is_empty, then-is_empty-via-else-is_empty+then-text-most, then-is_empty-via-else-is_empty+else-text-most+then-has_upper_case}
 
 -- what `text == "-"` says
 dash : (text : List ℕ) (r : Bool) → r ≡ bytes_eq text (codes "-") → Decides r (text ≡ codes "-")
@@ -34,8 +34,8 @@ returns-then-is_empty-clause-complete c =
             | then-is_empty-via-then-is_empty w ↦
                 let empty : length c.args.text.now ≡ 0 = grind (arith, nat_tests, c.is_empty.ensures, w.if-is_empty.true) in
                 absurd (omega (arith, digits.size, digits.some))
-            | then-is_empty-via-else-is_empty+then-text w ↦ absurd (omega (arith, digits.size))
-            | then-is_empty-via-else-is_empty+else-text+then-has_upper_case w ↦
+            | then-is_empty-via-else-is_empty+then-text-most w ↦ absurd (omega (arith, digits.size))
+            | then-is_empty-via-else-is_empty+else-text-most+then-has_upper_case w ↦
                 cc (w.has_upper_case.ensures, digits.lower, w.if-has_upper_case.true)
           ]
     ]
@@ -49,7 +49,7 @@ returns-in-Ok-clause-ok c =
 pub returns-in-Ok-clause-bounds : goal.returns-in-Ok-clause-bounds
 returns-in-Ok-clause-bounds c =
     let bounds = decoded_bounds c.args.text.now c.in-Ok.bytes.items c.in-Ok.ensures.ok in
-    rw c.from_vec.ensures (omega (arith, bounds.0, c.if-text.false), bounds.1)
+    rw c.from_vec.ensures (omega (arith, bounds.0, c.if-text-most.false), bounds.1)
 
 pub returns-in-Ok-clause-complete : goal.returns-in-Ok-clause-complete
 returns-in-Ok-clause-complete c =

@@ -1,5 +1,8 @@
-use Rattle.std.proofs.Common.{◌≡◌, ◌∙◌, decimal, arith}
-use Rattle.servient_cli.specs.Script.{line_fields, what_fields}
+use Rattle.std.proofs.Common.{◌≡◌, ◌∙◌, ℕ, List, decimal, arith}
+use Rattle.std.specs.Prelude.{Result, Ok, Err, Option, Some, IfOk}
+use Rattle.std.specs.declared.alloc.AllocError.{AllocError}
+use Rattle.servient_edge.specs.declared.net.EventWithBytes.{EventWithBytes}
+use Rattle.servient_cli.specs.Script.{IsScriptEvent, ReadsEvent, line_fields, what_fields}
 use Rattle.servient_cli.proofs.FieldTexts.{first_and_rest}
 use Rattle.servient_cli.proofs.LineTexts.{AreFields-line_fields, body_is, length-line_fields, line_is_utf8}
 use Rattle.servient_cli.proofs.script.event_of.Goals as goal
@@ -29,6 +32,11 @@ returns-in_default-parse_decimal-clause-complete c = λ e is text.
     let read = c.parse_decimal.ensures.complete e.event.moment (omega (arith, latest)) parts.0 in
     absurd (c.in_default-parse_decimal.not-Some e.event.moment read)
 
+-- an event that may be read, and of which these are the fields
+read_as : (r : Result (Option EventWithBytes) AllocError) (moment : ℕ) (fields : List (List ℕ)) (e : EventWithBytes) → IfOk r (ReadsEvent moment fields) → IsScriptEvent e → e.event.moment ≡ moment → fields ≡ what_fields e.event.what e.bytes → IfOk r (λ o. o ≡ Some e)
+read_as (Ok o) moment fields e reads is same whole = reads.complete e is same whole
+read_as (Err none) moment fields e reads is same whole = tt
+
 pub returns-clause-complete : goal.returns-clause-complete
 returns-clause-complete c = λ e is text.
     let cut =
@@ -41,4 +49,4 @@ returns-clause-complete c = λ e is text.
     let latest = is.bounds.event.moment in
     let read = c.parse_decimal.ensures.complete e.event.moment (omega (arith, latest)) parts.0 in
     let moment : e.event.moment ≡ c.in-Some-parse_decimal.moment = cc (read, c.in-Some-parse_decimal.is) in
-    c.event_at.ensures.complete e is moment parts.1
+    read_as c.event_at.result c.in-Some-parse_decimal.moment _ e c.event_at.ensures is moment parts.1

@@ -1,0 +1,184 @@
+//! A stored run over sockets. The program starts itself as a child that serves a plan, writes and reads a property of the
+//! shipped rack over TCP and UDP, and prints what came, and how the child ended once no traffic came for five seconds.
+//!
+//! With words of its own it is the servient; without any it is the run.
+#![tactic(auto)]
+
+use std::io::{Read, Write};
+use std::net::{TcpListener, TcpStream, UdpSocket};
+use std::process::{Child, Command, ExitCode, Output, Stdio};
+use std::thread::sleep;
+use std::time::Duration;
+use std::{env, fs, io, str};
+
+/// How often a connection is tried, and how many milliseconds lie between the tries: the child may not listen yet.
+const TRIES: u32 = 100;
+
+const PAUSE: u64 = 100;
+
+/// How often the child is started: a port that was free may be taken meanwhile.
+const STARTS: u32 = 5;
+
+/// How long an answer is awaited, in seconds.
+const PATIENCE: u64 = 10;
+
+/// The model of the Thing that is served.
+const MODEL: &str =
+    "{\"@context\":\"https://www.w3.org/2022/wot/td/v1.1\",\"@type\":\"tm:ThingModel\",\"title\":\"Lamp\",\"properties\":{\"level\":{\"type\":\"integer\"}}}";
+
+/// The whole requests by HTTP (RFC 9112): the second closes its connection.
+const WRITE: &[u8] =
+    b"PUT /lamp/properties/level HTTP/1.1\r\nHost: localhost\r\nContent-Type: application/json\r\nContent-Length: 2\r\nConnection: close\r\n\r\n42";
+
+const READ: &[u8] =
+    b"GET /lamp/properties/level HTTP/1.1\r\nHost: localhost\r\nConnection: close\r\n\r\n";
+
+/// A Confirmable GET by CoAP of the same property, message id 1 (RFC 7252, section 3).
+const ASK: &[u8] = b"\x40\x01\x00\x01\xb4lamp\x0aproperties\x05level";
+
+fn main(rt: HostRuntime) -> ExitCode {
+    match env::args(&rt) {
+        Ok(words) => {
+            if words.count() > 1 {
+                servient_program::run(&rt)
+            } else {
+                run(&rt)
+            }
+        }
+        Err(_) => ExitCode::FAILURE,
+    }
+}
+
+/// The run, which fails where the system does.
+fn run(rt: &HostRuntime) -> ExitCode {
+    for _ in 0..STARTS {
+        match speak(rt) {
+            Ok(true) => return ExitCode::SUCCESS,
+            Ok(false) => {}
+            Err(error) => {
+                let _ = println!(rt; "failed: {error}");
+                return ExitCode::FAILURE;
+            }
+        }
+    }
+    ExitCode::FAILURE
+}
+
+/// Starts the child on two ports that are free, speaks to it, and prints what came; false: a port was taken meanwhile.
+fn speak(rt: &HostRuntime) -> io::Result<bool> {
+    let http = free_tcp_port(rt)?;
+    let coap = free_udp_port(rt)?;
+    fs::write(rt, "level.tm.json", MODEL)?;
+    fs::write(rt, "level.plan.json", plan(rt, http, coap)?.as_str())?;
+    let mut child = start(rt)?;
+    let written = match connected(rt, http, &mut child)? {
+        Some(stream) => exchange(rt, stream, WRITE)?,
+        None => return ended_early(rt, child),
+    };
+    let read = exchange(rt, TcpStream::connect(rt, ("127.0.0.1", http))?, READ)?;
+    let mut answer = [0u8; 2048];
+    let size = ask(rt, coap, &mut answer)?;
+    let output = child.wait_with_output(rt.alloc())?;
+    print(
+        rt,
+        written.as_slice(),
+        read.as_slice(),
+        answer.get(..size).unwrap_or(b""),
+    )?;
+    print_end(rt, &output)?;
+    Ok(true)
+}
+
+/// The child ended before it listened: false where its network failed, since a port may have been taken.
+fn ended_early(rt: &HostRuntime, child: Child) -> io::Result<bool> {
+    let output = child.wait_with_output(rt.alloc())?;
+    if output.status.code() == Some(6) {
+        return Ok(false);
+    }
+    print_end(rt, &output)?;
+    Err(io::Error::from(io::ErrorKind::Other))
+}
+
+/// A port that is free for TCP.
+fn free_tcp_port(rt: &HostRuntime) -> io::Result<u16> {
+    Ok(TcpListener::bind(rt, "127.0.0.1:0")?.local_addr()?.port())
+}
+
+/// A port that is free for UDP.
+fn free_udp_port(rt: &HostRuntime) -> io::Result<u16> {
+    Ok(UdpSocket::bind(rt, "127.0.0.1:0")?.local_addr()?.port())
+}
+
+/// The plan of one Thing at these ports, whose property is a cell of the shipped rack.
+fn plan(rt: &HostRuntime, http: u16, coap: u16) -> io::Result<String> {
+    Ok(format!(in rt.alloc();
+        "{{\"name\":\"lamp\",\"id\":\"urn:x:lamp\",\"http\":\"http://127.0.0.1:{http}\",\"coap\":\"coap://127.0.0.1:{coap}\",\"model\":\"https://models.example/level.tm.json\",\"models\":[{{\"url\":\"https://models.example/level.tm.json\",\"file\":\"level.tm.json\"}}],\"slots\":[{{\"thing\":\"lamp\",\"pointer\":\"/properties/level\",\"slot\":0}}]}}"
+    )?)
+}
+
+/// Starts the program as a servient that ends after five seconds without traffic.
+fn start(rt: &HostRuntime) -> io::Result<Child> {
+    let Some(program) = env::args(rt)?.next() else {
+        return Err(io::Error::from(io::ErrorKind::NotFound));
+    };
+    let mut command = Command::new(rt.alloc(), program)?;
+    for word in ["serve", "level.plan.json", "--idle", "5"] {
+        command.arg(word)?;
+    }
+    command.stdout(Stdio::piped());
+    command.stderr(Stdio::piped());
+    command.spawn(rt)
+}
+
+/// A connection to the child, once it listens; none where it has ended before.
+fn connected(rt: &HostRuntime, port: u16, child: &mut Child) -> io::Result<Option<TcpStream>> {
+    for _ in 0..TRIES {
+        if let Ok(stream) = TcpStream::connect(rt, ("127.0.0.1", port)) {
+            return Ok(Some(stream));
+        }
+        if child.try_wait()?.is_some() {
+            return Ok(None);
+        }
+        sleep(rt, Duration::from_millis(PAUSE));
+    }
+    Ok(None)
+}
+
+/// Sends a request, and reads until the connection ends.
+fn exchange(rt: &HostRuntime, stream: TcpStream, request: &[u8]) -> io::Result<Vec<u8>> {
+    let mut stream = stream;
+    stream.set_read_timeout(Some(Duration::from_secs(PATIENCE)))?;
+    stream.write_all(request)?;
+    let mut reply = Vec::new(rt.alloc());
+    stream.read_to_end(&mut reply)?;
+    Ok(reply)
+}
+
+/// Asks for the property by CoAP, and gives the size of the answer.
+fn ask(rt: &HostRuntime, port: u16, answer: &mut [u8]) -> io::Result<usize> {
+    let socket = UdpSocket::bind(rt, "127.0.0.1:0")?;
+    socket.set_read_timeout(Some(Duration::from_secs(PATIENCE)))?;
+    socket.send_to(ASK, ("127.0.0.1", port))?;
+    socket.recv(answer)
+}
+
+/// Prints both replies by HTTP as they are, and the bytes of the answer by CoAP.
+fn print(rt: &HostRuntime, written: &[u8], read: &[u8], answer: &[u8]) -> io::Result<()> {
+    println!(rt; "{}", str::from_utf8(written).unwrap_or("no text"))?;
+    println!(rt; "{}", str::from_utf8(read).unwrap_or("no text"))?;
+    for byte in answer {
+        print!(rt; "{byte:02x}")?;
+    }
+    println!(rt; "")
+}
+
+/// Prints how the child ended.
+fn print_end(rt: &HostRuntime, output: &Output) -> io::Result<()> {
+    let status = output.status.code().unwrap_or(-1);
+    let size = output.stdout.len() + output.stderr.len();
+    println!(rt; "status {status}, {size} bytes of output")?;
+    print!(rt;
+        "{}",
+        str::from_utf8(output.stdout.as_slice()).unwrap_or("no text")
+    )
+}

@@ -1,0 +1,123 @@
+-- The whole call: what its words lead to, and how it ends where nothing is wrong.
+use Rattle.std.proofs.Common.{true, false, ◌≡◌, ◌≤◌, ◌⊎◌, ℕ, List, [], ◌∷◌, length, Result, Ok, Err, Option, Some, refl, sym, ap, ◌∙◌, subst, inl, inr}
+use Rattle.std.proofs.lemmas.Option.{same_Some}
+use Rattle.wot_json.specs.Tree.{Json}
+use Rattle.wot_json.specs.Meaning.{json_of}
+use Rattle.wot_terms.specs.Faults.{faults_of}
+use Rattle.servient_edge.specs.declared.files.HeldFile.{HeldFile}
+use Rattle.servient_edge.specs.Network.{break_count}
+use Rattle.wot_terms.specs.declared.kind.Kind.{Kind}
+use Rattle.thing_core.specs.Site.{expose_faults}
+use Rattle.thing_core.specs.Exposing.{kinds_of}
+use Rattle.servient_core.specs.Trace.{happened_in}
+use Rattle.servient_cli.specs.declared.replay.Inputs.{Inputs}
+use Rattle.command_words.specs.Grammar.{meaning_of}
+use Rattle.command_words.specs.declared.command.Command.{Command}
+use Rattle.command_words.specs.declared.command.Command.TheVariants.{Replay, Serve, Derive, Check, Consume, Storm}
+use Rattle.servient_cli.specs.Stages.{Deed, did_write, sightings_in, HasFailed, Outcome, ends, Around}
+use Rattle.servient_cli.specs.declared.ending.Ending.{Ending}
+use Rattle.servient_cli.specs.declared.ending.Ended.{Ended}
+use Rattle.command_words.specs.declared.fault.WordsFault.{WordsFault}
+use Rattle.command_words.specs.declared.fault.WordsFault.TheVariants.{Usage, NoMemory}
+use Rattle.servient_cli.specs.Words.{TakesWords, EndsAs}
+use Rattle.servient_cli.specs.Lines.{memory_line, usage_line}
+use Rattle.servient_cli.specs.Ending.{ComesOut, EndsBy}
+use Rattle.servient_cli.proofs.StageLaws.{line_alone, shows_wrote}
+use Rattle.servient_cli.specs.Reading.{ReadsFile, ReadsTree, longest_json}
+use Rattle.servient_cli.specs.Replaying.{plan_name, ReadsInputs, run_events, RunsOn}
+use Rattle.servient_cli.specs.Checking.{Checks, IsFaultlessDescription, Judges}
+use Rattle.servient_cli.specs.Deriving.{ReadsPlanned, Derives, derived_of, Prints, DerivesAndPrints}
+use Rattle.servient_cli.specs.Command.{IsFaultless, HasFaultlessFiles, IsReported, OutSeen, Ends, NothingFailed, IsWell, Does, Commands, is_built, is_serving, is_no_command, is_command, words_memory}
+use Rattle.servient_cli.proofs.FaultlessStages.{GoesOn, EndsWell, by_memory, same_status, HasTrouble, what_trouble, rose_some, then_well, read_well, tree_well, judge_well, derive_well, print_well, planned_well, with_events, inputs_well, run_on_well}
+use Rattle.servient_cli.proofs.ServedStages.{IsServed, serving_well}
+
+-- the command did what it is for, was out of memory, or served and has spent its budget
+abbrev IsDone : Command → Outcome (Unit {0}) → Type 0
+IsDone command o = EndsWell o ⊎ ((is_serving (Some command) ≡ true) × (o ≡ ends 8))
+
+served_done : (plan : List ℕ) (events idle : ℕ) (o : Outcome (Unit {0})) → IsServed o → IsDone (Serve plan events idle) o
+served_done plan events idle o (inl zero_is) = inl (inl zero_is)
+served_done plan events idle o (inr (inl nine)) = inl (inr nine)
+served_done plan events idle o (inr (inr eight)) = inr (refl, eight)
+
+-- a command with whose files nothing is wrong
+does_well : (held : Option (List HeldFile)) (files : List HeldFile) (kinds : List Kind) (command : Command) (seen : List Deed) (o : Outcome (Unit {0})) → held ≡ Some files → HasFaultlessFiles files kinds command → ¬ (HasTrouble seen) → Does held kinds command seen o → IsDone command o
+does_well held files kinds (Replay script plan events) seen o is_held fine quiet stage = inl (
+    then_well EndsWell by_memory (ReadsInputs held plan script) (RunsOn (plan_name plan) kinds events) (λ read. read ≡ with_events fine.planned fine.script_is.good.0) seen o quiet
+    (λ s r q st. inputs_well held files kinds script plan events fine s r is_held q st)
+    (λ read same s q st. run_on_well (plan_name plan) kinds events read fine.things s o
+    (ap (λ (x : Inputs). derived_of x.planned) same ∙ fine.derived_is)
+    (ap (λ (x : Inputs). expose_faults kinds x.planned.plan.slots fine.things) same ∙ fine.fits)
+    (subst (λ (x : Inputs). length (run_events x.events) ≤ events) (sym same) fine.script_is.good.2) q st) stage)
+does_well held files kinds (Check description) seen o is_held fine quiet stage = inl (
+    then_well EndsWell by_memory (ReadsFile held longest_json description) (Checks description) (λ c. c ≡ fine.content) seen o quiet
+    (λ s r q p. read_well held longest_json description fine.content files s r is_held fine.holds fine.short q p)
+    (λ content same s q p. let good = subst IsFaultlessDescription (sym same) fine.good in
+    then_well EndsWell by_memory (ReadsTree description content) Judges (λ tree. json_of tree ≡ good.0) s o q (λ s2 r q2 p2. tree_well description content good.0 s2 r good.1 p2)
+    (λ tree is s2 q2 p2. judge_well tree s2 o (ap faults_of is ∙ good.2) p2) p) stage)
+does_well held files kinds (Derive plan) seen o is_held fine quiet stage = inl (
+    then_well EndsWell by_memory (ReadsPlanned held plan) DerivesAndPrints (λ p. p ≡ fine.planned) seen o quiet
+    (λ s r q st. planned_well held files plan fine.planned s r is_held fine.by_plan q st)
+    (λ p same s q st. then_well EndsWell by_memory (Derives p) Prints (λ ts. Unit {0}) s o q
+    (λ s2 r q2 st2. any_things r (derive_well p fine.things s2 r (ap derived_of same ∙ fine.derived_is) st2))
+    (λ ts any s2 q2 st2. print_well ts s2 o st2) st) stage)
+  where
+    any_things : (r : Outcome (List (List ℕ × Json))) → GoesOn (λ ts. ts ≡ fine.things) r → GoesOn (λ ts. Unit {0}) r
+    any_things r (inl goes) = inl (goes.0, tt, goes.2)
+    any_things r (inr nine) = inr nine
+does_well held files kinds (Serve plan events idle) seen o is_held fine quiet stage = served_done plan events idle o (serving_well held files kinds plan events idle fine seen o is_held quiet stage)
+does_well held files kinds (Consume consumption) seen o is_held fine quiet stage = absurd fine
+does_well held files kinds (Storm seed events) seen o is_held fine quiet stage = absurd fine
+
+command_well : (held : Option (List HeldFile)) (kinds : List Kind) (words : List (List ℕ)) (seen : List Deed) (o : Outcome (Unit {0})) → IsFaultless words held kinds → ¬ (HasTrouble seen) → Commands held kinds words seen o
+    → EndsWell o ⊎ ((is_serving (meaning_of words) ≡ true) × (o ≡ ends 8))
+command_well held kinds words seen o fine quiet (is_no_command none end) =
+    let bad : is_built fine.command ≡ false = rw fine.meaning at none in
+    let no : true ≡ false = sym fine.built ∙ bad in cc
+command_well held kinds words seen o fine quiet (is_command command meaning built does) =
+    let same : command ≡ fine.command = same_Some command fine.command (sym meaning ∙ fine.meaning) in
+    elim (does_well held fine.files kinds fine.command seen o fine.told fine.faultless quiet (subst (λ (x : Command). Does held kinds x seen o) same does)) [
+      | inl well ↦ inl well
+      | inr spent ↦ inr (ap is_serving fine.meaning ∙ spent.0, spent.1)
+    ]
+command_well held kinds words seen o fine quiet (words_memory out) = inl (inr out.1)
+
+-- the whole call, from how its command came out and what was reported of it
+pub call_ends : (words : List (List ℕ)) (before now : Around) (out out_now : OutSeen) (status result : ℕ) (text : List ℕ) → ComesOut (Commands before.files.held (kinds_of before.outside.slots) words) before now (ends status) text
+    → IsReported status text out.written out_now.written out.faults out_now.faults result → Ends words before now out out_now result
+call_ends words before now out out_now status result text comes reported = record {
+  seen = comes.seen;
+  status = status;
+  command = comes.stage;
+  shows = comes.shows;
+  reported = subst (λ (t : List ℕ). IsReported status t out.written out_now.written out.faults out_now.faults result) (sym comes.text_is) reported;
+}
+
+-- what words lead to: a command that is built
+pub command_comes : (held : Option (List HeldFile)) (kinds : List Kind) (words : List (List ℕ)) (before now : Around) (command : Command) (r : Result Ending Ended) → meaning_of words ≡ Some command → is_built command ≡ true → EndsBy (Does held kinds command) before now r → EndsBy (Commands held kinds words) before now r
+command_comes held kinds words before now command (Ok ending) meaning built p = record { seen = p.seen; stage = is_command command meaning built p.stage; shows = p.shows; text_is = p.text_is }
+command_comes held kinds words before now command (Err e) meaning built p = record { seen = p.seen; stage = is_command command meaning built p.stage; shows = p.shows; text_is = p.text_is }
+
+-- or none, or there was no memory for them
+pub no_command_comes : (held : Option (List HeldFile)) (kinds : List Kind) (words : List (List ℕ)) (a : Around) (fault : WordsFault) (e : Ended) → TakesWords words (Err fault) → EndsAs fault e → EndsBy (Commands held kinds words) a a (Err e)
+no_command_comes held kinds words a Usage e none is =
+    subst (λ (x : Ended). EndsBy (Commands held kinds words) a a (Err x)) (sym is)
+    (record { seen = did_write usage_line ∷ []; stage = is_no_command none (refl, refl); shows = shows_wrote a usage_line; text_is = line_alone usage_line })
+no_command_comes held kinds words a NoMemory e none is =
+    subst (λ (x : Ended). EndsBy (Commands held kinds words) a a (Err x)) (sym is)
+    (record { seen = did_write memory_line ∷ []; stage = words_memory (refl, refl); shows = shows_wrote a memory_line; text_is = line_alone memory_line })
+
+-- where nothing is wrong and nothing failed, the whole call ends well
+pub ends_well : (words : List (List ℕ)) (before now : Around) (out out_now : OutSeen) (result : ℕ) → Ends words before now out out_now result → IsFaultless words before.files.held (kinds_of before.outside.slots) → NothingFailed before now out out_now → IsWell words result
+ends_well words before now out out_now result e fine kept = elim e.reported [
+  | inl done ↦ elim (command_well before.files.held (kinds_of before.outside.slots) words e.seen (ends e.status) fine (λ trouble. quiet (what_trouble e.seen trouble)) e.command) [
+    | inl (inl well) ↦ inl (done.0 ∙ same_status e.status 0 well)
+    | inl (inr nine) ↦ inr (inl (done.0 ∙ same_status e.status 9 nine))
+    | inr spent ↦ inr (inr (spent.0, done.0 ∙ same_status e.status 8 spent.1))
+  ]
+  | inr failed ↦ absurd (kept.no_write failed.1)
+]
+  where
+    quiet : HasFailed e.seen ⊎ (1 ≤ break_count (happened_in (sightings_in e.seen))) → ⊥
+    quiet (inl failed) = kept.no_read (e.shows.failed failed)
+    quiet (inr broken) = kept.no_call (rose_some _ _ _ broken e.shows.outside.net.faults)

@@ -1,0 +1,62 @@
+-- Serving with which nothing is wrong ends with status 0, or 8 where the budget is taken, unless it is out of memory.
+use Rattle.std.proofs.Common.{◌≡◌, ◌*◌, ◌⊎◌, ℕ, List, [], ◌∷◌, ◌++◌, Option, Some, refl, sym, ap, ◌∙◌, subst, inl, inr}
+use Rattle.servient_edge.specs.declared.files.HeldFile.{HeldFile}
+use Rattle.servient_edge.specs.declared.place.Place.{Place}
+use Rattle.servient_edge.specs.Network.{broke, next_event}
+use Rattle.wot_terms.specs.declared.kind.Kind.{Kind}
+use Rattle.thing_core.specs.Site.{expose_faults}
+use Rattle.servient_core.specs.declared.serving.Served.TheVariants as served
+use Rattle.servient_core.specs.Plan.{place_of}
+use Rattle.servient_core.specs.Trace.{Sighting, at_network}
+use Rattle.servient_core.specs.Machine.{Site, State, start}
+use Rattle.servient_core.specs.Serving.{Serves}
+use Rattle.servient_cli.specs.declared.derivation.Planned.{Planned}
+use Rattle.servient_cli.specs.Stages.{Deed, did_see, did_write, sees, Outcome, ends, AndThen}
+use Rattle.servient_cli.specs.Lines.{network_line}
+use Rattle.servient_cli.specs.Opening.{Opens}
+use Rattle.servient_cli.specs.Listening.{Listens, is_listening, cannot_listen, place_memory, listen_memory, ServesEvents, has_served, ServesPlanned, ServesPlan}
+use Rattle.servient_cli.specs.Deriving.{ReadsPlanned, derived_of}
+use Rattle.servient_cli.specs.Command.{IsFaultlessServing}
+use Rattle.servient_cli.proofs.FaultlessStages.{GoesOn, HasTrouble, trouble_before, trouble_after, then_well, planned_well, open_well}
+
+-- it ends as it should, has spent its budget, or is out of memory
+abbrev pub IsServed : Outcome (Unit {0}) → Type 0
+IsServed o = (o ≡ ends 0) ⊎ (o ≡ ends 9) ⊎ (o ≡ ends 8)
+
+served_memory : (o : Outcome (Unit {0})) → o ≡ ends 9 → IsServed o
+served_memory o nine = inr (inl nine)
+
+-- where listening doesn't fail, it listens
+listen_well : (place : Place) (seen : List Deed) (o : Outcome (Unit {0})) → ¬ (HasTrouble seen) → Listens place seen o → GoesOn (λ u. Unit {0}) o
+listen_well place seen o quiet (is_listening saw goes) = inl (tt, tt, goes)
+listen_well place seen o quiet (cannot_listen end) = absurd (quiet (subst HasTrouble (sym end.0) tt))
+listen_well place seen o quiet (place_memory end) = inr end.1
+listen_well place seen o quiet (listen_memory end) = inr end.1
+
+-- serving that fails is a break of the network
+sees-append : (a b : List Sighting) → sees (a ++ b) ≡ sees a ++ sees b
+sees-append [] b = refl
+sees-append (sighting ∷ a) b = ap (λ (more : List Deed). did_see sighting ∷ more) (sees-append a b)
+
+failing_breaks : (budget : ℕ) (site : Site) (s t : State) (ran : List Sighting) → Serves site budget served.Failed s ran t → HasTrouble (sees ran)
+failing_breaks budget site s t ran serves =
+    let run = serves.run in
+    let last = at_network (broke next_event) ∷ [] in
+    subst HasTrouble (sym (ap sees (run.whole ∙ ap (λ (more : List Sighting). run.first ++ more) run.other.saw) ∙ sees-append run.first last))
+    (trouble_after (sees run.first) (sees last) tt)
+
+serve_well : (budget exchanges : ℕ) (site : Site) (seen : List Deed) (o : Outcome (Unit {0})) → ¬ (HasTrouble seen) → ServesEvents budget exchanges site seen o → IsServed o
+serve_well budget exchanges site seen o quiet (has_served served.Stopped ran end serves out) = inl out.1
+serve_well budget exchanges site seen o quiet (has_served served.Failed ran end serves out) =
+    absurd (quiet (subst HasTrouble (sym out.0) (trouble_before (sees ran) (did_write network_line ∷ []) (failing_breaks budget site (start site exchanges) end ran serves))))
+serve_well budget exchanges site seen o quiet (has_served served.Spent ran end serves out) = inr (inr out.1)
+
+pub serving_well : (held : Option (List HeldFile)) (files : List HeldFile) (kinds : List Kind) (plan : List ℕ) (budget idle : ℕ) (fine : IsFaultlessServing files kinds plan) (seen : List Deed) (o : Outcome (Unit {0})) → held ≡ Some files → ¬ (HasTrouble seen) → ServesPlan held kinds plan budget idle seen o → IsServed o
+serving_well held files kinds plan budget idle fine seen o is_held quiet stage =
+    then_well IsServed served_memory (ReadsPlanned held plan) (ServesPlanned plan kinds budget idle) (λ p. p ≡ fine.planned) seen o quiet
+    (λ s r q st. planned_well held files plan fine.planned s r is_held fine.by_plan q st)
+    (λ p same s q st. then_well IsServed served_memory (Opens plan kinds p) (λ site. AndThen (Listens (place_of p.plan (idle * 1000))) (λ _. ServesEvents budget p.plan.exchanges site)) (λ site. Unit {0}) s o q
+    (λ s2 r q2 st2. open_well plan kinds p fine.things s2 r (ap derived_of same ∙ fine.derived_is) (ap (λ (x : Planned). expose_faults kinds x.plan.slots fine.things) same ∙ fine.fits) q2 st2)
+    (λ site any s2 q2 st2. then_well IsServed served_memory (Listens (place_of p.plan (idle * 1000))) (λ _. ServesEvents budget p.plan.exchanges site) (λ u. Unit {0}) s2 o q2
+    (λ s3 r q3 st3. listen_well (place_of p.plan (idle * 1000)) s3 r q3 st3)
+    (λ u also s3 q3 st3. serve_well budget p.plan.exchanges site s3 o q3 st3) st2) st) stage

@@ -1,0 +1,55 @@
+-- `serve PLAN`: the Things of a plan are served at the plan's place, over the network, until a Stop comes.
+use Rattle.std.specs.Prelude.{◌≡◌, ◌*◌, ℕ, List, [], map, Option}
+use Rattle.wot_terms.specs.declared.kind.Kind.{Kind}
+use Rattle.servient_edge.specs.declared.files.HeldFile.{HeldFile}
+use Rattle.servient_edge.specs.declared.net.Listened.TheVariants as listened
+use Rattle.servient_edge.specs.declared.place.Place.{Place}
+use Rattle.servient_edge.specs.Network.{Happening, listens_as}
+use Rattle.servient_core.specs.declared.serving.Served.{Served}
+use Rattle.servient_core.specs.declared.serving.Served.TheVariants as served
+use Rattle.servient_core.specs.Plan.{place_of}
+use Rattle.servient_core.specs.Trace.{Sighting, at_network}
+use Rattle.servient_core.specs.Machine.{Site, State, start}
+use Rattle.servient_core.specs.Serving.{Serves}
+use Rattle.servient_cli.specs.declared.derivation.Planned.{Planned}
+use Rattle.servient_cli.specs.Lines.{network_line, spent_line}
+use Rattle.servient_cli.specs.Stages.{Deed, sees, Outcome, goes_on, EndsWith, RunsOut, AndThen}
+use Rattle.servient_cli.specs.Deriving.{ReadsPlanned}
+use Rattle.servient_cli.specs.Opening.{Opens}
+
+-- this happened at the network
+abbrev pub happens : List Happening → List Deed
+happens happened = sees (map (λ h. at_network h) happened)
+
+-- Listening at a place.
+pub data Listens (place : Place) (seen : List Deed) (o : Outcome (Unit {0})) : Type 0 where
+  is_listening : seen ≡ happens (listens_as place listened.Ready) → o ≡ goes_on tt → Listens place seen o
+  cannot_listen : EndsWith (happens (listens_as place listened.Failed)) 6 network_line seen o → Listens place seen o
+  -- there was no memory for the place, and for listening there
+  place_memory : RunsOut [] seen o → Listens place seen o
+  listen_memory : RunsOut (happens (listens_as place listened.NoMemory)) seen o → Listens place seen o
+
+-- how serving ends the command: the status, and the line
+abbrev pub status_after : Served → ℕ
+status_after served.Stopped = 0
+status_after served.Failed = 6
+status_after served.Spent = 8
+
+abbrev pub line_after : Served → List ℕ
+line_after served.Stopped = []
+line_after served.Failed = network_line
+line_after served.Spent = spent_line
+
+-- Serving at most so many events, where so many exchanges may live: what the machine does with those that come, from its start.
+pub data ServesEvents (budget exchanges : ℕ) (site : Site) (seen : List Deed) (o : Outcome (Unit {0})) : Type 0 where
+  has_served : (result : Served) (ran : List Sighting) (end : State) → Serves site budget result (start site exchanges) ran end
+      → EndsWith (sees ran) (status_after result) (line_after result) seen o → ServesEvents budget exchanges site seen o
+
+-- what is done once the plan is read, where serving ends after so many seconds without traffic, or never for 0
+abbrev pub ServesPlanned : List ℕ → List Kind → ℕ → ℕ → Planned → List Deed → Outcome (Unit {0}) → Type 0
+ServesPlanned name kinds budget idle p =
+    AndThen (Opens name kinds p) (λ site. AndThen (Listens (place_of p.plan (idle * 1000))) (λ _. ServesEvents budget p.plan.exchanges site))
+
+-- Serving a plan on a rack with handlers of these kinds.
+abbrev pub ServesPlan : Option (List HeldFile) → List Kind → List ℕ → ℕ → ℕ → List Deed → Outcome (Unit {0}) → Type 0
+ServesPlan held kinds plan budget idle = AndThen (ReadsPlanned held plan) (ServesPlanned plan kinds budget idle)

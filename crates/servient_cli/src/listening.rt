@@ -1,0 +1,91 @@
+//! `serve PLAN`: the Things of a plan are served at the plan's place, over the network.
+
+ghost use Rattle.std.specs.Prelude.{ℕ, List, ◌*◌};
+ghost use Rattle.thing_core.specs.Exposing.{kinds_of};
+ghost use Rattle.thing_core.specs.Kept.{Fits};
+ghost use Rattle.thing_handler.specs.Handler.{Seen};
+ghost use Rattle.servient_core.specs.Trace.{outside};
+ghost use Rattle.servient_core.specs.Plan.{place_of};
+ghost use Rattle.servient_core.specs.Machine.{start};
+ghost use Rattle.servient_core.specs.Serving.{StandsFor};
+ghost use Rattle.servient_cli.specs.Stages.{FilesSeen, around, files_seen};
+ghost use Rattle.servient_cli.specs.Listening.{Listens, ServesEvents, ServesPlan};
+ghost use Rattle.servient_cli.specs.Ending.{EndsBy, Performs};
+
+use crate::derivation::read_planned;
+use crate::ending::{Ended, Ending};
+use crate::opening::open;
+use servient_core::{Plan, Served, Servient, serve};
+use servient_edge::{Files, Listened, Net};
+use std::alloc::Global;
+use thing_handler::Handlers;
+use wot_json::Bytes;
+
+/// What `serve` is asked.
+#[derive(Clone, Copy)]
+pub struct Request<'a> {
+    /// The name of the plan's file.
+    pub plan: &'a str,
+    /// How many events are taken at most.
+    pub events: u32,
+    /// After how many seconds without traffic serving ends; 0 if it never does for want of traffic.
+    pub idle: u32,
+}
+
+/// Reads a plan, opens its servient, listens at the plan's place, and serves what comes.
+pub fn serve_plan<F: Files, N: Net, R: Handlers>(
+    alloc: Global,
+    request: Request<'_>,
+    files: &mut F,
+    net: &mut N,
+    rack: &mut R,
+) -> Result<Ending, Ended>
+    ensures { let files_before = files_seen (F.held files.old) (F.reads files.old) (F.faults files.old) in
+        let files_now = files_seen (F.held files.new) (F.reads files.new) (F.faults files.new) in
+        EndsBy (ServesPlan (F.held files.old) (kinds_of (R.slots rack.old)) request.entry.plan.now request.entry.events request.entry.idle)
+        (around files_before (outside (N.seen net.old) (R.slots rack.old)))
+        (around files_now (outside (N.seen net.new) (R.slots rack.new))) result }
+{
+    let planned = read_planned(alloc, request.plan, files)?;
+    let servient = open(alloc, request.plan, &planned, rack)?;
+    listen(alloc, &planned.plan, request.idle, net)?;
+    serve_events(alloc, servient, request.events, net, rack)
+}
+
+/// Listens at the place of a plan, for so many seconds without traffic.
+fn listen<N: Net>(alloc: Global, plan: &Plan, idle: u32, net: &mut N) -> Result<(), Ended>
+    ensures { (files : FilesSeen) → (slots : List Seen) → Performs (Listens (place_of plan.now (idle * 1000)))
+        (around files (outside (N.seen net.old) slots)) (around files (outside (N.seen net.new) slots)) result }
+{
+    let place = plan.place(alloc, u64::from(idle) * 1000)?;
+    match net.listen(alloc, &place) {
+        Listened::Ready => Ok(()),
+        Listened::Failed => Err(Ended::Network),
+        Listened::NoMemory => Err(Ended::NoMemory),
+    }
+}
+
+/// Serves at most so many events.
+fn serve_events<N: Net, R: Handlers>(
+    alloc: Global,
+    servient: Servient,
+    budget: u32,
+    net: &mut N,
+    rack: &mut R,
+) -> Result<Ending, Ended>
+    requires fits { Fits servient.exposed.site (R.slots rack.old) }
+    ensures { (files : FilesSeen) → (exchanges : ℕ) → StandsFor servient (start servient.exposed.site exchanges)
+        → EndsBy (ServesEvents budget exchanges servient.exposed.site)
+        (around files (outside (N.seen net.old) (R.slots rack.old)))
+        (around files (outside (N.seen net.new) (R.slots rack.new))) result }
+{
+    let mut servient = servient;
+    match serve(&mut servient, net, rack, u64::from(budget)) {
+        Served::Stopped => Ok(Ending {
+            status: 0,
+            text: Bytes::new(alloc),
+        }),
+        Served::Failed => Err(Ended::Network),
+        Served::Spent => Err(Ended::Spent),
+    }
+}

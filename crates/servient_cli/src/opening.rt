@@ -1,0 +1,58 @@
+//! Opening a servient: the root of a plan is derived, and each affordance of its Things gets its handler.
+
+ghost use Rattle.std.specs.Prelude.{IfOk};
+ghost use Rattle.std.specs.List.{AllByRecursion};
+ghost use Rattle.wot_terms.specs.Faults.{IsValid};
+ghost use Rattle.thing_core.specs.Exposing.{kinds_of};
+ghost use Rattle.thing_core.specs.Kept.{Fits};
+ghost use Rattle.servient_core.specs.Plan.{HasFewExchanges};
+ghost use Rattle.servient_core.specs.Machine.{start};
+ghost use Rattle.servient_core.specs.Serving.{StandsFor};
+ghost use Rattle.servient_cli.specs.Stages.{Around};
+ghost use Rattle.servient_cli.specs.Opening.{Exposes, Opens, site_in};
+ghost use Rattle.servient_cli.specs.Ending.{Performs};
+
+use crate::derivation::{Planned, derive_things};
+use crate::ending::{Ended, end_with};
+use crate::fault_lines::misfit;
+use servient_core::{OpenFault, Plan, Servient};
+use std::alloc::Global;
+use thing_handler::Handlers;
+use wot_terms::Things;
+
+/// The servient of a plan, whose Things are derived here. A line on the fit to the rack names the plan by `name`.
+pub fn open<R: Handlers>(
+    alloc: Global,
+    name: &str,
+    planned: &Planned,
+    rack: &R,
+) -> Result<Servient, Ended>
+    requires exchanges { HasFewExchanges planned.now.plan }
+    ensures stage { (a : Around) → Performs (Opens name.now (kinds_of (R.slots rack.now)) planned.now) a a (site_in result) }
+    ensures start { IfOk result (λ s. StandsFor s (start s.exposed.site planned.now.plan.exchanges)) }
+    ensures fits { IfOk result (λ s. Fits s.exposed.site (R.slots rack.now)) }
+{
+    let things = derive_things(alloc, planned)?;
+    expose(alloc, name, &planned.plan, things, rack)
+}
+
+/// The servient of a plan and its Things, each affordance with its handler.
+fn expose<R: Handlers>(
+    alloc: Global,
+    name: &str,
+    plan: &Plan,
+    things: Things,
+    rack: &R,
+) -> Result<Servient, Ended>
+    requires exchanges { HasFewExchanges plan.now }
+    requires valid { AllByRecursion (λ thing. IsValid thing.1) things }
+    ensures stage { (a : Around) → Performs (Exposes name.now (kinds_of (R.slots rack.now)) plan.now.slots things) a a (site_in result) }
+    ensures start { IfOk result (λ s. StandsFor s (start s.exposed.site plan.now.exchanges)) }
+    ensures fits { IfOk result (λ s. Fits s.exposed.site (R.slots rack.now)) }
+{
+    match Servient::new(alloc, plan, things, rack) {
+        Ok(servient) => Ok(servient),
+        Err(OpenFault::Expose(fault)) => Err(end_with(misfit(alloc, name, &fault))),
+        Err(OpenFault::NoMemory) => Err(Ended::NoMemory),
+    }
+}

@@ -25,7 +25,12 @@ const TABLE: [(&[&str], &[u8], u8, &str); 28] = [
     (&["check", "s.txt", "s.txt"], b"", 2, USAGE),
     (&["checks", "s.txt"], b"", 2, USAGE),
     (&["replay"], b"", 2, USAGE),
-    (&["serve", "s.txt"], b"", 2, USAGE),
+    (
+        &["serve", "s.txt"],
+        b"",
+        4,
+        "servient: input \"s.txt\" json\n",
+    ),
     (&["Replay", "s.txt"], b"", 2, USAGE),
     (&["replay", "s.txt", "p.json", "q.json"], b"", 2, USAGE),
     (&["replay", "--events", "5"], b"", 2, USAGE),

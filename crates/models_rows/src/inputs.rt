@@ -14,6 +14,15 @@ const BOUND: [(&str, &str); 5] = [
     ("MAX", "100"),
 ];
 
+/// A text this many times.
+pub(crate) fn repeated(alloc: Global, text: &str, count: usize) -> Result<String, Fail> {
+    let mut whole = String::new(alloc);
+    for _ in 0..count {
+        whole.push_str(text)?;
+    }
+    Ok(whole)
+}
+
 /// The bindings of the table.
 pub(crate) fn bindings(alloc: Global) -> Result<Bindings, Fail> {
     let mut bindings = Bindings::new(alloc);

@@ -4,6 +4,8 @@
 #[cfg(test)]
 mod derivation;
 #[cfg(test)]
+mod derivation_faults;
+#[cfg(test)]
 mod derivation_lamp;
 #[cfg(test)]
 mod derivation_steps;
@@ -23,3 +25,5 @@ mod placeholders;
 mod references;
 #[cfg(test)]
 mod resolving;
+#[cfg(test)]
+mod sizes;

@@ -3,7 +3,7 @@
 use crate::inputs::bindings;
 use std::alloc::Global;
 use std::test::Fail;
-use tm_parts::{Library, Source, source_named};
+use tm_parts::{Library, Sources};
 use wot_json::{read, text_of};
 
 /// URLs and models, handed to one library in this order, and its answers.
@@ -84,6 +84,9 @@ const SOURCES: [(&str, &str, &str); 3] = [
     ),
 ];
 
+/// The URL of a model that others are joined to.
+const LOCATED: &str = "https://M.example/a/b?q";
+
 /// What the library answers.
 fn added(alloc: Global, library: &mut Library, url: &str, model: &str) -> Result<String, Fail> {
     match library.add(url, read(alloc, model.as_bytes())?) {
@@ -107,11 +110,13 @@ fn models_that_a_library_takes(rt: HostRuntime) -> Result<(), Fail> {
 }
 
 /// The text of the model under a URL with its values, or its fault.
-fn source_text(alloc: Global, sources: &[Source], url: &str) -> Result<String, Fail> {
-    match source_named(sources, url) {
-        None => Ok(String::from_str(alloc, "no model")?),
-        Some(Ok(model)) => Ok(String::from_utf8(text_of(alloc, model)?.into_vec())?),
-        Some(Err(fault)) => Ok(format!(in alloc; "{fault}")?),
+fn source_text(alloc: Global, sources: &Sources<'_>, url: &str) -> Result<String, Fail> {
+    let Some(source) = sources.get(url) else {
+        return Ok(String::from_str(alloc, "no model")?);
+    };
+    match source.model {
+        Ok(model) => Ok(String::from_utf8(text_of(alloc, &model.build(alloc)?)?.into_vec())?),
+        Err(fault) => Ok(format!(in alloc; "{fault}")?),
     }
 }
 
@@ -122,12 +127,28 @@ fn models_of_a_library_with_values(rt: HostRuntime) -> Result<(), Fail> {
     for (url, model, _wanted) in SOURCES {
         library.add(url, read(alloc, model.as_bytes())?)?;
     }
-    let sources = library.sources(&bindings(alloc)?)?;
+    let bindings = bindings(alloc)?;
+    let sources = Sources::new(alloc, &library, &bindings)?;
     for (url, _model, wanted) in SOURCES {
-        let text = source_text(alloc, sources.as_slice(), url)?;
+        let text = source_text(alloc, &sources, url)?;
         assert_eq!(rt; text.as_str(), wanted, "{url}");
     }
-    let text = source_text(alloc, sources.as_slice(), "https://m/d")?;
+    let text = source_text(alloc, &sources, "https://m/d")?;
     assert_eq!(rt; text.as_str(), "no model");
+    Ok(())
+}
+
+#[test]
+fn where_a_model_is(rt: HostRuntime) -> Result<(), Fail> {
+    let alloc = rt.alloc();
+    let mut library = Library::new(alloc);
+    library.add(LOCATED, read(alloc, br#"{"@type":"tm:ThingModel"}"#)?)?;
+    let bindings = bindings(alloc)?;
+    let sources = Sources::new(alloc, &library, &bindings)?;
+    let source = sources.get(LOCATED).ok_or("no source")?;
+    assert_eq!(rt; source.location.as_str(), LOCATED);
+    let joined = source.location.join("c#d")?.ok_or("no URL")?;
+    assert_eq!(rt; joined.as_str(), "https://m.example/a/c#d");
+    assert!(rt; source.location.join("http://[")?.is_none());
     Ok(())
 }

@@ -1,30 +1,16 @@
 //! Models at the limits and beyond them: whether they have a value.
 
+use crate::inputs::repeated;
 use crate::resolving::{add, outcome};
 use std::alloc::Global;
 use std::test::Fail;
 use tm_parts::Library;
 
-/// A text of this many letters.
-fn letters(alloc: Global, count: usize) -> Result<String, Fail> {
-    let mut text = String::new(alloc);
-    for _ in 0..count {
-        text.push_str("a")?;
-    }
-    Ok(text)
-}
-
 /// A number in this many lists.
 fn lists(alloc: Global, count: usize) -> Result<String, Fail> {
-    let mut text = String::new(alloc);
-    for _ in 0..count {
-        text.push_str("[")?;
-    }
-    text.push_str("0")?;
-    for _ in 0..count {
-        text.push_str("]")?;
-    }
-    Ok(text)
+    let before = repeated(alloc, "[", count)?;
+    let after = repeated(alloc, "]", count)?;
+    Ok(format!(in alloc; "{before}0{after}")?)
 }
 
 /// The models `m0` to `m` and a number, each with a link of this relation to the next.
@@ -157,7 +143,7 @@ const LIGHT: [(&str, &str); 10] = [
 /// letters.
 fn at_the_limits(alloc: Global) -> Result<Library, Fail> {
     let mut library = Library::new(alloc);
-    let text = letters(alloc, 262_066)?;
+    let text = repeated(alloc, "a", 262_066)?;
     let members = format!(in alloc; "\"l\":[null,true,0,\"x\\n\"],\"t\":\"{text}\"")?;
     add(alloc, &mut library, "exact", members.as_str())?;
     let members = format!(in alloc; "\"l\":[null,true,0,\"x\\n\"],\"t\":\"{text}a\"")?;
@@ -168,7 +154,7 @@ fn at_the_limits(alloc: Global) -> Result<Library, Fail> {
         "\"links\":[{{\"href\":\"name\",\"rel\":\"tm:extends\"}}],\"p\":{{\"tm:ref\":7}},\"t\":\"{text}\""
     )?;
     add(alloc, &mut library, "fault", members.as_str())?;
-    let text = letters(alloc, 140_000)?;
+    let text = repeated(alloc, "a", 140_000)?;
     let members = format!(in alloc; "\"t\":\"{text}\"")?;
     add(alloc, &mut library, "half", members.as_str())?;
     let nested = lists(alloc, 62)?;
@@ -177,13 +163,27 @@ fn at_the_limits(alloc: Global) -> Result<Library, Fail> {
     for (name, members) in LIGHT {
         add(alloc, &mut library, name, members)?;
     }
+    add_grown(alloc, &mut library)?;
     Ok(library)
 }
 
+/// Puts two models there whose texts are short as they are written: each of 15,000 placeholders becomes a text of 16 characters
+/// that is written with 17. With 7,066 letters more these are as many as the letters of `exact`.
+fn add_grown(alloc: Global, library: &mut Library) -> Result<(), Fail> {
+    let text = repeated(alloc, "{{S}}", 15_000)?;
+    let letters = repeated(alloc, "a", 7_066)?;
+    let members = format!(in alloc; "\"l\":[null,true,0,\"x\\n\"],\"t\":\"{text}{letters}\"")?;
+    add(alloc, library, "grown", members.as_str())?;
+    let members = format!(in alloc; "\"l\":[null,true,0,\"x\\n\"],\"t\":\"{text}{letters}a\"")?;
+    add(alloc, library, "grown_more", members.as_str())
+}
+
 /// Models at the limits and beyond them, and their outcomes.
-const OUTCOMES: [(&str, &str); 14] = [
+const OUTCOMES: [(&str, &str); 16] = [
     ("exact", "value"),
     ("more", "too large in https://m.example/more: "),
+    ("grown", "value"),
+    ("grown_more", "too large in https://m.example/grown_more: "),
     (
         "name",
         "a placeholder in a name in https://m.example/name: /{{A}}",

@@ -66,7 +66,7 @@ fn value_text(alloc: Global, value: &Option<Tree>) -> Result<String, Fail> {
 /// The links of the model under a URL that ends in this name.
 fn links_text(
     alloc: Global,
-    resolver: &Resolver,
+    resolver: &Resolver<'_>,
     name: &str,
     relation: Relation,
 ) -> Result<String, Fail> {
@@ -79,19 +79,21 @@ fn links_text(
     Ok(text)
 }
 
-/// A resolver of the models of the table.
-fn resolver(alloc: Global) -> Result<Resolver, Fail> {
+/// A library of the models of the table.
+fn models(alloc: Global) -> Result<Library, Fail> {
     let mut library = Library::new(alloc);
     for (name, members) in MODELS {
         add(alloc, &mut library, name, members)?;
     }
-    Ok(Resolver::new(alloc, &library, &bindings(alloc)?)?)
+    Ok(library)
 }
 
 #[test]
 fn links_that_count(rt: HostRuntime) -> Result<(), Fail> {
     let alloc = rt.alloc();
-    let resolver = resolver(alloc)?;
+    let library = models(alloc)?;
+    let bindings = bindings(alloc)?;
+    let resolver = Resolver::new(alloc, &library, &bindings)?;
     for (name, relation, wanted) in LINKS {
         let text = links_text(alloc, &resolver, name, relation)?;
         assert_eq!(rt; text.as_str(), wanted, "{name}");
@@ -102,7 +104,9 @@ fn links_that_count(rt: HostRuntime) -> Result<(), Fail> {
 #[test]
 fn optional_parts(rt: HostRuntime) -> Result<(), Fail> {
     let alloc = rt.alloc();
-    let resolver = resolver(alloc)?;
+    let library = models(alloc)?;
+    let bindings = bindings(alloc)?;
+    let resolver = Resolver::new(alloc, &library, &bindings)?;
     for (name, wanted) in OPTIONAL {
         let url = format!(in alloc; "https://m.example/{name}")?;
         let text = value_text(alloc, &resolver.optional(url.as_str())?)?;

@@ -7,17 +7,26 @@ use tm_resolve::resolve;
 use wot_json::{Text, read, text_of};
 
 /// Names of placeholders, and the JSON texts of the values that they are bound to.
-const BOUND: [(&str, &str); 2] = [
+const BOUND: [(&str, &str); 10] = [
     ("A", "5"),
+    ("C", r##"{"tm:ref":"#/x"}"##),
+    ("E", r#""tm:extends""#),
+    ("I", r#""1""#),
+    ("K", r#"[{"href":"parts","rel":"tm:extends"}]"#),
+    ("L", r#"[0,{"b":{"{{A}}":"{{A}}"}},"{{P}}"]"#),
+    ("N", r#""extends""#),
     (
         "P",
         r#"{"q":{"tm:ref":"parts#/properties/p"},"r":{"title":"R"}}"#,
     ),
+    ("R", r#""parts""#),
+    // 16 characters, of which one is escaped.
+    ("S", r#""0123456789abcde\n""#),
 ];
 
 /// Models by the last step of their URL, the members that they have beside `@type`, and the value that they become, or the
 /// fault as it is displayed.
-const MODELS: [(&str, &str, &str); 27] = [
+const MODELS: [(&str, &str, &str); 36] = [
     (
         "name",
         r#""properties":{"{{A}}":1}"#,
@@ -52,6 +61,52 @@ const MODELS: [(&str, &str, &str); 27] = [
         "into_bound",
         r##""x":"{{P}}","y":{"tm:ref":"#/x/r"},"z":{"tm:ref":"#/x/q"}"##,
         r#"{"@type":"tm:ThingModel","x":{"q":{"maximum":5,"title":"P","type":"integer"},"r":{"title":"R"}},"y":{"title":"R"},"z":{"maximum":5,"title":"P","type":"integer"}}"#,
+    ),
+    (
+        "bound_target",
+        r#""x":{"tm:ref":"{{R}}#/properties/p"}"#,
+        r#"{"@type":"tm:ThingModel","x":{"maximum":5,"title":"P","type":"integer"}}"#,
+    ),
+    (
+        "target_no_text",
+        r#""x":{"tm:ref":"{{A}}"}"#,
+        "no reference to a part of a model in https://m.example/target_no_text: /x",
+    ),
+    (
+        "bound_relation",
+        r#""links":[{"href":"parts","rel":"{{E}}"}]"#,
+        r#"{"@type":"tm:ThingModel","l":{"href":"x","rel":"tm:extends"},"links":[{"href":"parts","rel":"tm:extends"}],"properties":{"p":{"maximum":5,"title":"P","type":"integer"}}}"#,
+    ),
+    (
+        "bound_href",
+        r#""links":[{"href":"{{R}}","rel":"tm:{{N}}"}]"#,
+        r#"{"@type":"tm:ThingModel","l":{"href":"x","rel":"tm:extends"},"links":[{"href":"parts","rel":"tm:extends"}],"properties":{"p":{"maximum":5,"title":"P","type":"integer"}}}"#,
+    ),
+    (
+        "bound_links",
+        r#""links":"{{K}}""#,
+        r#"{"@type":"tm:ThingModel","l":{"href":"x","rel":"tm:extends"},"links":[{"href":"parts","rel":"tm:extends"}],"properties":{"p":{"maximum":5,"title":"P","type":"integer"}}}"#,
+    ),
+    (
+        "through_bound_list",
+        r##""x":"{{L}}","y":{"tm:ref":"#/x/{{I}}/b"}"##,
+        r#"{"@type":"tm:ThingModel","x":[0,{"b":{"{{A}}":"{{A}}"}},"{{P}}"],"y":{"{{A}}":"{{A}}"}}"#,
+    ),
+    (
+        "in_list_of_lists",
+        r##""x":[0,["{{L}}"]],"y":{"tm:ref":"#/x/1/0/1"}"##,
+        r#"{"@type":"tm:ThingModel","x":[0,[[0,{"b":{"{{A}}":"{{A}}"}},"{{P}}"]]],"y":{"b":{"{{A}}":"{{A}}"}}}"#,
+    ),
+    // What a value brings in isn't read again.
+    (
+        "past_bound_value",
+        r##""x":"{{L}}","y":{"tm:ref":"#/x/2/r"}"##,
+        "no such part of a model in https://m.example/past_bound_value: /y",
+    ),
+    (
+        "bound_circle",
+        r#""x":"{{C}}""#,
+        "circular in https://m.example/bound_circle: /x",
     ),
     (
         "self",
@@ -177,8 +232,18 @@ pub(crate) fn outcome(alloc: Global, library: &Library, name: &str) -> Result<St
             read(alloc, value.as_bytes())?,
         )?;
     }
+    outcome_with(alloc, library, &bindings, name)
+}
+
+/// The same, with these values for placeholders.
+pub(crate) fn outcome_with(
+    alloc: Global,
+    library: &Library,
+    bindings: &Bindings,
+    name: &str,
+) -> Result<String, Fail> {
     let root = format!(in alloc; "https://m.example/{name}")?;
-    match resolve(alloc, library, root.as_str(), &bindings) {
+    match resolve(alloc, library, root.as_str(), bindings) {
         Ok(value) => Ok(String::from_utf8(text_of(alloc, &value)?.into_vec())?),
         Err(fault) => Ok(format!(in alloc; "{fault}")?),
     }

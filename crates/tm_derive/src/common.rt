@@ -11,7 +11,7 @@ use tm_resolve::Resolver;
 pub(crate) struct Common<'a> {
     pub(crate) alloc: Global,
     pub(crate) library: &'a Library,
-    pub(crate) resolver: Resolver,
+    pub(crate) resolver: Resolver<'a>,
     pub(crate) choices: &'a Choices,
     pub(crate) frame: &'a Frame,
 }

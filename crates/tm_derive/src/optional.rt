@@ -99,7 +99,7 @@ fn push_base(
 }
 
 /// The URL of the model that a model extends, where it extends one.
-fn base_url(resolver: &Resolver, url: &str) -> Result<Option<Text>, NoMemory>
+fn base_url(resolver: &Resolver<'_>, url: &str) -> Result<Option<Text>, NoMemory>
     ensures { IfOk result (λ base. base ≡ spec.base_url (resolver_models resolver.now) url.now) }
 {
     let mut links = resolver.links(url, Relation::Extends)?;

@@ -119,13 +119,13 @@ plain_prefix (b ∷ bs) n some h is =
     subst (λ (k : ℕ). pieces (b ∷ bs) ≡ map plain (take k (b ∷ bs)) ++ pieces (drop k (b ∷ bs))) (sym count)
     (pieces_plain b bs h ∙ ap (λ (ps : List Piece). plain b ∷ ps) (pieces_no_brace (position_or_len (λ b. b == 123) bs) bs (omega arith)))
 
--- a text may be cut before an opening brace
-pub cut_before_brace : (text : List ℕ) (n : ℕ) → 0 < length text → n ≡ 1 + position_or_len (λ b. b == 123) (drop 1 text) → IsCharBoundary text n
-cut_before_brace [] n some is = absurd (omega (arith, some))
-cut_before_brace (b ∷ bs) n some is =
-    let m : ℕ = position_or_len (λ b. b == 123) bs in
+-- a text may be cut before a byte of ASCII
+pub cut_before : (stop : ℕ) (text : List ℕ) (n : ℕ) → stop < 128 → 0 < length text → n ≡ 1 + position_or_len (λ b. b == stop) (drop 1 text) → IsCharBoundary text n
+cut_before stop [] n ascii some is = absurd (omega (arith, some))
+cut_before stop (b ∷ bs) n ascii some is =
+    let m : ℕ = position_or_len (λ b. b == stop) bs in
     let count : n ≡ suc m = omega (arith, is) in
     subst (λ (k : ℕ). IsCharBoundary (b ∷ bs) k) (sym count) (
-      omega (arith, prefix_len-le-length (λ b. not (b == 123)) bs),
-      λ within high. absurd (let brace : get_or bs m 0 ≡ 123 = eqb-true (get_or bs m 0) 123 (not-false (get_or bs m 0 == 123) (prefix_len_stops (λ b. not (b == 123)) bs 0 (omega arith))) in omega (arith, brace)),
+      omega (arith, prefix_len-le-length (λ b. not (b == stop)) bs),
+      λ within high. absurd (let here : get_or bs m 0 ≡ stop = eqb-true (get_or bs m 0) stop (not-false (get_or bs m 0 == stop) (prefix_len_stops (λ b. not (b == stop)) bs 0 (omega arith))) in omega (arith, here)),
     )

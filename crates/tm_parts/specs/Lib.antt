@@ -6,3 +6,5 @@ pub mod Kept
 pub mod Library
 pub mod References
 pub mod Sources
+pub mod Views
+pub mod Prepared

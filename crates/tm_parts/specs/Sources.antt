@@ -2,11 +2,10 @@
 use Rattle.std.specs.Prelude.{ℕ, List, [], ◌∷◌, map, Option, Some, None, Result, Ok, Err, if◌then◌else◌}
 use Rattle.std.specs.Str.{bytes_eq}
 use Rattle.wot_json.specs.Tree.{Json}
-use Rattle.wot_json.specs.Meaning.{json_of}
-use Rattle.wot_json.specs.declared.tree.Tree.{Tree}
 use Rattle.tm_parts.specs.Library.{Models}
 use Rattle.tm_parts.specs.Placeholders.{first_of}
 use Rattle.tm_parts.specs.Substitution.{Values, substituted_value, faults_of}
+use Rattle.tm_parts.specs.Views.{seen}
 use Rattle.tm_parts.specs.declared.sources.Source.{Source}
 use Rattle.tm_parts.specs.declared.substitution.PartFault.{PartFault}
 
@@ -28,10 +27,5 @@ source_named url [] = None
 source_named url (s ∷ ss) = if bytes_eq url s.0 then Some s.1 else source_named url ss
 
 -- a model of the code or its fault, as contracts see it
-abbrev pub kept_model : Result Tree PartFault → Result Json PartFault
-kept_model (Ok model) = Ok (json_of model)
-kept_model (Err fault) = Err fault
-
--- a list of the code, as contracts see it
-abbrev pub kept_sources : List Source → Sources
-kept_sources = map (λ s. (s.url, kept_model s.model))
+abbrev pub kept_source : Source → Result Json PartFault
+kept_source source = elim source.model as (λ _. Result Json PartFault) [ Ok view ↦ Ok (seen view) | Err fault ↦ Err fault.now ]

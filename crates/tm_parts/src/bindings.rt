@@ -1,8 +1,7 @@
 //! The values that are to take the places of placeholders.
 
-ghost use Rattle.std.specs.Prelude.{◌≡◌, ◌++◌, [], ◌∷◌, OnErr, OnOk, option_map};
+ghost use Rattle.std.specs.Prelude.{◌≡◌, ◌++◌, [], ◌∷◌, OnErr, OnOk};
 ghost use Rattle.wot_json.specs.Meaning.{json_of, json_members};
-ghost use Rattle.wot_json.specs.Lookup.{member_named};
 
 use servient_base::NoMemory;
 use std::alloc::Global;
@@ -56,15 +55,10 @@ impl Bindings {
         Ok(())
     }
 
-    /// The value that is bound to a name, found by going through the list.
-    pub fn get(&self, name: &str) -> Option<&Tree>
-        ensures { option_map (λ t. json_of t.now) result ≡ member_named name.now self.now }
+    /// The names and values, in the order in which they were bound.
+    pub fn as_slice(&self) -> &[(Text, Tree)]
+        ensures { json_members result.now ≡ self.now }
     {
-        for (bound_name, value) in &self.list {
-            if bound_name.as_str() == name {
-                return Some(value);
-            }
-        }
-        None
+        self.list.as_slice()
     }
 }

@@ -2,22 +2,31 @@
 //!
 //! A Thing Model is a JSON value whose texts may hold placeholders, `{{NAME}}` (Thing Description 1.1, section "Thing Model").
 //! `substitute` puts bound values in their places, or finds the first fault; `first_hole` finds the first that is
-//! left. `Library` keeps models by the texts of their URLs, and gives all of them with values (`Source`). `target` says
-//! where the text of a `tm:ref` leads.
+//! left. `Library` keeps models by the texts of their URLs, and `Sources` are its models with values, of which none is
+//! built. `target` says where the text of a `tm:ref` leads, and a `Location` says it of many without parsing its own URL
+//! again.
 #![tactic(auto)]
 
 mod bindings;
+mod building;
 mod holes;
+mod judging;
 mod library;
+mod location;
 mod placeholder;
 mod reference;
 mod sources;
 mod substitution;
+mod values;
+mod view;
 
 pub use bindings::Bindings;
 pub use holes::first_hole;
 pub use library::{AddFault, Library};
+pub use location::Location;
 pub use reference::{RefFault, Reference, target};
 pub use servient_base::NoMemory;
-pub use sources::{Source, source_named};
+pub use sources::{Source, Sources};
 pub use substitution::{PartFault, substitute};
+pub use values::Values;
+pub use view::{ListView, Node, ObjectView, TextView, View};

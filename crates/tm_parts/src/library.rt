@@ -6,10 +6,8 @@ ghost use Rattle.wot_json.specs.Meaning.{json_of};
 ghost use Rattle.wot_json.specs.Lookup.{member_named};
 ghost use Rattle.tm_parts.specs.Library.{with_model, IsModelUrl, HasAddFault, MayAdd};
 ghost use Rattle.tm_parts.specs.Library as spec;
-ghost use Rattle.tm_parts.specs.Sources.{kept_sources, sources_of};
+ghost use Rattle.tm_parts.specs.Kept.{kept_models};
 
-use crate::bindings::Bindings;
-use crate::sources::{Source, source_of};
 use servient_base::NoMemory;
 use std::alloc::{AllocError, Global};
 use std::collections::BTreeMap;
@@ -131,17 +129,11 @@ impl Library {
         self.models.get(url)
     }
 
-    /// All models, in the byte order of the texts of their URLs, with values in place of their placeholders. Its
-    /// time is that of one `substitute` for each.
-    pub fn sources(&self, bindings: &Bindings) -> Result<Vec<Source>, NoMemory>
-        ensures { IfOk result (λ v. kept_sources v.items ≡ sources_of self.now bindings.now) }
+    /// All models by the texts of their URLs.
+    pub(crate) fn entries(&self) -> &BTreeMap<String, Tree>
+        ensures { kept_models result.now.entries ≡ self.now }
     {
-        let mut sources = Vec::with_capacity(self.alloc, self.models.len())?;
-        for (url, model) in self.models.iter() {
-            let source = source_of(self.alloc, url.as_str(), model, bindings)?;
-            sources.push(source).map_err(AllocError::from)?;
-        }
-        Ok(sources)
+        &self.models
     }
 }
 

@@ -68,19 +68,19 @@ pub(crate) fn first_piece(text: &str) -> (Piece<'_>, &str)
     match placeholder(text) {
         Some((name, rest)) => (Piece::Placeholder(name), rest),
         None => {
-            let length = 1 + length_before_brace(&text.as_bytes()[1..]);
+            let length = 1 + length_before(b'{', &text.as_bytes()[1..]);
             let (plain, rest) = text.split_at(length);
             (Piece::Plain(plain), rest)
         }
     }
 }
 
-/// How many bytes stand before the first opening brace.
-fn length_before_brace(text: &[u8]) -> usize
-    ensures { result ≡ position_or_len (λ b. b == 123) text.now }
+/// How many bytes stand before the first that is this one.
+pub(crate) fn length_before(stop: u8, text: &[u8]) -> usize
+    ensures { result ≡ position_or_len (λ b. b == stop) text.now }
 {
     for (place, byte) in text.iter().enumerate() {
-        if *byte == b'{' {
+        if *byte == stop {
             return place;
         }
     }

@@ -3,10 +3,10 @@
 ghost use Rattle.std.specs.Prelude.{◌≡◌, ◌⊎◌, Some, None, IfOk, IfErr};
 ghost use Rattle.std.specs.Str.{IsUtf8};
 ghost use Rattle.percent_encoding.specs.Percent as percent;
-ghost use Rattle.tm_parts.specs.References.{location_target, pointer_written, reference_target};
+ghost use Rattle.tm_parts.specs.References.{pointer_written, reference_target};
 
+use crate::location::Location;
 use percent_encoding::{DecodeError, percent_decode};
-use servient_base::{NoMemory, join};
 use std::alloc::{AllocError, Global};
 use thiserror::Error;
 use wot_json::{Text, Tree, pointer};
@@ -50,18 +50,11 @@ pub fn target(alloc: Global, from: &str, text: &str) -> Result<Reference, RefFau
     ensures ok { IfOk result (λ r. reference_target from.now text.now ≡ Some r) }
     ensures fault { IfErr result (λ e. (e ≡ RefFault.NoMemory) ⊎ (reference_target from.now text.now ≡ None)) }
 {
-    match text.split_once('#') {
-        None => Err(RefFault::BadRef),
-        Some((location, fragment)) => {
-            let pointer = written_pointer(alloc, fragment)?;
-            let url = location_url(alloc, from, location)?;
-            Ok(Reference { url, pointer })
-        }
-    }
+    Location::new(alloc, from)?.target(alloc, text)
 }
 
 /// The pointer that a fragment writes.
-fn written_pointer(alloc: Global, fragment: &str) -> Result<Text, RefFault>
+pub(crate) fn written_pointer(alloc: Global, fragment: &str) -> Result<Text, RefFault>
     ensures ok { IfOk result (λ p. pointer_written fragment.now ≡ Some p) }
     ensures fault { IfErr result (λ e. (e ≡ RefFault.NoMemory) ⊎ (pointer_written fragment.now ≡ None)) }
 {
@@ -82,19 +75,5 @@ fn decoded_text(alloc: Global, fragment: &str) -> Result<Text, RefFault>
         Ok(text) => Ok(Text::from_string(text.into_owned(alloc)?)),
         Err(DecodeError::OutOfMemory) => Err(RefFault::NoMemory),
         Err(DecodeError::Utf8(_)) => Err(RefFault::BadRef),
-    }
-}
-
-/// The text of the URL that a location leads to.
-fn location_url(alloc: Global, from: &str, location: &str) -> Result<Text, RefFault>
-    ensures ok { IfOk result (λ u. location_target from.now location.now ≡ Some u) }
-    ensures fault { IfErr result (λ e. (e ≡ RefFault.NoMemory) ⊎ (location_target from.now location.now ≡ None)) }
-{
-    if location.is_empty() {
-        return Ok(Text::copy_of(alloc, from)?);
-    }
-    match join(alloc, Some(from), location)? {
-        None => Err(RefFault::BadRef),
-        Some(url) => Ok(Text::copy_of(alloc, url.as_str())?),
     }
 }

@@ -4,8 +4,11 @@ pub mod FewThings
 pub mod LinksStay
 pub mod Loops
 pub mod ModelLinks
+pub mod Moving
 pub mod NeverLarge
 pub mod Outcomes
+pub mod SeenParts
+pub mod SeenWalks
 pub mod StepsInto
 pub mod Visits
 pub mod Whole

@@ -6,7 +6,7 @@ use Rattle.std.specs.Prelude.{Result}
 use Rattle.std.specs.Str.{bytes_eq}
 use Rattle.std.specs.Cmp.Lexicographic.{nat_list_cmp_total}
 use Rattle.wot_json.specs.Tree.{Json, AreOrdered, Elements, element, elements_of, Members, member, members_of}
-use Rattle.wot_json.specs.Meaning.{json_of, json_items, json_member, json_members}
+use Rattle.wot_json.specs.Meaning.{json_of, json_member, json_members}
 use Rattle.wot_json.specs.Places.{step_text, element_step_text}
 use Rattle.wot_json.specs.declared.tree.Tree.{Tree}
 use Rattle.tm_parts.specs.References.{reference}
@@ -20,6 +20,7 @@ use Rattle.tm_resolve.specs.Faults.{Steps, part_faults, element_faults, member_f
 use Rattle.tm_resolve.specs.Walking.{steps_from, Gives, IsRefusal}
 use Rattle.tm_resolve.specs.declared.fault.ResolveFault.{ResolveFault}
 use Rattle.tm_resolve.proofs.Outcomes.{refused_before, refused_same}
+use Rattle.tm_resolve.proofs.SeenParts.{named_by}
 
 -- ---- order
 
@@ -87,43 +88,43 @@ elements_mapped step url chain [] = refl
 elements_mapped step url chain (v ∷ vs) = ap (λ (es : Elements). element (part_value step url chain v) es) (elements_mapped step url chain vs)
 
 -- what a walk through a list has made, with what is left, is what becomes of the list; and what is left has all its faults
-pub record ElementsGoOn (steps : Steps) (chain : List Reference) (from : Reference) (list : List Tree) (done : List Json) (index : ℕ) : Type 0 where
-  pub values : done ++ map (part_value steps.value from.url chain) (json_items (drop index list)) ≡ map (part_value steps.value from.url chain) (json_items list)
-  pub faults : element_faults steps chain from index (elements_of (json_items (drop index list))) ≡ element_faults steps chain from 0 (elements_of (json_items list))
+pub record ElementsGoOn (steps : Steps) (chain : List Reference) (from : Reference) (meaning : Tree → Json) (list : List Tree) (done : List Json) (index : ℕ) : Type 0 where
+  pub values : done ++ map (part_value steps.value from.url chain) (map meaning (drop index list)) ≡ map (part_value steps.value from.url chain) (map meaning list)
+  pub faults : element_faults steps chain from index (elements_of (map meaning (drop index list))) ≡ element_faults steps chain from 0 (elements_of (map meaning list))
 
 -- an element that is refused ends the walk
-pub elements_refused : (steps : Steps) (chain : List Reference) (from : Reference) (list : List Tree) (items done : List Json) (index : ℕ) (item : Tree) (e : ResolveFault)
-    → json_items list ≡ items → index < length list → item ≡ get_or list index item → ElementsGoOn steps chain from list done index
-    → IsRefusal e (part_faults steps chain (reference from.url (from.pointer ++ element_step_text index)) (json_of item)) → IsRefusal e (element_faults steps chain from 0 (elements_of items))
-elements_refused steps chain from list items done index item e same within is so_far refused =
-    let left : json_items (drop index list) ≡ json_of item ∷ json_items (drop (index + 1) list) = ap json_items (left_at list index item within is) in
-    refused_same e (element_faults steps chain from 0 (elements_of items)) (element_faults steps chain from index (elements_of (json_of item ∷ json_items (drop (index + 1) list))))
+pub elements_refused : (steps : Steps) (chain : List Reference) (from : Reference) (meaning : Tree → Json) (list : List Tree) (items done : List Json) (index : ℕ) (item : Tree) (e : ResolveFault)
+    → map meaning list ≡ items → index < length list → item ≡ get_or list index item → ElementsGoOn steps chain from meaning list done index
+    → IsRefusal e (part_faults steps chain (reference from.url (from.pointer ++ element_step_text index)) (meaning item)) → IsRefusal e (element_faults steps chain from 0 (elements_of items))
+elements_refused steps chain from meaning list items done index item e same within is so_far refused =
+    let left : map meaning (drop index list) ≡ meaning item ∷ map meaning (drop (index + 1) list) = ap (λ (ts : List Tree). map meaning ts) (left_at list index item within is) in
+    refused_same e (element_faults steps chain from 0 (elements_of items)) (element_faults steps chain from index (elements_of (meaning item ∷ map meaning (drop (index + 1) list))))
     (ap (λ (vs : List Json). element_faults steps chain from 0 (elements_of vs)) (sym same) ∙ sym so_far.faults ∙ ap (λ (vs : List Json). element_faults steps chain from index (elements_of vs)) left)
-    (refused_before e (part_faults steps chain (reference from.url (from.pointer ++ element_step_text index)) (json_of item)) (element_faults steps chain from (index + 1) (elements_of (json_items (drop (index + 1) list)))) refused)
+    (refused_before e (part_faults steps chain (reference from.url (from.pointer ++ element_step_text index)) (meaning item)) (element_faults steps chain from (index + 1) (elements_of (map meaning (drop (index + 1) list)))) refused)
 
 -- one with a value goes on
-pub elements_more : (steps : Steps) (chain : List Reference) (from : Reference) (list : List Tree) (done : List Json) (index : ℕ) (item : Tree) (w : Json)
-    → index < length list → item ≡ get_or list index item → ElementsGoOn steps chain from list done index
-    → w ≡ part_value steps.value from.url chain (json_of item) → part_faults steps chain (reference from.url (from.pointer ++ element_step_text index)) (json_of item) ≡ []
-    → ElementsGoOn steps chain from list (done ++ w ∷ []) (index + 1)
-elements_more steps chain from list done index item w within is so_far value none =
-    let left : json_items (drop index list) ≡ json_of item ∷ json_items (drop (index + 1) list) = ap json_items (left_at list index item within is) in
-    let rest : List Json = map (part_value steps.value from.url chain) (json_items (drop (index + 1) list)) in
+pub elements_more : (steps : Steps) (chain : List Reference) (from : Reference) (meaning : Tree → Json) (list : List Tree) (done : List Json) (index : ℕ) (item : Tree) (w : Json)
+    → index < length list → item ≡ get_or list index item → ElementsGoOn steps chain from meaning list done index
+    → w ≡ part_value steps.value from.url chain (meaning item) → part_faults steps chain (reference from.url (from.pointer ++ element_step_text index)) (meaning item) ≡ []
+    → ElementsGoOn steps chain from meaning list (done ++ w ∷ []) (index + 1)
+elements_more steps chain from meaning list done index item w within is so_far value none =
+    let left : map meaning (drop index list) ≡ meaning item ∷ map meaning (drop (index + 1) list) = ap (λ (ts : List Tree). map meaning ts) (left_at list index item within is) in
+    let rest : List Json = map (part_value steps.value from.url chain) (map meaning (drop (index + 1) list)) in
     record {
       values = append_assoc done (w ∷ []) rest
           ∙ ap (λ (v : Json). done ++ v ∷ rest) value
           ∙ ap (λ (vs : List Json). done ++ map (part_value steps.value from.url chain) vs) (sym left)
           ∙ so_far.values;
-      faults = ap (λ (fs : List ResolveFault). fs ++ element_faults steps chain from (index + 1) (elements_of (json_items (drop (index + 1) list)))) (sym none)
+      faults = ap (λ (fs : List ResolveFault). fs ++ element_faults steps chain from (index + 1) (elements_of (map meaning (drop (index + 1) list)))) (sym none)
           ∙ ap (λ (vs : List Json). element_faults steps chain from index (elements_of vs)) (sym left)
           ∙ so_far.faults;
     }
 
 -- the end of the list ends the walk
-pub elements_end : (steps : Steps) (chain : List Reference) (from : Reference) (list : List Tree) (items done : List Json) (index : ℕ) → json_items list ≡ items → length list ≤ index → ElementsGoOn steps chain from list done index
+pub elements_end : (steps : Steps) (chain : List Reference) (from : Reference) (meaning : Tree → Json) (list : List Tree) (items done : List Json) (index : ℕ) → map meaning list ≡ items → length list ≤ index → ElementsGoOn steps chain from meaning list done index
     → (elements_of done ≡ elements_value steps.value from.url chain (elements_of items)) × (element_faults steps chain from 0 (elements_of items) ≡ [])
-elements_end steps chain from list items done index same past so_far =
-    let none : json_items (drop index list) ≡ [] = ap json_items (drop_all index list past) in
+elements_end steps chain from meaning list items done index same past so_far =
+    let none : map meaning (drop index list) ≡ [] = ap (λ (ts : List Tree). map meaning ts) (drop_all index list past) in
     let whole : done ≡ map (part_value steps.value from.url chain) items =
     sym (append-nil done) ∙ ap (λ (vs : List Json). done ++ map (part_value steps.value from.url chain) vs) (sym none) ∙ so_far.values
     ∙ ap (λ (vs : List Json). map (part_value steps.value from.url chain) vs) same in (
@@ -150,9 +151,9 @@ members_mapped step url chain (m ∷ ms) =
     ∙ ap (λ (rest : Members). cond (bytes_eq m.0 reference_name) rest (member m.0 (part_value step url chain m.1) rest)) (members_mapped step url chain ms)
 
 -- what a walk through an object has made, with what is left, is what becomes of the object
-pub record MembersGoOn (steps : Steps) (chain : List Reference) (from : Reference) (list : List (List ℕ × Tree)) (done : List (List ℕ × Json)) (index : ℕ) : Type 0 where
-  pub values : done ++ other_values steps.value from.url chain (json_members (drop index list)) ≡ other_values steps.value from.url chain (json_members list)
-  pub faults : member_faults steps chain from (members_of (json_members (drop index list))) ≡ member_faults steps chain from (members_of (json_members list))
+pub record MembersGoOn (steps : Steps) (chain : List Reference) (from : Reference) (meaning : Tree → Json) (list : List (List ℕ × Tree)) (done : List (List ℕ × Json)) (index : ℕ) : Type 0 where
+  pub values : done ++ other_values steps.value from.url chain (map (named_by meaning) (drop index list)) ≡ other_values steps.value from.url chain (map (named_by meaning) list)
+  pub faults : member_faults steps chain from (members_of (map (named_by meaning) (drop index list))) ≡ member_faults steps chain from (members_of (map (named_by meaning) list))
 
 -- the faults of members whose first isn't `tm:ref`, and of those whose first is
 faults_of_other : (steps : Steps) (chain : List Reference) (from : Reference) (m : List ℕ × Json) (ms : List (List ℕ × Json)) → bytes_eq m.0 reference_name ≡ false
@@ -166,58 +167,58 @@ faults_of_reference steps chain from m ms same =
     ap (λ (b : Bool). cond b (member_faults steps chain from (members_of ms)) (part_faults steps chain (reference from.url (from.pointer ++ step_text m.0)) m.1 ++ member_faults steps chain from (members_of ms))) same
 
 -- a member that is refused ends the walk
-pub members_refused : (steps : Steps) (chain : List Reference) (from : Reference) (list : List (List ℕ × Tree)) (members done : List (List ℕ × Json)) (index : ℕ) (m : List ℕ × Tree) (e : ResolveFault)
-    → json_members list ≡ members → index < length list → m ≡ get_or list index m → bytes_eq m.0 reference_name ≡ false → MembersGoOn steps chain from list done index
-    → IsRefusal e (part_faults steps chain (reference from.url (from.pointer ++ step_text m.0)) (json_of m.1)) → IsRefusal e (member_faults steps chain from (members_of members))
-members_refused steps chain from list members done index m e same within is other so_far refused =
-    let left : json_members (drop index list) ≡ json_member m ∷ json_members (drop (index + 1) list) = ap json_members (left_at list index m within is) in
+pub members_refused : (steps : Steps) (chain : List Reference) (from : Reference) (meaning : Tree → Json) (list : List (List ℕ × Tree)) (members done : List (List ℕ × Json)) (index : ℕ) (m : List ℕ × Tree) (e : ResolveFault)
+    → map (named_by meaning) list ≡ members → index < length list → m ≡ get_or list index m → bytes_eq m.0 reference_name ≡ false → MembersGoOn steps chain from meaning list done index
+    → IsRefusal e (part_faults steps chain (reference from.url (from.pointer ++ step_text m.0)) (meaning m.1)) → IsRefusal e (member_faults steps chain from (members_of members))
+members_refused steps chain from meaning list members done index m e same within is other so_far refused =
+    let left : map (named_by meaning) (drop index list) ≡ named_by meaning m ∷ map (named_by meaning) (drop (index + 1) list) = ap (λ (ts : List (List ℕ × Tree)). map (named_by meaning) ts) (left_at list index m within is) in
     refused_same e (member_faults steps chain from (members_of members)) _
     (ap (λ (ms : List (List ℕ × Json)). member_faults steps chain from (members_of ms)) (sym same) ∙ sym so_far.faults ∙ ap (λ (ms : List (List ℕ × Json)). member_faults steps chain from (members_of ms)) left
-    ∙ faults_of_other steps chain from (json_member m) (json_members (drop (index + 1) list)) other)
-    (refused_before e (part_faults steps chain (reference from.url (from.pointer ++ step_text m.0)) (json_of m.1)) (member_faults steps chain from (members_of (json_members (drop (index + 1) list)))) refused)
+    ∙ faults_of_other steps chain from (named_by meaning m) (map (named_by meaning) (drop (index + 1) list)) other)
+    (refused_before e (part_faults steps chain (reference from.url (from.pointer ++ step_text m.0)) (meaning m.1)) (member_faults steps chain from (members_of (map (named_by meaning) (drop (index + 1) list)))) refused)
 
 -- one with a value goes on
-pub members_more : (steps : Steps) (chain : List Reference) (from : Reference) (list : List (List ℕ × Tree)) (done : List (List ℕ × Json)) (index : ℕ) (m : List ℕ × Tree) (copied : List ℕ) (w : Json)
-    → index < length list → m ≡ get_or list index m → bytes_eq m.0 reference_name ≡ false → copied ≡ m.0 → MembersGoOn steps chain from list done index
-    → w ≡ part_value steps.value from.url chain (json_of m.1) → part_faults steps chain (reference from.url (from.pointer ++ step_text m.0)) (json_of m.1) ≡ []
-    → MembersGoOn steps chain from list (done ++ (copied, w) ∷ []) (index + 1)
-members_more steps chain from list done index m copied w within is other is_copied so_far value none =
-    let left : json_members (drop index list) ≡ json_member m ∷ json_members (drop (index + 1) list) = ap json_members (left_at list index m within is) in
-    let rest : List (List ℕ × Json) = other_values steps.value from.url chain (json_members (drop (index + 1) list)) in
+pub members_more : (steps : Steps) (chain : List Reference) (from : Reference) (meaning : Tree → Json) (list : List (List ℕ × Tree)) (done : List (List ℕ × Json)) (index : ℕ) (m : List ℕ × Tree) (copied : List ℕ) (w : Json)
+    → index < length list → m ≡ get_or list index m → bytes_eq m.0 reference_name ≡ false → copied ≡ m.0 → MembersGoOn steps chain from meaning list done index
+    → w ≡ part_value steps.value from.url chain (meaning m.1) → part_faults steps chain (reference from.url (from.pointer ++ step_text m.0)) (meaning m.1) ≡ []
+    → MembersGoOn steps chain from meaning list (done ++ (copied, w) ∷ []) (index + 1)
+members_more steps chain from meaning list done index m copied w within is other is_copied so_far value none =
+    let left : map (named_by meaning) (drop index list) ≡ named_by meaning m ∷ map (named_by meaning) (drop (index + 1) list) = ap (λ (ts : List (List ℕ × Tree)). map (named_by meaning) ts) (left_at list index m within is) in
+    let rest : List (List ℕ × Json) = other_values steps.value from.url chain (map (named_by meaning) (drop (index + 1) list)) in
     record {
       values = append_assoc done ((copied, w) ∷ []) rest
           ∙ ap (λ (n : List ℕ). done ++ (n, w) ∷ rest) is_copied
           ∙ ap (λ (v : Json). done ++ (m.0, v) ∷ rest) value
-          ∙ ap (λ (b : Bool). done ++ cond b rest ((m.0, part_value steps.value from.url chain (json_of m.1)) ∷ rest)) (sym other)
+          ∙ ap (λ (b : Bool). done ++ cond b rest ((m.0, part_value steps.value from.url chain (meaning m.1)) ∷ rest)) (sym other)
           ∙ ap (λ (ms : List (List ℕ × Json)). done ++ other_values steps.value from.url chain ms) (sym left)
           ∙ so_far.values;
-      faults = ap (λ (fs : List ResolveFault). fs ++ member_faults steps chain from (members_of (json_members (drop (index + 1) list)))) (sym none)
-          ∙ sym (faults_of_other steps chain from (json_member m) (json_members (drop (index + 1) list)) other)
+      faults = ap (λ (fs : List ResolveFault). fs ++ member_faults steps chain from (members_of (map (named_by meaning) (drop (index + 1) list)))) (sym none)
+          ∙ sym (faults_of_other steps chain from (named_by meaning m) (map (named_by meaning) (drop (index + 1) list)) other)
           ∙ ap (λ (ms : List (List ℕ × Json)). member_faults steps chain from (members_of ms)) (sym left)
           ∙ so_far.faults;
     }
 
 -- `tm:ref` is left out
-pub members_without : (steps : Steps) (chain : List Reference) (from : Reference) (list : List (List ℕ × Tree)) (done : List (List ℕ × Json)) (index : ℕ) (m : List ℕ × Tree)
-    → index < length list → m ≡ get_or list index m → bytes_eq m.0 reference_name ≡ true → MembersGoOn steps chain from list done index
-    → MembersGoOn steps chain from list done (index + 1)
-members_without steps chain from list done index m within is same so_far =
-    let left : json_members (drop index list) ≡ json_member m ∷ json_members (drop (index + 1) list) = ap json_members (left_at list index m within is) in
-    let rest : List (List ℕ × Json) = other_values steps.value from.url chain (json_members (drop (index + 1) list)) in
+pub members_without : (steps : Steps) (chain : List Reference) (from : Reference) (meaning : Tree → Json) (list : List (List ℕ × Tree)) (done : List (List ℕ × Json)) (index : ℕ) (m : List ℕ × Tree)
+    → index < length list → m ≡ get_or list index m → bytes_eq m.0 reference_name ≡ true → MembersGoOn steps chain from meaning list done index
+    → MembersGoOn steps chain from meaning list done (index + 1)
+members_without steps chain from meaning list done index m within is same so_far =
+    let left : map (named_by meaning) (drop index list) ≡ named_by meaning m ∷ map (named_by meaning) (drop (index + 1) list) = ap (λ (ts : List (List ℕ × Tree)). map (named_by meaning) ts) (left_at list index m within is) in
+    let rest : List (List ℕ × Json) = other_values steps.value from.url chain (map (named_by meaning) (drop (index + 1) list)) in
     record {
-      values = ap (λ (b : Bool). done ++ cond b rest ((m.0, part_value steps.value from.url chain (json_of m.1)) ∷ rest)) (sym same)
+      values = ap (λ (b : Bool). done ++ cond b rest ((m.0, part_value steps.value from.url chain (meaning m.1)) ∷ rest)) (sym same)
           ∙ ap (λ (ms : List (List ℕ × Json)). done ++ other_values steps.value from.url chain ms) (sym left)
           ∙ so_far.values;
-      faults = sym (faults_of_reference steps chain from (json_member m) (json_members (drop (index + 1) list)) same)
+      faults = sym (faults_of_reference steps chain from (named_by meaning m) (map (named_by meaning) (drop (index + 1) list)) same)
           ∙ ap (λ (ms : List (List ℕ × Json)). member_faults steps chain from (members_of ms)) (sym left)
           ∙ so_far.faults;
     }
 
 -- the end of the members ends the walk
-pub members_end : (steps : Steps) (chain : List Reference) (from : Reference) (list : List (List ℕ × Tree)) (members done : List (List ℕ × Json)) (index : ℕ) → json_members list ≡ members → length list ≤ index → MembersGoOn steps chain from list done index
+pub members_end : (steps : Steps) (chain : List Reference) (from : Reference) (meaning : Tree → Json) (list : List (List ℕ × Tree)) (members done : List (List ℕ × Json)) (index : ℕ) → map (named_by meaning) list ≡ members → length list ≤ index → MembersGoOn steps chain from meaning list done index
     → (members_of done ≡ members_value steps.value from.url chain (members_of members)) × (member_faults steps chain from (members_of members) ≡ [])
-members_end steps chain from list members done index same past so_far =
-    let none : json_members (drop index list) ≡ [] = ap json_members (drop_all index list past) in
+members_end steps chain from meaning list members done index same past so_far =
+    let none : map (named_by meaning) (drop index list) ≡ [] = ap (λ (ts : List (List ℕ × Tree)). map (named_by meaning) ts) (drop_all index list past) in
     let whole : done ≡ other_values steps.value from.url chain members =
     sym (append-nil done) ∙ ap (λ (ms : List (List ℕ × Json)). done ++ other_values steps.value from.url chain ms) (sym none) ∙ so_far.values
     ∙ ap (λ (ms : List (List ℕ × Json)). other_values steps.value from.url chain ms) same in (

@@ -2,9 +2,7 @@
 use Rattle.std.proofs.Common.{◌≡◌, ◌≢◌, ℕ, zero, suc, ◌+◌, ◌-◌, ◌<◌, ◌≤◌, List, [], ◌∷◌, ◌++◌, length, Bool, true, false, refl, sym, ap, subst, ◌∙◌, arith, length-append, cond}
 use Rattle.std.specs.Prelude.{◌==◌, Option, Some, None, Result, Ok}
 use Rattle.std.proofs.lemmas.Bool.Decides.{nat_tests}
-use Rattle.wot_json.specs.Tree.{Json, null, object, members_of}
-use Rattle.wot_json.specs.Lookup.{member_named}
-use Rattle.wot_json.proofs.EqualTrees.{listed_members_lem}
+use Rattle.wot_json.specs.Tree.{Json, null}
 use Rattle.wot_json.specs.Meaning.{json_of}
 use Rattle.wot_json.specs.Pointer.{part_of}
 use Rattle.wot_json.specs.declared.tree.Tree.{Tree}
@@ -13,9 +11,9 @@ use Rattle.tm_parts.specs.Sources.{Sources, source_named}
 use Rattle.tm_parts.specs.declared.reference.Reference.{Reference}
 use Rattle.tm_parts.specs.declared.substitution.PartFault.{PartFault}
 use Rattle.tm_resolve.specs.Chain.{is_in_chain}
-use Rattle.tm_resolve.specs.Links.{reference_name, extensions}
-use Rattle.tm_resolve.specs.Value.{part_value, members_value, imported_value, extended_value, target_value, value_within}
-use Rattle.tm_resolve.specs.Faults.{Steps, fault_at, part_faults, member_faults, reference_faults, extension_faults, target_faults, model_faults, step_faults, faults_within}
+use Rattle.tm_resolve.specs.Links.{extensions}
+use Rattle.tm_resolve.specs.Value.{part_value, extended_value, target_value, value_within}
+use Rattle.tm_resolve.specs.Faults.{Steps, fault_at, part_faults, extension_faults, target_faults, model_faults, step_faults, faults_within}
 use Rattle.tm_resolve.specs.Walking.{steps_from, Gives, IsRefusal}
 use Rattle.tm_resolve.specs.Weight.{most_entries, entered_part, is_whole}
 use Rattle.tm_resolve.specs.declared.fault.ResolveFault.{ResolveFault}
@@ -114,15 +112,3 @@ pub extension_refused : (steps : Steps) (chain : List Reference) (url : List ℕ
     → IsRefusal e (extension_faults steps chain url (link ∷ [])) → IsRefusal e (extension_faults steps chain url (extensions whole) ++ own)
 extension_refused steps chain url whole link own e is refused =
     subst (λ (links : List (ℕ × Json)). IsRefusal e (extension_faults steps chain url links ++ own)) (sym is) (refused_before e (extension_faults steps chain url (link ∷ [])) own refused)
-
--- ---- objects
-
--- an object gives what its `tm:ref`, if it has one, and its other members give
-pub object_gives : (steps : Steps) (chain : List Reference) (from : Reference) (ms : List (List ℕ × Json)) (found : Option Json) (r : Result Tree ResolveFault) → member_named reference_name ms ≡ found
-    → Gives (imported_value steps.value from.url chain found (object (members_value steps.value from.url chain (members_of ms)))) (reference_faults steps chain from found ++ member_faults steps chain from (members_of ms)) r
-    → Gives (part_value steps.value from.url chain (object (members_of ms))) (part_faults steps chain from (object (members_of ms))) r
-object_gives steps chain from ms found r is gives =
-    let others : Json = object (members_value steps.value from.url chain (members_of ms)) in
-    subst (λ (ns : List (List ℕ × Json)). Gives (imported_value steps.value from.url chain (member_named reference_name ns) others) (reference_faults steps chain from (member_named reference_name ns) ++ member_faults steps chain from (members_of ms)) r)
-    (sym (listed_members_lem ms))
-    (subst (λ (o : Option Json). Gives (imported_value steps.value from.url chain o others) (reference_faults steps chain from o ++ member_faults steps chain from (members_of ms)) r) (sym is) gives)

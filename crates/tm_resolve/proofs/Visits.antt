@@ -1,5 +1,5 @@
 -- Counting visits, one list of them after another.
-use Rattle.std.proofs.Common.{◌≡◌, ℕ, zero, suc, ◌+◌, ◌-◌, ◌<◌, ◌≤◌, List, [], ◌∷◌, ◌++◌, length, drop, get_or, true, false, refl, sym, ap, subst, inl, inr, ◌∙◌, arith, length-append}
+use Rattle.std.proofs.Common.{◌≡◌, ℕ, zero, suc, ◌+◌, ◌-◌, ◌<◌, ◌≤◌, List, [], ◌∷◌, ◌++◌, length, map, drop, get_or, true, false, refl, sym, ap, subst, inl, inr, ◌∙◌, arith, length-append}
 use Rattle.std.proofs.lemmas.Bool.Decides.{nat_tests}
 use Rattle.std.proofs.lemmas.List.{drop_all}
 use Rattle.std.specs.Prelude.{◌||◌, Option, Some, None, Result, Ok, Err, nat_lt}
@@ -7,13 +7,12 @@ use Rattle.std.proofs.lemmas.List.Sums.{sum_by-cons, sum_by-append}
 use Rattle.std.proofs.lemmas.List.Folds.{list_any-append}
 use Rattle.std.proofs.lemmas.Bool.{or_from, or_left, or_right}
 use Rattle.std.specs.List.{list_any, flat_map, sum_by}
-use Rattle.wot_json.specs.Tree.{Json, elements_of, members_of}
-use Rattle.wot_json.specs.Lookup.{member_list, member_named}
-use Rattle.wot_json.specs.Meaning.{json_of, json_items, json_member, json_members}
+use Rattle.wot_json.specs.Tree.{Json, array, object, Elements, elements_of, Members, members_of}
+use Rattle.wot_json.specs.Lookup.{element_list, member_list, member_named}
+use Rattle.wot_json.specs.Meaning.{json_items, json_member, json_members}
 use Rattle.wot_json.specs.declared.tree.Tree.{Tree}
-use Rattle.wot_json.specs.declared.tree.Tree.TheVariants as tree
-use Rattle.wot_json.proofs.EqualTrees.{listed_lem, listed_members_lem}
 use Rattle.tm_parts.specs.Sources.{Sources}
+use Rattle.tm_parts.specs.Substitution.{Values, substituted_value, substituted_elements, substituted_members}
 use Rattle.tm_parts.specs.declared.reference.Reference.{Reference}
 use Rattle.tm_resolve.specs.Links.{reference_name, links_under, extensions}
 use Rattle.tm_resolve.specs.Weight.{Visit, Step, name_weight, own_weight, most_weight, most_entries, own_visit, reference_visits, part_visits, element_visits, member_visits, extension_visits, submodel_visits, links_visits, is_too_far, weight_of, is_too_large, entered_part, target_visits, visits_within}
@@ -23,6 +22,7 @@ use Rattle.tm_resolve.specs.declared.weight.Role.TheVariants.{Thing}
 use Rattle.tm_resolve.specs.declared.weight.Stop.{Stop}
 use Rattle.tm_resolve.specs.declared.weight.Stop.TheVariants.{TooLarge, NoMemory}
 use Rattle.tm_resolve.proofs.Loops.{left_at}
+use Rattle.tm_resolve.proofs.SeenParts.{named_by}
 
 weight_both : (vs ws : List Visit) → weight_of (vs ++ ws) ≡ weight_of vs + weight_of ws
 weight_both vs ws = sum_by-append (λ (v : Visit). v.weight) vs ws
@@ -47,6 +47,19 @@ pub weighs_stop : (vs ws : List Visit) (left : ℕ) (stop : Stop) → Weighs vs 
 weighs_stop vs ws left TooLarge (inl more) = inl (omega (arith, weight_both vs ws, more))
 weighs_stop vs ws left TooLarge (inr far) = inr (far_both vs ws ∙ or_left (list_any is_too_far vs) (list_any is_too_far ws) far)
 weighs_stop vs ws left NoMemory stops = tt
+
+-- visits before visits that were counted
+pub weighs_before : (vs ws : List Visit) (left mid : ℕ) (r : Result ℕ Stop) → Weighs ws left (Ok mid) → Weighs vs mid r → Weighs (vs ++ ws) left r
+weighs_before vs ws left mid (Ok rest) later first =
+    (omega (arith, weight_both vs ws, first.0, later.0), far_both vs ws ∙ or_from (list_any is_too_far vs) (list_any is_too_far ws) first.1 later.1)
+weighs_before vs ws left mid (Err TooLarge) later (inl more) = inl (omega (arith, weight_both vs ws, later.0, more))
+weighs_before vs ws left mid (Err TooLarge) later (inr far) = inr (far_both vs ws ∙ or_left (list_any is_too_far vs) (list_any is_too_far ws) far)
+weighs_before vs ws left mid (Err NoMemory) later first = tt
+
+pub weighs_stop_before : (vs ws : List Visit) (left : ℕ) (stop : Stop) → Weighs ws left (Err stop) → Weighs (vs ++ ws) left (Err stop)
+weighs_stop_before vs ws left TooLarge (inl more) = inl (omega (arith, weight_both vs ws, more))
+weighs_stop_before vs ws left TooLarge (inr far) = inr (far_both vs ws ∙ or_right (list_any is_too_far vs) (list_any is_too_far ws) far)
+weighs_stop_before vs ws left NoMemory stops = tt
 
 -- ---- loops
 
@@ -88,15 +101,15 @@ pub loop_end : {X : Type 0} (visits : List X → List Visit) (list : List X) (in
 loop_end {X} visits list index before left none past so_far =
     counts_end (visits list) before (visits (drop index list)) left (ap visits (drop_all index list past) ∙ none) so_far
 
--- the visits of links, of the elements of a list and of the members of an object, by the code's values
-abbrev pub submodels_list : Sources → List ℕ → List Reference → List Tree → List Visit
-submodels_list sources url chain links = flat_map (submodel_visits (step_from sources chain) url chain) (json_items links)
+-- the visits of links, of the elements of a list and of the members of an object, by the code's values and what they mean
+abbrev pub submodels_list : (Tree → Json) → Sources → List ℕ → List Reference → List Tree → List Visit
+submodels_list meaning sources url chain links = flat_map (submodel_visits (step_from sources chain) url chain) (map meaning links)
 
-abbrev pub elements_list : Sources → List ℕ → ℕ → List Reference → List Tree → List Visit
-elements_list sources url depth chain items = element_visits (step_from sources chain) url chain depth (elements_of (json_items items))
+abbrev pub elements_list : (Tree → Json) → Sources → List ℕ → ℕ → List Reference → List Tree → List Visit
+elements_list meaning sources url depth chain items = element_visits (step_from sources chain) url chain depth (elements_of (map meaning items))
 
-abbrev pub members_list : Sources → List ℕ → ℕ → List Reference → List (List ℕ × Tree) → List Visit
-members_list sources url depth chain members = member_visits (step_from sources chain) url chain depth (members_of (json_members members))
+abbrev pub members_list : (Tree → Json) → Sources → List ℕ → ℕ → List Reference → List (List ℕ × Tree) → List Visit
+members_list meaning sources url depth chain members = member_visits (step_from sources chain) url chain depth (members_of (map (named_by meaning) members))
 
 -- the names of members from a place on
 pub names_left : (ms : List (List ℕ × Tree)) (index : ℕ) (m : List ℕ × Tree) → index < length ms → m ≡ get_or ms index m
@@ -110,28 +123,54 @@ spends_both : (first second left mid : ℕ) (rest : Option ℕ) → mid + first 
 spends_both first second left mid None is less = omega (arith, is, less)
 spends_both first second left mid (Some n) is less = omega (arith, is, less)
 
--- what is left after a list, and after an object
-pub spends_list : (t : Tree) (vs : List Json) (left mid : ℕ) (rest : Option ℕ) → t ≡ tree.List vs → mid + 2 ≡ left → Spends (length vs) mid rest → Spends (own_weight (json_of t)) left rest
-spends_list t vs left mid rest is begins spends =
-    subst (λ (u : Tree). Spends (own_weight (json_of u)) left rest) (sym is)
-    (subst (λ (ws : List Json). Spends (2 + length ws) left rest) (sym (listed_lem vs)) (spends_both 2 (length vs) left mid rest begins spends))
+-- as many elements are seen as there are
+elements_counted : (values : Values) (ts : List Tree) → length (element_list (substituted_elements (elements_of (json_items ts)) values)) ≡ length ts
+elements_counted values [] = refl
+elements_counted values (t ∷ ts) = ap suc (elements_counted values ts)
 
-pub spends_object : (t : Tree) (ms ns : List (List ℕ × Json)) (left mid : ℕ) (rest : Option ℕ) → t ≡ tree.Obj ms → ns ≡ ms → mid + 2 ≡ left → Spends (sum_by name_weight ns) mid rest → Spends (own_weight (json_of t)) left rest
-spends_object t ms ns left mid rest is same begins spends =
-    subst (λ (u : Tree). Spends (own_weight (json_of u)) left rest) (sym is)
-    (subst (λ (os : List (List ℕ × Json)). Spends (2 + sum_by name_weight os) left rest) (same ∙ sym (listed_members_lem ms)) (spends_both 2 (sum_by name_weight ns) left mid rest begins spends))
+-- names are as they stand
+names_seen : (values : Values) (ms : List (List ℕ × Json)) → sum_by name_weight (member_list (substituted_members (members_of ms) values)) ≡ sum_by name_weight ms
+names_seen values [] = refl
+names_seen values (m ∷ ms) =
+    sum_by-cons name_weight (m.0, substituted_value m.1 values) (member_list (substituted_members (members_of ms) values))
+    ∙ ap (λ (n : ℕ). name_weight m + n) (names_seen values ms)
+    ∙ sym (sum_by-cons name_weight m ms)
+
+-- what is left after a list, and after an object
+pub spends_list : (values : Values) (ts : List Tree) (left mid : ℕ) (rest : Option ℕ) → mid + 2 ≡ left → Spends (length ts) mid rest
+    → Spends (own_weight (array (substituted_elements (elements_of (json_items ts)) values))) left rest
+spends_list values ts left mid rest begins spends =
+    subst (λ (n : ℕ). Spends (2 + n) left rest) (sym (elements_counted values ts)) (spends_both 2 (length ts) left mid rest begins spends)
+
+pub spends_object : (values : Values) (ms ns : List (List ℕ × Json)) (left mid : ℕ) (rest : Option ℕ) → ns ≡ ms → mid + 2 ≡ left → Spends (sum_by name_weight ns) mid rest
+    → Spends (own_weight (object (substituted_members (members_of ms) values))) left rest
+spends_object values ms ns left mid rest same begins spends =
+    subst (λ (n : ℕ). Spends (2 + n) left rest) (ap (λ (os : List (List ℕ × Json)). sum_by name_weight os) same ∙ sym (names_seen values ms))
+    (spends_both 2 (sum_by name_weight ns) left mid rest begins spends)
 
 -- ---- parts
 
+-- a list: itself, and what is in it
+pub list_part : (step : Step) (url : List ℕ) (chain : List Reference) (depth : ℕ) (v : Json) (es : Elements) (left mid : ℕ) (r : Result ℕ Stop) → array es ≡ v → Weighs (own_visit chain depth (array es) ∷ []) left (Ok mid)
+    → Weighs (element_visits step url chain (depth + 1) es) mid r → Weighs (part_visits step url chain depth v) left r
+list_part step url chain depth v es left mid r is own inside =
+    subst (λ (w : Json). Weighs (part_visits step url chain depth w) left r) is
+    (weighs_then (own_visit chain depth (array es) ∷ []) (element_visits step url chain (depth + 1) es) left mid r own inside)
+
 -- an object: itself, and what it refers to and has in it
-pub object_part : (step : Step) (url : List ℕ) (chain : List Reference) (depth : ℕ) (t : Tree) (ms : List (List ℕ × Json)) (left mid : ℕ) (r : Result ℕ Stop) → t ≡ tree.Obj ms → Weighs (own_visit chain depth (json_of t) ∷ []) left (Ok mid)
-    → Weighs (reference_visits step url chain depth (member_named reference_name ms) ++ member_visits step url chain (depth + 1) (members_of ms)) mid r → Weighs (part_visits step url chain depth (json_of t)) left r
-object_part step url chain depth t ms left mid r is own inside =
-    let listed : Weighs (reference_visits step url chain depth (member_named reference_name (member_list (members_of ms))) ++ member_visits step url chain (depth + 1) (members_of ms)) mid r =
-    subst (λ (ns : List (List ℕ × Json)). Weighs (reference_visits step url chain depth (member_named reference_name ns) ++ member_visits step url chain (depth + 1) (members_of ms)) mid r) (sym (listed_members_lem ms)) inside in
-    let first : Weighs (own_visit chain depth (json_of (tree.Obj ms)) ∷ []) left (Ok mid) = subst (λ (u : Tree). Weighs (own_visit chain depth (json_of u) ∷ []) left (Ok mid)) is own in
-    subst (λ (u : Tree). Weighs (part_visits step url chain depth (json_of u)) left r) (sym is)
-    (weighs_then (own_visit chain depth (json_of (tree.Obj ms)) ∷ []) (reference_visits step url chain depth (member_named reference_name (member_list (members_of ms))) ++ member_visits step url chain (depth + 1) (members_of ms)) left mid r first listed)
+pub object_part : (step : Step) (url : List ℕ) (chain : List Reference) (depth : ℕ) (v : Json) (ms : Members) (left mid : ℕ) (r : Result ℕ Stop) → object ms ≡ v → Weighs (own_visit chain depth (object ms) ∷ []) left (Ok mid)
+    → Weighs (reference_visits step url chain depth (member_named reference_name (member_list ms)) ++ member_visits step url chain (depth + 1) ms) mid r → Weighs (part_visits step url chain depth v) left r
+object_part step url chain depth v ms left mid r is own inside =
+    subst (λ (w : Json). Weighs (part_visits step url chain depth w) left r) is
+    (weighs_then (own_visit chain depth (object ms) ∷ []) (reference_visits step url chain depth (member_named reference_name (member_list ms)) ++ member_visits step url chain (depth + 1) ms) left mid r own inside)
+
+-- what an object refers to may be counted after what it has in it
+pub object_counts : (sources : Sources) (url : List ℕ) (chain es : List Reference) (depth : ℕ) (found : Option Json) (ms : Members) (left mid : ℕ) (r : Result ℕ Stop) → es ≡ chain
+    → Weighs (member_visits (step_from sources chain) url chain (depth + 1) ms) left (Ok mid) → Weighs (reference_visits (step_from sources es) url es depth found) mid r
+    → Weighs (reference_visits (step_from sources chain) url chain depth found ++ member_visits (step_from sources chain) url chain (depth + 1) ms) left r
+object_counts sources url chain es depth found ms left mid r at_chain first further =
+    let here : Weighs (reference_visits (step_from sources chain) url chain depth found) mid r = subst (λ (cs : List Reference). Weighs (reference_visits (step_from sources cs) url cs depth found) mid r) at_chain further in
+    weighs_before (reference_visits (step_from sources chain) url chain depth found) (member_visits (step_from sources chain) url chain (depth + 1) ms) left mid r first here
 
 -- the links of the model of a Thing: the model that it extends, and its submodels
 pub links_of_thing : (sources : Sources) (role : Role) (url : List ℕ) (chain es : List Reference) (whole : Json) (links : List Json) (left mid : ℕ) (r : Result ℕ Stop) → role ≡ Thing → links ≡ links_under whole → es ≡ chain

@@ -1,7 +1,7 @@
 -- What the code says that counts visits, of which it keeps what is left of the limit on the weight.
 use Rattle.std.specs.Prelude.{◌≡◌, ◌⊎◌, ◌+◌, ◌-◌, ◌<◌, ℕ, true, false, List, length, Option, Result, Ok, Err, MatchOption}
 use Rattle.std.specs.List.{list_any}
-use Rattle.tm_parts.specs.Sources.{Sources, kept_sources}
+use Rattle.tm_parts.specs.Sources.{Sources}
 use Rattle.tm_parts.specs.declared.reference.Reference.{Reference}
 use Rattle.tm_resolve.specs.Weight.{Visit, Step, most_entries, visits_within, is_too_far, weight_of}
 use Rattle.tm_resolve.specs.declared.sources.Sources as kept
@@ -14,7 +14,7 @@ step_from sources chain = visits_within (most_entries - length chain) sources
 
 -- the same, among the models that the code has
 abbrev pub next_step : kept.Sources → List Reference → Step
-next_step sources chain = step_from (kept_sources sources.models.items) chain
+next_step sources chain = step_from sources.models chain
 
 -- what is left once this much was taken, or nothing where there was less
 abbrev pub Spends : ℕ → ℕ → Option ℕ → Type 0

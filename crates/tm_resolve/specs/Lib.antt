@@ -1,9 +1,11 @@
 pub mod Chain
 pub mod Links
+pub mod Seen
 pub mod ExtensionLinks
 pub mod Weight
 pub mod Counting
 pub mod Value
+pub mod Merging
 pub mod Faults
 pub mod Resolution
 pub mod Walking

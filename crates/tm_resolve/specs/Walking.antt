@@ -4,7 +4,7 @@ use Rattle.wot_json.specs.Tree.{Json, Elements, elements_of, Members, members_of
 use Rattle.wot_json.specs.Meaning.{json_of}
 use Rattle.wot_json.specs.declared.tree.Tree.{Tree}
 use Rattle.tm_parts.specs.Placeholders.{first_of}
-use Rattle.tm_parts.specs.Sources.{Sources, kept_sources}
+use Rattle.tm_parts.specs.Sources.{Sources}
 use Rattle.tm_parts.specs.declared.reference.Reference.{Reference}
 use Rattle.tm_resolve.specs.Value.{value_within}
 use Rattle.tm_resolve.specs.Faults.{Steps, faults_within}
@@ -22,7 +22,7 @@ steps_from sources chain = record {
 
 -- the same, among the models that the code has
 abbrev pub next_steps : kept.Sources → List Reference → Steps
-next_steps sources chain = steps_from (kept_sources sources.models.items) chain
+next_steps sources chain = steps_from sources.models chain
 
 -- a call that has these faults to find is refused with this one: the first of them, or out of memory
 abbrev pub IsRefusal : ResolveFault → List ResolveFault → Type 0

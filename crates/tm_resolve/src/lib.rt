@@ -29,9 +29,11 @@ mod chain;
 mod fault;
 mod laws;
 mod links;
+mod merging;
 mod model_links;
 mod resolver;
 mod sources;
+mod spending;
 mod walk;
 mod weight;
 

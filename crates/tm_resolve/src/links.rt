@@ -1,23 +1,28 @@
 //! The links from one Thing Model to another: to the model that it extends, and to its submodels.
 
-ghost use Rattle.std.specs.Prelude.{◌≡◌, ◌+◌, ◌<◌, [], ◌∷◌, length, drop, codes, option_map, option_and_then, Some, None, IfOk, IfSome, MatchOption};
+ghost use Rattle.std.specs.Prelude.{◌≡◌, ◌+◌, ◌<◌, [], ◌∷◌, length, codes, option_map, option_and_then, Some, None, IfOk, IfSome, MatchOption};
 ghost use Rattle.url.specs.Parts.{serialize};
 ghost use Rattle.url.specs.Setters.{set_fragment};
-ghost use Rattle.wot_json.specs.Meaning.{json_of, json_items};
-ghost use Rattle.wot_json.specs.Lookup.{member_named};
+ghost use Rattle.wot_json.specs.Lookup.{member_list, member_named};
 ghost use Rattle.wot_json.specs.Merge.{members_under};
-ghost use Rattle.tm_resolve.specs.Links.{links_from, extensions, located_url, linked_model, text_under, reference_of};
+ghost use Rattle.tm_parts.specs.References.{reference_target as reference_target_of};
+ghost use Rattle.tm_parts.specs.Views.{seen, seen_members};
+ghost use Rattle.tm_resolve.specs.Links.{links_from, extensions, located_url, linked_model, text_under as text_of, reference_of};
 ghost use Rattle.tm_resolve.specs.Links as spec;
 ghost use Rattle.tm_resolve.specs.ExtensionLinks.{ShowsExtensions};
+ghost use Rattle.tm_resolve.specs.Seen.{seen_items, items_from};
 
-use servient_base::{NoMemory, join};
+use servient_base::NoMemory;
 use std::alloc::{AllocError, Global};
-use tm_parts::{RefFault, Reference, target};
+use tm_parts::{ListView, Location, Node, ObjectView, RefFault, Reference, View};
 use url::Url;
-use wot_json::{Members, Text, Tree, merge_patch};
+use wot_json::Text;
 
 /// The name of the member that refers to a part of a model.
 pub(crate) const REFERENCE: &str = "tm:ref";
+
+/// The name of the member that holds a model's links.
+pub(crate) const LINKS: &str = "links";
 
 /// The relation of a link to a model that is extended.
 pub(crate) const EXTENDS: &str = "tm:extends";
@@ -26,17 +31,16 @@ pub(crate) const EXTENDS: &str = "tm:extends";
 pub(crate) const SUBMODEL: &str = "tm:submodel";
 
 /// The links of a model that lead to models which it extends, as far as they count.
-#[derive(Drop)]
 pub(crate) enum Extensions<'a> {
     None,
     /// The place of the link among all links, and the link.
-    One(usize, &'a Tree),
+    One(usize, View<'a>),
     Several,
 }
 
 /// Finds the links of a model that lead to models which it extends.
-pub(crate) fn extensions_of(model: &Tree) -> Extensions<'_>
-    ensures { ShowsExtensions result (extensions (json_of model.now)) }
+pub(crate) fn extensions_of(model: View<'_>) -> Extensions<'_>
+    ensures { ShowsExtensions result (extensions (seen model.entry)) }
 {
     let links = links_under(model);
     match next_extension(links, 0) {
@@ -49,24 +53,48 @@ pub(crate) fn extensions_of(model: &Tree) -> Extensions<'_>
 }
 
 /// All links of a model, whatever their relation.
-pub(crate) fn links_under(model: &Tree) -> &[Tree]
-    ensures { json_items result.now ≡ spec.links_under (json_of model.now) }
+pub(crate) fn links_under(model: View<'_>) -> ListView<'_>
+    ensures { seen_items result ≡ spec.links_under (seen model.entry) }
 {
-    match model.member("links") {
-        Some(Tree::List(links)) => links.as_slice(),
-        _ => &[],
+    match model.member(LINKS) {
+        Some(links) => elements_under(links),
+        None => no_elements(),
+    }
+}
+
+/// The elements of a value, which has none where it is no list.
+fn elements_under(value: View<'_>) -> ListView<'_>
+    ensures { seen_items result ≡ spec.elements_under (seen value.entry) }
+{
+    match value.node() {
+        Node::List(list) => list,
+        _ => no_elements(),
+    }
+}
+
+/// A list without elements.
+fn no_elements<'a>() -> ListView<'a>
+    ensures { seen_items result ≡ [] }
+{
+    ListView {
+        items: &[],
+        values: None,
     }
 }
 
 /// The first link to a model that is extended at this place or after it, and its place.
-fn next_extension(links: &[Tree], from: usize) -> Option<(usize, &Tree)>
-    ensures next { MatchOption result (links_from (codes "tm:extends") from (json_items (drop from links.now)) ≡ [])
-        (λ x. links_from (codes "tm:extends") from (json_items (drop from links.now))
-        ≡ (x.0, json_of x.1.now) ∷ links_from (codes "tm:extends") (x.0 + 1) (json_items (drop (x.0 + 1) links.now))) }
-    ensures within { IfSome result (λ x. x.0 < length links.now) }
+fn next_extension(links: ListView<'_>, from: usize) -> Option<(usize, View<'_>)>
+    ensures next { MatchOption result (links_from (codes "tm:extends") from (items_from links.entry from) ≡ [])
+        (λ x. links_from (codes "tm:extends") from (items_from links.entry from)
+        ≡ (x.0, seen x.1) ∷ links_from (codes "tm:extends") (x.0 + 1) (items_from links.entry (x.0 + 1))) }
+    ensures within { IfSome result (λ x. x.0 < length links.entry.items.now) }
 {
-    for index in from..links.len() {
-        let link = &links[index];
+    let items = links.items;
+    for index in from..items.len() {
+        let link = View {
+            tree: &items[index],
+            values: links.values,
+        };
         if is_link(link, EXTENDS) {
             return Some((index, link));
         }
@@ -75,21 +103,33 @@ fn next_extension(links: &[Tree], from: usize) -> Option<(usize, &Tree)>
 }
 
 /// The link has this relation, and doesn't itself come from elsewhere.
-pub(crate) fn is_link(link: &Tree, relation: &str) -> bool
-    ensures { result ≡ spec.is_link relation.now (json_of link.now) }
+pub(crate) fn is_link(link: View<'_>, relation: &str) -> bool
+    ensures { result ≡ spec.is_link relation.now (seen link.entry) }
 {
-    match link {
-        Tree::Obj(members) => members.get(REFERENCE).is_none() && has_relation(members, relation),
+    match link.node() {
+        Node::Object(members) => {
+            members.get(REFERENCE).is_none() && has_relation(members, relation)
+        }
         _ => false,
     }
 }
 
 /// The members say that they are a link with this relation.
-fn has_relation(members: &Members, relation: &str) -> bool
-    ensures { result ≡ spec.has_relation relation.now members.now }
+fn has_relation(members: ObjectView<'_>, relation: &str) -> bool
+    ensures { result ≡ spec.has_relation relation.now (member_list (seen_members members.entry)) }
 {
     match members.get("rel") {
-        Some(Tree::Text(text)) => text.as_str() == relation,
+        Some(value) => is_this_text(value, relation),
+        None => false,
+    }
+}
+
+/// The value is this text.
+fn is_this_text(value: View<'_>, text: &str) -> bool
+    ensures { result ≡ spec.is_this_text text.now (seen value.entry) }
+{
+    match value.node() {
+        Node::Text(value) => value.is(text),
         _ => false,
     }
 }
@@ -97,33 +137,40 @@ fn has_relation(members: &Members, relation: &str) -> bool
 /// The target that the value of a `tm:ref` in the model `from` refers to, where it refers to one.
 pub(crate) fn reference_target(
     alloc: Global,
-    from: &str,
-    reference: &Tree,
+    from: &Location,
+    reference: View<'_>,
 ) -> Result<Option<Reference>, NoMemory>
-    ensures { IfOk result (λ found. found ≡ reference_of from.now (json_of reference.now)) }
+    ensures { IfOk result (λ found. found ≡ reference_of from.now (seen reference.entry)) }
 {
-    match reference {
-        Tree::Text(text) => match target(alloc, from, text.as_str()) {
-            Ok(target) => Ok(Some(target)),
-            Err(RefFault::NoMemory) => Err(AllocError),
-            Err(RefFault::BadRef) => Ok(None),
-        },
-        _ => Ok(None),
+    match text_under(alloc, reference)? {
+        Some(text) => target_of(alloc, from, text.as_str()),
+        None => Ok(None),
+    }
+}
+
+/// The target that a text in the model `from` refers to, where it refers to one.
+fn target_of(alloc: Global, from: &Location, text: &str) -> Result<Option<Reference>, NoMemory>
+    ensures { IfOk result (λ found. found ≡ reference_target_of from.now text.now) }
+{
+    match from.target(alloc, text) {
+        Ok(target) => Ok(Some(target)),
+        Err(RefFault::NoMemory) => Err(AllocError),
+        Err(RefFault::BadRef) => Ok(None),
     }
 }
 
 /// The whole model that a link of the model `from` leads to, where it leads to one.
 pub(crate) fn link_target(
     alloc: Global,
-    from: &str,
-    link: &Tree,
+    from: &Location,
+    link: View<'_>,
 ) -> Result<Option<Reference>, NoMemory>
-    ensures { IfOk result (λ found. found ≡ linked_model from.now (json_of link.now)) }
+    ensures { IfOk result (λ found. found ≡ linked_model from.now (seen link.entry)) }
 {
-    let Some(href) = href_of(link) else {
+    let Some(href) = href_of(alloc, link)? else {
         return Ok(None);
     };
-    match located_url(alloc, from, href)? {
+    match located_url(alloc, from, href.as_str())? {
         None => Ok(None),
         Some(url) => Ok(Some(Reference {
             url,
@@ -133,31 +180,30 @@ pub(crate) fn link_target(
 }
 
 /// The `href` of a link, where it is a text.
-fn href_of(link: &Tree) -> Option<&str>
-    ensures { option_map (λ text. text.now) result
-        ≡ option_and_then text_under (member_named (codes "href") (members_under (json_of link.now))) }
+fn href_of(alloc: Global, link: View<'_>) -> Result<Option<Text>, NoMemory>
+    ensures { IfOk result (λ href. href ≡ option_and_then text_of (member_named (codes "href") (members_under (seen link.entry)))) }
 {
     match link.member("href") {
-        Some(href) => as_text(href),
-        None => None,
+        Some(href) => text_under(alloc, href),
+        None => Ok(None),
     }
 }
 
-/// The value, where it is a text.
-fn as_text(value: &Tree) -> Option<&str>
-    ensures { option_map (λ text. text.now) result ≡ text_under (json_of value.now) }
+/// The text of a value that is one.
+fn text_under(alloc: Global, value: View<'_>) -> Result<Option<Text>, NoMemory>
+    ensures { IfOk result (λ text. text ≡ text_of (seen value.entry)) }
 {
-    match value {
-        Tree::Text(text) => Some(text.as_str()),
-        _ => None,
+    match value.node() {
+        Node::Text(text) => Ok(Some(text.build(alloc)?)),
+        _ => Ok(None),
     }
 }
 
 /// The URL of the model that a text locates from the model `from`, where it can be joined.
-fn located_url(alloc: Global, from: &str, text: &str) -> Result<Option<Text>, NoMemory>
+fn located_url(alloc: Global, from: &Location, text: &str) -> Result<Option<Text>, NoMemory>
     ensures { IfOk result (λ found. found ≡ located_url from.now text.now) }
 {
-    match join(alloc, Some(from), text)? {
+    match from.join(text)? {
         None => Ok(None),
         Some(url) => Ok(Some(without_fragment(alloc, url)?)),
     }
@@ -172,13 +218,4 @@ fn without_fragment(alloc: Global, url: Url) -> Result<Text, NoMemory>
         Ok(()) => Text::copy_of(alloc, whole.as_str()),
         Err(_) => Err(AllocError),
     }
-}
-
-/// The members of a model but for its links.
-pub(crate) fn without_links(alloc: Global, model: &Tree) -> Result<Tree, NoMemory>
-    ensures { IfOk result (λ t. json_of t ≡ spec.without_links (json_of model.now)) }
-{
-    let mut change = Members::new(alloc);
-    change.push(Text::copy_of(alloc, "links")?, Tree::Null)?;
-    merge_patch(alloc, model, &Tree::Obj(change))
 }

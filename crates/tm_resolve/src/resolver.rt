@@ -1,39 +1,45 @@
 //! The values of whole Thing Models.
 
-ghost use Rattle.std.specs.Prelude.{◌≡◌, ◌⊎◌, Ok, Err, IfOk, IfErr, option_map};
+ghost use Rattle.std.specs.Prelude.{◌≡◌, ◌⊎◌, Ok, Err, IfOk, IfErr, IfSome, option_map};
 ghost use Rattle.wot_json.specs.Meaning.{json_of};
 ghost use Rattle.tm_parts.specs.Sources.{sources_of};
+ghost use Rattle.tm_parts.specs.Views.{seen};
 ghost use Rattle.tm_resolve.specs.Resolution.{resolved_from, resolved_model};
 
 use crate::fault::{ResolveFault, ResolveKind};
-use crate::model_links::{Link, Relation, copied_member, model_links};
-use crate::sources::Sources;
+use crate::model_links::{Link, Relation, built_member, model_links};
+use crate::sources::{Part, Sources};
 use crate::walk::target_value;
 use crate::weight::is_too_large;
 use servient_base::NoMemory;
 use std::alloc::Global;
-use tm_parts::{Bindings, Library, Reference, source_named};
+use tm_parts::{Bindings, Library, Reference};
 use wot_json::{Text, Tree};
 
 /// The models of a library with values in the places of their placeholders, prepared once for all that is asked of
 /// them. Contracts see the models by their URLs, each with its values or with the first fault of the substitution.
 #[derive(Drop)]
-pub struct Resolver {
-    sources: Sources,
+pub struct Resolver<'a> {
+    sources: Sources<'a>,
 }
 
-impl Resolver {
+impl<'a> Resolver<'a> {
     ghost use Rattle.tm_resolve.specs.Resolver.{resolver_models};
     ghost use Rattle.tm_resolve.specs.ModelLinks.{relation_text, kept_links, optional_part, model_links as links_under_url, whole_model as whole_model_under};
 
-    /// Puts the values into each model of the library, once. No limit holds for that.
-    pub fn new(alloc: Global, library: &Library, bindings: &Bindings) -> Result<Self, NoMemory>
+    /// Judges each model of the library with the values, parses its URL, and puts the bindings in order, all once. No value is
+    /// put in.
+    pub fn new(
+        alloc: Global,
+        library: &'a Library,
+        bindings: &'a Bindings,
+    ) -> Result<Self, NoMemory>
         ensures { IfOk result (λ r. resolver_models r ≡ sources_of library.now bindings.now) }
     {
         Ok(Resolver {
             sources: Sources {
                 alloc,
-                models: library.sources(bindings)?,
+                models: tm_parts::Sources::new(alloc, library, bindings)?,
             },
         })
     }
@@ -52,9 +58,9 @@ impl Resolver {
     /// those of the members beside it, and members in the byte order of their names. Of what comes after the first fault
     /// nothing is looked at.
     ///
-    /// Counting costs about what each node weighs, and for each step the parse and join of its URL and a comparison with
-    /// the URL of each model; it stops where a limit is passed. What is brought in twice is made twice, and merged again
-    /// at each step that brings it in.
+    /// Counting reads each node that it visits once, builds none, and stops where a limit is passed. For each step it joins a
+    /// text to the URL of a model, and finds a model by halving. Only what isn't too large is built; what is brought in twice
+    /// is made twice, and merged again at each step that brings it in.
     pub fn resolve(&self, root: &str) -> Result<Tree, ResolveFault>
         ensures ok { IfOk result (λ t. resolved_from (resolver_models self.now) root.now ≡ Ok (json_of t)) }
         ensures fault { IfErr result (λ e. (e ≡ ResolveFault.NoMemory)
@@ -80,7 +86,7 @@ impl Resolver {
     {
         match self.whole_model(url) {
             None => Ok(Vec::new(self.sources.alloc)),
-            Some(whole) => model_links(self.sources.alloc, url, whole, relation.text()),
+            Some(whole) => model_links(self.sources.alloc, whole, relation.text()),
         }
     }
 
@@ -91,17 +97,25 @@ impl Resolver {
     {
         match self.whole_model(url) {
             None => Ok(None),
-            Some(whole) => copied_member(self.sources.alloc, whole, "tm:optional"),
+            Some(whole) => built_member(self.sources.alloc, whole.view, "tm:optional"),
         }
     }
 
     /// The model under the URL with its values, where there is one and its substitution has no fault.
-    fn whole_model(&self, url: &str) -> Option<&Tree>
-        ensures { option_map (λ t. json_of t.now) result ≡ whole_model_under (resolver_models self.now) url.now }
+    fn whole_model(&self, url: &str) -> Option<Part<'_>>
+        ensures model { option_map (λ whole. seen whole.view) result ≡ whole_model_under (resolver_models self.now) url.now }
+        ensures from { IfSome result (λ whole. whole.from.now ≡ url.now) }
     {
-        match source_named(self.sources.models.as_slice(), url) {
-            Some(Ok(whole)) => Some(whole),
-            _ => None,
+        let source = match self.sources.models.get(url) {
+            Some(source) => source,
+            None => return None,
+        };
+        match source.model {
+            Ok(view) => Some(Part {
+                from: source.location,
+                view,
+            }),
+            Err(_) => None,
         }
     }
 }

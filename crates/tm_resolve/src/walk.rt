@@ -6,9 +6,10 @@
 
 ghost use Rattle.std.specs.Prelude.{◌≡◌, ◌≤◌, ◌++◌, [], ◌∷◌, List, Some, IfOk, IfErr, OnOk, length};
 ghost use Rattle.wot_json.specs.Meaning.{json_of};
-ghost use Rattle.wot_json.specs.Tree.{Json, object, elements_of, members_of};
+ghost use Rattle.wot_json.specs.Tree.{Json, object};
 ghost use Rattle.tm_parts.specs.References.{reference as part_at};
-ghost use Rattle.tm_parts.specs.Sources.{kept_sources, source_named as source_under};
+ghost use Rattle.tm_parts.specs.Sources.{source_named as source_under};
+ghost use Rattle.tm_parts.specs.Views.{seen, seen_elements, seen_members};
 ghost use Rattle.tm_resolve.specs.Chain.{pointer_of};
 ghost use Rattle.tm_resolve.specs.Links.{extensions};
 ghost use Rattle.tm_resolve.specs.Weight.{most_entries, entered_part};
@@ -22,17 +23,16 @@ use crate::chain::{
     MOST_ENTRIES, is_in_chain, link_pieces, push_element, push_member, push_target, sole_piece,
 };
 use crate::fault::{ResolveFault, ResolveKind};
-use crate::links::{
-    Extensions, REFERENCE, extensions_of, link_target, reference_target, without_links,
-};
-use crate::sources::{Sources, part_of};
-use tm_parts::{Reference, source_named};
-use wot_json::{Items, Members, Text, Tree, copy, merge_patch};
+use crate::links::{Extensions, REFERENCE, extensions_of, link_target, reference_target};
+use crate::merging::{merged, without_links};
+use crate::sources::{Part, Sources};
+use tm_parts::{ListView, Location, Node, ObjectView, Reference, View};
+use wot_json::{Items, Members, Text, Tree};
 
 /// The value of the target to which the part at a place of the model `url` leads.
 #[cycle(walk)]
 pub(crate) fn target_value(
-    sources: &Sources,
+    sources: &Sources<'_>,
     url: &str,
     place: &[Text],
     target: &Reference,
@@ -59,100 +59,111 @@ pub(crate) fn target_value(
 
 /// The part that a step to the target enters, or why it can't be entered.
 fn target_part<'a>(
-    sources: &'a Sources,
+    sources: &'a Sources<'_>,
     url: &str,
     place: &[Text],
     target: &Reference,
     chain: &[Reference],
-) -> Result<&'a Tree, ResolveFault>
-    ensures ok { IfOk result (λ part. entered_part (kept_sources sources.now.models.items) chain.now target.now
-        ≡ Some (json_of part.now)) }
+) -> Result<Part<'a>, ResolveFault>
+    ensures ok { IfOk result (λ part. entered_part sources.now.models chain.now target.now ≡ Some (seen part.view)) }
+    ensures from { IfOk result (λ part. part.from.now ≡ target.now.url) }
     ensures fault { IfErr result (λ e. (inside : Json → List FaultValue)
         → IsRefusal e (step_faults inside (part_at url.now (pointer_of place.now)) chain.now target.now
-        (source_under target.now.url (kept_sources sources.now.models.items)))) }
+        (source_under target.now.url sources.now.models))) }
 {
     let alloc = sources.alloc;
-    let model = match source_named(sources.models.as_slice(), target.url.as_str()) {
-        Some(model) => model,
+    let source = match sources.models.get(target.url.as_str()) {
+        Some(source) => source,
         None => return Err(ResolveFault::at_place(alloc, ResolveKind::MissingModel, url, place)),
     };
     if is_in_chain(target, chain) {
         return Err(ResolveFault::at_place(alloc, ResolveKind::Circular, url, place));
     }
-    match model {
-        Ok(whole) => match part_of(whole, target.pointer.as_str()) {
-            Some(part) => Ok(part),
-            None => Err(ResolveFault::at_place(alloc, ResolveKind::MissingNode, url, place)),
-        },
-        Err(fault) => Err(ResolveFault::of_part(alloc, target.url.as_str(), fault)),
+    let whole = match source.model {
+        Ok(whole) => whole,
+        Err(fault) => return Err(ResolveFault::of_part(alloc, target.url.as_str(), fault)),
+    };
+    match whole.part(target.pointer.as_str()) {
+        Some(view) => Ok(Part {
+            from: source.location,
+            view,
+        }),
+        None => Err(ResolveFault::at_place(alloc, ResolveKind::MissingNode, url, place)),
     }
 }
 
 /// The value of the part of the last target of the chain, which is a whole model or a part of one.
 #[cycle(walk)]
 fn stepped_value(
-    sources: &Sources,
+    sources: &Sources<'_>,
     target: &Reference,
-    part: &Tree,
+    part: Part<'_>,
     chain: &mut Vec<Reference>,
 ) -> Result<Tree, ResolveFault>
-    requires { length chain.old.items ≤ most_entries }
-    ensures outcome { Gives (value.target_value (next_steps sources.now chain.old.items).value chain.old.items target.now (json_of part.now))
-        (target_faults (next_steps sources.now chain.old.items) chain.old.items target.now (json_of part.now)) result }
+    requires chain { length chain.old.items ≤ most_entries }
+    requires from { part.from.now ≡ target.now.url }
+    ensures outcome { Gives (value.target_value (next_steps sources.now chain.old.items).value chain.old.items target.now (seen part.entry.view))
+        (target_faults (next_steps sources.now chain.old.items) chain.old.items target.now (seen part.entry.view)) result }
     ensures chain { OnOk result (chain.new.items ≡ chain.old.items) }
 {
     if target.pointer.as_str().is_empty() {
-        return model_value(sources, target.url.as_str(), part, chain);
+        return model_value(sources, part.from, part.view, chain);
     }
     let mut place = sole_piece(sources.alloc, target.pointer.as_str())?;
-    part_value(sources, target.url.as_str(), &mut place, part, chain)
+    part_value(sources, part.from, &mut place, part.view, chain)
 }
 
 /// The value of a whole model, with the model that it extends.
 #[cycle(walk)]
 fn model_value(
-    sources: &Sources,
-    url: &str,
-    whole: &Tree,
+    sources: &Sources<'_>,
+    from: &Location,
+    whole: View<'_>,
     chain: &mut Vec<Reference>,
 ) -> Result<Tree, ResolveFault>
     requires { length chain.old.items ≤ most_entries }
-    ensures outcome { Gives (value.extended_value (next_steps sources.now chain.old.items).value url.now chain.old.items
-        (extensions (json_of whole.now)) (value.part_value (next_steps sources.now chain.old.items).value url.now chain.old.items (json_of whole.now)))
-        (extension_faults (next_steps sources.now chain.old.items) chain.old.items url.now (extensions (json_of whole.now))
-        ++ part_faults (next_steps sources.now chain.old.items) chain.old.items (part_at url.now []) (json_of whole.now)) result }
+    ensures outcome { Gives (value.extended_value (next_steps sources.now chain.old.items).value from.now chain.old.items
+        (extensions (seen whole.entry)) (value.part_value (next_steps sources.now chain.old.items).value from.now chain.old.items (seen whole.entry)))
+        (extension_faults (next_steps sources.now chain.old.items) chain.old.items from.now (extensions (seen whole.entry))
+        ++ part_faults (next_steps sources.now chain.old.items) chain.old.items (part_at from.now []) (seen whole.entry)) result }
     ensures chain { OnOk result (chain.new.items ≡ chain.old.items) }
 {
     let alloc = sources.alloc;
     match extensions_of(whole) {
-        Extensions::None => root_value(sources, url, whole, chain),
+        Extensions::None => root_value(sources, from, whole, chain),
         Extensions::One(index, link) => {
-            let extended = base_value(sources, url, index, link, chain)?;
-            let changes = root_value(sources, url, whole, chain)?;
-            let extended = without_links(alloc, &extended)?;
-            Ok(merge_patch(alloc, &extended, &changes)?)
+            let extended = base_value(sources, from, index, link, chain)?;
+            let changes = root_value(sources, from, whole, chain)?;
+            let extended = without_links(alloc, extended);
+            Ok(merged(alloc, extended, changes)?)
         }
-        Extensions::Several => Err(ResolveFault::at(alloc, ResolveKind::TwoExtends, url, "/links")),
+        Extensions::Several => Err(ResolveFault::at(
+            alloc,
+            ResolveKind::TwoExtends,
+            from.as_str(),
+            "/links",
+        )),
     }
 }
 
 /// The value of the model to which this link of a model leads, the only one to a model that it extends.
 #[cycle(walk)]
 fn base_value(
-    sources: &Sources,
-    url: &str,
+    sources: &Sources<'_>,
+    from: &Location,
     index: usize,
-    link: &Tree,
+    link: View<'_>,
     chain: &mut Vec<Reference>,
 ) -> Result<Tree, ResolveFault>
     requires { length chain.old.items ≤ most_entries }
-    ensures outcome { Gives (value.link_value (next_steps sources.now chain.old.items).value url.now chain.old.items (json_of link.now))
-        (extension_faults (next_steps sources.now chain.old.items) chain.old.items url.now ((index, json_of link.now) ∷ [])) result }
+    ensures outcome { Gives (value.link_value (next_steps sources.now chain.old.items).value from.now chain.old.items (seen link.entry))
+        (extension_faults (next_steps sources.now chain.old.items) chain.old.items from.now ((index, seen link.entry) ∷ [])) result }
     ensures chain { OnOk result (chain.new.items ≡ chain.old.items) }
 {
     let alloc = sources.alloc;
     let place = link_pieces(alloc, index)?;
-    match link_target(alloc, url, link)? {
+    let url = from.as_str();
+    match link_target(alloc, from, link)? {
         Some(base) => target_value(sources, url, &place, &base, chain),
         None => Err(ResolveFault::at_place(alloc, ResolveKind::BadHref, url, &place)),
     }
@@ -161,62 +172,69 @@ fn base_value(
 /// The value of a whole model without the model that it extends.
 #[cycle(walk)]
 fn root_value(
-    sources: &Sources,
-    url: &str,
-    whole: &Tree,
+    sources: &Sources<'_>,
+    from: &Location,
+    whole: View<'_>,
     chain: &mut Vec<Reference>,
 ) -> Result<Tree, ResolveFault>
     requires { length chain.old.items ≤ most_entries }
-    ensures outcome { Gives (value.part_value (next_steps sources.now chain.old.items).value url.now chain.old.items (json_of whole.now))
-        (part_faults (next_steps sources.now chain.old.items) chain.old.items (part_at url.now []) (json_of whole.now)) result }
+    ensures outcome { Gives (value.part_value (next_steps sources.now chain.old.items).value from.now chain.old.items (seen whole.entry))
+        (part_faults (next_steps sources.now chain.old.items) chain.old.items (part_at from.now []) (seen whole.entry)) result }
     ensures chain { OnOk result (chain.new.items ≡ chain.old.items) }
 {
     let mut place = Vec::new(sources.alloc);
-    part_value(sources, url, &mut place, whole, chain)
+    part_value(sources, from, &mut place, whole, chain)
 }
 
 /// The value of a part.
 #[cycle(walk)]
 fn part_value(
-    sources: &Sources,
-    url: &str,
+    sources: &Sources<'_>,
+    from: &Location,
     place: &mut Vec<Text>,
-    part: &Tree,
+    part: View<'_>,
     chain: &mut Vec<Reference>,
 ) -> Result<Tree, ResolveFault>
     requires { length chain.old.items ≤ most_entries }
-    ensures outcome { Gives (value.part_value (next_steps sources.now chain.old.items).value url.now chain.old.items (json_of part.now))
-        (part_faults (next_steps sources.now chain.old.items) chain.old.items (part_at url.now (pointer_of place.old.items)) (json_of part.now)) result }
+    ensures outcome { Gives (value.part_value (next_steps sources.now chain.old.items).value from.now chain.old.items (seen part.entry))
+        (part_faults (next_steps sources.now chain.old.items) chain.old.items (part_at from.now (pointer_of place.old.items)) (seen part.entry)) result }
     ensures chain { OnOk result (chain.new.items ≡ chain.old.items) }
     ensures place { OnOk result (place.new.items ≡ place.old.items) }
 {
-    match part {
-        Tree::List(items) => Ok(Tree::List(items_value(sources, url, place, items, chain)?)),
-        Tree::Obj(members) => object_value(sources, url, place, members, chain),
-        _ => Ok(copy(sources.alloc, part)?),
+    match part.node() {
+        Node::List(list) => Ok(Tree::List(items_value(sources, from, place, list, chain)?)),
+        Node::Object(members) => object_value(sources, from, place, members, chain),
+        Node::Null => Ok(Tree::Null),
+        Node::Bool(truth) => Ok(Tree::Bool(truth)),
+        Node::Int(number) => Ok(Tree::Int(number)),
+        Node::Text(text) => Ok(Tree::Text(text.build(sources.alloc)?)),
     }
 }
 
 /// The values of the elements of a list.
 #[cycle(walk)]
 fn items_value(
-    sources: &Sources,
-    url: &str,
+    sources: &Sources<'_>,
+    from: &Location,
     place: &mut Vec<Text>,
-    items: &Items,
+    list: ListView<'_>,
     chain: &mut Vec<Reference>,
 ) -> Result<Items, ResolveFault>
     requires { length chain.old.items ≤ most_entries }
-    ensures outcome { GivesElements (value.elements_value (next_steps sources.now chain.old.items).value url.now chain.old.items (elements_of items.now))
-        (element_faults (next_steps sources.now chain.old.items) chain.old.items (part_at url.now (pointer_of place.old.items)) 0 (elements_of items.now)) result }
+    ensures outcome { GivesElements (value.elements_value (next_steps sources.now chain.old.items).value from.now chain.old.items (seen_elements list.entry))
+        (element_faults (next_steps sources.now chain.old.items) chain.old.items (part_at from.now (pointer_of place.old.items)) 0 (seen_elements list.entry)) result }
     ensures chain { OnOk result (chain.new.items ≡ chain.old.items) }
     ensures place { OnOk result (place.new.items ≡ place.old.items) }
 {
-    let list = items.as_slice();
+    let items = list.items;
     let mut values = Items::new(sources.alloc);
-    for (index, item) in list.iter().enumerate() {
+    for (index, tree) in items.iter().enumerate() {
+        let item = View {
+            tree,
+            values: list.values,
+        };
         push_element(sources.alloc, place, index)?;
-        let value = part_value(sources, url, place, item, chain)?;
+        let value = part_value(sources, from, place, item, chain)?;
         let _step = place.pop();
         values.push(value)?;
     }
@@ -226,43 +244,44 @@ fn items_value(
 /// The value of an object: with `tm:ref` its other members are a merge patch on what that leads to.
 #[cycle(walk)]
 fn object_value(
-    sources: &Sources,
-    url: &str,
+    sources: &Sources<'_>,
+    from: &Location,
     place: &mut Vec<Text>,
-    members: &Members,
+    members: ObjectView<'_>,
     chain: &mut Vec<Reference>,
 ) -> Result<Tree, ResolveFault>
     requires { length chain.old.items ≤ most_entries }
-    ensures outcome { Gives (value.part_value (next_steps sources.now chain.old.items).value url.now chain.old.items (object (members_of members.now)))
-        (part_faults (next_steps sources.now chain.old.items) chain.old.items (part_at url.now (pointer_of place.old.items)) (object (members_of members.now))) result }
+    ensures outcome { Gives (value.part_value (next_steps sources.now chain.old.items).value from.now chain.old.items (object (seen_members members.entry)))
+        (part_faults (next_steps sources.now chain.old.items) chain.old.items (part_at from.now (pointer_of place.old.items)) (object (seen_members members.entry))) result }
     ensures chain { OnOk result (chain.new.items ≡ chain.old.items) }
     ensures place { OnOk result (place.new.items ≡ place.old.items) }
 {
     let reference = match members.get(REFERENCE) {
         Some(reference) => reference,
-        None => return Ok(Tree::Obj(members_value(sources, url, place, members, chain)?)),
+        None => return Ok(Tree::Obj(members_value(sources, from, place, members, chain)?)),
     };
-    let imported = imported_value(sources, url, place, reference, chain)?;
-    let changes = Tree::Obj(members_value(sources, url, place, members, chain)?);
-    Ok(merge_patch(sources.alloc, &imported, &changes)?)
+    let imported = imported_value(sources, from, place, reference, chain)?;
+    let changes = Tree::Obj(members_value(sources, from, place, members, chain)?);
+    Ok(merged(sources.alloc, imported, changes)?)
 }
 
 /// The value of what the value of a `tm:ref` leads to, which is to be an object.
 #[cycle(walk)]
 fn imported_value(
-    sources: &Sources,
-    url: &str,
+    sources: &Sources<'_>,
+    from: &Location,
     place: &[Text],
-    reference: &Tree,
+    reference: View<'_>,
     chain: &mut Vec<Reference>,
 ) -> Result<Tree, ResolveFault>
     requires { length chain.old.items ≤ most_entries }
-    ensures outcome { Gives (value.reference_value (next_steps sources.now chain.old.items).value url.now chain.old.items (json_of reference.now))
-        (reference_faults (next_steps sources.now chain.old.items) chain.old.items (part_at url.now (pointer_of place.now)) (Some (json_of reference.now))) result }
+    ensures outcome { Gives (value.reference_value (next_steps sources.now chain.old.items).value from.now chain.old.items (seen reference.entry))
+        (reference_faults (next_steps sources.now chain.old.items) chain.old.items (part_at from.now (pointer_of place.now)) (Some (seen reference.entry))) result }
     ensures chain { OnOk result (chain.new.items ≡ chain.old.items) }
 {
     let alloc = sources.alloc;
-    let target = match reference_target(alloc, url, reference)? {
+    let url = from.as_str();
+    let target = match reference_target(alloc, from, reference)? {
         Some(target) => target,
         None => return Err(ResolveFault::at_place(alloc, ResolveKind::BadRef, url, place)),
     };
@@ -283,26 +302,30 @@ fn is_object(tree: &Tree) -> bool
 /// The values of the members of an object, but for `tm:ref`.
 #[cycle(walk)]
 fn members_value(
-    sources: &Sources,
-    url: &str,
+    sources: &Sources<'_>,
+    from: &Location,
     place: &mut Vec<Text>,
-    members: &Members,
+    members: ObjectView<'_>,
     chain: &mut Vec<Reference>,
 ) -> Result<Members, ResolveFault>
     requires { length chain.old.items ≤ most_entries }
-    ensures outcome { GivesMembers (value.members_value (next_steps sources.now chain.old.items).value url.now chain.old.items (members_of members.now))
-        (member_faults (next_steps sources.now chain.old.items) chain.old.items (part_at url.now (pointer_of place.old.items)) (members_of members.now)) result }
+    ensures outcome { GivesMembers (value.members_value (next_steps sources.now chain.old.items).value from.now chain.old.items (seen_members members.entry))
+        (member_faults (next_steps sources.now chain.old.items) chain.old.items (part_at from.now (pointer_of place.old.items)) (seen_members members.entry)) result }
     ensures chain { OnOk result (chain.new.items ≡ chain.old.items) }
     ensures place { OnOk result (place.new.items ≡ place.old.items) }
 {
-    let list = members.as_slice();
+    let list = members.members.as_slice();
     let mut values = Members::new(sources.alloc);
-    for (name, member) in list {
+    for (name, tree) in list {
         if name.as_str() == REFERENCE {
             continue;
         }
+        let member = View {
+            tree,
+            values: members.values,
+        };
         push_member(sources.alloc, place, name.as_str())?;
-        let value = part_value(sources, url, place, member, chain)?;
+        let value = part_value(sources, from, place, member, chain)?;
         let _step = place.pop();
         values.push(Text::copy_of(sources.alloc, name.as_str())?, value)?;
     }

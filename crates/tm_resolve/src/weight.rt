@@ -6,28 +6,26 @@
 //! whatever the size of the expansion.
 
 ghost use Rattle.std.specs.Prelude.{◌≡◌, ◌+◌, ◌≤◌, List, [], ◌∷◌, ◌++◌, length, Some, IfOk, OnOk};
-ghost use Rattle.std.specs.List.{flat_map, sum_by};
-ghost use Rattle.wot_json.specs.Json.{json_string};
-ghost use Rattle.wot_json.specs.Lookup.{member_named};
-ghost use Rattle.wot_json.specs.Meaning.{json_of, json_items, json_members};
-ghost use Rattle.wot_json.specs.Tree.{elements_of, members_of};
-ghost use Rattle.tm_parts.specs.Sources.{kept_sources};
+ghost use Rattle.std.specs.List.{flat_map};
+ghost use Rattle.wot_json.specs.Lookup.{member_list, member_named};
+ghost use Rattle.tm_parts.specs.Views.{seen, seen_elements, seen_members, node_value};
 ghost use Rattle.tm_parts.specs.declared.reference.Reference.{Reference as TargetValue};
 ghost use Rattle.tm_resolve.specs.Links.{reference_name, extensions};
-ghost use Rattle.tm_resolve.specs.Weight.{most_depth, most_entries, name_weight, own_weight, own_visit, reference_visits, part_visits, element_visits, member_visits, link_visits, extension_visits, submodel_visits, links_visits, target_visits, visits_within};
+ghost use Rattle.tm_resolve.specs.Seen.{seen_items};
+ghost use Rattle.tm_resolve.specs.Weight.{most_depth, most_entries, own_visit, reference_visits, part_visits, element_visits, member_visits, link_visits, extension_visits, submodel_visits, links_visits, target_visits, visits_within};
 ghost use Rattle.tm_resolve.specs.Weight as spec;
-ghost use Rattle.tm_resolve.specs.Counting.{next_step, Spends, Weighs};
+ghost use Rattle.tm_resolve.specs.Counting.{next_step, Weighs};
 
 use crate::chain::{MOST_ENTRIES, push_target};
 use crate::links::{
     Extensions, REFERENCE, SUBMODEL, extensions_of, is_link, link_target, links_under,
     reference_target,
 };
-use crate::sources::{Sources, entered_part};
+use crate::sources::{Part, Sources, entered_part};
+use crate::spending::spend_node;
 use servient_base::NoMemory;
 use std::alloc::{AllocError, Global};
-use tm_parts::Reference;
-use wot_json::{Items, Members, Text, Tree, quoted_length};
+use tm_parts::{ListView, Location, Node, ObjectView, Reference, View};
 
 /// The most that an expansion may weigh.
 const MOST_WEIGHT: usize = 262_144;
@@ -65,9 +63,9 @@ impl From<AllocError> for Stop {
 }
 
 /// Whether the expansion of the model of a Thing passes a limit, where `root` is the whole of that model.
-pub(crate) fn is_too_large(sources: &Sources, root: &Reference) -> Result<bool, NoMemory>
-    ensures { IfOk result (λ large. large ≡ spec.is_too_large (visits_within most_entries (kept_sources
-        sources.now.models.items) Role.Thing 0 [] root.now)) }
+pub(crate) fn is_too_large(sources: &Sources<'_>, root: &Reference) -> Result<bool, NoMemory>
+    ensures { IfOk result (λ large. large ≡ spec.is_too_large (visits_within most_entries sources.now.models
+        Role.Thing 0 [] root.now)) }
 {
     let mut chain = Vec::new(sources.alloc);
     match weigh_step(sources, Role::Thing, 0, root, &mut chain, MOST_WEIGHT) {
@@ -80,7 +78,7 @@ pub(crate) fn is_too_large(sources: &Sources, root: &Reference) -> Result<bool, 
 /// Visits what a step to a target leads to, at this depth.
 #[cycle(weigh)]
 fn weigh_step(
-    sources: &Sources,
+    sources: &Sources<'_>,
     role: Role,
     depth: usize,
     target: &Reference,
@@ -106,23 +104,24 @@ fn weigh_step(
 /// Visits the part of the last target of the chain, and where it is a whole model what its links lead to.
 #[cycle(weigh)]
 fn weigh_target(
-    sources: &Sources,
+    sources: &Sources<'_>,
     role: Role,
     depth: usize,
     target: &Reference,
-    part: &Tree,
+    part: Part<'_>,
     chain: &mut Vec<Reference>,
     left: usize,
 ) -> Result<usize, Stop>
-    requires { length chain.old.items ≤ most_entries }
+    requires chain { length chain.old.items ≤ most_entries }
+    requires from { part.from.now ≡ target.now.url }
     ensures weight { Weighs (target_visits (next_step sources.now chain.old.items) role depth
-        chain.old.items target.now (json_of part.now)) left result }
+        chain.old.items target.now (seen part.entry.view)) left result }
     ensures chain { OnOk result (chain.new.items ≡ chain.old.items) }
 {
-    let url = target.url.as_str();
-    let left = weigh_part(sources, url, depth, part, chain, left)?;
+    let from = part.from;
+    let left = weigh_part(sources, from, depth, part.view, chain, left)?;
     if target.pointer.as_str().is_empty() {
-        weigh_links(sources, role, url, part, chain, left)
+        weigh_links(sources, role, from, part.view, chain, left)
     } else {
         Ok(left)
     }
@@ -132,21 +131,21 @@ fn weigh_target(
 /// submodels.
 #[cycle(weigh)]
 fn weigh_links(
-    sources: &Sources,
+    sources: &Sources<'_>,
     role: Role,
-    url: &str,
-    whole: &Tree,
+    from: &Location,
+    whole: View<'_>,
     chain: &mut Vec<Reference>,
     left: usize,
 ) -> Result<usize, Stop>
     requires { length chain.old.items ≤ most_entries }
-    ensures weight { Weighs (links_visits (next_step sources.now chain.old.items) role url.now
-        chain.old.items (json_of whole.now)) left result }
+    ensures weight { Weighs (links_visits (next_step sources.now chain.old.items) role from.now
+        chain.old.items (seen whole.entry)) left result }
     ensures chain { OnOk result (chain.new.items ≡ chain.old.items) }
 {
-    let left = weigh_extension(sources, url, whole, chain, left)?;
+    let left = weigh_extension(sources, from, whole, chain, left)?;
     match role {
-        Role::Thing => weigh_submodels(sources, url, links_under(whole), chain, left),
+        Role::Thing => weigh_submodels(sources, from, links_under(whole), chain, left),
         Role::Part => Ok(left),
     }
 }
@@ -154,19 +153,19 @@ fn weigh_links(
 /// Visits the model that a model extends, where it extends one.
 #[cycle(weigh)]
 fn weigh_extension(
-    sources: &Sources,
-    url: &str,
-    whole: &Tree,
+    sources: &Sources<'_>,
+    from: &Location,
+    whole: View<'_>,
     chain: &mut Vec<Reference>,
     left: usize,
 ) -> Result<usize, Stop>
     requires { length chain.old.items ≤ most_entries }
-    ensures weight { Weighs (extension_visits (next_step sources.now chain.old.items) url.now chain.old.items
-        (extensions (json_of whole.now))) left result }
+    ensures weight { Weighs (extension_visits (next_step sources.now chain.old.items) from.now chain.old.items
+        (extensions (seen whole.entry))) left result }
     ensures chain { OnOk result (chain.new.items ≡ chain.old.items) }
 {
     match extensions_of(whole) {
-        Extensions::One(_, link) => weigh_link(sources, Role::Part, url, link, chain, left),
+        Extensions::One(_, link) => weigh_link(sources, Role::Part, from, link, chain, left),
         Extensions::None | Extensions::Several => Ok(left),
     }
 }
@@ -174,20 +173,25 @@ fn weigh_extension(
 /// Visits the submodels among links.
 #[cycle(weigh)]
 fn weigh_submodels(
-    sources: &Sources,
-    url: &str,
-    links: &[Tree],
+    sources: &Sources<'_>,
+    from: &Location,
+    links: ListView<'_>,
     chain: &mut Vec<Reference>,
     left: usize,
 ) -> Result<usize, Stop>
     requires { length chain.old.items ≤ most_entries }
-    ensures weight { Weighs (flat_map (submodel_visits (next_step sources.now chain.old.items) url.now
-        chain.old.items) (json_items links.now)) left result }
+    ensures weight { Weighs (flat_map (submodel_visits (next_step sources.now chain.old.items) from.now
+        chain.old.items) (seen_items links.entry)) left result }
     ensures chain { OnOk result (chain.new.items ≡ chain.old.items) }
 {
+    let items = links.items;
     let mut left = left;
-    for link in links {
-        left = weigh_submodel(sources, url, link, chain, left)?;
+    for tree in items {
+        let link = View {
+            tree,
+            values: links.values,
+        };
+        left = weigh_submodel(sources, from, link, chain, left)?;
     }
     Ok(left)
 }
@@ -195,19 +199,19 @@ fn weigh_submodels(
 /// Visits the submodel that a link leads to, where it is such a link.
 #[cycle(weigh)]
 fn weigh_submodel(
-    sources: &Sources,
-    url: &str,
-    link: &Tree,
+    sources: &Sources<'_>,
+    from: &Location,
+    link: View<'_>,
     chain: &mut Vec<Reference>,
     left: usize,
 ) -> Result<usize, Stop>
     requires { length chain.old.items ≤ most_entries }
-    ensures weight { Weighs (submodel_visits (next_step sources.now chain.old.items) url.now chain.old.items
-        (json_of link.now)) left result }
+    ensures weight { Weighs (submodel_visits (next_step sources.now chain.old.items) from.now chain.old.items
+        (seen link.entry)) left result }
     ensures chain { OnOk result (chain.new.items ≡ chain.old.items) }
 {
     if is_link(link, SUBMODEL) {
-        weigh_link(sources, Role::Thing, url, link, chain, left)
+        weigh_link(sources, Role::Thing, from, link, chain, left)
     } else {
         Ok(left)
     }
@@ -216,19 +220,19 @@ fn weigh_submodel(
 /// Visits the model that a link leads to, where it leads to one.
 #[cycle(weigh)]
 fn weigh_link(
-    sources: &Sources,
+    sources: &Sources<'_>,
     role: Role,
-    url: &str,
-    link: &Tree,
+    from: &Location,
+    link: View<'_>,
     chain: &mut Vec<Reference>,
     left: usize,
 ) -> Result<usize, Stop>
     requires { length chain.old.items ≤ most_entries }
-    ensures weight { Weighs (link_visits (next_step sources.now chain.old.items) role url.now
-        chain.old.items (json_of link.now)) left result }
+    ensures weight { Weighs (link_visits (next_step sources.now chain.old.items) role from.now
+        chain.old.items (seen link.entry)) left result }
     ensures chain { OnOk result (chain.new.items ≡ chain.old.items) }
 {
-    match link_target(sources.alloc, url, link)? {
+    match link_target(sources.alloc, from, link)? {
         Some(model) => weigh_step(sources, role, 0, &model, chain, left),
         None => Ok(left),
     }
@@ -237,66 +241,69 @@ fn weigh_link(
 /// Visits a part at this depth, what it refers to, and what is in it.
 #[cycle(weigh)]
 fn weigh_part(
-    sources: &Sources,
-    url: &str,
+    sources: &Sources<'_>,
+    from: &Location,
     depth: usize,
-    part: &Tree,
+    part: View<'_>,
     chain: &mut Vec<Reference>,
     left: usize,
 ) -> Result<usize, Stop>
     requires { length chain.old.items ≤ most_entries }
-    ensures weight { Weighs (part_visits (next_step sources.now chain.old.items) url.now chain.old.items depth
-        (json_of part.now)) left result }
+    ensures weight { Weighs (part_visits (next_step sources.now chain.old.items) from.now chain.old.items depth
+        (seen part.entry)) left result }
     ensures chain { OnOk result (chain.new.items ≡ chain.old.items) }
 {
-    let left = weigh_node(part, depth, left)?;
-    match part {
-        Tree::List(items) => weigh_elements(sources, url, depth + 1, items, chain, left),
-        Tree::Obj(members) => weigh_object(sources, url, depth, members, chain, left),
+    let node = part.node();
+    let left = weigh_node(node, depth, left)?;
+    match node {
+        Node::List(list) => weigh_elements(sources, from, depth + 1, list, chain, left),
+        Node::Object(members) => weigh_object(sources, from, depth, members, chain, left),
         _ => Ok(left),
     }
 }
 
-/// Visits what an object refers to, and its members.
+/// Visits the members of an object, and what it refers to. The members come first, so that the text of a reference isn't
+/// made before it is known not to be too long.
 #[cycle(weigh)]
 fn weigh_object(
-    sources: &Sources,
-    url: &str,
+    sources: &Sources<'_>,
+    from: &Location,
     depth: usize,
-    members: &Members,
+    members: ObjectView<'_>,
     chain: &mut Vec<Reference>,
     left: usize,
 ) -> Result<usize, Stop>
     requires depth { depth ≤ most_depth }
     requires chain { length chain.old.items ≤ most_entries }
-    ensures weight { Weighs (reference_visits (next_step sources.now chain.old.items) url.now chain.old.items
-        depth (member_named reference_name members.now) ++ member_visits (next_step sources.now chain.old.items)
-        url.now chain.old.items (depth + 1) (members_of members.now)) left result }
+    ensures weight { Weighs (reference_visits (next_step sources.now chain.old.items) from.now chain.old.items
+        depth (member_named reference_name (member_list (seen_members members.entry)))
+        ++ member_visits (next_step sources.now chain.old.items) from.now chain.old.items (depth + 1)
+        (seen_members members.entry)) left result }
     ensures chain { OnOk result (chain.new.items ≡ chain.old.items) }
 {
-    let left = match members.get(REFERENCE) {
-        Some(reference) => weigh_reference(sources, url, depth, reference, chain, left)?,
-        None => left,
-    };
-    weigh_members(sources, url, depth + 1, members, chain, left)
+    let left = weigh_members(sources, from, depth + 1, members, chain, left)?;
+    match members.get(REFERENCE) {
+        Some(reference) => weigh_reference(sources, from, depth, reference, chain, left),
+        None => Ok(left),
+    }
 }
 
 /// Visits what the value of a `tm:ref` refers to, at the depth of the object that has it.
 #[cycle(weigh)]
 fn weigh_reference(
-    sources: &Sources,
-    url: &str,
+    sources: &Sources<'_>,
+    from: &Location,
     depth: usize,
-    reference: &Tree,
+    reference: View<'_>,
     chain: &mut Vec<Reference>,
     left: usize,
 ) -> Result<usize, Stop>
     requires { length chain.old.items ≤ most_entries }
-    ensures weight { Weighs (reference_visits (next_step sources.now chain.old.items) url.now chain.old.items
-        depth (Some (json_of reference.now))) left result }
+    ensures weight { Weighs (reference_visits (next_step sources.now chain.old.items) from.now chain.old.items
+        depth (Some (seen reference.entry))) left result }
     ensures chain { OnOk result (chain.new.items ≡ chain.old.items) }
 {
-    match reference_target(sources.alloc, url, reference)? {
+    match reference_target(sources.alloc, from, reference)? {
         Some(target) => weigh_step(sources, Role::Part, depth, &target, chain, left),
         None => Ok(left),
     }
@@ -305,22 +312,26 @@ fn weigh_reference(
 /// Visits the elements of a list.
 #[cycle(weigh)]
 fn weigh_elements(
-    sources: &Sources,
-    url: &str,
+    sources: &Sources<'_>,
+    from: &Location,
     depth: usize,
-    items: &Items,
+    list: ListView<'_>,
     chain: &mut Vec<Reference>,
     left: usize,
 ) -> Result<usize, Stop>
     requires { length chain.old.items ≤ most_entries }
-    ensures weight { Weighs (element_visits (next_step sources.now chain.old.items) url.now chain.old.items
-        depth (elements_of items.now)) left result }
+    ensures weight { Weighs (element_visits (next_step sources.now chain.old.items) from.now chain.old.items
+        depth (seen_elements list.entry)) left result }
     ensures chain { OnOk result (chain.new.items ≡ chain.old.items) }
 {
-    let list = items.as_slice();
+    let items = list.items;
     let mut left = left;
-    for item in list {
-        left = weigh_part(sources, url, depth, item, chain, left)?;
+    for tree in items {
+        let item = View {
+            tree,
+            values: list.values,
+        };
+        left = weigh_part(sources, from, depth, item, chain, left)?;
     }
     Ok(left)
 }
@@ -328,30 +339,34 @@ fn weigh_elements(
 /// Visits the members of an object.
 #[cycle(weigh)]
 fn weigh_members(
-    sources: &Sources,
-    url: &str,
+    sources: &Sources<'_>,
+    from: &Location,
     depth: usize,
-    members: &Members,
+    members: ObjectView<'_>,
     chain: &mut Vec<Reference>,
     left: usize,
 ) -> Result<usize, Stop>
     requires { length chain.old.items ≤ most_entries }
-    ensures weight { Weighs (member_visits (next_step sources.now chain.old.items) url.now chain.old.items
-        depth (members_of members.now)) left result }
+    ensures weight { Weighs (member_visits (next_step sources.now chain.old.items) from.now chain.old.items
+        depth (seen_members members.entry)) left result }
     ensures chain { OnOk result (chain.new.items ≡ chain.old.items) }
 {
-    let list = members.as_slice();
+    let list = members.members.as_slice();
     let mut left = left;
-    for (_, member) in list {
-        left = weigh_part(sources, url, depth, member, chain, left)?;
+    for (_, tree) in list {
+        let member = View {
+            tree,
+            values: members.values,
+        };
+        left = weigh_part(sources, from, depth, member, chain, left)?;
     }
     Ok(left)
 }
 
 /// Visits a node at this depth, by a chain within its limit.
-fn weigh_node(node: &Tree, depth: usize, left: usize) -> Result<usize, Stop>
+fn weigh_node(node: Node<'_>, depth: usize, left: usize) -> Result<usize, Stop>
     ensures weight { (chain : List TargetValue) → length chain ≤ most_entries → Weighs (own_visit chain depth
-        (json_of node.now) ∷ []) left result }
+        (node_value node.entry) ∷ []) left result }
     ensures depth { OnOk result (depth ≤ most_depth) }
 {
     if depth > MOST_DEPTH {
@@ -360,57 +375,5 @@ fn weigh_node(node: &Tree, depth: usize, left: usize) -> Result<usize, Stop>
     match spend_node(node, left) {
         Some(left) => Ok(left),
         None => Err(Stop::TooLarge),
-    }
-}
-
-/// What is left once a node is taken, without the nodes in it.
-fn spend_node(node: &Tree, left: usize) -> Option<usize>
-    ensures { Spends (own_weight (json_of node.now)) left result }
-{
-    match node {
-        Tree::Null => spend(4, left),
-        Tree::Bool(_) => spend(5, left),
-        Tree::Int(_) => spend(20, left),
-        Tree::Text(text) => spend_text(text.as_str(), left),
-        Tree::List(items) => spend(items.len(), spend(2, left)?),
-        Tree::Obj(members) => spend_names(members.as_slice(), spend(2, left)?),
-    }
-}
-
-/// What is left once the names of members are taken, and 2 for each.
-fn spend_names(members: &[(Text, Tree)], left: usize) -> Option<usize>
-    ensures { Spends (sum_by name_weight (json_members members.now)) left result }
-{
-    let mut left = left;
-    for (name, _) in members {
-        match spend_name(name.as_str(), left) {
-            Some(rest) => left = rest,
-            None => return None,
-        }
-    }
-    Some(left)
-}
-
-/// What is left once a name of a member is taken, and 2.
-fn spend_name(name: &str, left: usize) -> Option<usize>
-    ensures { Spends (length (json_string name.now) + 2) left result }
-{
-    spend(2, spend_text(name, left)?)
-}
-
-/// What is left once this much is taken.
-fn spend(amount: usize, left: usize) -> Option<usize>
-    ensures { Spends amount left result }
-{
-    left.checked_sub(amount)
-}
-
-/// What is left once a text is taken, as it is written.
-fn spend_text(text: &str, left: usize) -> Option<usize>
-    ensures { Spends (length (json_string text.now)) left result }
-{
-    match quoted_length(text, left) {
-        Some(length) => Some(left - length),
-        None => None,
     }
 }

@@ -4,7 +4,7 @@ use Rattle.std.specs.List.{position_or_len}
 use Rattle.std.proofs.lemmas.List.{take_all, length-take-le}
 use Rattle.std.proofs.lemmas.List.Sums.{prefix_len-le-length}
 use Rattle.tm_parts.proofs.Cuts.{pieces_after_placeholder}
-use Rattle.tm_parts.proofs.Prefixes.{cut_before_brace, plain_prefix}
+use Rattle.tm_parts.proofs.Prefixes.{cut_before, plain_prefix}
 use Rattle.tm_parts.proofs.placeholder.first_piece.Goals as goal
 
 -- the bytes after the first, as the code hands them on
@@ -21,7 +21,7 @@ pub overflow_add-length : goal.overflow_add-length
 overflow_add-length c =
     omega (
       arith,
-      c.length_before_brace-length.ensures,
+      c.length_before-length.ensures,
       prefix_len-le-length (λ b. not (b == 123)) (take (length c.as_bytes.result.now - 1) (drop 1 c.as_bytes.result.now)),
       length-take-le (length c.as_bytes.result.now - 1) (drop 1 c.as_bytes.result.now),
       length-drop 1 c.as_bytes.result.now,
@@ -30,8 +30,8 @@ overflow_add-length c =
 
 pub split_at-requires : goal.split_at-requires
 split_at-requires c =
-    let n = after_first c.as_bytes.result.now c.args.text.now c.length_before_brace-length.result c.as_bytes.ensures.value c.length_before_brace-length.ensures in
-    cut_before_brace c.args.text.now (1 + c.length_before_brace-length.result) c.requires (prefix_length c.args.text.now c.length_before_brace-length.result n)
+    let n = after_first c.as_bytes.result.now c.args.text.now c.length_before-length.result c.as_bytes.ensures.value c.length_before-length.ensures in
+    cut_before 123 c.args.text.now (1 + c.length_before-length.result) (omega arith) c.requires (prefix_length c.args.text.now c.length_before-length.result n)
 
 pub returns-in-Some-clause-pieces : goal.returns-in-Some-clause-pieces
 returns-in-Some-clause-pieces c =
@@ -39,6 +39,6 @@ returns-in-Some-clause-pieces c =
 
 pub returns-in-None-clause-pieces : goal.returns-in-None-clause-pieces
 returns-in-None-clause-pieces c =
-    let n = after_first c.as_bytes.result.now c.args.text.now c.length_before_brace-length.result c.as_bytes.ensures.value c.length_before_brace-length.ensures in
+    let n = after_first c.as_bytes.result.now c.args.text.now c.length_before-length.result c.as_bytes.ensures.value c.length_before-length.ensures in
     rw (c.split_at.ensures.front, c.split_at.ensures.back)
-    (plain_prefix c.args.text.now (1 + c.length_before_brace-length.result) c.requires (sym c.in-None.ensures.name) (prefix_length c.args.text.now c.length_before_brace-length.result n))
+    (plain_prefix c.args.text.now (1 + c.length_before-length.result) c.requires (sym c.in-None.ensures.name) (prefix_length c.args.text.now c.length_before-length.result n))

@@ -1,6 +1,7 @@
 pub mod TraceLaws
 pub mod PartLaws
 mod ConnectionLaws
+mod ActionPaths
 pub mod OutcomeLaws
 pub mod PathLaws
 pub mod NumberLaws

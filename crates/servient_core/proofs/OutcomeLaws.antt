@@ -1,34 +1,26 @@
--- What a request comes to can be sent by CoAP, and its place is short where its path is.
-use Rattle.std.proofs.Common.{◌≡◌, ℕ, ◌<◌, ◌≤◌, ◌+◌, ◌^◌, ◌⊎◌, List, [], ◌∷◌, ◌++◌, length, Bool, true, false, refl, sym, ap, subst, ◌∙◌, arith, inl, inr, length-append}
-use Rattle.std.specs.Prelude.{Option, Some, None, Result, Ok, Err, decimal, codes, if◌then◌else◌, option_map, option_and_then, slice_get}
+-- What a request comes to can be sent by CoAP.
+use Rattle.std.proofs.Common.{◌≡◌, ℕ, ◌<◌, ◌≤◌, ◌+◌, ◌^◌, List, [], ◌∷◌, ◌++◌, length, refl, sym, ap, subst, ◌∙◌, arith, inl, inr, length-append}
+use Rattle.std.specs.Prelude.{Option, Some, None, Result, Ok, Err, decimal, codes}
 use Rattle.std.specs.List.{All}
 use Rattle.std.proofs.lemmas.List.Elements.{All-append}
 use Rattle.std.proofs.lemmas.Fmt.{length-decimal-le}
-use Rattle.servient_base.specs.Moves.{Passing, Then}
+use Rattle.servient_base.specs.Moves.{Then}
 use Rattle.wot_json.specs.Tree.{Json, object, members_of}
 use Rattle.wot_json.specs.Json.{text_of}
 use Rattle.wot_json.specs.Meaning.{json_of}
-use Rattle.wot_json.specs.declared.tree.Tree.{Tree}
-use Rattle.std.proofs.lemmas.Bool.{and_parts}
-use Rattle.wot_terms.specs.declared.kind.Kind.TheVariants as kind
 use Rattle.thing_ops.specs.declared.outcome.Outcome.{Outcome}
 use Rattle.thing_ops.specs.declared.outcome.Outcome.TheVariants as outcome
-use Rattle.thing_ops.specs.declared.routing.RouteKind.{RouteKind}
-use Rattle.thing_ops.specs.declared.routing.RouteKind.TheVariants as route
-use Rattle.thing_ops.specs.declared.verb.Verb.{Verb}
-use Rattle.thing_ops.specs.declared.verb.Verb.TheVariants as verb
 use Rattle.thing_ops.specs.Requests.{PlainRequest}
-use Rattle.thing_ops.specs.Routes.{route_of, has_form, the, any, entry_id, invocation_id, invocation_in}
 use Rattle.thing_handler.specs.declared.handler.Answer.TheVariants as answer
-use Rattle.thing_handler.specs.declared.handler.CallKind.TheVariants as call
 use Rattle.thing_handler.specs.Turns.{HandlerCall}
-use Rattle.thing_core.specs.Site.{Placed, ExposedThing, Site}
-use Rattle.thing_core.specs.State.{State, Status, running, completed, Emission, status_text, last_of, invocation_named}
-use Rattle.thing_core.specs.Places.{Place, description, all_properties, property, observed, action, invocation, event, subscribed, place_of, place_at, thing_in, affordance_in, where_observable, where_invoked, unless, Act, act_at, describes, reads_all, writes_many, reads, writes, invokes, queries, cancels, reads_event, waits}
-use Rattle.thing_core.specs.Refusals.{Asked, Input, Refusal, nothing_there, verb_not_taken, answer_not_acceptable, format_not_taken, body_not_as_wanted, value_too_large, refused_by_schema, no_invocation_left, refusals, act_asked, place_asked, Stands, IsAnsweredWith, IsFirst}
-use Rattle.thing_core.specs.Thing.{Move, Done, only, Called, no_number, no_memory, gives, failure_of, GivesValue, ReadsValue, Reads, ReadsEach, WritesEach, IfDone, Emits, emissions_of_write, Stops, Calls, IsInvoked, Invokes, place_of_invocation, IsQueried, Queries, IsCancelled, Cancels, event_outcome, content_of, readable, Performs, Acts, refuses, has_no_memory, performs}
+use Rattle.thing_core.specs.Site.{Placed, Site}
+use Rattle.thing_core.specs.State.{State, Status, running, completed, Emission, status_text, last_of}
+use Rattle.thing_core.specs.Places.{Act, describes, reads_all, writes_many, reads, writes, invokes, queries, cancels, reads_event, waits}
+use Rattle.thing_core.specs.Refusals.{Asked, Input, Refusal, nothing_there, verb_not_taken, answer_not_acceptable, format_not_taken, body_not_as_wanted, value_too_large, refused_by_schema, no_invocation_left, refusals, Stands, IsAnsweredWith, IsFirst}
+use Rattle.thing_core.specs.Thing.{Done, only, Called, no_number, no_memory, gives, failure_of, GivesValue, ReadsValue, ReadsEach, WritesEach, IfDone, Emits, emissions_of_write, Stops, IsInvoked, place_of_invocation, IsQueried, Queries, IsCancelled, Cancels, event_outcome, content_of, readable, Performs, Acts, refuses, has_no_memory, performs}
 use Rattle.thing_core.proofs.ReadLaws.{AfterValue}
 use Rattle.servient_core.specs.Keeping.{IsSendable}
+use Rattle.servient_core.proofs.ActionPaths.{IsShortPath, ShortIfInvoked, short_if_invoked}
 
 sendable_as : (o p : Outcome) → o ≡ p → IsSendable p → IsSendable o
 sendable_as o p same s = subst (λ (x : Outcome). IsSendable x) (sym same) s
@@ -155,11 +147,6 @@ writes_sendable (i ∷ inputs) emitted done s seen t r =
 
 -- ---- actions
 
--- a short path: of at most three segments of at most 255 bytes
-pub record IsShortPath (path : List (List ℕ)) : Type 0 where
-  pub count : length path ≤ 3
-  pub each : All (λ segment. length segment ≤ 255) path
-
 started_short : (path : List (List ℕ)) (id : ℕ) → IsShortPath path → id < 2 ^ 64 → IsSendable (outcome.Started (place_of_invocation path id) (status_text id running))
 started_short path id short few =
     let digits : length (decimal id) ≤ 20 = length-decimal-le 20 id (omega arith) (omega (arith, few)) few in (
@@ -235,11 +222,6 @@ event_sendable : (last : Option (List ℕ)) → IsSendable (event_outcome last)
 event_sendable None = (refl, tt)
 event_sendable (Some text) = (refl, tt)
 
--- an action is invoked by a path of three segments
-abbrev ShortIfInvoked : Act → List (List ℕ) → Type 0
-ShortIfInvoked (invokes p) path = IsShortPath path
-ShortIfInvoked act path = Unit {0}
-
 performs_sendable : (act : Act) (q : PlainRequest) (inputs : List Input) (done : Done) (s : State) (seen : List HandlerCall) (t : State) → ShortIfInvoked act q.path
     → s.next_invocation < 2 ^ 64 → Performs act q inputs done s seen t → IsSendable done.outcome
 performs_sendable (describes thing) q inputs done s seen t short few r = outcome_is done _ r.0 (refl, tt)
@@ -254,165 +236,6 @@ performs_sendable (queries p id) q inputs done s seen t short few r = queries_se
 performs_sendable (cancels p id) q inputs done s seen t short few r = cancels_sendable p id r.0.status done s seen t r.2
 performs_sendable (reads_event p) q inputs done s seen t short few r = outcome_is done _ r.0 (event_sendable (last_of p.slot s.last))
 performs_sendable (waits p) q inputs done s seen t short few r = outcome_is done _ r.0 (refl, tt)
-
--- ---- the path of an action
-
-form_length : (row : List (List ℕ → Bool)) (path : List (List ℕ)) → has_form row path ≡ true → length path ≡ length row
-form_length [] [] fits = refl
-form_length [] (segment ∷ path) fits = absurd (cc)
-form_length (asks ∷ row) [] fits = absurd (cc)
-form_length (asks ∷ row) (segment ∷ path) fits = omega (arith, form_length row path (and_parts (has_form row path) (asks segment) fits).0)
-
--- the path of an action has three segments
-abbrev ThreeIfAction : RouteKind → List (List ℕ) → Type 0
-ThreeIfAction route.Action path = length path ≤ 3
-ThreeIfAction form path = Unit {0}
-
-or_else : (b : Bool) (x y : RouteKind) (path : List (List ℕ)) → (b ≡ true → ThreeIfAction x path) → ThreeIfAction y path → ThreeIfAction (if b then x else y) path
-or_else true x y path here there = here refl
-or_else false x y path here there = there
-
-three_if_action : (path : List (List ℕ)) → ThreeIfAction (route_of path) path
-three_if_action path =
-    let r10 : RouteKind = if has_form (any ∷ the (codes "events") ∷ any ∷ []) path then route.Event else route.Nowhere in
-    let p10 : ThreeIfAction r10 path = or_else (has_form (any ∷ the (codes "events") ∷ any ∷ []) path) route.Event route.Nowhere path (λ _. tt) tt in
-    let r9 : RouteKind = if has_form (any ∷ the (codes "actions") ∷ any ∷ invocation_id ∷ []) path then (route.Invocation (invocation_in path)) else r10 in
-    let p9 : ThreeIfAction r9 path = or_else (has_form (any ∷ the (codes "actions") ∷ any ∷ invocation_id ∷ []) path) (route.Invocation (invocation_in path)) r10 path (λ _. tt) p10 in
-    let r8 : RouteKind = if has_form (any ∷ the (codes "actions") ∷ any ∷ []) path then route.Action else r9 in
-    let p8 : ThreeIfAction r8 path = or_else (has_form (any ∷ the (codes "actions") ∷ any ∷ []) path) route.Action r9 path (λ fits. omega (arith, form_length (any ∷ the (codes "actions") ∷ any ∷ []) path fits)) p9 in
-    let r7 : RouteKind = if has_form (any ∷ the (codes "events") ∷ any ∷ the (codes "subscribe") ∷ []) path then route.Subscribe else r8 in
-    let p7 : ThreeIfAction r7 path = or_else (has_form (any ∷ the (codes "events") ∷ any ∷ the (codes "subscribe") ∷ []) path) route.Subscribe r8 path (λ _. tt) p8 in
-    let r6 : RouteKind = if has_form (any ∷ the (codes "properties") ∷ any ∷ the (codes "observe") ∷ []) path then route.Observe else r7 in
-    let p6 : ThreeIfAction r6 path = or_else (has_form (any ∷ the (codes "properties") ∷ any ∷ the (codes "observe") ∷ []) path) route.Observe r7 path (λ _. tt) p7 in
-    let r5 : RouteKind = if has_form (any ∷ the (codes "properties") ∷ any ∷ []) path then route.Property else r6 in
-    let p5 : ThreeIfAction r5 path = or_else (has_form (any ∷ the (codes "properties") ∷ any ∷ []) path) route.Property r6 path (λ _. tt) p6 in
-    let r4 : RouteKind = if has_form (any ∷ the (codes "properties") ∷ []) path then route.All else r5 in
-    let p4 : ThreeIfAction r4 path = or_else (has_form (any ∷ the (codes "properties") ∷ []) path) route.All r5 path (λ _. tt) p5 in
-    let r3 : RouteKind = if has_form (any ∷ []) path then route.Thing else r4 in
-    let p3 : ThreeIfAction r3 path = or_else (has_form (any ∷ []) path) route.Thing r4 path (λ _. tt) p4 in
-    let r2 : RouteKind = if has_form (the (codes "things") ∷ entry_id ∷ []) path then route.Entry else r3 in
-    let p2 : ThreeIfAction r2 path = or_else (has_form (the (codes "things") ∷ entry_id ∷ []) path) route.Entry r3 path (λ _. tt) p3 in
-    let r1 : RouteKind = if has_form (the (codes "things") ∷ []) path then route.Things else r2 in
-    let p1 : ThreeIfAction r1 path = or_else (has_form (the (codes "things") ∷ []) path) route.Things r2 path (λ _. tt) p2 in
-    let r0 : RouteKind = if has_form (the (codes ".well-known") ∷ the (codes "wot") ∷ []) path then route.Root else r1 in
-    let p0 : ThreeIfAction r0 path = or_else (has_form (the (codes ".well-known") ∷ the (codes "wot") ∷ []) path) route.Root r1 path (λ _. tt) p1 in
-    p0
-
--- what is at such a path, and what it is asked to do
-abbrev ShortIfPlace : Place → List (List ℕ) → Type 0
-ShortIfPlace (action p) path = IsShortPath path
-ShortIfPlace place path = Unit {0}
-
-abbrev ShortIfAsked : Option Act → List (List ℕ) → Type 0
-ShortIfAsked None path = Unit {0}
-ShortIfAsked (Some act) path = ShortIfInvoked act path
-
-short_unless : (b : Bool) (act : Act) (path : List (List ℕ)) → ShortIfInvoked act path → ShortIfAsked (unless b act) path
-short_unless true act path short = tt
-short_unless false act path short = short
-
-short_at : (place : Place) (v : Verb) (path : List (List ℕ)) → ShortIfPlace place path → ShortIfAsked (act_at place v) path
-short_at (description thing) verb.Get path short = tt
-short_at (description thing) verb.Head path short = tt
-short_at (description thing) verb.Put path short = tt
-short_at (description thing) verb.Post path short = tt
-short_at (description thing) verb.Patch path short = tt
-short_at (description thing) verb.Delete path short = tt
-short_at (description thing) verb.Other path short = tt
-short_at (all_properties thing) verb.Get path short = tt
-short_at (all_properties thing) verb.Head path short = tt
-short_at (all_properties thing) verb.Put path short = tt
-short_at (all_properties thing) verb.Post path short = tt
-short_at (all_properties thing) verb.Patch path short = tt
-short_at (all_properties thing) verb.Delete path short = tt
-short_at (all_properties thing) verb.Other path short = tt
-short_at (property p) verb.Get path short = short_unless p.affordance.write_only (reads p) path tt
-short_at (property p) verb.Head path short = short_unless p.affordance.write_only (reads p) path tt
-short_at (property p) verb.Put path short = short_unless p.affordance.read_only (writes p) path tt
-short_at (property p) verb.Post path short = tt
-short_at (property p) verb.Patch path short = tt
-short_at (property p) verb.Delete path short = tt
-short_at (property p) verb.Other path short = tt
-short_at (observed p) verb.Get path short = tt
-short_at (observed p) verb.Head path short = tt
-short_at (observed p) verb.Put path short = tt
-short_at (observed p) verb.Post path short = tt
-short_at (observed p) verb.Patch path short = tt
-short_at (observed p) verb.Delete path short = tt
-short_at (observed p) verb.Other path short = tt
-short_at (action p) verb.Get path short = tt
-short_at (action p) verb.Head path short = tt
-short_at (action p) verb.Put path short = tt
-short_at (action p) verb.Post path short = short
-short_at (action p) verb.Patch path short = tt
-short_at (action p) verb.Delete path short = tt
-short_at (action p) verb.Other path short = tt
-short_at (invocation p id) verb.Get path short = tt
-short_at (invocation p id) verb.Head path short = tt
-short_at (invocation p id) verb.Put path short = tt
-short_at (invocation p id) verb.Post path short = tt
-short_at (invocation p id) verb.Patch path short = tt
-short_at (invocation p id) verb.Delete path short = tt
-short_at (invocation p id) verb.Other path short = tt
-short_at (event p) verb.Get path short = tt
-short_at (event p) verb.Head path short = tt
-short_at (event p) verb.Put path short = tt
-short_at (event p) verb.Post path short = tt
-short_at (event p) verb.Patch path short = tt
-short_at (event p) verb.Delete path short = tt
-short_at (event p) verb.Other path short = tt
-short_at (subscribed p) verb.Get path short = tt
-short_at (subscribed p) verb.Head path short = tt
-short_at (subscribed p) verb.Put path short = tt
-short_at (subscribed p) verb.Post path short = tt
-short_at (subscribed p) verb.Patch path short = tt
-short_at (subscribed p) verb.Delete path short = tt
-short_at (subscribed p) verb.Other path short = tt
-
-abbrev ShortIfFound : Option Place → List (List ℕ) → Type 0
-ShortIfFound None path = Unit {0}
-ShortIfFound (Some place) path = ShortIfPlace place path
-
-mapped : {A : Type 0} (make : A → Place) (found : Option A) (path : List (List ℕ)) → ((a : A) → ShortIfPlace (make a) path) → ShortIfFound (option_map make found) path
-mapped make None path each = tt
-mapped make (Some a) path each = each a
-
-observed_short : (found : Option Placed) (path : List (List ℕ)) → ShortIfFound (option_and_then where_observable found) path
-observed_short None path = tt
-observed_short (Some p) path = if_observed p.affordance.observable
-  where
-    if_observed : (b : Bool) → ShortIfFound (if b then Some (observed p) else None) path
-    if_observed true = tt
-    if_observed false = tt
-
-invoked_short : (id : ℕ) (s : State) (found : Option Placed) (path : List (List ℕ)) → ShortIfFound (option_and_then (where_invoked id s) found) path
-invoked_short id s None path = tt
-invoked_short id s (Some p) path = mapped (λ _. invocation p id) (invocation_named p.slot id s.invocations) path (λ _. tt)
-
-place_short : (form : RouteKind) (path : List (List ℕ)) (site : Site) (s : State) → All (λ segment. length segment ≤ 255) path → ThreeIfAction form path
-    → ShortIfFound (place_at form path site s) path
-place_short route.Root path site s short three = mapped description (slice_get site 0) path (λ _. tt)
-place_short route.Thing path site s short three = mapped description (thing_in path site) path (λ _. tt)
-place_short route.All path site s short three = mapped all_properties (thing_in path site) path (λ _. tt)
-place_short route.Property path site s short three = mapped property (affordance_in kind.Property path site) path (λ _. tt)
-place_short route.Observe path site s short three = observed_short (affordance_in kind.Property path site) path
-place_short route.Subscribe path site s short three = mapped subscribed (affordance_in kind.Event path site) path (λ _. tt)
-place_short route.Action path site s short three = mapped action (affordance_in kind.Action path site) path (λ _. record { count = three; each = short })
-place_short (route.Invocation id) path site s short three = invoked_short id s (affordance_in kind.Action path site) path
-place_short route.Event path site s short three = mapped event (affordance_in kind.Event path site) path (λ _. tt)
-place_short route.Things path site s short three = tt
-place_short route.Entry path site s short three = tt
-place_short route.Nowhere path site s short three = tt
-
-asked_short : (found : Option Place) (v : Verb) (path : List (List ℕ)) → ShortIfFound found path → ShortIfAsked (option_and_then (λ place. act_at place v) found) path
-asked_short None v path short = tt
-asked_short (Some place) v path short = short_at place v path short
-
-short_if_invoked : (site : Site) (q : PlainRequest) (s : State) (act : Act) → All (λ segment. length segment ≤ 255) q.path
-    → act_asked (record { site = site; state = s; request = q }) ≡ Some act → ShortIfInvoked act q.path
-short_if_invoked site q s act short asked =
-    subst (λ (o : Option Act). ShortIfAsked o q.path) asked
-    (asked_short (place_of q.path site s) q.verb q.path (place_short (route_of q.path) q.path site s short (three_if_action q.path)))
 
 -- What a request comes to can be sent by CoAP.
 pub acts_sendable : (site : Site) (q : PlainRequest) (done : Done) (s : State) (seen : List HandlerCall) (t : State) → All (λ segment. length segment ≤ 255) q.path

@@ -1,13 +1,12 @@
 -- What `clap` makes of the words by the command of a form: no fault exactly where they give values, and then the rows of those.
-use Rattle.std.proofs.Common.{◌≡◌, ◌≤◌, ◌<◌, ◌+◌, ◌∙◌, ◌&&◌, ◌||◌, ◌++◌, ◌==◌, ℕ, Bool, true, false, not, List, [], ◌∷◌, map, length, Option, Some, None, is_some, refl, sym, ap, subst, arith, nat_lt, inl, inr, ◌⊎◌}
-use Rattle.std.specs.Prelude.{fold, find, option_map}
+use Rattle.std.proofs.Common.{◌≡◌, ◌+◌, ◌∙◌, ◌&&◌, ◌||◌, ◌++◌, ℕ, Bool, true, false, not, List, [], ◌∷◌, map, length, Option, Some, None, is_some, refl, sym, ap, subst, arith, nat_lt, inl, inr}
+use Rattle.std.specs.Prelude.{fold}
 use Rattle.std.specs.List.{All, list_all, list_any}
 use Rattle.std.specs.Str.{IsUtf8, bytes_eq}
 use Rattle.std.proofs.lemmas.List.Folds.{list_any-append}
 use Rattle.std.proofs.lemmas.Slice.Eq.{bytes_eq-Decides}
-use Rattle.clap.specs.Lexer.{usize_max}
-use Rattle.clap.specs.Walk.{Row, Rule, Text, arg_by_id, arg_by_index, first_of, has_row, is_early_multiple, nothing_held, rows_after, rows_of, settled, walk, with_default}
-use Rattle.clap.specs.Simple.{App, HasMatchesOf, entered, filled_from, is_simple, matches_of, new_rule}
+use Rattle.clap.specs.Walk.{Row, Rule, Text, first_of, has_row, is_early_multiple, nothing_held, rows_after, rows_of, settled, walk, with_default}
+use Rattle.clap.specs.Simple.{App, HasMatchesOf, entered, is_simple, matches_of, new_rule}
 use Rattle.clap.specs.Takes.{is_given}
 use Rattle.clap.specs.Faults.{built_fault, default_fault, defaults_fault, entered_fault, fault_of, is_simple_and_free, settle_fault, walk_fault}
 use Rattle.clap.specs.Kinds.{HasKind, Kinds, or_else}
@@ -19,7 +18,7 @@ use Rattle.clap.specs.declared.parser.matches.ArgMatches.{ArgMatches}
 use Rattle.clap.specs.declared.parser.matches.Found.{Found}
 use Rattle.command_words.specs.Words.{Form, Values, has_name, value_at, values_given}
 use Rattle.command_words.specs.Line.{EachHasValue, app_for, are_distinct, has_text, is_form, long_rule, values_in, values_in_rows}
-use Rattle.command_words.proofs.ClapRules.{HasRoom, Places, Serves, by_long, by_long_unknown, by_short, each_serves, filled_rules, held, option_named, or_else-nil, place_at, places_hold, rules_from}
+use Rattle.command_words.proofs.ClapRules.{HasRoom, Places, by_long, by_long_unknown, by_short, each_serves, filled_rules, held, option_named, or_else-nil, place_at, places_hold, rules_from}
 use Rattle.command_words.proofs.ClapWalk.{Ends, Knows, last_rows, rows_of_values, shape_with, walk_at, walk_faults}
 use Rattle.command_words.proofs.ClapValues.{Left, and_left, at_rest, ends, or_right}
 use Rattle.clap.specs.Walk.{idle}

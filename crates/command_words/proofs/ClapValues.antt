@@ -1,14 +1,14 @@
 -- A whole walk of `clap` over the words, against the values that the words give.
-use Rattle.std.proofs.Common.{◌≡◌, ◌<◌, ◌≤◌, ◌+◌, ◌∙◌, ◌&&◌, ◌||◌, ◌++◌, ◌⊎◌, inl, inr, ℕ, Bool, true, false, not, List, [], ◌∷◌, map, Option, Some, None, refl, sym, ap, subst, arith, append-nil}
+use Rattle.std.proofs.Common.{◌≡◌, ◌+◌, ◌∙◌, ◌&&◌, ◌||◌, ◌++◌, inl, inr, ℕ, Bool, true, false, not, List, [], ◌∷◌, map, Option, Some, None, refl, sym, ap, subst, arith, append-nil}
 use Rattle.std.specs.Prelude.{option_and_then}
 use Rattle.std.specs.List.{All}
 use Rattle.std.specs.Str.{IsUtf8, bytes_eq}
 use Rattle.std.proofs.lemmas.List.Elements.{All-drop}
 use Rattle.std.proofs.lemmas.Slice.Eq.{bytes_eq-Decides}
-use Rattle.clap.specs.Lexer.{long_of, short_of}
+use Rattle.clap.specs.Lexer.{long_of}
 use Rattle.clap.specs.Walk.{Held, Row, Rule, Text, Waiting, has_row, idle, option as waits_for}
 use Rattle.clap.specs.Faults.{walk_fault}
-use Rattle.command_words.specs.Words.{Argument, Arguments, Values, WordKind, arguments_after, from_either, from_value, from_word, has_name, names_without, option, option_given, options_end, plain, unknown, values_of, with_argument, with_value, word_given, word_kind}
+use Rattle.command_words.specs.Words.{Arguments, Values, WordKind, arguments_after, from_value, from_word, has_name, names_without, option, option_given, options_end, plain, unknown, values_of, with_argument, with_value, word_given, word_kind}
 use Rattle.command_words.specs.Line.{are_distinct}
 use Rattle.command_words.proofs.WordKinds.{IsDashes, LooksLike, as_end, as_option, as_plain, as_unknown, looks_like}
 use Rattle.command_words.proofs.ClapRules.{Places, Serves, fresh_value, has_row_more, held, no_repeat, repeats, row_of_value}

@@ -1,21 +1,19 @@
 -- `clap`'s walk over the words against the arguments that they are: it ends without a fault exactly where they give values, and its
 -- rows are then those values.
-use Rattle.std.proofs.Common.{◌≡◌, ◌==◌, ◌<◌, ◌≤◌, ◌+◌, ◌∙◌, ◌&&◌, ◌||◌, ◌++◌, ℕ, Bool, true, false, not, List, [], ◌∷◌, map, min, Option, Some, None, is_some, option_map, refl, sym, ap, ap₂, ◌⊎◌, inl, inr, subst, arith, append_assoc}
-use Rattle.std.specs.Prelude.{fold, option_and_then, slice_get}
+use Rattle.std.proofs.Common.{◌≡◌, ◌<◌, ◌+◌, ◌∙◌, ◌++◌, ℕ, Bool, true, false, List, [], ◌∷◌, map, min, Option, Some, None, is_some, refl, sym, ap, ◌⊎◌, inl, inr, subst, arith, append_assoc}
+use Rattle.std.specs.Prelude.{fold, slice_get}
 use Rattle.std.specs.List.{All}
-use Rattle.std.specs.Option.{option_map_or}
-use Rattle.std.specs.Str.{IsUtf8, bytes_eq, chars}
-use Rattle.std.proofs.lemmas.Slice.Eq.{bytes_eq-Decides}
+use Rattle.std.specs.Str.{IsUtf8, chars}
 use Rattle.clap.specs.Lexer.{long_of, short_of, usize_max}
-use Rattle.clap.specs.Walk.{Held, Row, Rule, Text, Waiting, Walk, arg_by_id, arg_by_index, arg_by_long, arg_by_short, has_row, idle, option as waits_for, is_pending, settled, settled_rows, used, walked}
+use Rattle.clap.specs.Walk.{Held, Row, Rule, Text, Waiting, Walk, arg_by_index, arg_by_long, arg_by_short, has_row, idle, option as waits_for, is_pending, settled, walked}
 use Rattle.clap.specs.Simple.{Shape}
 use Rattle.clap.specs.Faults.{flags_fault, settle_fault, turn_fault, walk_fault}
 use Rattle.clap.specs.Kinds.{Kinds, or_else}
 use Rattle.clap.specs.declared.error.kind.ErrorKind.{ErrorKind}
 use Rattle.clap.specs.declared.error.kind.ErrorKind.TheVariants as kind
-use Rattle.command_words.specs.Words.{Argument, Arguments, Values, WordKind, arguments_after, from_value, from_word, has_name, names_without, option, option_given, options_end, plain, unknown, values_of, with_value, word_given, word_kind}
+use Rattle.command_words.specs.Words.{Values, WordKind, has_name, with_value, word_kind}
 use Rattle.command_words.proofs.WordKinds.{IsDashes, LooksLike, as_end, as_option, as_plain, as_unknown, first_character, looks_like}
-use Rattle.command_words.proofs.ClapRules.{Places, Serves, fresh_value, has_row_more, held, no_repeat, option_named, option_use, place_at, repeats, row_of_value}
+use Rattle.command_words.proofs.ClapRules.{Places, Serves, fresh_value, held, option_named, place_at, row_of_value}
 
 -- ---- the walk
 

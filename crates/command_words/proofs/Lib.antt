@@ -1,5 +1,6 @@
-mod WordKinds
-mod ClapRules
-mod ClapWalk
-mod ClapValues
 mod ClapForms
+mod ClapRules
+mod ClapValues
+mod ClapWalk
+mod RulesMore
+mod WordKinds

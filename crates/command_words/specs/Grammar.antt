@@ -6,7 +6,7 @@
 --     check DESCRIPTION
 --     consume DESCRIPTION OPERATION NAME [--scheme SCHEME] [--input FILE] [--count COUNT]
 --     storm SEED N
-use Rattle.std.specs.Prelude.{◌==◌, ◌&&◌, not, nat_le, ℕ, Bool, true, false, List, [], ◌∷◌, Option, Some, None, option_and_then, option_map, if◌then◌else◌, codes, decimal}
+use Rattle.std.specs.Prelude.{◌==◌, ◌&&◌, not, nat_le, ℕ, Bool, false, List, [], ◌∷◌, Option, Some, None, option_and_then, option_map, if◌then◌else◌, codes, decimal}
 use Rattle.std.specs.Option.{option_map_or}
 use Rattle.std.specs.Str.{bytes_eq}
 use Rattle.std.specs.Str.Parse.{digits_value}
@@ -117,15 +117,18 @@ consume_form = record {
   options = codes "scheme" ∷ codes "input" ∷ codes "count" ∷ [];
 }
 
-abbrev pub consume_of : Values → Option Command
-consume_of values =
+abbrev pub consumption_of : Values → Option Consumption
+consumption_of values =
     with_part (value_at (codes "description") values) (λ description.
     with_part (option_and_then operation_of (value_at (codes "operation") values)) (λ operation.
     with_part (option_and_then (name_of operation) (value_at (codes "name") values)) (λ name.
     with_part (scheme_in values) (λ scheme.
     with_part (file_in (codes "input") values) (λ input.
     with_part (number_or 1 (codes "count") 1 100 values) (λ count.
-    Some (Consume (record { description = description; operation = operation; name = name; scheme = scheme; input = input; count = count }))))))))
+    Some (record { description = description; operation = operation; name = name; scheme = scheme; input = input; count = count })))))))
+
+abbrev pub consume_of : Values → Option Command
+consume_of values = option_map (λ consumption. Consume consumption) (consumption_of values)
 
 abbrev pub storm_form : Form
 storm_form = record { places = codes "seed" ∷ codes "events" ∷ []; options = [] }

@@ -1,7 +1,7 @@
 //! The commands, and the words that say them.
 
 ghost use Rattle.std.specs.Prelude.{◌≡◌, IfOk};
-ghost use Rattle.command_words.specs.Grammar.{check_form, check_of, consume_form, consume_of, derive_form, derive_of, meaning_after, meaning_by, meaning_of, replay_form, replay_of, serve_form, serve_of, storm_form, storm_of};
+ghost use Rattle.command_words.specs.Grammar.{check_form, check_of, consume_form, consume_of, consumption_of, derive_form, derive_of, meaning_after, meaning_by, meaning_of, replay_form, replay_of, serve_form, serve_of, storm_form, storm_of};
 ghost use Rattle.command_words.specs.Parts.{Reads, texts};
 ghost use Rattle.command_words.specs.Line.{AreTexts};
 
@@ -175,20 +175,26 @@ fn consume(alloc: Global, words: &[&str]) -> Result<Command, WordsFault>
         &["scheme", "input", "count"],
         words,
     )?;
+    Ok(Command::Consume(consumption_in(alloc, &values)?))
+}
+
+fn consumption_in(alloc: Global, values: &Given<'_>) -> Result<Consumption, WordsFault>
+    ensures { Reads (consumption_of values.now) result }
+{
     let description = required(alloc, values.get("description"))?;
     let operation = operation(values.get("operation"))?;
     let name = name(alloc, operation, values.get("name"))?;
     let scheme = scheme(values.get("scheme"))?;
     let input = file(alloc, values.get("input"))?;
     let count = number_or(1, values.get("count"), 1, 100)?;
-    Ok(Command::Consume(Consumption {
+    Ok(Consumption {
         description,
         operation,
         name,
         scheme,
         input,
         count,
-    }))
+    })
 }
 
 fn storm(alloc: Global, words: &[&str]) -> Result<Command, WordsFault>

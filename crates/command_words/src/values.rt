@@ -3,11 +3,11 @@
 //! A plain word is a positional argument of the `clap` command, and an option is an argument with a long name. All of them are optional to
 //! `clap`: which of them a command needs is the command's own question.
 
-ghost use Rattle.std.specs.Prelude.{◌≡◌, IfOk, IsTrue};
-ghost use Rattle.clap.specs.Words.{app_of};
+ghost use Rattle.std.specs.Prelude.{◌≡◌, ◌++◌, [], List, map, IfOk, IsTrue};
+ghost use Rattle.clap.specs.Words.{Rule, app_of, new_rule};
 ghost use Rattle.command_words.specs.Words.{value_at, values_given};
 ghost use Rattle.command_words.specs.Parts.{Reads, text_in, texts};
-ghost use Rattle.command_words.specs.Line.{AreTexts, app_for, form_of, is_form};
+ghost use Rattle.command_words.specs.Line.{AreTexts, app_for, app_with, form_of, is_form, long_rule};
 
 use crate::fault::WordsFault;
 use clap::error::ErrorKind;
@@ -71,13 +71,39 @@ fn clap_command<'a>(
 ) -> Result<Command<'a>, AllocError>
     ensures { IfOk result (λ command. app_of command ≡ app_for (form_of places.entry.now options.entry.now)) }
 {
-    let mut command = Command::new(alloc, "servient")
+    let command = Command::new(alloc, "servient")
         .disable_help_flag(true)
         .disable_version_flag(true)
         .no_binary_name(true);
+    with_options(alloc, with_places(alloc, command, places)?, options)
+}
+
+/// A command without arguments takes these positional arguments.
+fn with_places<'a>(
+    alloc: Global,
+    command: Command<'a>,
+    places: &'a [&'a str],
+) -> Result<Command<'a>, AllocError>
+    requires { app_of command ≡ app_with [] }
+    ensures { IfOk result (λ with. app_of with ≡ app_with (map new_rule (texts places.entry.now))) }
+{
+    let mut command = command;
     for place in places {
         command = command.arg(Arg::new(alloc, place))?;
     }
+    Ok(command)
+}
+
+/// A command with positional arguments takes options with these long names besides.
+fn with_options<'a>(
+    alloc: Global,
+    command: Command<'a>,
+    options: &'a [&'a str],
+) -> Result<Command<'a>, AllocError>
+    ensures { (places : List Rule) → app_of command.entry ≡ app_with places
+        → IfOk result (λ with. app_of with ≡ app_with (places ++ map long_rule (texts options.entry.now))) }
+{
+    let mut command = command;
     for option in options {
         command = command.arg(Arg::new(alloc, option).long(option))?;
     }

@@ -1,5 +1,6 @@
 //! A stored run over sockets. The program starts itself as a child that serves a plan, writes and reads a property of the
-//! shipped rack over TCP and UDP, and prints what came, and how the child ended once no traffic came for five seconds.
+//! shipped rack over TCP and UDP, and prints what came, and how the child ended once no traffic came for five seconds. Then a child
+//! checks a Thing Description without a `title`, which ends with a status that isn't 0.
 //!
 //! With words of its own it is the servient; without any it is the run.
 #![tactic(auto)]
@@ -53,15 +54,23 @@ fn main(rt: HostRuntime) -> ExitCode {
 fn run(rt: &HostRuntime) -> ExitCode {
     for _ in 0..STARTS {
         match speak(rt) {
-            Ok(true) => return ExitCode::SUCCESS,
+            Ok(true) => return ended(rt, refuse(rt)),
             Ok(false) => {}
-            Err(error) => {
-                let _ = println!(rt; "failed: {error}");
-                return ExitCode::FAILURE;
-            }
+            Err(error) => return ended(rt, Err(error)),
         }
     }
     ExitCode::FAILURE
+}
+
+/// How the run ends.
+fn ended(rt: &HostRuntime, result: io::Result<()>) -> ExitCode {
+    match result {
+        Ok(()) => ExitCode::SUCCESS,
+        Err(error) => {
+            let _ = println!(rt; "failed: {error}");
+            ExitCode::FAILURE
+        }
+    }
 }
 
 /// Starts the child on two ports that are free, speaks to it, and prints what came; false: a port was taken meanwhile.
@@ -116,18 +125,29 @@ fn plan(rt: &HostRuntime, http: u16, coap: u16) -> io::Result<String> {
     )?)
 }
 
-/// Starts the program as a servient that ends after five seconds without traffic.
-fn start(rt: &HostRuntime) -> io::Result<Child> {
+/// The program as a servient with these words, whose output is caught.
+fn servient(rt: &HostRuntime, words: &[&str]) -> io::Result<Command> {
     let Some(program) = env::args(rt)?.next() else {
         return Err(io::Error::from(io::ErrorKind::NotFound));
     };
     let mut command = Command::new(rt.alloc(), program)?;
-    for word in ["serve", "level.plan.json", "--idle", "5"] {
-        command.arg(word)?;
+    for word in words {
+        command.arg(*word)?;
     }
     command.stdout(Stdio::piped());
     command.stderr(Stdio::piped());
-    command.spawn(rt)
+    Ok(command)
+}
+
+/// Starts the program as a servient that ends after five seconds without traffic.
+fn start(rt: &HostRuntime) -> io::Result<Child> {
+    servient(rt, &["serve", "level.plan.json", "--idle", "5"])?.spawn(rt)
+}
+
+/// Has a description without a title checked, and prints how that ends.
+fn refuse(rt: &HostRuntime) -> io::Result<()> {
+    let output = servient(rt, &["check", "untitled.td.json"])?.output(rt)?;
+    print_end(rt, &output)
 }
 
 /// A connection to the child, once it listens; none where it has ended before.

@@ -268,11 +268,16 @@ still_known events budget result site s t seen left now known leaves r =
     left_known (happened_in seen) (with_stop events) now (subst (λ (o : Option (List EventWithBytes)). Leaves (happened_in seen) o now) known leaves) r.unbroken
     (omega (arith, ap (λ (es : List EventWithBytes). length es) r.hears, r.few, no_longer events))
 
+-- what a network tells that told nothing before is what happened
+pub all_told : (before now : Option (List Happening)) (happened : List Happening) → before ≡ Some [] → Continues before now happened → IfSome now (λ all. all ≡ happened)
+all_told before None happened none continues = tt
+all_told before (Some all) happened none continues =
+    continues.2 ∙ ap (λ (past : List Happening). past ++ happened) (sym (same_Some [] continues.0 (sym none ∙ continues.1)))
+
 -- the acts shown are those that happened
-pub acts_shown : (before now : Option (List Happening)) (happened : List Happening) (shown : List Act) → before ≡ Some [] → IsSome now → Continues before now happened → IfSome now (λ all. acts_in all ≡ shown) → shown ≡ acts_in happened
-acts_shown before None happened shown none some continues told = absurd cc
-acts_shown before (Some all) happened shown none some continues told =
-    sym told ∙ ap acts_in (continues.2 ∙ ap (λ (past : List Happening). past ++ happened) (sym (same_Some [] continues.0 (sym none ∙ continues.1))))
+pub acts_shown : (now : Option (List Happening)) (happened : List Happening) (shown : List Act) → IsSome now → IfSome now (λ all. all ≡ happened) → IfSome now (λ all. acts_in all ≡ shown) → shown ≡ acts_in happened
+acts_shown None happened shown some is told = absurd cc
+acts_shown (Some all) happened shown some is told = sym told ∙ ap acts_in is
 
 -- what was put together is the print
 pub printed : (whole : List ℕ) (shown acts : List Act) (turns : List RunTurn) → shown ≡ acts → whole ≡ print_text shown turns → whole ≡ print_text acts turns

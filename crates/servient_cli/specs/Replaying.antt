@@ -8,12 +8,14 @@ use Rattle.servient_edge.specs.declared.files.HeldFile.{HeldFile}
 use Rattle.servient_edge.specs.declared.net.EventWithBytes.{EventWithBytes}
 use Rattle.servient_edge.specs.Network.{acts_in}
 use Rattle.servient_edge.specs.Ending.{with_stop}
+use Rattle.servient_edge.specs.declared.net_memory.NetMemory.{NetMemory}
+use Rattle.servient_edge.specs.NetMemory.{left_events, told_history}
 use Rattle.servient_core.specs.BuiltIn.{built_in_plan, built_in_url, built_in_model}
 use Rattle.servient_core.specs.Trace.{Sighting, at_handler, happened_in, calls_in}
 use Rattle.servient_core.specs.Machine.{Site, State, Run, start}
 use Rattle.servient_cli.specs.declared.derivation.Planned.{Planned}
 use Rattle.servient_cli.specs.declared.replay.Inputs.{Inputs}
-use Rattle.servient_cli.specs.Script.{IsScript, IsFirstBadLine, has_stop}
+use Rattle.servient_cli.specs.Script.{IsScript, IsFirstBadLine, StopsAtEnd, has_stop}
 use Rattle.servient_cli.specs.Print.{print_text}
 use Rattle.servient_cli.specs.Lines.{input_line, spent_line}
 use Rattle.servient_cli.specs.Stages.{Deed, did_write, sees, Outcome, goes_on, EndsWith, RunsOut, AndThen}
@@ -68,6 +70,12 @@ abbrev pub run_events : List EventWithBytes → List EventWithBytes
 run_events events = if has_stop events then events else with_stop events
 
 -- ---- the run
+
+-- A network in memory has the events of a script to give, and nothing has happened yet.
+pub record HasScript (events : List EventWithBytes) (net : NetMemory) : Type 0 where
+  pub ends : StopsAtEnd events
+  pub left : left_events net ≡ Some (with_stop events)
+  pub history : told_history net ≡ Some []
 
 -- the calls of handlers in a run
 abbrev pub calls_of_run : List Sighting → List Deed

@@ -5,14 +5,14 @@ ghost use Rattle.thing_core.specs.Exposing.{kinds_of};
 ghost use Rattle.thing_core.specs.Kept.{Fits};
 ghost use Rattle.thing_handler.specs.Handler.{Seen};
 ghost use Rattle.servient_core.specs.Trace.{outside};
-ghost use Rattle.servient_core.specs.Plan.{place_of};
+ghost use Rattle.servient_core.specs.Plan.{HasFewExchanges, place_of};
 ghost use Rattle.servient_core.specs.Machine.{start};
 ghost use Rattle.servient_core.specs.Serving.{StandsFor};
 ghost use Rattle.servient_cli.specs.Stages.{FilesSeen, around, files_seen};
-ghost use Rattle.servient_cli.specs.Listening.{Listens, ServesEvents, ServesPlan};
+ghost use Rattle.servient_cli.specs.Listening.{Listens, ServesEvents, ServesPlan, ServesPlanned};
 ghost use Rattle.servient_cli.specs.Ending.{EndsBy, Performs};
 
-use crate::derivation::read_planned;
+use crate::derivation::{Planned, read_planned};
 use crate::ending::{Ended, Ending};
 use crate::opening::open;
 use servient_core::{Plan, Served, Servient, serve};
@@ -47,9 +47,25 @@ pub fn serve_plan<F: Files, N: Net, R: Handlers>(
         (around files_now (outside (N.seen net.new) (R.slots rack.new))) result }
 {
     let planned = read_planned(alloc, request.plan, files)?;
-    let servient = open(alloc, request.plan, &planned, rack)?;
+    serve_planned(alloc, &planned, request, net, rack)
+}
+
+/// Opens the servient of a plan, listens at the plan's place, and serves what comes.
+fn serve_planned<N: Net, R: Handlers>(
+    alloc: Global,
+    planned: &Planned,
+    request: Request<'_>,
+    net: &mut N,
+    rack: &mut R,
+) -> Result<Ending, Ended>
+    requires { HasFewExchanges planned.now.plan }
+    ensures { (files : FilesSeen) → EndsBy (ServesPlanned request.entry.plan.now (kinds_of (R.slots rack.old)) request.entry.events request.entry.idle planned.now)
+        (around files (outside (N.seen net.old) (R.slots rack.old)))
+        (around files (outside (N.seen net.new) (R.slots rack.new))) result }
+{
+    let mut servient = open(alloc, request.plan, planned, rack)?;
     listen(alloc, &planned.plan, request.idle, net)?;
-    serve_events(alloc, servient, request.events, net, rack)
+    serve_events(alloc, &mut servient, request.events, net, rack)
 }
 
 /// Listens at the place of a plan, for so many seconds without traffic.
@@ -68,19 +84,18 @@ fn listen<N: Net>(alloc: Global, plan: &Plan, idle: u32, net: &mut N) -> Result<
 /// Serves at most so many events.
 fn serve_events<N: Net, R: Handlers>(
     alloc: Global,
-    servient: Servient,
+    servient: &mut Servient,
     budget: u32,
     net: &mut N,
     rack: &mut R,
 ) -> Result<Ending, Ended>
-    requires fits { Fits servient.exposed.site (R.slots rack.old) }
-    ensures { (files : FilesSeen) → (exchanges : ℕ) → StandsFor servient (start servient.exposed.site exchanges)
-        → EndsBy (ServesEvents budget exchanges servient.exposed.site)
+    requires fits { Fits servient.old.exposed.site (R.slots rack.old) }
+    ensures { (files : FilesSeen) → (exchanges : ℕ) → StandsFor servient.old (start servient.old.exposed.site exchanges)
+        → EndsBy (ServesEvents budget exchanges servient.old.exposed.site)
         (around files (outside (N.seen net.old) (R.slots rack.old)))
         (around files (outside (N.seen net.new) (R.slots rack.new))) result }
 {
-    let mut servient = servient;
-    match serve(&mut servient, net, rack, u64::from(budget)) {
+    match serve(servient, net, rack, u64::from(budget)) {
         Served::Stopped => Ok(Ending {
             status: 0,
             text: Bytes::new(alloc),

@@ -1,8 +1,10 @@
 //! Running a script on the Things of a plan, and what the run prints.
 
-ghost use Rattle.std.specs.Prelude.{◌≡◌, ◌≤◌, ◌++◌, ℕ, List, length, map, IfOk};
+ghost use Rattle.std.specs.Prelude.{◌≡◌, ◌≤◌, ◌++◌, ℕ, List, length, map, IfOk, IfSome, IsSome};
 ghost use Rattle.thing_handler.specs.Turns.{RunTurn};
-ghost use Rattle.servient_edge.specs.Network.{NetSeen};
+ghost use Rattle.servient_edge.specs.declared.net.EventWithBytes.{EventWithBytes};
+ghost use Rattle.servient_edge.specs.Network.{Happening, NetSeen, acts_in};
+ghost use Rattle.servient_edge.specs.NetMemory.{left_events, told_history};
 ghost use Rattle.servient_core.specs.Trace.{Outside, outside};
 ghost use Rattle.thing_core.specs.Exposing.{kinds_of};
 ghost use Rattle.thing_core.specs.Kept.{Fits};
@@ -11,12 +13,12 @@ ghost use Rattle.servient_core.specs.Machine.{start};
 ghost use Rattle.servient_core.specs.Serving.{StandsFor};
 ghost use Rattle.servient_cli.specs.Script.{StopsAtEnd};
 ghost use Rattle.servient_cli.specs.Print.{print_text};
-ghost use Rattle.servient_cli.specs.Merging.{IsMerged};
+ghost use Rattle.servient_cli.specs.Merging.{HaveKept, IsMerged, turns_after};
 ghost use Rattle.servient_cli.specs.Lines.{spent_line};
 ghost use Rattle.servient_cli.specs.Stages.{Around, FilesSeen, around, files_seen};
 ghost use Rattle.servient_cli.specs.Reading.{longest_script};
-ghost use Rattle.servient_cli.specs.Replaying.{Plans, ReadsEvents, ReadsInputs, ReadsScript, RunsOn, RunsScript, TakesBuiltIn, plan_name as name_of_plan};
-ghost use Rattle.servient_cli.specs.Ending.{EndsBy, Finishes, Performs};
+ghost use Rattle.servient_cli.specs.Replaying.{HasScript, Plans, ReadsEvents, ReadsInputs, ReadsScript, RunsOn, RunsScript, TakesBuiltIn, plan_name as name_of_plan};
+ghost use Rattle.servient_cli.specs.Ending.{EndsBy, Performs};
 
 use crate::derivation::{Planned, read_planned};
 use crate::ending::{Ended, Ending, SPENT_LINE, end_with};
@@ -134,38 +136,70 @@ pub fn run_inputs<R: Handlers>(
         (around files (outside net (R.slots rack.old))) (around files (outside net (R.slots rack.new))) result }
 {
     let Inputs { planned, events } = inputs;
-    let servient = open(alloc, name, &planned, rack)?;
-    Ok(run_script(alloc, servient, events, budget, rack)?)
+    let mut servient = open(alloc, name, &planned, rack)?;
+    run_script(alloc, &mut servient, events, budget, rack)
 }
 
 /// Runs the events of a script, with a Stop after them where none of them is one, and prints the acts and the turns.
 fn run_script<R: Handlers>(
     alloc: Global,
-    servient: Servient,
+    servient: &mut Servient,
     events: Events,
     budget: u64,
     rack: &mut R,
-) -> Result<Ending, NoMemory>
-    requires fits { Fits servient.exposed.site (R.slots rack.old) }
+) -> Result<Ending, Ended>
+    requires fits { Fits servient.old.exposed.site (R.slots rack.old) }
     requires ends { StopsAtEnd events }
-    ensures { (files : FilesSeen) → (net : NetSeen) → (exchanges : ℕ) → StandsFor servient (start servient.exposed.site exchanges)
-        → Finishes (RunsScript budget events exchanges servient.exposed.site)
+    ensures { (files : FilesSeen) → (net : NetSeen) → (exchanges : ℕ) → StandsFor servient.old (start servient.old.exposed.site exchanges)
+        → EndsBy (RunsScript budget events exchanges servient.old.exposed.site)
         (around files (outside net (R.slots rack.old))) (around files (outside net (R.slots rack.new))) result }
 {
-    let counts = turn_counts(alloc, rack)?;
     let mut net = NetMemory::new(alloc, events, Calls::new(alloc))?;
-    let mut servient = servient;
-    let served = serve(&mut servient, &mut net, rack, budget);
+    run_network(alloc, servient, &mut net, budget, rack)
+}
+
+/// Runs the events of a network in memory, and prints the acts and the turns.
+fn run_network<R: Handlers>(
+    alloc: Global,
+    servient: &mut Servient,
+    net: &mut NetMemory,
+    budget: u64,
+    rack: &mut R,
+) -> Result<Ending, Ended>
+    requires fits { Fits servient.old.exposed.site (R.slots rack.old) }
+    requires script { (events : List EventWithBytes) × HasScript events net.old }
+    ensures { (files : FilesSeen) → (seen : NetSeen) → (exchanges : ℕ) → (events : List EventWithBytes) → HasScript events net.old
+        → StandsFor servient.old (start servient.old.exposed.site exchanges)
+        → EndsBy (RunsScript budget events exchanges servient.old.exposed.site)
+        (around files (outside seen (R.slots rack.old))) (around files (outside seen (R.slots rack.new))) result }
+{
+    let counts = turn_counts(alloc, rack)?;
+    let served = serve(servient, net, rack, budget);
+    let text = print_since(alloc, net, counts.as_slice(), rack)?;
+    match served {
+        Served::Stopped => Ok(Ending { status: 0, text }),
+        Served::Spent => Ok(spent(text)?),
+        Served::Failed => unreachable!(),
+    }
+}
+
+/// The print of all acts of a network, and of the turns that each handler has kept after so many; none where an act was lost.
+fn print_since<R: Handlers>(
+    alloc: Global,
+    net: &NetMemory,
+    counts: &[usize],
+    rack: &R,
+) -> Result<Bytes, NoMemory>
+    requires { HaveKept counts.now (R.slots rack.now) }
+    ensures { (happened : List Happening) (turns : List RunTurn) → IsSome (left_events net.now)
+        → IfSome (told_history net.now) (λ all. all ≡ happened) → IsMerged 0 (turns_after counts.now (R.slots rack.now)) turns
+        → IfOk result (λ text. text ≡ print_text (acts_in happened) turns) }
+{
     if net.lost() != 0 {
         return Err(AllocError);
     }
-    let mut by_slot = turns_since(alloc, rack, counts.as_slice())?;
-    let text = print(alloc, net.acts(), by_slot.as_mut_slice())?;
-    match served {
-        Served::Stopped => Ok(Ending { status: 0, text }),
-        Served::Spent => spent(text),
-        Served::Failed => unreachable!(),
-    }
+    let mut by_slot = turns_since(alloc, rack, counts)?;
+    print(alloc, net.acts(), by_slot.as_mut_slice())
 }
 
 /// The print of acts and of turns, which each slot has its own of.

@@ -1,8 +1,8 @@
 -- What is done on one connection, put together.
-use Rattle.std.proofs.Common.{◌≡◌, ◌≢◌, ℕ, zero, suc, ◌<◌, ◌≤◌, List, [], ◌∷◌, ◌++◌, map, length, Bool, true, false, refl, sym, ap, subst, ◌∙◌, arith}
+use Rattle.std.proofs.Common.{◌≡◌, ℕ, zero, suc, ◌<◌, ◌≤◌, List, [], ◌∷◌, map, Bool, true, false, refl, sym, ap, subst, ◌∙◌, arith}
 use Rattle.std.specs.Prelude.{Option, Some, None, not, ◌==◌, IsSome}
 use Rattle.std.proofs.lemmas.Bool.{eqb-true}
-use Rattle.servient_base.specs.Moves.{Becomes, Stays, Then, Passing, Until, is_done, Makes, Refines}
+use Rattle.servient_base.specs.Moves.{Passing, is_done, Makes, Refines}
 use Rattle.servient_base.proofs.MovesLaws.{refines_goes_on, refines_is_done}
 use Rattle.thing_ops.specs.declared.outcome.Outcome.{Outcome}
 use Rattle.thing_ops.specs.declared.outcome.Outcome.TheVariants as outcome
@@ -23,13 +23,13 @@ use Rattle.servient_edge.specs.declared.net.Act.{Act}
 use Rattle.servient_edge.specs.declared.net.Act.TheVariants as act
 use Rattle.servient_edge.specs.Network.{Happening, NetSeen, NetShows, did}
 use Rattle.servient_edge.proofs.NetLaws.{net_shows_then}
-use Rattle.servient_core.specs.Trace.{Sighting, at_network, at_handler, happened_in, calls_in, Outside, outside, Shows}
-use Rattle.servient_core.specs.Machine.{State, Move, OnHttp, Does, Performs, acts_of_reply, Sends, Handles, TakesAndHandles, TakesMessages, ClosesIdle, ClosesAllIdle}
+use Rattle.servient_core.specs.Trace.{at_network, happened_in, calls_in, Outside, outside, Shows}
+use Rattle.servient_core.specs.Machine.{State, OnHttp, Does, Performs, acts_of_reply, Sends, Handles, TakesAndHandles, TakesMessages, ClosesIdle, ClosesAllIdle}
 use Rattle.servient_core.specs.Serving.{StandsFor, IsReady}
-use Rattle.servient_core.specs.Connections.{IsOn, SendsReply, SendsRefusal, StaysDry, TakesOne}
+use Rattle.servient_core.specs.Connections.{IsOn, SendsReply, SendsRefusal, StaysDry}
 use Rattle.servient_core.specs.declared.parts.Parts.{Parts}
 use Rattle.servient_core.proofs.TraceLaws.{shows_in_order}
-use Rattle.servient_core.proofs.PartLaws.{refines_http, refines_thing, refines_act, passing_moves, then_moves, others_same, others_then}
+use Rattle.servient_core.proofs.PartLaws.{refines_http, refines_thing, refines_act, passing_moves, others_same, others_then}
 
 -- ---- acts
 

@@ -1,7 +1,7 @@
 -- What every move of the machine keeps.
 use Rattle.std.proofs.Common.{◌≡◌, ℕ, ◌+◌, List, [], ◌∷◌, ◌++◌, map, refl, sym, ap, subst, ◌∙◌, arith, max, length, length-append, inl, inr, true, false}
 use Rattle.std.proofs.lemmas.List.{append-nil}
-use Rattle.servient_base.specs.Moves.{Becomes, Stays, Until, is_done, goes_on}
+use Rattle.servient_base.specs.Moves.{Until, is_done, goes_on}
 use Rattle.coap_msg.specs.declared.endpoint.Endpoint.{Endpoint}
 use Rattle.thing_handler.specs.Turns.{HandlerCall, RunTurn, AreNumberedFrom, turns_in}
 use Rattle.thing_handler.proofs.TurnLaws.{numbered_then}

@@ -1,10 +1,8 @@
 -- The turns of requests and of polls are numbered one by one.
-use Rattle.std.proofs.Common.{◌≡◌, ℕ, ◌+◌, ◌⊎◌, List, [], ◌∷◌, ◌++◌, length, refl, sym, ap, subst, ◌∙◌, arith, inl, inr, length-append}
-use Rattle.std.specs.Prelude.{Option, Some, None, Result, Ok, Err}
-use Rattle.servient_base.specs.Moves.{Becomes, Stays, Then, Passing}
+use Rattle.std.proofs.Common.{◌≡◌, ℕ, ◌+◌, List, [], ◌∷◌, ◌++◌, length, refl, sym, ap, subst, arith, inl, inr, length-append}
+use Rattle.std.specs.Prelude.{Some, None, Result, Ok, Err}
+use Rattle.servient_base.specs.Moves.{Becomes, Stays, Then}
 use Rattle.wot_json.specs.Tree.{Json}
-use Rattle.wot_json.specs.Meaning.{json_of}
-use Rattle.wot_json.specs.declared.tree.Tree.{Tree}
 use Rattle.thing_ops.specs.declared.outcome.Outcome.{Outcome}
 use Rattle.thing_ops.specs.Requests.{PlainRequest}
 use Rattle.thing_handler.specs.declared.handler.CallKind.{CallKind}

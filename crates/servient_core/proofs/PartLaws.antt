@@ -1,8 +1,8 @@
 -- Moves of one part of a servient, and how they are put together.
-use Rattle.std.proofs.Common.{◌≡◌, ℕ, zero, suc, arith, ◌<◌, ◌≤◌, max, List, [], ◌∷◌, ◌++◌, map, length, refl, sym, ap, subst, ◌∙◌, inl, inr}
+use Rattle.std.proofs.Common.{◌≡◌, ℕ, zero, suc, arith, ◌<◌, ◌≤◌, max, List, [], ◌∷◌, map, length, refl, sym, ap, subst, ◌∙◌, inl, inr}
 use Rattle.std.specs.Prelude.{Option, Some, None, replicate}
 use Rattle.std.specs.List.{AllByRecursion}
-use Rattle.servient_base.specs.Moves.{Becomes, Stays, Then, Passing, Makes, Refines}
+use Rattle.servient_base.specs.Moves.{Stays, Then, Passing, Makes, Refines}
 use Rattle.servient_base.proofs.MovesLaws.{refines_then, refines_passing, refines_as, refines_stays}
 use Rattle.coap_msg.specs.declared.endpoint.Endpoint.{Endpoint}
 use Rattle.thing_handler.specs.Handler.{Seen}
@@ -25,7 +25,7 @@ use Rattle.servient_edge.specs.declared.net.Act.TheVariants as act
 use Rattle.servient_edge.specs.declared.net.EventWithBytes.{EventWithBytes}
 use Rattle.servient_edge.specs.Network.{Happening, NetSeen, NetShows, did}
 use Rattle.servient_edge.proofs.NetLaws.{net_shows_none}
-use Rattle.servient_core.specs.Trace.{Sighting, at_network, at_handler, happened_in, calls_in, Outside, outside, Shows}
+use Rattle.servient_core.specs.Trace.{at_network, at_handler, happened_in, calls_in, Outside, outside, Shows}
 use Rattle.servient_core.specs.Machine.{State, Move, OnHttp, OnCoap, OnThing, Does, Performs, Responds, Receives, Follows, Step, ClosesAllIdle, longest_datagram}
 use Rattle.servient_core.specs.Serving.{StandsFor}
 use Rattle.servient_core.specs.Keeping.{IsPerformed}

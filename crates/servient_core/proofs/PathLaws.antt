@@ -1,6 +1,6 @@
 -- The segments of the path of a CoAP request are short.
-use Rattle.std.proofs.Common.{◌≡◌, ℕ, ◌≤◌, ◌+◌, ◌*◌, ◌/◌, List, [], ◌∷◌, length, map, Bool, true, false, refl, sym, ap, subst, ◌∙◌, arith}
-use Rattle.std.specs.Prelude.{Option, Some, None, ◌==◌, ◌&&◌, ◌||◌, not, nat_le, if◌then◌else◌}
+use Rattle.std.proofs.Common.{◌≡◌, ℕ, ◌≤◌, ◌+◌, ◌*◌, ◌/◌, List, [], ◌∷◌, length, map, Bool, true, false, refl, sym, subst}
+use Rattle.std.specs.Prelude.{Option, Some, None, ◌==◌, not, if◌then◌else◌}
 use Rattle.std.specs.List.{All, filter}
 use Rattle.std.proofs.lemmas.Bool.{and_parts, leb-true, eqb-true}
 use Rattle.std.proofs.lemmas.List.Elements.{All-nil, All-cons}
@@ -10,7 +10,7 @@ use Rattle.coap_msg.specs.declared.message.Type4.TheVariants.{Con, Non, Ack, Rst
 use Rattle.coap_msg.specs.Grammar.{CoapOption, CoapMessage, spelling}
 use Rattle.coap_opts.specs.declared.fault.AskFault.{AskFault}
 use Rattle.coap_opts.specs.declared.fault.AskFault.TheVariants as fault
-use Rattle.coap_opts.specs.Table.{may_stand, is_repeat}
+use Rattle.coap_opts.specs.Table.{may_stand}
 use Rattle.coap_opts.specs.Reading.{PlainAsk, fault_of, and_then_these, faults_after, faults_of, values_under, asked as what_is_asked}
 use Rattle.coap_bind.specs.declared.head.OpenRequest.{OpenRequest}
 use Rattle.coap_bind.specs.declared.server.Server.{Server}

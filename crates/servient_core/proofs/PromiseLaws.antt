@@ -1,24 +1,24 @@
 -- Requests that come again, and a full table.
-use Rattle.std.proofs.Common.{◌≡◌, ℕ, ◌≤◌, ◌<◌, List, [], ◌∷◌, ◌++◌, length, refl, sym, ap, subst, ◌∙◌, arith, inl, inr, true, false}
-use Rattle.std.specs.Prelude.{Option, Some, None}
-use Rattle.servient_base.specs.Moves.{Becomes, Stays}
+use Rattle.std.proofs.Common.{◌≡◌, ℕ, ◌≤◌, List, [], ◌∷◌, ◌++◌, length, refl, ap, subst, ◌∙◌, arith, inl, inr, true, false}
+use Rattle.std.specs.Prelude.{Some, None}
+use Rattle.servient_base.specs.Moves.{Becomes}
 use Rattle.coap_msg.specs.declared.endpoint.Endpoint.{Endpoint}
 use Rattle.coap_msg.specs.declared.message.Type4.{Type4}
 use Rattle.coap_msg.specs.declared.message.Type4.TheVariants.{Con, Non, Ack, Rst}
 use Rattle.coap_msg.specs.Grammar.{CoapMessage, Spells}
 use Rattle.coap_msg.proofs.Messages.{at_most_one_message}
 use Rattle.coap_msg.proofs.FaultLaws.{no_fault_of_message}
-use Rattle.coap_exchange.specs.Table.{Table, Exchange, at_moment, repeated_exchange}
+use Rattle.coap_exchange.specs.Table.{at_moment, repeated_exchange}
 use Rattle.coap_opts.specs.Reading.{PlainAsk}
 use Rattle.coap_bind.specs.declared.head.OpenRequest.{OpenRequest}
 use Rattle.coap_bind.specs.declared.server.Server.{Server}
-use Rattle.coap_bind.specs.Server.{Heard, ignored, answered_at_once, asked, arrival, is_request, with_id_used, Settles, malformed, no_request, repeated, full, Hears, settled, admitted}
+use Rattle.coap_bind.specs.Server.{Heard, ignored, answered_at_once, asked, arrival, is_request, with_id_used, malformed, no_request, repeated, full, Hears, settled, admitted}
 use Rattle.coap_bind.proofs.HistoryLaws.{repeats_ask_nothing}
 use Rattle.servient_edge.specs.declared.net.Act.TheVariants as act
 use Rattle.servient_edge.specs.Network.{did}
 use Rattle.servient_core.specs.Trace.{Sighting, at_network, calls_in}
-use Rattle.servient_core.specs.Machine.{Site, State, Responds, Receives, longest_datagram}
-use Rattle.servient_core.specs.Promises.{ActsOnNothing, RepeatsActOnNothing, IsOverfull, FullTableActsOnNothing}
+use Rattle.servient_core.specs.Machine.{Site, State, Responds}
+use Rattle.servient_core.specs.Promises.{ActsOnNothing, RepeatsActOnNothing, FullTableActsOnNothing}
 
 pub acts_as : (s u t : State) (shown seen : List Sighting) → Becomes u shown seen t → u.thing ≡ s.thing → calls_in shown ≡ [] → ActsOnNothing s seen t
 acts_as s u t shown seen b same none = record { calls = ap calls_in b.saw ∙ none; thing = ap (λ (x : State). x.thing) b.next ∙ same }

@@ -1,5 +1,5 @@
 -- How serving goes on, and how it ends.
-use Rattle.std.proofs.Common.{◌≡◌, ◌≢◌, ℕ, ◌+◌, ◌<◌, List, [], ◌∷◌, ◌++◌, length, take, refl, ap, subst, ◌∙◌, arith, length-append}
+use Rattle.std.proofs.Common.{◌≡◌, ◌≢◌, ℕ, ◌+◌, ◌<◌, List, [], ◌∷◌, ◌++◌, length, take, refl, subst, ◌∙◌, arith, length-append}
 use Rattle.servient_base.specs.Moves.{Then, Becomes, Refines}
 use Rattle.servient_base.proofs.MovesLaws.{refines_then, refines_as, refines_each_more, refines_stays}
 use Rattle.thing_handler.specs.Handler.{Seen}
@@ -10,7 +10,7 @@ use Rattle.servient_edge.specs.declared.net.EventWithBytes.{EventWithBytes}
 use Rattle.servient_edge.specs.Network.{byte_count, in_buffer, Happening, NetSeen, NetShows, heard, broke, next_event}
 use Rattle.servient_core.specs.declared.serving.Served.{Served}
 use Rattle.servient_core.specs.declared.serving.Served.TheVariants as served
-use Rattle.servient_core.specs.Trace.{Sighting, at_network, Outside, outside, Shows}
+use Rattle.servient_core.specs.Trace.{at_network, Outside, outside, Shows}
 use Rattle.servient_core.specs.Machine.{Site, State, Comes, Step, TakesEvent, Run}
 use Rattle.servient_core.specs.declared.parts.Parts.{Parts}
 use Rattle.servient_core.specs.Serving.{StandsFor, HasNoStop, AreTaken, Ends, Serves}

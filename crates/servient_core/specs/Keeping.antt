@@ -1,5 +1,5 @@
 -- What the functions of a servient's parts say of one another.
-use Rattle.std.specs.Prelude.{◌≡◌, ℕ, List, []}
+use Rattle.std.specs.Prelude.{◌≡◌, List, []}
 use Rattle.servient_base.specs.Moves.{Makes, Refines}
 use Rattle.thing_ops.specs.declared.outcome.Outcome.{Outcome}
 use Rattle.thing_ops.specs.Outcomes.{HasCode}
@@ -8,7 +8,7 @@ use Rattle.thing_handler.specs.Handler.{Seen}
 use Rattle.thing_handler.specs.Turns.{RackShows}
 use Rattle.thing_core.specs.State.{Emission}
 use Rattle.thing_core.specs.Thing.{Done, Acts, Polls}
-use Rattle.thing_core.specs.Kept.{Kept, Fits}
+use Rattle.thing_core.specs.Kept.{Kept}
 use Rattle.coap_bind.specs.Laws.{HasShortPlace}
 use Rattle.servient_core.specs.Trace.{Outside, Shows}
 use Rattle.servient_core.specs.Machine.{Move}

@@ -12,6 +12,8 @@ use Rattle.wot_terms.specs.Affordances.{part}
 use Rattle.tm_derive.specs.Submodels.{is_name_byte}
 use Rattle.servient_edge.specs.declared.place.Place.{Place}
 use Rattle.servient_core.specs.declared.plan.Plan.{Plan}
+use Rattle.servient_core.specs.declared.plan.Names.{Names}
+use Rattle.servient_core.specs.declared.plan.Lists.{Lists}
 use Rattle.servient_core.specs.declared.plan.PlanFault.{PlanFault}
 use Rattle.servient_core.specs.declared.plan.PlanFault.TheVariants.{At, NoMemory}
 use Rattle.servient_core.specs.declared.plan_texts.TextRow.{TextRow}
@@ -163,29 +165,42 @@ Reads (Ok value) r = r ≡ Ok value
 Reads (Err (At pointer)) r = r ≡ Err pointer
 Reads (Err NoMemory) r = Unit {0}
 
--- The table: the rows in the order in which they are judged, and the plan that they make.
-abbrev pub plan_in : List (List ℕ × Json) → Result Plan (List ℕ)
-plan_in ms =
+-- The table: the rows in the order in which they are judged, and the plan that they make. First come who the root Thing is, where it is
+-- served, and the URL of its model;
+abbrev pub names_in : List (List ℕ × Json) → Result Names (List ℕ)
+names_in ms =
     then_row (text_row row.Name ms) (λ segment.
     then_row (text_row row.Id ms) (λ id.
     then_row (text_row row.Http ms) (λ http.
     then_row (text_row row.Coap ms) (λ coap.
     then_row (text_row row.Root ms) (λ root.
+    Ok (record { segment = segment; id = id; bases = record { http = http; coap = coap }; root = root }))))))
+
+-- then what the Things are derived from besides;
+abbrev pub lists_in : List (List ℕ × Json) → Result Lists (List ℕ)
+lists_in ms =
     then_row (member_row (codes "models") models_in ms) (λ models.
     then_row (member_row (codes "bindings") bindings_in ms) (λ bindings.
     then_row (member_row (codes "optional") (entries_in choice_entry) ms) (λ choices.
+    Ok (record { models = models; bindings = bindings; choices = choices }))))
+
+-- and then the rest.
+abbrev pub plan_in : List (List ℕ × Json) → Result Plan (List ℕ)
+plan_in ms =
+    then_row (names_in ms) (λ names.
+    then_row (lists_in ms) (λ lists.
     then_row (member_row (codes "instance") instance_in ms) (λ instance.
     then_row (member_row (codes "slots") (entries_in slot_entry) ms) (λ slots.
     then_row (member_row (codes "exchanges") exchanges_in ms) (λ exchanges.
     Ok (record {
-      frame = record { segment = segment; id = id; bases = record { http = http; coap = coap }; instance = instance };
-      root = root;
-      models = models;
-      bindings = bindings;
-      choices = choices;
+      frame = record { segment = names.segment; id = names.id; bases = names.bases; instance = instance };
+      root = names.root;
+      models = lists.models;
+      bindings = lists.bindings;
+      choices = lists.choices;
       slots = slots;
       exchanges = exchanges;
-    }))))))))))))
+    }))))))
 
 -- The plan that a value is, or the pointer to what it refuses first: the empty one where it is no object.
 abbrev pub is_object : Json → Bool

@@ -3,7 +3,7 @@ use Rattle.std.specs.Prelude.{◌≡◌, ◌≤◌, ℕ, true, None, List, [], �
 use Rattle.coap_msg.specs.declared.endpoint.Endpoint.{Endpoint}
 use Rattle.coap_msg.specs.Grammar.{CoapMessage, Spells}
 use Rattle.coap_exchange.specs.Admission.{Arrival, is_repeat_of, admitted_among}
-use Rattle.coap_exchange.specs.Table.{Table, at_moment, repeated_exchange}
+use Rattle.coap_exchange.specs.Table.{at_moment, repeated_exchange}
 use Rattle.coap_bind.specs.Server.{is_request, arrival}
 use Rattle.coap_bind.specs.Laws.{Did}
 use Rattle.servient_edge.specs.declared.net.Act.TheVariants as act

@@ -21,16 +21,7 @@ impl Plan {
     pub fn built_in(alloc: Global) -> Result<Plan, NoMemory>
         ensures { IfOk result (λ plan. plan ≡ built_in_plan) }
     {
-        let bases = Bases {
-            http: Text::copy_of(alloc, "http://127.0.0.1:8080")?,
-            coap: Text::copy_of(alloc, "coap://127.0.0.1:5683")?,
-        };
-        let frame = Frame {
-            segment: Text::copy_of(alloc, "lamp")?,
-            id: Text::copy_of(alloc, "urn:x:lamp")?,
-            bases,
-            instance: None,
-        };
+        let frame = frame(alloc)?;
         Ok(Plan {
             frame,
             root: Text::copy_of(alloc, "https://models.example/builtin.tm.json")?,
@@ -51,6 +42,22 @@ impl Plan {
             Err(_) => Err(AllocError),
         }
     }
+}
+
+/// The segment and the `id` of the Thing, and what its URLs begin with.
+fn frame(alloc: Global) -> Result<Frame, NoMemory>
+    ensures { IfOk result (λ frame. frame ≡ built_in_plan.frame) }
+{
+    let bases = Bases {
+        http: Text::copy_of(alloc, "http://127.0.0.1:8080")?,
+        coap: Text::copy_of(alloc, "coap://127.0.0.1:5683")?,
+    };
+    Ok(Frame {
+        segment: Text::copy_of(alloc, "lamp")?,
+        id: Text::copy_of(alloc, "urn:x:lamp")?,
+        bases,
+        instance: None,
+    })
 }
 
 /// The slots of its affordances.

@@ -2,6 +2,7 @@
 
 ghost use Rattle.std.specs.Prelude.{◌≡◌, ◌⊎◌, ◌++◌, ◌∷◌, [], codes, IfOk, OnErr, OnOk};
 ghost use Rattle.wot_json.specs.Meaning.{json_of};
+ghost use Rattle.wot_json.specs.Merge.{members_under};
 ghost use Rattle.servient_core.specs.Plan.{plan_of, place_of, Reads, HasFewExchanges};
 ghost use Rattle.servient_core.specs.Plan as spec;
 
@@ -36,6 +37,23 @@ pub struct Plan {
     pub slots: Slots,
     /// How many CoAP exchanges may live at a time.
     pub exchanges: u32,
+}
+
+/// What the first rows of the table read: who the root Thing is, where it is served, and the URL of its model.
+#[derive(Drop)]
+struct Names {
+    segment: Text,
+    id: Text,
+    bases: Bases,
+    root: Text,
+}
+
+/// What the Things are derived from, besides the root's model.
+#[derive(Drop)]
+struct Lists {
+    models: ModelFiles,
+    bindings: Bindings,
+    choices: Choices,
 }
 
 /// Models, each by the text of its URL and the name of its file. Contracts see the list of both.
@@ -129,30 +147,23 @@ impl Plan {
         if !is_object(tree) {
             return Err(PlanFault::At(Text::copy_of(alloc, "")?));
         }
-        let segment = text_row(alloc, tree, TextRow::Name)?;
-        let id = text_row(alloc, tree, TextRow::Id)?;
-        let http = text_row(alloc, tree, TextRow::Http)?;
-        let coap = text_row(alloc, tree, TextRow::Coap)?;
-        let root = text_row(alloc, tree, TextRow::Root)?;
-        let models = models_row(alloc, tree)?;
-        let bindings = bindings_row(alloc, tree)?;
-        let choices = choices_row(alloc, tree)?;
+        let names = names_in(alloc, tree)?;
+        let lists = lists_in(alloc, tree)?;
         let instance = instance_row(alloc, tree)?;
         let slots = slots_row(alloc, tree)?;
         let exchanges = exchanges_row(alloc, tree)?;
-        let bases = Bases { http, coap };
         let frame = Frame {
-            segment,
-            id,
-            bases,
+            segment: names.segment,
+            id: names.id,
+            bases: names.bases,
             instance,
         };
         Ok(Plan {
             frame,
-            root,
-            models,
-            bindings,
-            choices,
+            root: names.root,
+            models: lists.models,
+            bindings: lists.bindings,
+            choices: lists.choices,
             slots,
             exchanges,
         })
@@ -172,6 +183,40 @@ impl Plan {
             idle,
         })
     }
+}
+
+/// The texts of a plan that its first rows read.
+#[tactic(auto, using(crate::proofs::PlanLaws::refused_there, crate::proofs::PlanLaws::goes_on_there))]
+fn names_in(alloc: Global, tree: &Tree) -> Result<Names, PlanFault>
+    ensures { Reads result (spec.names_in (members_under (json_of tree.now))) }
+{
+    let segment = text_row(alloc, tree, TextRow::Name)?;
+    let id = text_row(alloc, tree, TextRow::Id)?;
+    let http = text_row(alloc, tree, TextRow::Http)?;
+    let coap = text_row(alloc, tree, TextRow::Coap)?;
+    let root = text_row(alloc, tree, TextRow::Root)?;
+    let bases = Bases { http, coap };
+    Ok(Names {
+        segment,
+        id,
+        bases,
+        root,
+    })
+}
+
+/// The lists of a plan that say what its Things are derived from.
+#[tactic(auto, using(crate::proofs::PlanLaws::refused_there, crate::proofs::PlanLaws::goes_on_there))]
+fn lists_in(alloc: Global, tree: &Tree) -> Result<Lists, PlanFault>
+    ensures { Reads result (spec.lists_in (members_under (json_of tree.now))) }
+{
+    let models = models_row(alloc, tree)?;
+    let bindings = bindings_row(alloc, tree)?;
+    let choices = choices_row(alloc, tree)?;
+    Ok(Lists {
+        models,
+        bindings,
+        choices,
+    })
 }
 
 /// The host and the port of a base; none and 0 where it has none, which no plan that was read has.

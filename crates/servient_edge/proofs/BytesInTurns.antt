@@ -1,5 +1,5 @@
 -- Laws of bytes that are read or written in several turns.
-use Rattle.std.proofs.Common.{◌≡◌, ℕ, ◌-◌, ◌<◌, IfSome, arith, length-append, List, ◌++◌, Option, Some, None, length, take, drop, sym, ap, ◌∙◌, append_assoc}
+use Rattle.std.proofs.Common.{◌≡◌, ℕ, ◌-◌, List, ◌++◌, Option, Some, None, length, take, drop, sym, ap, ◌∙◌, append_assoc}
 use Rattle.std.proofs.lemmas.List.{take_rest, take-append-drop}
 use Rattle.std.specs.Io.KnownBytes.{Appends, Consumes}
 
@@ -24,9 +24,3 @@ piece-after_turn piece front rest count parts =
     ∙ ap (λ (zs : List ℕ). front ++ zs) (sym (take-append-drop count rest))
     ∙ sym (append_assoc front (take count rest) (drop count rest))
     ∙ ap (λ (zs : List ℕ). (front ++ take count rest) ++ zs) (sym (take_rest rest count))
-
--- a reader that gave more than the limit had more than the limit
-pub more-than_limit : (first last : Option (List ℕ)) (xs : List ℕ) (limit : ℕ) → Consumes first last xs → limit < length xs → IfSome first (λ all. limit < length all)
-more-than_limit None last xs limit read more = tt
-more-than_limit (Some p) None xs limit read more = absurd read
-more-than_limit (Some p) (Some q) xs limit read more = omega (arith, more, ap length read, length-append xs q)

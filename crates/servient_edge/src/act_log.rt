@@ -18,15 +18,6 @@ pub struct ActLog {
     ghost gap_for_each: { length gaps.items ≡ length acts.items },
 }
 
-/// Puts an act after the others, if there is memory for it.
-fn push_act(acts: &mut Vec<Act>, act: Act) -> Result<(), NoMemory>
-    ensures ok { OnOk result (acts.new.items ≡ acts.old.items ++ act ∷ []) }
-    ensures unchanged { OnErr result (acts.new.items ≡ acts.old.items) }
-{
-    acts.push(act)?;
-    Ok(())
-}
-
 impl ActLog {
     ghost use Rattle.servient_edge.specs.ActLog.{KeepsIfMade, LosesAct};
 
@@ -74,11 +65,9 @@ impl ActLog {
         ensures since { self.new.since ≡ self.old.since }
         ensures lost { self.new.lost ≡ self.old.lost }
     {
+        self.acts.reserve(1)?;
         self.gaps.push(self.since)?;
-        let kept = push_act(&mut self.acts, act);
-        if kept.is_err() {
-            self.gaps.pop();
-        }
-        kept
+        self.acts.push_reserved(act);
+        Ok(())
     }
 }

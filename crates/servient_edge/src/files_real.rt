@@ -1,6 +1,6 @@
 //! The files of the machine. What they hold isn't recorded, nor which reads were made.
 
-ghost use Rattle.std.specs.Prelude.{◌≡◌, ◌≢◌, ◌≤◌, ◌<◌, ◌↔◌, length, IfOk, IfSome, IsErrAnd};
+ghost use Rattle.std.specs.Prelude.{◌≡◌, ◌≢◌, ◌≤◌, ◌<◌, ◌+◌, ◌++◌, ◌↔◌, ◌⊎◌, [], length, IfErr, IfOk, IfSome, IsErrAnd, OnOk};
 ghost use Rattle.std.specs.IoError.{error_kind};
 
 use crate::{Files, Got};
@@ -38,26 +38,49 @@ fn read_whole<F: Read>(alloc: Global, file: &mut F, limit: usize, into: &mut Byt
     ensures too_long { result ≡ Got.TooLong → IfSome (F.remaining file.old) (λ all. limit < length all) }
 {
     let mut bytes = Bytes::new(alloc);
+    let got = read_pieces(file, limit, &mut bytes);
+    if got == Got::Whole {
+        *into = bytes;
+    }
+    got
+}
+
+/// Reads piece after piece to the end, but not past the limit.
+fn read_pieces<F: Read>(file: &mut F, limit: usize, bytes: &mut Bytes) -> Got
+    requires { bytes.old ≡ [] }
+    ensures present { result ≢ Got.Absent }
+    ensures within_limit { result ≡ Got.Whole → length bytes.new ≤ limit }
+    ensures whole { result ≡ Got.Whole → IfSome (F.remaining file.old) (λ all. bytes.new ≡ all) }
+    ensures too_long { result ≡ Got.TooLong → IfSome (F.remaining file.old) (λ all. limit < length all) }
+{
     let mut buffer = [0; BUFFER_BYTES];
     for _ in 0..u64::MAX {
         match file.read(&mut buffer) {
-            Ok(0) => {
-                *into = bytes;
-                return Got::Whole;
-            }
-            Ok(count) => {
-                if count > limit - bytes.len() {
-                    return Got::TooLong;
-                }
-                match bytes.extend(&buffer[..count]) {
-                    Ok(()) => {}
-                    Err(_) => return Got::NoMemory,
-                }
-            }
+            Ok(0) => return Got::Whole,
+            Ok(count) => match push_piece(bytes, &buffer[..count], limit) {
+                Ok(()) => {}
+                Err(got) => return got,
+            },
             Err(_) => return Got::Failed,
         }
     }
     Got::Failed
+}
+
+/// Puts a piece behind the bytes that were read before, where all of them are within the limit.
+fn push_piece(bytes: &mut Bytes, piece: &[u8], limit: usize) -> Result<(), Got>
+    requires { length bytes.old ≤ limit }
+    ensures ok { OnOk result (bytes.new ≡ bytes.old ++ piece.now) }
+    ensures within { OnOk result (length bytes.new ≤ limit) }
+    ensures fault { IfErr result (λ got. (got ≡ Got.NoMemory) ⊎ ((got ≡ Got.TooLong) × (limit < length bytes.old + length piece.now))) }
+{
+    if piece.len() > limit - bytes.len() {
+        return Err(Got::TooLong);
+    }
+    match bytes.extend(piece) {
+        Ok(()) => Ok(()),
+        Err(_) => Err(Got::NoMemory),
+    }
 }
 
 /// Reads a file that was to be opened. Every error but that there is no such file is a failure.

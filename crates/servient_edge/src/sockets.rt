@@ -12,7 +12,7 @@ use crate::turns::{CONNECTIONS, LISTENER, Took, Turn, Turns};
 use coap_msg::Endpoint;
 use mio::net::{TcpListener, TcpStream, UdpSocket};
 use mio::{Events, Interest, Poll, Token};
-use std::alloc::Global;
+use std::alloc::{AllocError, Global};
 use std::io::{self, ErrorKind};
 use std::net::{Ipv4Addr, Net, SocketAddr};
 use std::rt::Clock;
@@ -67,22 +67,25 @@ fn free_number(numbers: &[Number]) -> Option<u32>
     None
 }
 
+/// All numbers, which are free.
+fn free_numbers(alloc: Global) -> Result<Vec<Number>, AllocError> {
+    let mut numbers = Vec::with_capacity(alloc, CONNECTIONS)?;
+    for _ in 0..CONNECTIONS {
+        numbers.push(Number::Free)?;
+    }
+    Ok(numbers)
+}
+
 impl Sockets {
     /// No sockets yet.
     pub fn new<R: Net>(rt: &R, alloc: Global) -> io::Result<Sockets> {
-        let poll = Poll::new(rt)?;
-        let events = Events::with_capacity(alloc, REPORTS)?;
-        let mut numbers = Vec::with_capacity(alloc, CONNECTIONS)?;
-        for _ in 0..CONNECTIONS {
-            numbers.push(Number::Free)?;
-        }
         Ok(Sockets {
             alloc,
-            poll,
-            events,
+            numbers: free_numbers(alloc)?,
+            events: Events::with_capacity(alloc, REPORTS)?,
+            poll: Poll::new(rt)?,
             listener: None,
             udp: None,
-            numbers,
             turns: Turns::new(),
             turns_left: 0,
             datagrams_wait: false,

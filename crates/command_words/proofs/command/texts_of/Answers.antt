@@ -1,5 +1,4 @@
-use Rattle.std.proofs.Common.{◌≡◌, ◌++◌, ◌∷◌, [], arith, ℕ, List, ap, subst, sym, ◌∙◌, Bor}
-use Rattle.std.specs.List.{All}
+use Rattle.std.proofs.Common.{◌∷◌, [], arith, ℕ, List, ap, subst, sym, ◌∙◌, Bor}
 use Rattle.std.specs.Str.{IsUtf8}
 use Rattle.std.proofs.lemmas.Grind.{common_steps}
 use Rattle.std.proofs.lemmas.List.{map-append}

@@ -10,7 +10,7 @@ use Rattle.servient_cli.proofs.listening.serve_events.Goals as goal
 
 pub returns-in-Stopped : goal.returns-in-Stopped
 returns-in-Stopped g c = λ files exchanges stands.
-    let site = c.args.servient.exposed.site in
+    let site = c.args.servient.now.exposed.site in
     let w = outside (g.N.Net.seen c.args.net.now) (g.R.Handlers.slots c.args.rack.now) in
     let v = outside (g.N.Net.seen c.serve.new.net) (g.R.Handlers.slots c.serve.new.rack) in
     let made = c.in-Stopped.ensures.serves (start site exchanges) stands in
@@ -19,16 +19,16 @@ returns-in-Stopped g c = λ files exchanges stands.
 
 pub returns-in-Failed : goal.returns-in-Failed
 returns-in-Failed g c = λ files exchanges stands.
-    let site = c.args.servient.exposed.site in
+    let site = c.args.servient.now.exposed.site in
     let w = outside (g.N.Net.seen c.args.net.now) (g.R.Handlers.slots c.args.rack.now) in
     let v = outside (g.N.Net.seen c.serve.new.net) (g.R.Handlers.slots c.serve.new.rack) in
     let made = c.in-Failed.ensures.serves (start site exchanges) stands in
     seen_end (ServesEvents c.args.budget exchanges site) files w v made.2.seen 6 network_line network_line made.2.shows refl
     (has_served served.Failed made.2.seen made.0 (subst (λ (n : ℕ). Serves site n served.Failed (start site exchanges) made.2.seen made.0) c.from.ensures made.2.move) (refl, refl))
 
-pub returns : goal.returns
-returns g c = λ files exchanges stands.
-    let site = c.args.servient.exposed.site in
+pub returns-in-Spent : goal.returns-in-Spent
+returns-in-Spent g c = λ files exchanges stands.
+    let site = c.args.servient.now.exposed.site in
     let w = outside (g.N.Net.seen c.args.net.now) (g.R.Handlers.slots c.args.rack.now) in
     let v = outside (g.N.Net.seen c.serve.new.net) (g.R.Handlers.slots c.serve.new.rack) in
     let made = c.in-Spent.ensures.serves (start site exchanges) stands in

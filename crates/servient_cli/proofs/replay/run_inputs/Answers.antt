@@ -1,8 +1,6 @@
-use Rattle.std.specs.Prelude.{Ok, Err}
 use Rattle.std.proofs.lemmas.Result.{err_from_is_err_and}
 use Rattle.thing_core.specs.Exposing.{kinds_of}
 use Rattle.servient_core.specs.Trace.{outside}
-use Rattle.servient_cli.specs.declared.ending.Ended.TheVariants as ended
 use Rattle.servient_cli.specs.Stages.{around}
 use Rattle.servient_cli.specs.Opening.{Opens}
 use Rattle.servient_cli.specs.Replaying.{RunsScript}
@@ -17,17 +15,6 @@ returns-in_err-servient g c = λ files net.
     let error = err_from_is_err_and c.from_residual.result c.from_residual.ensures.1 in
     rw (error.1, error.2) (error_ends (Opens c.args.name.now (kinds_of slots) p) (RunsScript c.args.budget c.args.inputs.events p.plan.exchanges) a a c.in_err-servient.field-0.0 (c.in_err-servient.ensures.stage a))
 
-pub returns-in_err-run_script : goal.returns-in_err-run_script
-returns-in_err-run_script g c = λ files net.
-    let p = c.args.inputs.planned in
-    let slots = g.R.Handlers.slots c.args.rack.now in
-    let a = around files (outside net slots) in
-    let b = around files (outside net (g.R.Handlers.slots c.run_script.new.rack)) in
-    let site = c.in_ok-servient.servient.exposed.site in
-    let error = err_from_is_err_and c.from_residual-in_err-run_script.result c.from_residual-in_err-run_script.ensures.1 in
-    rw (error.1, error.2) (then_ends (Opens c.args.name.now (kinds_of slots) p) (RunsScript c.args.budget c.args.inputs.events p.plan.exchanges) a a b site (Err ended.NoMemory)
-    (c.in_ok-servient.ensures.stage a) (c.in_err-run_script.ensures files net p.plan.exchanges c.in_ok-servient.ensures.start))
-
 pub returns : goal.returns
 returns g c = λ files net.
     let p = c.args.inputs.planned in
@@ -35,5 +22,5 @@ returns g c = λ files net.
     let a = around files (outside net slots) in
     let b = around files (outside net (g.R.Handlers.slots c.run_script.new.rack)) in
     let site = c.in_ok-servient.servient.exposed.site in
-    then_ends (Opens c.args.name.now (kinds_of slots) p) (RunsScript c.args.budget c.args.inputs.events p.plan.exchanges) a a b site (Ok c.in_ok-run_script.field-0)
-    (c.in_ok-servient.ensures.stage a) (c.in_ok-run_script.ensures files net p.plan.exchanges c.in_ok-servient.ensures.start)
+    then_ends (Opens c.args.name.now (kinds_of slots) p) (RunsScript c.args.budget c.args.inputs.events p.plan.exchanges) a a b site c.run_script.result
+    (c.in_ok-servient.ensures.stage a) (c.run_script.ensures files net p.plan.exchanges c.in_ok-servient.ensures.start)

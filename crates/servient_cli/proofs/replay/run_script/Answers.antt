@@ -1,129 +1,26 @@
-use Rattle.std.proofs.Common.{◌∙◌, [], List, ℕ, length, refl, sym, ap, subst, map}
+use Rattle.std.proofs.Common.{[], refl}
 use Rattle.std.proofs.lemmas.Result.{err_from_is_err_and}
-use Rattle.thing_handler.specs.Turns.{turns_in}
-use Rattle.servient_edge.specs.declared.net.EventWithBytes.{EventWithBytes}
-use Rattle.servient_edge.specs.Network.{acts_in}
-use Rattle.servient_edge.specs.NetMemory.{net_seen}
-use Rattle.servient_core.specs.declared.serving.Served.TheVariants as served
-use Rattle.servient_core.specs.Trace.{happened_in, calls_in, outside}
-use Rattle.servient_core.specs.Machine.{start, Run}
-use Rattle.servient_core.proofs.PartLaws.{stands_for_some}
-use Rattle.servient_cli.specs.Merging.{HaveKept, turns_after}
-use Rattle.servient_cli.specs.Lines.{memory_line, spent_line}
+use Rattle.servient_core.specs.Trace.{outside}
+use Rattle.servient_core.specs.Machine.{start}
 use Rattle.servient_cli.specs.Stages.{around}
-use Rattle.servient_cli.specs.Replaying.{RunsScript, is_whole, is_spent, run_memory, run_events, print_of_run}
-use Rattle.servient_cli.proofs.StageLaws.{ends_memory, calls_end, calls_finish_twice}
-use Rattle.servient_cli.proofs.RunLaws.{run_of, run_none, run_first, still_known, acts_shown, printed, stopped_took, spent_took, never_failed}
-use Rattle.servient_cli.proofs.MergeLaws.{merged_since, have_kept}
+use Rattle.servient_cli.specs.Replaying.{RunsScript, run_memory, run_events}
+use Rattle.servient_cli.proofs.StageLaws.{ends_memory}
+use Rattle.servient_cli.proofs.RunLaws.{run_none}
 use Rattle.servient_cli.proofs.replay.run_script.Goals as goal
-
-pub returns-in_err-counts : goal.returns-in_err-counts
-returns-in_err-counts g c = λ files net exchanges stands.
-    let a = around files (outside net (g.R.Handlers.slots c.args.rack.now)) in
-    let site = c.args.servient.exposed.site in
-    let s = start site exchanges in
-    let error = err_from_is_err_and c.from_residual.result c.from_residual.ensures.1 in
-    rw error.1 (ends_memory (RunsScript c.args.budget c.args.events exchanges site) a (run_memory [] s 0 (run_none site s (run_events c.args.events)) (refl, refl)))
 
 pub returns-in_err-net : goal.returns-in_err-net
 returns-in_err-net g c = λ files net exchanges stands.
     let a = around files (outside net (g.R.Handlers.slots c.args.rack.now)) in
-    let site = c.args.servient.exposed.site in
+    let site = c.args.servient.now.exposed.site in
     let s = start site exchanges in
-    let error = err_from_is_err_and c.from_residual-in_err-net.result c.from_residual-in_err-net.ensures.1 in
-    rw error.1 (ends_memory (RunsScript c.args.budget c.args.events exchanges site) a (run_memory [] s 0 (run_none site s (run_events c.args.events)) (refl, refl)))
+    let error = err_from_is_err_and c.from_residual.result c.from_residual.ensures.1 in
+    rw (error.1, error.2) (ends_memory (RunsScript c.args.budget c.args.events exchanges site) a (run_memory [] s 0 (run_none site s (run_events c.args.events)) (refl, refl)))
 
-pub returns-then-lost-ne0 : goal.returns-then-lost-ne0
-returns-then-lost-ne0 g c = λ files net exchanges stands.
-    let before = g.R.Handlers.slots c.args.rack.now in
-    let after = g.R.Handlers.slots c.serve-served.new.rack in
-    let w = outside (net_seen c.in_ok-net.net) before in
-    let v = outside (net_seen c.serve-served.new.net) after in
-    let site = c.args.servient.exposed.site in
-    let s = start site exchanges in
-    let left = c.in_ok-net.ensures.left c.new.ensures in
-    let ran = run_of c.args.events c.args.budget c.serve-served.result site s c.args.servient c.serve-served.new.servient w v stands c.serve-served.ensures.serves c.requires.ends left in
-    calls_end (RunsScript c.args.budget c.args.events exchanges site) files net before after (calls_in ran.1) 9 memory_line memory_line ran.3.rack refl
-    (run_memory ran.1 ran.0 (length ran.2.took) (run_first c.args.events c.args.budget c.serve-served.result site s ran.0 ran.1 ran.2) (refl, refl))
+pub run_network-requires-clause-script : goal.run_network-requires-clause-script
+run_network-requires-clause-script g c =
+    (c.args.events, record { ends = c.requires.ends; left = c.in_ok-net.ensures.left c.new.ensures; history = c.in_ok-net.ensures.history })
 
-pub turns_since-requires : goal.turns_since-requires
-turns_since-requires g c =
-    let before = g.R.Handlers.slots c.args.rack.now in
-    let after = g.R.Handlers.slots c.serve-served.new.rack in
-    let some = stands_for_some c.args.servient in
-    let made = c.serve-served.ensures.serves some.0 some.1 in
-    subst (λ (ns : List ℕ). HaveKept ns after) (sym c.as_slice.ensures.value) (have_kept (calls_in made.2.seen) before after c.in_ok-counts.counts.items c.in_ok-counts.ensures made.2.shows.rack)
-
-pub returns-in_err-by_slot : goal.returns-in_err-by_slot
-returns-in_err-by_slot g c = λ files net exchanges stands.
-    let before = g.R.Handlers.slots c.args.rack.now in
-    let after = g.R.Handlers.slots c.serve-served.new.rack in
-    let w = outside (net_seen c.in_ok-net.net) before in
-    let v = outside (net_seen c.serve-served.new.net) after in
-    let site = c.args.servient.exposed.site in
-    let s = start site exchanges in
-    let left = c.in_ok-net.ensures.left c.new.ensures in
-    let ran = run_of c.args.events c.args.budget c.serve-served.result site s c.args.servient c.serve-served.new.servient w v stands c.serve-served.ensures.serves c.requires.ends left in
-    let error = err_from_is_err_and c.from_residual-in_err-by_slot.result c.from_residual-in_err-by_slot.ensures.1 in
-    rw error.1 (calls_end (RunsScript c.args.budget c.args.events exchanges site) files net before after (calls_in ran.1) 9 memory_line memory_line ran.3.rack refl
-    (run_memory ran.1 ran.0 (length ran.2.took) (run_first c.args.events c.args.budget c.serve-served.result site s ran.0 ran.1 ran.2) (refl, refl)))
-
-pub returns-in_err-text : goal.returns-in_err-text
-returns-in_err-text g c = λ files net exchanges stands.
-    let before = g.R.Handlers.slots c.args.rack.now in
-    let after = g.R.Handlers.slots c.serve-served.new.rack in
-    let w = outside (net_seen c.in_ok-net.net) before in
-    let v = outside (net_seen c.serve-served.new.net) after in
-    let site = c.args.servient.exposed.site in
-    let s = start site exchanges in
-    let left = c.in_ok-net.ensures.left c.new.ensures in
-    let ran = run_of c.args.events c.args.budget c.serve-served.result site s c.args.servient c.serve-served.new.servient w v stands c.serve-served.ensures.serves c.requires.ends left in
-    let error = err_from_is_err_and c.from_residual-in_err-text.result c.from_residual-in_err-text.ensures.1 in
-    rw error.1 (calls_end (RunsScript c.args.budget c.args.events exchanges site) files net before after (calls_in ran.1) 9 memory_line memory_line ran.3.rack refl
-    (run_memory ran.1 ran.0 (length ran.2.took) (run_first c.args.events c.args.budget c.serve-served.result site s ran.0 ran.1 ran.2) (refl, refl)))
-
-pub returns-in-Stopped : goal.returns-in-Stopped
-returns-in-Stopped g c = λ files net exchanges stands.
-    let before = g.R.Handlers.slots c.args.rack.now in
-    let after = g.R.Handlers.slots c.serve-served.new.rack in
-    let w = outside (net_seen c.in_ok-net.net) before in
-    let v = outside (net_seen c.serve-served.new.net) after in
-    let site = c.args.servient.exposed.site in
-    let s = start site exchanges in
-    let left = c.in_ok-net.ensures.left c.new.ensures in
-    let ran = run_of c.args.events c.args.budget served.Stopped site s c.args.servient c.serve-served.new.servient w v stands c.in-Stopped.ensures.serves c.requires.ends left in
-    let known = still_known c.args.events c.args.budget served.Stopped site s ran.0 ran.1 _ _ left ran.3.net.left ran.2 in
-    let acts = acts_shown _ _ (happened_in ran.1) c.acts.result.now c.in_ok-net.ensures.history (c.acts.ensures.tells (sym c.lost.ensures ∙ c.if-lost-ne0.false) known) ran.3.net.history c.acts.ensures.told in
-    let kept = merged_since (calls_in ran.1) before after c.in_ok-counts.counts.items (map (λ left. left.now) c.as_mut_slice.result.now) c.in_ok-counts.ensures
-    (ap (map (λ left. left.now)) c.as_mut_slice.ensures.value ∙ c.in_ok-by_slot.ensures ∙ ap (λ (ns : List ℕ). turns_after ns after) c.as_slice.ensures.value) ran.3.rack ran.2.numbered in
-    let text = printed c.in_ok-text.text c.acts.result.now (acts_in (happened_in ran.1)) (turns_in (calls_in ran.1)) acts (c.in_ok-text.ensures (turns_in (calls_in ran.1)) kept) in
-    let took = stopped_took c.args.events c.args.budget site s ran.0 ran.1 c.requires.ends ran.2 in
-    calls_end (RunsScript c.args.budget c.args.events exchanges site) files net before after (calls_in ran.1) 0 (print_of_run ran.1) c.in_ok-text.text ran.3.rack text
-    (is_whole ran.1 ran.0 took.1 (subst (λ (es : List EventWithBytes). Run site es s ran.1 ran.0) took.0 ran.2.run) (refl, refl))
-
-pub returns-in-Spent : goal.returns-in-Spent
-returns-in-Spent g c = λ files net exchanges stands.
-    let before = g.R.Handlers.slots c.args.rack.now in
-    let after = g.R.Handlers.slots c.serve-served.new.rack in
-    let w = outside (net_seen c.in_ok-net.net) before in
-    let v = outside (net_seen c.serve-served.new.net) after in
-    let site = c.args.servient.exposed.site in
-    let s = start site exchanges in
-    let left = c.in_ok-net.ensures.left c.new.ensures in
-    let ran = run_of c.args.events c.args.budget served.Spent site s c.args.servient c.serve-served.new.servient w v stands c.in-Spent.ensures.serves c.requires.ends left in
-    let known = still_known c.args.events c.args.budget served.Spent site s ran.0 ran.1 _ _ left ran.3.net.left ran.2 in
-    let acts = acts_shown _ _ (happened_in ran.1) c.acts.result.now c.in_ok-net.ensures.history (c.acts.ensures.tells (sym c.lost.ensures ∙ c.if-lost-ne0.false) known) ran.3.net.history c.acts.ensures.told in
-    let kept = merged_since (calls_in ran.1) before after c.in_ok-counts.counts.items (map (λ left. left.now) c.as_mut_slice.result.now) c.in_ok-counts.ensures
-    (ap (map (λ left. left.now)) c.as_mut_slice.ensures.value ∙ c.in_ok-by_slot.ensures ∙ ap (λ (ns : List ℕ). turns_after ns after) c.as_slice.ensures.value) ran.3.rack ran.2.numbered in
-    let text = printed c.in_ok-text.text c.acts.result.now (acts_in (happened_in ran.1)) (turns_in (calls_in ran.1)) acts (c.in_ok-text.ensures (turns_in (calls_in ran.1)) kept) in
-    let took = spent_took c.args.events c.args.budget site s ran.0 ran.1 c.requires.ends ran.2 in
-    calls_finish_twice (RunsScript c.args.budget c.args.events exchanges site) files net before after (calls_in ran.1) c.spent.result 8 (print_of_run ran.1) spent_line ran.3.rack
-    (rw text at c.spent.ensures)
-    (is_spent ran.1 ran.0 took.1 (subst (λ (es : List EventWithBytes). Run site es s ran.1 ran.0) took.0 ran.2.run) (refl, refl))
-    (run_memory ran.1 ran.0 (length ran.2.took) (run_first c.args.events c.args.budget served.Spent site s ran.0 ran.1 ran.2) (refl, refl))
-
-pub unreachable-requires : goal.unreachable-requires
-unreachable-requires g c =
-    let some = stands_for_some c.args.servient in
-    let made = c.in-Failed.ensures.serves some.0 some.1 in
-    never_failed c.args.events c.args.budget c.args.servient.exposed.site some.0 made.0 made.2.seen _ _ c.requires.ends (c.in_ok-net.ensures.left c.new.ensures) made.2.shows.net.left made.2.move
+pub returns : goal.returns
+returns g c = λ files net exchanges stands.
+    c.run_network.ensures files net exchanges c.args.events
+    (record { ends = c.requires.ends; left = c.in_ok-net.ensures.left c.new.ensures; history = c.in_ok-net.ensures.history }) stands

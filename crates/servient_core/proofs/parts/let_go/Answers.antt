@@ -1,4 +1,4 @@
-use Rattle.std.proofs.Common.{◌≡◌, ◌∙◌, ap, length, refl, arith, ℕ, List}
+use Rattle.std.proofs.Common.{◌∙◌, ap, length, refl, arith, ℕ, List}
 use Rattle.servient_core.proofs.parts.let_go.Goals as goal
 
 pub loop-target-init : goal.loop-target-init

@@ -1,7 +1,6 @@
 use Rattle.std.proofs.Common.{subst, arith}
 use Rattle.thing_ops.specs.declared.outcome.Outcome.{Outcome}
 use Rattle.thing_ops.specs.Requests.{plain_request}
-use Rattle.thing_core.specs.Performing.{MakesAct}
 use Rattle.servient_core.specs.Keeping.{IsSendable}
 use Rattle.servient_core.proofs.OutcomeLaws.{acts_sendable}
 use Rattle.servient_core.proofs.parts.perform.Goals as goal

@@ -1,6 +1,4 @@
-use Rattle.std.proofs.Common.{◌≡◌, ◌≢◌, ℕ, ◌∙◌, arith}
-use Rattle.servient_edge.specs.declared.net.What.{What}
-use Rattle.servient_edge.specs.declared.net.What.TheVariants as what
+use Rattle.std.proofs.Common.{◌∙◌, arith}
 use Rattle.servient_edge.specs.Network.{in_buffer}
 use Rattle.servient_core.proofs.ServingLaws.{progress_none, progress_more, serves_failed, serves_stopped, serves_spent, same_event}
 use Rattle.servient_core.proofs.serving.serve.Goals as goal

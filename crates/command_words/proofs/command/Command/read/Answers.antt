@@ -1,4 +1,4 @@
-use Rattle.std.proofs.Common.{◌≡◌, ap, subst, sym}
+use Rattle.std.proofs.Common.{ap, subst, sym}
 use Rattle.command_words.specs.Parts.{texts}
 use Rattle.command_words.specs.Line.{AreTexts}
 use Rattle.command_words.proofs.command.Command.read.Goals as goal

@@ -1,4 +1,4 @@
-use Rattle.std.proofs.Common.{◌≡◌, ◌∙◌, sym}
+use Rattle.std.proofs.Common.{◌∙◌}
 use Rattle.command_words.proofs.ClapForms.{not_parsed, parsed}
 use Rattle.command_words.proofs.values.Given.read.Goals as goal
 

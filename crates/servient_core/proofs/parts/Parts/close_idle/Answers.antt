@@ -1,6 +1,5 @@
-use Rattle.std.proofs.Common.{refl, subst, sym, ap, ◌<◌, ℕ, arith}
-use Rattle.std.specs.Prelude.{None}
-use Rattle.http_bind.specs.Slots.{Slots, with_held}
+use Rattle.std.proofs.Common.{subst, sym, ◌<◌}
+use Rattle.http_bind.specs.Slots.{Slots}
 use Rattle.servient_core.proofs.PartLaws.{room_after}
 use Rattle.servient_core.proofs.ConnectionLaws.{closing_begins, closing_more, closing_ends, closing_leaves_fewer, closing_ready, none_left, open_count}
 use Rattle.servient_core.proofs.parts.Parts.close_idle.Goals as goal

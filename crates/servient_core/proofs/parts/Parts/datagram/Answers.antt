@@ -1,8 +1,5 @@
-use Rattle.std.proofs.Common.{◌≡◌, ◌≤◌, ◌∷◌, [], List, ℕ, length, take, refl, sym, subst, arith}
-use Rattle.std.specs.List.{All}
-use Rattle.coap_msg.specs.declared.endpoint.Endpoint.{Endpoint}
+use Rattle.std.proofs.Common.{◌∷◌, [], List, ℕ, refl, subst, arith}
 use Rattle.coap_opts.specs.PlainAsk.{plain_ask}
-use Rattle.coap_bind.specs.Telling.{HearsAs, RepliesAs, TicketIsOpen, Tells}
 use Rattle.coap_bind.proofs.LengthLaws.{replies_fit}
 use Rattle.servient_edge.specs.declared.net.Act.TheVariants as act
 use Rattle.servient_edge.specs.Network.{NetShows, did}

@@ -1,4 +1,4 @@
-use Rattle.std.proofs.Common.{◌≡◌, refl, sym, subst}
+use Rattle.std.proofs.Common.{refl, sym, subst}
 use Rattle.servient_base.specs.Moves.{Refines}
 use Rattle.servient_base.proofs.MovesLaws.{refines_as}
 use Rattle.thing_core.specs.Thing.{Polls}

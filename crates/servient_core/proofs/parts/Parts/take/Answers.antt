@@ -1,4 +1,3 @@
-use Rattle.std.proofs.Common.{◌≡◌, refl, sym, arith, subst}
 use Rattle.thing_ops.specs.Requests.{plain_request}
 use Rattle.servient_core.specs.Trace.{outside}
 use Rattle.servient_core.proofs.PartLaws.{others_then, performed_fits}

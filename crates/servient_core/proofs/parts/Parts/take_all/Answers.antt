@@ -1,4 +1,4 @@
-use Rattle.std.proofs.Common.{Bool, subst, ◌∙◌, arith}
+use Rattle.std.proofs.Common.{Bool, subst, ◌∙◌}
 use Rattle.servient_base.specs.Moves.{Refines}
 use Rattle.servient_core.specs.Trace.{Shows, outside}
 use Rattle.servient_core.specs.Serving.{StandsFor}

@@ -1,4 +1,4 @@
-use Rattle.std.proofs.Common.{◌≡◌, ◌∙◌, sym, subst, ap}
+use Rattle.std.proofs.Common.{◌∙◌, sym, subst, ap}
 use Rattle.servient_base.specs.Moves.{Refines}
 use Rattle.thing_core.specs.Kept.{Kept, Fits}
 use Rattle.thing_core.specs.Site.{Site}

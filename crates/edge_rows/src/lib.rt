@@ -1,9 +1,5 @@
-//! Tests of the handlers in memory, and of the network, the files and the output.
+//! Tests of the network over the sockets of the machine. What else the outside and the handlers do is in the tables of `edge_tables`.
 #![tactic(auto)]
 
-#[cfg(test)]
-mod edges;
-#[cfg(test)]
-mod handlers;
 #[cfg(test)]
 mod sockets;

@@ -1,0 +1,136 @@
+//! What an HTTP server with one value says on its connections. The value is 7 at first: GET reads it, or gives the query where there is
+//! one, PUT writes it, POST changes nothing, and no other method is taken.
+//!
+//! The room that requests are read in is lent to all functions here, since to take it anew for each message costs more than all else.
+
+ghost use Rattle.std.specs.Prelude.{◌≡◌, ◌<◌, ◌≤◌, ◌⊎◌, Ok, false, IsSome, OnOk, length};
+ghost use Rattle.http_bind.specs.Replying.{fault_word};
+ghost use Rattle.http_bind.specs.Slots.{HasRoom, IsOpen};
+
+use crate::outcomes::property_verbs;
+use http_bind::{HttpBind, HttpNext, HttpOut};
+use std::alloc::{AllocError, Global};
+use thing_ops::{Outcome, Request, Verb};
+use wot_json::Bytes;
+
+/// The value, what was sent, and the moment.
+#[derive(Drop)]
+pub struct Talk {
+    pub alloc: Global,
+    value: Vec<u8>,
+    pub sent: Vec<u8>,
+    pub now: u64,
+}
+
+impl Talk {
+    /// No value yet, and nothing sent.
+    pub fn new(alloc: Global) -> Talk {
+        Talk {
+            alloc,
+            value: Vec::new(alloc),
+            sent: Vec::new(alloc),
+            now: 0,
+        }
+    }
+
+    /// The first value, and nothing sent.
+    pub fn begin(&mut self) -> Result<(), AllocError> {
+        self.sent.clear();
+        self.value.clear();
+        self.value.extend_from_slice(b"7")
+    }
+
+    /// Writes the value.
+    fn write(&mut self, value: &[u8]) -> Result<(), AllocError> {
+        self.value.clear();
+        self.value.extend_from_slice(value)
+    }
+
+    /// Puts down what is sent.
+    fn send(&mut self, out: &HttpOut<'_>) -> Result<(), AllocError> {
+        self.sent.extend_from_slice(out.head)?;
+        self.sent.extend_from_slice(out.body)?;
+        if out.close {
+            self.sent.extend_from_slice(b"<closed>")?;
+        }
+        Ok(())
+    }
+}
+
+/// What the one value is asked.
+fn perform(request: &Request<'_>, talk: &mut Talk) -> Result<Outcome, AllocError> {
+    match request.verb {
+        Verb::Get | Verb::Head => {
+            let text = if request.query.is_empty() {
+                talk.value.as_slice()
+            } else {
+                request.query
+            };
+            Ok(Outcome::Content(Bytes::copy_of(talk.alloc, text)?))
+        }
+        Verb::Put => {
+            talk.write(request.body)?;
+            Ok(Outcome::Changed)
+        }
+        Verb::Post => Ok(Outcome::Changed),
+        Verb::Patch | Verb::Delete | Verb::Other => Ok(Outcome::NotAllowed(property_verbs())),
+    }
+}
+
+/// Puts down the refusal of what came on a connection, or the 100 reply.
+fn refuse(http: &mut HttpBind, c: u32, status: u16, talk: &mut Talk) -> Result<(), AllocError>
+    requires connection { c < 64 }
+    requires status { (status ≡ 100) ⊎ IsSome (fault_word status) }
+{
+    let mut out = [0; 4096];
+    let mut word = [0; 32];
+    talk.send(&http.refused(c, status, &mut out, &mut word))
+}
+
+/// Puts down the reply to a request that came to this.
+fn answer(http: &mut HttpBind, c: u32, outcome: &Outcome, talk: &mut Talk) -> Result<(), AllocError>
+    requires connection { c < 64 }
+    requires open { IsOpen c http.old }
+{
+    let mut out = [0; 4096];
+    let mut word = [0; 32];
+    talk.send(&http.answered(c, outcome, talk.now, &mut out, &mut word))
+}
+
+/// Does what is to be done next on a connection; false where that is nothing.
+fn turn(http: &mut HttpBind, c: u32, talk: &mut Talk, room: &mut [u8]) -> Result<bool, AllocError>
+    requires connection { c < 64 }
+    requires room { 24576 ≤ length room.old }
+    ensures { result ≡ Ok false → HasRoom c http.new }
+{
+    match http.next(c, room) {
+        HttpNext::Idle => return Ok(false),
+        HttpNext::Continue => refuse(http, c, 100, talk)?,
+        HttpNext::Refuse(status) => refuse(http, c, status, talk)?,
+        HttpNext::Ask(request) => {
+            let outcome = perform(&request, talk)?;
+            answer(http, c, &outcome, talk)?;
+        }
+        HttpNext::Memory => return Err(AllocError),
+    }
+    Ok(true)
+}
+
+/// Does what is to be done on a connection, until nothing is left; more than 16 messages are as good as no memory.
+pub fn handle(
+    http: &mut HttpBind,
+    c: u32,
+    talk: &mut Talk,
+    room: &mut [u8],
+) -> Result<(), AllocError>
+    requires connection { c < 64 }
+    requires room { 24576 ≤ length room.old }
+    ensures { OnOk result (HasRoom c http.new) }
+{
+    for _ in 0..16 {
+        if !turn(http, c, talk, room)? {
+            return Ok(());
+        }
+    }
+    Err(AllocError)
+}

@@ -1,0 +1,39 @@
+//! Request targets: bytes, the segments of their paths, and where their queries begin.
+
+use crate::runs;
+use http_wire::{TargetFault, segments};
+use std::alloc::{AllocError, Global};
+use std::fmt::Write;
+use thing_ops::Segments;
+
+/// A segment in brackets.
+fn put_segment(text: &mut String, segment: &[u8]) -> Result<(), AllocError> {
+    text.push_str("[")?;
+    runs::put_plain(text, segment)?;
+    text.push_str("]")
+}
+
+/// The segments of a path, `-` where there are none.
+pub fn put_path(text: &mut String, path: &Segments) -> Result<(), AllocError> {
+    if path.is_empty() {
+        return text.push_str("-");
+    }
+    for index in 0..path.len() {
+        put_segment(text, path.get(index).unwrap_or(b"nothing"))?;
+    }
+    Ok(())
+}
+
+/// The segments of a path, and where the query begins.
+fn put_found(text: &mut String, path: &Segments, place: usize) -> Result<(), AllocError> {
+    put_path(text, path)?;
+    write!(text, " query at {place}")
+}
+
+pub fn put(text: &mut String, alloc: Global, bytes: &[u8]) -> Result<(), AllocError> {
+    match segments(alloc, bytes) {
+        Ok((path, place)) => put_found(text, &path, place),
+        Err(TargetFault::NoMemory) => Err(AllocError),
+        Err(fault) => write!(text, "{fault:?}"),
+    }
+}

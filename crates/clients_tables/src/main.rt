@@ -1,0 +1,50 @@
+//! Histories of a CoAP client: what it is asked, what comes to it and what is due, a step a line, and behind ` => ` what it sends and tells.
+//! Each argument names a file of histories; an empty line ends one, and the next client is new. The program prints each step with what
+//! does come of it, and each other line as it is: so it prints its files, if all is right.
+//!
+//! - `first id N`: before the first step, the id of the first message where that isn't 0;
+//! - `at MOMENT request HOST METHOD PATH`, perhaps `Content-Format=N` and a payload: asks for something;
+//! - `at MOMENT observe ..` and `at MOMENT unobserve ..`: the same with Observe 0 and 1;
+//! - `at MOMENT hears HOST` and a message: a datagram comes;
+//! - `at MOMENT due`: does what is due;
+//! - `at MOMENT resets N HOST METHOD PATH`: asks N times, each time answered by a reset with the id of the request.
+#![tactic(auto)]
+
+mod asking;
+mod hearing;
+mod history;
+mod resetting;
+
+use std::alloc::{AllocError, Global};
+use std::{env, fs, io};
+
+/// Histories, with an empty line between them.
+fn put_histories(text: &mut String, alloc: Global, lines: &str) -> Result<(), AllocError> {
+    for (index, lines) in lines.split("\n\n").enumerate() {
+        if index > 0 {
+            text.push_str("\n")?;
+        }
+        history::put(text, alloc, lines)?;
+    }
+    Ok(())
+}
+
+/// The same as a text of its own.
+fn page(alloc: Global, lines: &str) -> Result<String, AllocError> {
+    let mut text = String::new(alloc);
+    put_histories(&mut text, alloc, lines)?;
+    Ok(text)
+}
+
+/// Prints the histories of a file.
+fn print(rt: &HostRuntime, name: &str) -> io::Result<()> {
+    let lines = fs::read_to_string(rt, name)?;
+    rt.print(page(rt.alloc(), lines.as_str())?)
+}
+
+fn main(rt: HostRuntime) -> io::Result<()> {
+    for name in env::args(&rt)?.skip(1) {
+        print(&rt, name.as_str())?;
+    }
+    Ok(())
+}

@@ -1,0 +1,46 @@
+//! Sessions of the servient on files, a network and devices in memory. Each word names a file. `scripts` and `faults` are files of rows: what is
+//! given, ` => `, and what comes of it. The others have cases, which are separated by empty lines; `case.rt` has the lines of a case. The
+//! program prints each case with what its command prints, what it does to the network, and the status that it ends with: so it prints its
+//! files, if all is right.
+#![tactic(auto)]
+
+mod acts;
+mod case;
+mod crowded;
+mod cuts;
+mod devices;
+mod running;
+mod scripts;
+mod sessions;
+mod spelling;
+
+use std::alloc::{AllocError, Global};
+use std::{env, fs, io};
+
+/// Writes what a file of this name comes to.
+fn put_file(text: &mut String, alloc: Global, name: &str, lines: &str) -> Result<(), AllocError> {
+    match name {
+        "scripts" | "faults" => scripts::put_rows(text, alloc, name, lines),
+        _ => sessions::put_cases(text, alloc, lines),
+    }
+}
+
+/// What a file of this name comes to.
+fn page(alloc: Global, name: &str, lines: &str) -> Result<String, AllocError> {
+    let mut text = String::new(alloc);
+    put_file(&mut text, alloc, name, lines)?;
+    Ok(text)
+}
+
+/// Prints a file with what comes of it.
+fn print(rt: &HostRuntime, name: &str) -> io::Result<()> {
+    let lines = fs::read_to_string(rt, name)?;
+    rt.print(page(rt.alloc(), name, lines.as_str())?)
+}
+
+fn main(rt: HostRuntime) -> io::Result<()> {
+    for name in env::args(&rt)?.skip(1) {
+        print(&rt, name.as_str())?;
+    }
+    Ok(())
+}

@@ -1,9 +1,0 @@
-use Rattle.std.proofs.Common.{sym, subst}
-use Rattle.thing_core.specs.Site.{Site}
-use Rattle.thing_core.specs.Kept.{Fits}
-use Rattle.things_rows.proofs.lamp.performed.Goals as goal
-
-pub returns-clause-fits : goal.returns-clause-fits
-returns-clause-fits g c =
-    subst (λ (x : Site). Fits x (g.R.Handlers.slots c.perform-outcome.new.rack)) (sym c.handed_out.ensures.site)
-    (c.a_rack_fits_on.ensures c.args.exposed.now c.perform-outcome.new.self _ c.perform-outcome.result (g.R.Handlers.slots c.args.rack.now) (g.R.Handlers.slots c.perform-outcome.new.rack) c.perform-outcome.ensures c.requires.fits)

@@ -1,0 +1,96 @@
+//! Requests in words: the verb, the path, how it is sent, and the body.
+//!
+//! ```text
+//! PUT /lamp/properties/status 100
+//! GET /lamp/properties/status accept=td
+//! PUT /lamp/properties/status accept=td format=other 101
+//! ```
+//!
+//! Without a word the sender takes JSON and says nothing of what it sends. The body is bytes in text.
+
+use thing_ops::{Accept, Format, Verb};
+
+/// What a request asks, its path and its body still in text.
+#[derive(Clone, Copy)]
+pub struct Ask<'a> {
+    pub verb: Verb,
+    pub path: &'a str,
+    pub accept: Accept,
+    pub format: Format,
+    pub body: &'a str,
+}
+
+/// The verb of a method.
+fn verb_of(method: &str) -> Verb {
+    match method {
+        "GET" => Verb::Get,
+        "HEAD" => Verb::Head,
+        "PUT" => Verb::Put,
+        "POST" => Verb::Post,
+        "PATCH" => Verb::Patch,
+        "DELETE" => Verb::Delete,
+        _ => Verb::Other,
+    }
+}
+
+/// What a sender takes, by the word for it.
+fn accept_of(word: &str) -> Option<Accept> {
+    match word {
+        "accept=td" => Some(Accept {
+            json: false,
+            td: true,
+        }),
+        "accept=both" => Some(Accept {
+            json: true,
+            td: true,
+        }),
+        "accept=none" => Some(Accept {
+            json: false,
+            td: false,
+        }),
+        _ => None,
+    }
+}
+
+/// The format of a body, by the word for it.
+fn format_of(word: &str) -> Option<Format> {
+    match word {
+        "format=json" => Some(Format::Json),
+        "format=td" => Some(Format::Td),
+        "format=patch" => Some(Format::Patch),
+        "format=other" => Some(Format::Other),
+        _ => None,
+    }
+}
+
+/// The first word of a text, and what follows it.
+fn cut(text: &str) -> (&str, &str) {
+    text.split_once(' ').unwrap_or((text, ""))
+}
+
+/// The request of these words.
+pub fn ask_of(given: &str) -> Ask<'_> {
+    let (method, rest) = cut(given);
+    let (path, rest) = cut(rest);
+    let mut ask = Ask {
+        verb: verb_of(method),
+        path,
+        accept: Accept {
+            json: true,
+            td: false,
+        },
+        format: Format::Absent,
+        body: rest,
+    };
+    let (word, rest) = cut(ask.body);
+    if let Some(accept) = accept_of(word) {
+        ask.accept = accept;
+        ask.body = rest;
+    }
+    let (word, rest) = cut(ask.body);
+    if let Some(format) = format_of(word) {
+        ask.format = format;
+        ask.body = rest;
+    }
+    ask
+}

@@ -1,0 +1,63 @@
+//! What stands before the steps of a case of `exposing` and `acts`:
+//!
+//! ```text
+//! = SEGMENT              the Thing, by the segment of its path; the lines after it are its description
+//! slot POINTER N         the slot of one of its affordances
+//! @ KIND ANSWERS         a device of this kind in the next slot, with these answers, `; ` between them; without any the rack is the shipped one
+//! ```
+//!
+//! A case without a step is read behind the lines of each later case of its file.
+
+use crate::devices::{Device, device_of};
+use std::alloc::{AllocError, Global};
+use thing_core::Slots;
+use wot_json::Text;
+
+/// A Thing, the slots of its affordances, and devices.
+#[derive(Drop)]
+pub struct Case {
+    alloc: Global,
+    pub segment: String,
+    pub description: String,
+    pub slots: Slots,
+    pub devices: Vec<Device>,
+}
+
+impl Case {
+    pub fn new(alloc: Global) -> Case {
+        Case {
+            alloc,
+            segment: String::new(alloc),
+            description: String::new(alloc),
+            slots: Slots::new(alloc),
+            devices: Vec::new(alloc),
+        }
+    }
+
+    /// A slot.
+    fn place(&mut self, rest: &str) -> Result<(), AllocError> {
+        let (pointer, slot) = rest.split_once(' ').unwrap_or((rest, "0"));
+        let segment = Text::copy_of(self.alloc, "lamp")?;
+        let pointer = Text::copy_of(self.alloc, pointer)?;
+        self.slots
+            .push(segment, pointer, slot.parse::<usize>().unwrap_or(0))
+    }
+
+    /// A device.
+    fn fit(&mut self, what: &str) -> Result<(), AllocError> {
+        let device = device_of(self.alloc, what)?;
+        self.devices.push(device)?;
+        Ok(())
+    }
+
+    /// Takes a line that is no step.
+    pub fn take(&mut self, line: &str) -> Result<(), AllocError> {
+        match line.split_once(' ') {
+            Some(("#", _text)) => Ok(()),
+            Some(("=", segment)) => self.segment.push_str(segment),
+            Some(("slot", rest)) => self.place(rest),
+            Some(("@", what)) => self.fit(what),
+            _ => self.description.push_str(line),
+        }
+    }
+}

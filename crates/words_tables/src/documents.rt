@@ -8,7 +8,7 @@
 //! trees      JSON has TEXT => true             whether one is that text or a list that has it
 //! trees      member NAME of JSON => JSON       a member, or nothing
 //! trees      rebuild JSON => JSON, N           an equal tree whose list or object is taken apart and built again, and its size
-//! trees      push NAME JSON => JSON            an object of one member
+//! trees      push JSON and JSON => JSON, N     an object of two members, `a` and `b`, and its size
 //! ```
 
 use crate::expansion::size_of;
@@ -142,22 +142,19 @@ fn put_again(said: &mut String, alloc: Global, text: &str) -> Result<(), AllocEr
     }
 }
 
-/// An object of one member.
-fn object_of(alloc: Global, name: &str, value: Tree) -> Result<Tree, AllocError> {
+/// An object of two members, which are put down one after another.
+fn pair_of(alloc: Global, first: Tree, second: Tree) -> Result<Members, AllocError> {
     let mut members = Members::new(alloc);
-    members.push(Text::copy_of(alloc, name)?, value)?;
-    Ok(Tree::Obj(members))
+    members.push(Text::copy_of(alloc, "a")?, first)?;
+    members.push(Text::copy_of(alloc, "b")?, second)?;
+    Ok(members)
 }
 
-/// Writes an object of one member.
-fn put_object_of(
-    said: &mut String,
-    alloc: Global,
-    name: &str,
-    text: &str,
-) -> Result<(), AllocError> {
-    let object = object_of(alloc, name, tree_of(alloc, text)?)?;
-    put_tree(said, alloc, &object)
+/// Writes an object of two members, and its size.
+fn put_pair(said: &mut String, alloc: Global, first: &str, second: &str) -> Result<(), AllocError> {
+    let first = tree_of(alloc, first)?;
+    let pair = pair_of(alloc, first, tree_of(alloc, second)?)?;
+    put_object(said, alloc, pair)
 }
 
 /// Writes what comes of a row about trees.
@@ -175,8 +172,8 @@ pub fn put_tree_row(said: &mut String, alloc: Global, given: &str) -> Result<(),
             put_member(said, alloc, name, text)
         }
         "push" => {
-            let (name, text) = rest.split_once(' ').unwrap_or((rest, ""));
-            put_object_of(said, alloc, name, text)
+            let (first, second) = rest.split_once(" and ").unwrap_or((rest, ""));
+            put_pair(said, alloc, first, second)
         }
         _ => put_again(said, alloc, rest),
     }

@@ -19,8 +19,8 @@ const MOST_OUTPUT: usize = 1_048_576;
 
 /// The words of a command, and the rack that it has: devices, and how many slots.
 #[derive(Drop)]
-struct Command {
-    words: Vec<Text>,
+struct Command<'a> {
+    words: &'a [Text],
     devices: Vec<Device>,
     slots: usize,
 }
@@ -35,12 +35,12 @@ fn words_of(alloc: Global, words: &str) -> Result<Vec<Text>, AllocError> {
 }
 
 /// The command of these words.
-fn command_of(alloc: Global, case: &mut Case, words: &str) -> Result<Command, AllocError> {
-    Ok(Command {
-        words: words_of(alloc, words)?,
+fn command_of<'a>(alloc: Global, case: &mut Case, words: &'a [Text]) -> Command<'a> {
+    Command {
+        words,
         devices: mem::replace(&mut case.devices, Vec::new(alloc)),
         slots: case.slots,
-    })
+    }
 }
 
 /// The files of a case.
@@ -90,7 +90,7 @@ fn scripted(alloc: Global, device: Device) -> Scripted {
 /// Runs a command on its devices, and else the shipped ones: its status.
 fn run<N: Net>(
     alloc: Global,
-    command: Command,
+    command: Command<'_>,
     files: &mut FilesMemory,
     net: &mut N,
     out: &mut OutMemory,
@@ -113,7 +113,7 @@ fn run<N: Net>(
         return Err(AllocError);
     }
     let mut rack = Rack::new(alloc, list);
-    Ok(servient_main(alloc, words.as_slice(), files, net, &mut rack, out))
+    Ok(servient_main(alloc, words, files, net, &mut rack, out))
 }
 
 /// Runs the command of a case, and writes what it did to the network: its status.
@@ -125,7 +125,8 @@ fn status_of(
     out: &mut OutMemory,
 ) -> Result<u8, AllocError> {
     let mut files = files_of(alloc, case)?;
-    let command = command_of(alloc, case, words)?;
+    let words = words_of(alloc, words)?;
+    let command = command_of(alloc, case, words.as_slice());
     if case.is_crowded {
         return run(alloc, command, &mut files, &mut Crowded, out);
     }

@@ -63,8 +63,8 @@ fn run(rt: &HostRuntime) -> ExitCode {
 }
 
 /// How the run ends.
-fn ended(rt: &HostRuntime, result: io::Result<()>) -> ExitCode {
-    match result {
+fn ended(rt: &HostRuntime, outcome: io::Result<()>) -> ExitCode {
+    match outcome {
         Ok(()) => ExitCode::SUCCESS,
         Err(error) => {
             let _ = println!(rt; "failed: {error}");

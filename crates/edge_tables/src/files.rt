@@ -4,7 +4,7 @@
 use crate::lines::{fails_of, put_given, put_words, size_of};
 use crate::runs;
 use case_notation::bytes_of;
-use servient_edge::{FileRead, Files, FilesMemory, Got, Held, HeldFile};
+use servient_outside::{FileRead, Files, FilesMemory, Got, Held, HeldFile};
 use std::alloc::{AllocError, Global};
 use std::fmt::Write;
 use wot_json::{Bytes, Text};

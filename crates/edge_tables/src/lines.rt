@@ -2,7 +2,7 @@
 
 use case_notation::number;
 use coap_msg::Endpoint;
-use servient_edge::Calls;
+use servient_outside::Calls;
 use std::alloc::{AllocError, Global};
 
 /// Writes a line that is no step.

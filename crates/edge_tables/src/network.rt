@@ -2,13 +2,13 @@
 //! `datagram ..`, `send ..`, `close ..`, `dial ..`, `find ..`, and `acts` for all that was done to it.
 
 ghost use Rattle.std.specs.Prelude.{◌<◌, IfOk, IfSome};
-ghost use Rattle.servient_edge.specs.Network.{IsWithinBounds, MayCome};
+ghost use Rattle.servient_outside.specs.Network.{IsWithinBounds, MayCome};
 
 use crate::lines::{endpoint_of, fails_of, put_given, put_words};
 use crate::runs;
 use case_notation::{bytes_of, number, put as put_bytes};
 use coap_msg::Endpoint;
-use servient_edge::{Act, Event, EventWithBytes, Events, Net, NetMemory, Next, Place, What};
+use servient_outside::{Act, Event, EventWithBytes, Events, Net, NetMemory, Next, Place, What};
 use std::alloc::{AllocError, Global};
 use std::fmt::Write;
 use wot_json::{Bytes, Text};

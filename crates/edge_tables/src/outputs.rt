@@ -3,7 +3,7 @@
 use crate::lines::{fails_of, put_given, put_words, size_of};
 use crate::runs;
 use case_notation::bytes_of;
-use servient_edge::{Out, OutMemory};
+use servient_outside::{Out, OutMemory};
 use std::alloc::{AllocError, Global};
 use std::fmt::Write;
 

@@ -4,8 +4,8 @@ use Rattle.std.proofs.lemmas.Option.{same_Some}
 use Rattle.wot_json.specs.Tree.{Json}
 use Rattle.wot_json.specs.Meaning.{json_of}
 use Rattle.wot_terms.specs.Faults.{faults_of}
-use Rattle.servient_edge.specs.declared.files.HeldFile.{HeldFile}
-use Rattle.servient_edge.specs.Network.{break_count}
+use Rattle.servient_outside.specs.declared.files.HeldFile.{HeldFile}
+use Rattle.servient_outside.specs.Network.{break_count}
 use Rattle.wot_terms.specs.declared.kind.Kind.{Kind}
 use Rattle.thing_core.specs.Site.{expose_faults}
 use Rattle.thing_core.specs.Exposing.{kinds_of}
@@ -27,7 +27,8 @@ use Rattle.servient_cli.specs.Reading.{ReadsFile, ReadsTree, longest_json}
 use Rattle.servient_cli.specs.Replaying.{plan_name, ReadsInputs, run_events, RunsOn}
 use Rattle.servient_cli.specs.Checking.{Checks, IsFaultlessDescription, Judges}
 use Rattle.servient_cli.specs.Deriving.{ReadsPlanned, Derives, derived_of, Prints, DerivesAndPrints}
-use Rattle.servient_cli.specs.Command.{IsFaultless, HasFaultlessFiles, IsReported, OutSeen, Ends, NothingFailed, IsWell, Does, Commands, is_built, is_serving, is_no_command, is_command, words_memory}
+use Rattle.servient_outside.specs.Out.{OutSeen}
+use Rattle.servient_cli.specs.Command.{IsFaultless, HasFaultlessFiles, IsReported, Ends, NothingFailed, IsWell, Does, Commands, is_built, is_serving, is_no_command, is_command, words_memory}
 use Rattle.servient_cli.proofs.FaultlessStages.{GoesOn, EndsWell, by_memory, same_status, HasTrouble, what_trouble, rose_some, then_well, read_well, tree_well, judge_well, derive_well, print_well, planned_well, with_events, inputs_well, run_on_well}
 use Rattle.servient_cli.proofs.ServedStages.{IsServed, serving_well}
 
@@ -84,13 +85,13 @@ command_well held kinds words seen o fine quiet (words_memory out) = inl (inr ou
 
 -- the whole call, from how its command came out and what was reported of it
 pub call_ends : (words : List (List ℕ)) (before now : Around) (out out_now : OutSeen) (status result : ℕ) (text : List ℕ) → ComesOut (Commands before.files.held (kinds_of before.outside.slots) words) before now (ends status) text
-    → IsReported status text out.written out_now.written out.faults out_now.faults result → Ends words before now out out_now result
+    → IsReported status text out out_now result → Ends words before now out out_now result
 call_ends words before now out out_now status result text comes reported = record {
   seen = comes.seen;
   status = status;
   command = comes.stage;
   shows = comes.shows;
-  reported = subst (λ (t : List ℕ). IsReported status t out.written out_now.written out.faults out_now.faults result) (sym comes.text_is) reported;
+  reported = subst (λ (t : List ℕ). IsReported status t out out_now result) (sym comes.text_is) reported;
 }
 
 -- what words lead to: a command that is built

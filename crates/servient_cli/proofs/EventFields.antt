@@ -1,8 +1,8 @@
 -- The fields of a line, and which event they are.
 use Rattle.std.proofs.Common.{◌≡◌, ℕ, List, [], ◌∷◌, codes, decimal, refl, ap, arith}
 use Rattle.coap_msg.specs.declared.endpoint.Endpoint.{Endpoint}
-use Rattle.servient_edge.specs.declared.net.What.{What}
-use Rattle.servient_edge.specs.declared.net.What.TheVariants.{Opened, Bytes, Ended, Datagram, Tick, Stop}
+use Rattle.servient_outside.specs.declared.net.What.{What}
+use Rattle.servient_outside.specs.declared.net.What.TheVariants.{Opened, Bytes, Ended, Datagram, Tick, Stop}
 use Rattle.servient_cli.specs.Script.{endpoint_text, hex_text, what_fields}
 
 -- the first byte of the first field

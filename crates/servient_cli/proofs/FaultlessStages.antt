@@ -2,8 +2,8 @@
 use Rattle.std.proofs.Common.{◌≡◌, ◌<◌, ◌≤◌, ◌⊎◌, ℕ, List, [], ◌∷◌, ◌++◌, length, Result, Ok, Err, Option, Some, None, refl, sym, ap, ◌∙◌, subst, arith, inl, inr}
 use Rattle.std.specs.Prelude.{IfSome, IsSome, IsSomeAnd, slice_get}
 use Rattle.tm_parts.specs.Library.{Models, MayAdd, with_model}
-use Rattle.servient_core.specs.declared.plan.Plan.{Plan}
-use Rattle.servient_core.specs.Plan.{plan_of}
+use Rattle.servient_plan.specs.declared.plan.Plan.{Plan}
+use Rattle.servient_plan.specs.Plan.{plan_of}
 use Rattle.std.proofs.lemmas.Option.{same_Some}
 use Rattle.servient_base.specs.Count.{Rose, RoseBy}
 use Rattle.wot_json.specs.Tree.{Json}
@@ -12,10 +12,10 @@ use Rattle.wot_json.specs.Meaning.{json_of}
 use Rattle.wot_json.specs.declared.tree.Tree.{Tree}
 use Rattle.wot_json.specs.Reading.{tree_of}
 use Rattle.wot_terms.specs.Faults.{faults_of}
-use Rattle.servient_edge.specs.declared.files.HeldFile.{HeldFile}
-use Rattle.servient_edge.specs.declared.net.EventWithBytes.{EventWithBytes}
-use Rattle.servient_edge.specs.Files.{content_of}
-use Rattle.servient_edge.specs.Network.{heard, did, broke, break_count}
+use Rattle.servient_outside.specs.declared.files.HeldFile.{HeldFile}
+use Rattle.servient_outside.specs.declared.net.EventWithBytes.{EventWithBytes}
+use Rattle.servient_outside.specs.Files.{content_of}
+use Rattle.servient_outside.specs.Network.{heard, did, broke, break_count}
 use Rattle.wot_terms.specs.declared.kind.Kind.{Kind}
 use Rattle.thing_core.specs.Site.{Slots, site_of, expose_faults}
 use Rattle.thing_core.specs.Exposing.{IsFirst}
@@ -118,10 +118,10 @@ then_well Well memory P Q Good seen o quiet p q (ends_first status stage is) = e
   | inl goes ↦ absurd (on_no_end goes.0 status goes.2)
   | inr nine ↦ memory o (is ∙ ap (λ (n : ℕ). ends n) (same_status status 9 nine))
 ]
-then_well Well memory P Q Good seen o quiet p q (goes_further value before after one other whole) =
-    let all : ¬ (HasTrouble (before ++ after)) = subst (λ (s : List Deed). ¬ (HasTrouble s)) whole quiet in
-    elim (p before (goes_on value) (quiet_before before after all) one) [
-      | inl goes ↦ q value (subst Good (sym (same_value value goes.0 goes.2)) goes.1) after (quiet_after before after all) other
+then_well Well memory P Q Good seen o quiet p q (goes_further (value, both)) =
+    let all : ¬ (HasTrouble (both.first ++ both.second)) = subst (λ (s : List Deed). ¬ (HasTrouble s)) both.whole quiet in
+    elim (p both.first (goes_on value) (quiet_before both.first both.second all) both.one) [
+      | inl goes ↦ q value (subst Good (sym (same_value value goes.0 goes.2)) goes.1) both.second (quiet_after both.first both.second all) both.other
       | inr nine ↦ absurd (end_no_on value 9 nine)
     ]
 
@@ -132,10 +132,10 @@ then_goes P Q Good Fine seen o quiet p q (ends_first status stage is) = elim (p 
   | inl goes ↦ absurd (on_no_end goes.0 status goes.2)
   | inr nine ↦ inr (is ∙ ap (λ (n : ℕ). ends n) (same_status status 9 nine))
 ]
-then_goes P Q Good Fine seen o quiet p q (goes_further value before after one other whole) =
-    let all : ¬ (HasTrouble (before ++ after)) = subst (λ (s : List Deed). ¬ (HasTrouble s)) whole quiet in
-    elim (p before (goes_on value) (quiet_before before after all) one) [
-      | inl goes ↦ q value (subst Good (sym (same_value value goes.0 goes.2)) goes.1) after (quiet_after before after all) other
+then_goes P Q Good Fine seen o quiet p q (goes_further (value, both)) =
+    let all : ¬ (HasTrouble (both.first ++ both.second)) = subst (λ (s : List Deed). ¬ (HasTrouble s)) both.whole quiet in
+    elim (p both.first (goes_on value) (quiet_before both.first both.second all) both.one) [
+      | inl goes ↦ q value (subst Good (sym (same_value value goes.0 goes.2)) goes.1) both.second (quiet_after both.first both.second all) both.other
       | inr nine ↦ absurd (end_no_on value 9 nine)
     ]
 

@@ -5,10 +5,10 @@ use Rattle.std.proofs.lemmas.List.{append_cancel_right}
 use Rattle.std.proofs.lemmas.List.Elements.{All-weaker}
 use Rattle.std.proofs.lemmas.Str.{IsUtf8-from_ascii}
 use Rattle.std.proofs.lemmas.Str.Ascii.{IsAscii-from_all}
-use Rattle.servient_edge.specs.declared.net.What.{What}
-use Rattle.servient_edge.specs.declared.net.What.TheVariants.{Opened, Bytes, Ended, Datagram, Tick, Stop}
-use Rattle.servient_edge.specs.declared.net.EventWithBytes.{EventWithBytes}
-use Rattle.servient_edge.specs.Network.{MayCome}
+use Rattle.servient_outside.specs.declared.net.What.{What}
+use Rattle.servient_outside.specs.declared.net.What.TheVariants.{Opened, Bytes, Ended, Datagram, Tick, Stop}
+use Rattle.servient_outside.specs.declared.net.EventWithBytes.{EventWithBytes}
+use Rattle.servient_outside.specs.Network.{MayCome}
 use Rattle.servient_cli.specs.Fields.{AreFields, fields_text}
 use Rattle.servient_cli.specs.Script.{IsScriptEvent, IsScriptWhat, line_fields, line_text, what_fields}
 use Rattle.servient_cli.proofs.FieldTexts.{AreGraphic, IsGraphic-decimal, IsGraphic-endpoint_text, IsGraphic-hex_text, IsGraphic-word, IsPrintable, IsPrintable-fields_text, graphic_are_fields}

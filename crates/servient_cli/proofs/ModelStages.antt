@@ -5,17 +5,17 @@ use Rattle.wot_json.specs.Tree.{Json}
 use Rattle.std.specs.declared.alloc.AllocError.{AllocError}
 use Rattle.std.proofs.lemmas.List.{drop_all}
 use Rattle.tm_parts.specs.Library.{Models, with_model}
-use Rattle.servient_edge.specs.declared.files.HeldFile.{HeldFile}
+use Rattle.servient_outside.specs.declared.files.HeldFile.{HeldFile}
 use Rattle.wot_json.specs.declared.tree.Tree.{Tree}
 use Rattle.tm_derive.specs.declared.fault.DeriveFault.{DeriveFault}
 use Rattle.tm_derive.specs.declared.fault.DeriveFault.TheVariants.{NoMemory}
-use Rattle.servient_core.specs.declared.plan.Plan.{Plan}
+use Rattle.servient_plan.specs.declared.plan.Plan.{Plan}
 use Rattle.wot_terms.specs.declared.kind.Kind.{Kind}
 use Rattle.thing_core.specs.Site.{Slots, expose_faults}
 use Rattle.thing_core.specs.Exposing.{IsFirst}
 use Rattle.thing_core.specs.declared.fault.ExposeFault.{ExposeFault}
 use Rattle.thing_core.specs.declared.fault.ExposeFault.TheVariants as misfit
-use Rattle.servient_edge.specs.declared.net.EventWithBytes.{EventWithBytes}
+use Rattle.servient_outside.specs.declared.net.EventWithBytes.{EventWithBytes}
 use Rattle.servient_core.specs.Trace.{Outside}
 use Rattle.servient_core.specs.Machine.{Site}
 use Rattle.servient_cli.specs.declared.derivation.Planned.{Planned}
@@ -25,7 +25,8 @@ use Rattle.servient_cli.specs.declared.ending.Ending.{Ending}
 use Rattle.servient_cli.specs.declared.ending.Ended.{Ended}
 use Rattle.servient_cli.specs.declared.ending.Ended.TheVariants as ended
 use Rattle.servient_cli.specs.Lines.{input_line}
-use Rattle.servient_cli.specs.Stages.{Deed, Outcome, goes_on, ends, AndThen, FilesSeen, Around, around}
+use Rattle.servient_cli.specs.Stages.{Deed, Outcome, goes_on, ends, AndThen, Around, around}
+use Rattle.servient_outside.specs.Files.{FilesSeen}
 use Rattle.servient_cli.specs.Reading.{ReadsFile, ReadsTree, longest_json}
 use Rattle.servient_cli.specs.FaultLines.{misfit_text, refused_line}
 use Rattle.servient_cli.specs.Deriving.{AddsModel, ReadsPlan, TakesModel, TakesModels, IsPlanned, ReadsPlanned, Derives, is_refused, derive_memory, derived_of}

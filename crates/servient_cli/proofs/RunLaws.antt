@@ -1,25 +1,25 @@
 -- What a run over the events of a script took, made and showed.
 use Rattle.std.proofs.Common.{◌≡◌, ◌≢◌, ℕ, ◌<◌, ◌≤◌, List, [], ◌∷◌, ◌++◌, Option, Some, None, Bool, true, false, length, take, refl, sym, ap, subst, ◌∙◌, arith, length-append}
+use Rattle.std.proofs.lemmas.List.Elements.{filter_map-append}
 use Rattle.std.specs.Prelude.{◌||◌, IfSome, IsSome}
 use Rattle.std.proofs.lemmas.List.{append-nil}
 use Rattle.std.proofs.lemmas.Option.{same_Some}
 use Rattle.thing_handler.specs.Turns.{RunTurn, AreNumberedFrom, turns_in}
-use Rattle.servient_edge.specs.declared.net.What.{What}
-use Rattle.servient_edge.specs.declared.net.What.TheVariants as what
-use Rattle.servient_edge.specs.declared.net.EventWithBytes.{EventWithBytes}
-use Rattle.servient_edge.specs.declared.net.Act.{Act}
-use Rattle.servient_edge.specs.Network.{Happening, heard, did, broke, NetCall, next_event, Leaves, events_in, acts_in, break_count}
-use Rattle.servient_edge.specs.Told.{Continues}
-use Rattle.servient_edge.specs.Ending.{with_stop}
+use Rattle.servient_outside.specs.declared.net.What.{What}
+use Rattle.servient_outside.specs.declared.net.What.TheVariants as what
+use Rattle.servient_outside.specs.declared.net.EventWithBytes.{EventWithBytes}
+use Rattle.servient_outside.specs.declared.net.Act.{Act}
+use Rattle.servient_outside.specs.Network.{Happening, heard, did, broke, NetCall, next_event, Leaves, events_in, acts_in, break_count}
+use Rattle.servient_outside.specs.Told.{Continues}
+use Rattle.servient_outside.specs.Ending.{with_stop}
 use Rattle.servient_base.specs.Moves.{Refines}
 use Rattle.servient_core.specs.declared.parts.Parts.{Parts}
 use Rattle.servient_core.specs.declared.serving.Served.{Served}
 use Rattle.servient_core.specs.declared.serving.Served.TheVariants as served
-use Rattle.servient_core.specs.Trace.{Sighting, happened_in, calls_in, Outside, Shows}
+use Rattle.servient_core.specs.Trace.{Sighting, happened_in, calls_in, Outside, Shows, happening_in}
 use Rattle.servient_core.specs.Machine.{Site, State, Run}
 use Rattle.servient_core.specs.Serving.{StandsFor, HasNoStop, AreTaken, Serves}
 use Rattle.servient_core.proofs.MachineLaws.{run_keeps}
-use Rattle.servient_core.proofs.TraceLaws.{happened_in-append}
 use Rattle.servient_cli.specs.Print.{print_text}
 use Rattle.servient_cli.specs.Script.{StopsAtEnd, has_stop, is_stop}
 use Rattle.servient_cli.specs.Replaying.{run_events}
@@ -230,7 +230,7 @@ never_failed events budget site s t seen left now ends known leaves serves =
     let both = serves.run in
     let k = run_keeps site serves.took s both.first both.mid both.one in
     let broken : Leaves (happened_in both.first ++ broke next_event ∷ []) (Some (with_stop events)) now =
-    subst (λ (h : List Happening). Leaves h (Some (with_stop events)) now) (ap happened_in both.whole ∙ happened_in-append both.first both.second ∙ ap (λ (z : List Sighting). happened_in both.first ++ happened_in z) both.other.saw)
+    subst (λ (h : List Happening). Leaves h (Some (with_stop events)) now) (ap happened_in both.whole ∙ filter_map-append happening_in both.first both.second ∙ ap (λ (z : List Sighting). happened_in both.first ++ happened_in z) both.other.saw)
     (subst (λ (o : Option (List EventWithBytes)). Leaves (happened_in seen) o now) known leaves) in
     let next : AreNext (with_stop events) serves.took = subst (λ (es : List EventWithBytes). AreNext (with_stop events) es) k.hears (before_break (happened_in both.first) next_event (with_stop events) now broken) in
     breaks_after (happened_in both.first) (with_stop events) now broken k.unbroken

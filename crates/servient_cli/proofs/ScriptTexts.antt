@@ -5,9 +5,9 @@ use Rattle.std.specs.List.{AllByRecursion}
 use Rattle.std.proofs.lemmas.Option.{same_Some}
 use Rattle.std.proofs.lemmas.List.{append-nil, get_or_at}
 use Rattle.std.proofs.lemmas.List.Elements.{All-get_or, All-head, All-tail, All-weaker}
-use Rattle.servient_edge.specs.declared.net.What.{What}
-use Rattle.servient_edge.specs.declared.net.What.TheVariants as what
-use Rattle.servient_edge.specs.declared.net.EventWithBytes.{EventWithBytes}
+use Rattle.servient_outside.specs.declared.net.What.{What}
+use Rattle.servient_outside.specs.declared.net.What.TheVariants as what
+use Rattle.servient_outside.specs.declared.net.EventWithBytes.{EventWithBytes}
 use Rattle.servient_cli.specs.Script.{GoesOnBadly, IsFirstBadLine, IsScript, IsScriptEvent, StopsAtEnd, has_stop, is_stop, line_text, script_text}
 use Rattle.servient_cli.proofs.FieldTexts.{IsPrintable}
 use Rattle.servient_cli.proofs.LineTexts.{IsPrintable-line_body, line_body}

@@ -1,12 +1,12 @@
 -- Serving with which nothing is wrong ends with status 0, or 8 where the budget is taken, unless it is out of memory.
 use Rattle.std.proofs.Common.{◌≡◌, ◌*◌, ◌⊎◌, ℕ, List, [], ◌∷◌, ◌++◌, Option, Some, refl, sym, ap, ◌∙◌, subst, inl, inr}
-use Rattle.servient_edge.specs.declared.files.HeldFile.{HeldFile}
-use Rattle.servient_edge.specs.declared.place.Place.{Place}
-use Rattle.servient_edge.specs.Network.{broke, next_event}
+use Rattle.servient_outside.specs.declared.files.HeldFile.{HeldFile}
+use Rattle.servient_outside.specs.declared.place.Place.{Place}
+use Rattle.servient_outside.specs.Network.{broke, next_event}
 use Rattle.wot_terms.specs.declared.kind.Kind.{Kind}
 use Rattle.thing_core.specs.Site.{expose_faults}
 use Rattle.servient_core.specs.declared.serving.Served.TheVariants as served
-use Rattle.servient_core.specs.Plan.{place_of}
+use Rattle.servient_plan.specs.Plan.{place_of}
 use Rattle.servient_core.specs.Trace.{Sighting, at_network}
 use Rattle.servient_core.specs.Machine.{Site, State, start}
 use Rattle.servient_core.specs.Serving.{Serves}

@@ -1,47 +1,28 @@
 -- Laws of stages and of what is seen of them.
 use Rattle.std.proofs.Common.{◌≡◌, ◌≤◌, ◌⊎◌, ℕ, List, [], ◌∷◌, ◌++◌, refl, sym, ap, subst, ◌∙◌, append_assoc, arith, inl, inr}
+use Rattle.std.proofs.lemmas.Grind.{flat_map-append}
+use Rattle.std.proofs.lemmas.List.Elements.{filter_map-append}
 use Rattle.std.specs.Prelude.{Result, Ok, Err, map, IfOk, MatchResult}
 use Rattle.std.specs.declared.alloc.AllocError.{AllocError}
 use Rattle.std.proofs.lemmas.List.{append-nil}
 use Rattle.thing_handler.specs.Handler.{Seen}
 use Rattle.thing_handler.specs.Turns.{HandlerCall, RackShows}
 use Rattle.thing_handler.proofs.RackLaws.{rack_shows_none}
-use Rattle.servient_edge.specs.Network.{Happening, NetSeen, NetShows}
-use Rattle.servient_edge.proofs.NetLaws.{net_shows_none}
+use Rattle.servient_outside.specs.Network.{Happening, NetSeen, NetShows}
+use Rattle.servient_outside.proofs.NetLaws.{net_shows_none}
 use Rattle.servient_core.specs.Trace.{Sighting, at_network, at_handler, happened_in, calls_in, Outside, outside, Shows}
 use Rattle.servient_core.proofs.TraceLaws.{shows_in_order}
-use Rattle.servient_edge.specs.declared.files.FileRead.{FileRead}
-use Rattle.servient_edge.specs.Told.{Continues}
-use Rattle.servient_edge.proofs.ToldLaws.{continues_same, continues_then}
+use Rattle.servient_outside.specs.declared.files.FileRead.{FileRead}
+use Rattle.servient_outside.specs.Told.{Continues}
+use Rattle.servient_outside.proofs.ToldLaws.{continues_same, continues_then}
 use Rattle.servient_cli.specs.declared.ending.Ending.{Ending}
 use Rattle.servient_cli.specs.declared.ending.Ended.{Ended}
 use Rattle.servient_cli.specs.declared.ending.Ended.TheVariants as ended
 use Rattle.servient_cli.specs.Lines.{memory_line}
 use Rattle.servient_base.specs.Count.{Rose}
-use Rattle.servient_cli.specs.Stages.{Deed, did_read, did_fail, did_see, did_write, sees, HasFailed, reads_in, sightings_in, text_in, Outcome, goes_on, ends, AndThen, ends_first, goes_further, FilesSeen, Around, around, ShowsDeeds}
+use Rattle.servient_cli.specs.Stages.{Deed, did_read, did_fail, did_see, did_write, sees, HasFailed, reads_in, sightings_in, text_in, Outcome, goes_on, ends, AndThen, ends_first, goes_further, Around, around, ShowsDeeds, read_in, sighting_in, written_in}
+use Rattle.servient_outside.specs.Files.{FilesSeen}
 use Rattle.servient_cli.specs.Ending.{ComesOut, Performs, Finishes, EndsBy, status_of, text_of, final_status, final_text}
-
-reads_in-append : (a b : List Deed) → reads_in (a ++ b) ≡ reads_in a ++ reads_in b
-reads_in-append [] b = refl
-reads_in-append (did_read file ∷ a) b = ap (λ (files : List FileRead). file ∷ files) (reads_in-append a b)
-reads_in-append (did_fail file ∷ a) b = ap (λ (files : List FileRead). file ∷ files) (reads_in-append a b)
-reads_in-append (did_see sighting ∷ a) b = reads_in-append a b
-reads_in-append (did_write text ∷ a) b = reads_in-append a b
-
-sightings_in-append : (a b : List Deed) → sightings_in (a ++ b) ≡ sightings_in a ++ sightings_in b
-sightings_in-append [] b = refl
-sightings_in-append (did_read file ∷ a) b = sightings_in-append a b
-sightings_in-append (did_fail file ∷ a) b = sightings_in-append a b
-sightings_in-append (did_see sighting ∷ a) b = ap (λ (sightings : List Sighting). sighting ∷ sightings) (sightings_in-append a b)
-sightings_in-append (did_write text ∷ a) b = sightings_in-append a b
-
-text_in-append : (a b : List Deed) → text_in (a ++ b) ≡ text_in a ++ text_in b
-text_in-append [] b = refl
-text_in-append (did_read file ∷ a) b = text_in-append a b
-text_in-append (did_fail file ∷ a) b = text_in-append a b
-text_in-append (did_see sighting ∷ a) b = text_in-append a b
-text_in-append (did_write text ∷ a) b =
-    ap (λ (more : List ℕ). text ++ more) (text_in-append a b) ∙ sym (append_assoc text (text_in a) (text_in b))
 
 failed_before : (a b : List Deed) → HasFailed (a ++ b) → HasFailed a ⊎ HasFailed b
 failed_before [] b failed = inr failed
@@ -71,14 +52,14 @@ shows_nothing a = record { reads = continues_same a.files.reads; faults = omega 
 -- what is shown at one time and then at another
 pub shows_then : (a b c : Around) (first second : List Deed) → ShowsDeeds a b first → ShowsDeeds b c second → ShowsDeeds a c (first ++ second)
 shows_then a b c first second p q = record {
-  reads = subst (λ (files : List FileRead). Continues a.files.reads c.files.reads files) (sym (reads_in-append first second))
+  reads = subst (λ (files : List FileRead). Continues a.files.reads c.files.reads files) (sym (filter_map-append read_in first second))
       (continues_then a.files.reads b.files.reads c.files.reads (reads_in first) (reads_in second) p.reads q.reads);
   faults = omega (arith, p.faults, q.faults);
   failed = λ failed. elim (failed_before first second failed) [
     | inl before ↦ rose_then a.files.faults b.files.faults c.files.faults (p.failed before) q.faults
     | inr after ↦ then_rose a.files.faults b.files.faults c.files.faults p.faults (q.failed after)
   ];
-  outside = subst (λ (sightings : List Sighting). Shows a.outside c.outside sightings) (sym (sightings_in-append first second))
+  outside = subst (λ (sightings : List Sighting). Shows a.outside c.outside sightings) (sym (filter_map-append sighting_in first second))
       (shows_in_order.more a.outside b.outside c.outside (sightings_in first) (sightings_in second) p.outside q.outside);
 }
 
@@ -101,7 +82,7 @@ pub goes_quietly : {A : Type 0} (P : List Deed → Outcome A → Type 0) (a : Ar
 goes_quietly P a value stage = goes_after P a a [] value (shows_nothing a) refl stage
 
 text_after : (first : List Deed) (line : List ℕ) → text_in first ≡ [] → text_in (first ++ did_write line ∷ []) ≡ line
-text_after first line quiet = text_in-append first (did_write line ∷ []) ∙ ap (λ (more : List ℕ). more ++ text_in (did_write line ∷ [])) quiet ∙ line_alone line
+text_after first line quiet = flat_map-append written_in first (did_write line ∷ []) ∙ ap (λ (more : List ℕ). more ++ text_in (did_write line ∷ [])) quiet ∙ line_alone line
 
 pub ends_after : {A : Type 0} (P : List Deed → Outcome A → Type 0) (a b : Around) (first : List Deed) (ending : Ending) (status : ℕ) (line : List ℕ) → ShowsDeeds a b first → text_in first ≡ [] → (ending.status ≡ status) × (ending.text ≡ line)
     → P (first ++ did_write line ∷ []) (ends status) → ComesOut P a b (ends ending.status) ending.text
@@ -144,39 +125,26 @@ pub finishes_line : (P : List Deed → Outcome (Unit {0}) → Type 0) (a : Aroun
 finishes_line P a (Ok ending) status line is stage memory = ends_line P a ending status line is stage
 finishes_line P a (Err none) status line is stage memory = ends_memory P a memory
 
--- the result of the last stage, where no memory is status 9
-pub finishes_ends : (P : List Deed → Outcome (Unit {0}) → Type 0) (a b : Around) (r : Result Ending AllocError) (e : AllocError) → r ≡ Err e → Finishes P a b r → EndsBy P a b (Err ended.NoMemory)
-finishes_ends P a b r e is p = subst (λ (x : Result Ending AllocError). Finishes P a b x) is p
-
 -- ---- one stage and then the next
 
 pub first_ends : {A B : Type 0} (P : List Deed → Outcome A → Type 0) (Q : A → List Deed → Outcome B → Type 0) (a b : Around) (status : ℕ) (text : List ℕ) → ComesOut P a b (ends status) text → ComesOut (AndThen P Q) a b (ends status) text
 first_ends P Q a b status text p = record { seen = p.seen; stage = ends_first status p.stage refl; shows = p.shows; text_is = p.text_is }
 
-second_ends : {A B : Type 0} (P : List Deed → Outcome A → Type 0) (Q : A → List Deed → Outcome B → Type 0) (a b c : Around) (value : A) (status : ℕ) (text : List ℕ) → ComesOut P a b (goes_on value) [] → ComesOut (Q value) b c (ends status) text → ComesOut (AndThen P Q) a c (ends status) text
-second_ends P Q a b c value status text p q = record {
+pub second_comes : {A B : Type 0} (P : List Deed → Outcome A → Type 0) (Q : A → List Deed → Outcome B → Type 0) (a b c : Around) (value : A) (o : Outcome B) (text : List ℕ) → ComesOut P a b (goes_on value) [] → ComesOut (Q value) b c o text → ComesOut (AndThen P Q) a c o text
+second_comes P Q a b c value o text p q = record {
   seen = p.seen ++ q.seen;
-  stage = goes_further value p.seen q.seen p.stage q.stage refl;
+  stage = goes_further (value, record { mid = tt; first = p.seen; second = q.seen; one = p.stage; other = q.stage; whole = refl });
   shows = shows_then a b c p.seen q.seen p.shows q.shows;
-  text_is = text_in-append p.seen q.seen ∙ ap (λ (before : List ℕ). before ++ text_in q.seen) p.text_is ∙ q.text_is;
+  text_is = flat_map-append written_in p.seen q.seen ∙ ap (λ (before : List ℕ). before ++ text_in q.seen) p.text_is ∙ q.text_is;
 }
 
 pub then_ends : {A : Type 0} (P : List Deed → Outcome A → Type 0) (Q : A → List Deed → Outcome (Unit {0}) → Type 0) (a b c : Around) (value : A) (r : Result Ending Ended) → ComesOut P a b (goes_on value) [] → EndsBy (Q value) b c r → EndsBy (AndThen P Q) a c r
-then_ends P Q a b c value (Ok ending) p q = second_ends P Q a b c value ending.status ending.text p q
-then_ends P Q a b c value (Err e) p q = second_ends P Q a b c value (status_of e) (text_of e) p q
+then_ends P Q a b c value (Ok ending) p q = second_comes P Q a b c value (ends ending.status) ending.text p q
+then_ends P Q a b c value (Err e) p q = second_comes P Q a b c value (ends (status_of e)) (text_of e) p q
 
 -- the error of a stage ends the whole
 pub error_ends : {A : Type 0} (P : List Deed → Outcome A → Type 0) (Q : A → List Deed → Outcome (Unit {0}) → Type 0) (a b : Around) (e : Ended) → Performs P a b (Err e) → EndsBy (AndThen P Q) a b (Err e)
 error_ends P Q a b e p = first_ends P Q a b (status_of e) (text_of e) p
-
--- the same of a stage that may go on
-pub second_comes : {A B : Type 0} (P : List Deed → Outcome A → Type 0) (Q : A → List Deed → Outcome B → Type 0) (a b c : Around) (value : A) (o : Outcome B) (text : List ℕ) → ComesOut P a b (goes_on value) [] → ComesOut (Q value) b c o text → ComesOut (AndThen P Q) a c o text
-second_comes P Q a b c value o text p q = record {
-  seen = p.seen ++ q.seen;
-  stage = goes_further value p.seen q.seen p.stage q.stage refl;
-  shows = shows_then a b c p.seen q.seen p.shows q.shows;
-  text_is = text_in-append p.seen q.seen ∙ ap (λ (before : List ℕ). before ++ text_in q.seen) p.text_is ∙ q.text_is;
-}
 
 pub then_performs : {A B : Type 0} (P : List Deed → Outcome A → Type 0) (Q : A → List Deed → Outcome B → Type 0) (a b c : Around) (value : A) (r : Result B Ended) → ComesOut P a b (goes_on value) [] → Performs (Q value) b c r → Performs (AndThen P Q) a c r
 then_performs P Q a b c value (Ok further) p q = second_comes P Q a b c value (goes_on further) [] p q
@@ -296,14 +264,7 @@ calls_end_twice P files net before now calls status print line text shows is sta
       shows = shows_then w v v (made ++ did_write print ∷ []) (did_write line ∷ [])
           (shows_then w v v made (did_write print ∷ []) (shows_seen files (outside net before) (outside net now) (map (λ call. at_handler call) calls) (shows_handlers net before now calls shows)) (shows_wrote v print))
           (shows_wrote v line);
-      text_is = text_in-append (made ++ did_write print ∷ []) (did_write line ∷ [])
+      text_is = flat_map-append written_in (made ++ did_write print ∷ []) (did_write line ∷ [])
           ∙ ap (λ (more : List ℕ). more ++ text_in (did_write line ∷ [])) (text_after made print (no_text (map (λ call. at_handler call) calls)))
           ∙ ap (λ (more : List ℕ). print ++ more) (line_alone line) ∙ sym is;
     }
-
--- the same of a result, which is out of memory where there is no ending
-pub calls_finish_twice : (P : List Deed → Outcome (Unit {0}) → Type 0) (files : FilesSeen) (net : NetSeen) (before now : List Seen) (calls : List HandlerCall) (r : Result Ending AllocError) (status : ℕ) (print line : List ℕ) → RackShows before now calls → IfOk r (λ e. (e.status ≡ status) × (e.text ≡ print ++ line))
-    → P ((sees (map (λ call. at_handler call) calls) ++ did_write print ∷ []) ++ did_write line ∷ []) (ends status) → P (sees (map (λ call. at_handler call) calls) ++ did_write memory_line ∷ []) (ends 9) → Finishes P (around files (outside net before)) (around files (outside net now)) r
-calls_finish_twice P files net before now calls (Ok ending) status print line shows is stage memory =
-    subst (λ (n : ℕ). ComesOut P (around files (outside net before)) (around files (outside net now)) (ends n) ending.text) (sym is.0) (calls_end_twice P files net before now calls status print line ending.text shows is.1 stage)
-calls_finish_twice P files net before now calls (Err none) status print line shows is stage memory = calls_end P files net before now calls 9 memory_line memory_line shows refl memory

@@ -8,15 +8,15 @@ use Rattle.wot_json.specs.Tree.{Json}
 use Rattle.wot_terms.specs.declared.kind.Kind.{Kind}
 use Rattle.thing_core.specs.Site.{Slots}
 use Rattle.thing_core.specs.Exposing.{kinds_of}
-use Rattle.servient_edge.specs.declared.place.Place.{Place}
+use Rattle.servient_outside.specs.declared.place.Place.{Place}
 use Rattle.servient_core.specs.declared.serving.Served.TheVariants as served
-use Rattle.servient_core.specs.Plan.{place_of}
+use Rattle.servient_plan.specs.Plan.{place_of}
 use Rattle.servient_core.specs.Machine.{Site}
-use Rattle.servient_core.specs.declared.plan.Plan.{Plan}
+use Rattle.servient_plan.specs.declared.plan.Plan.{Plan}
 use Rattle.servient_cli.specs.declared.derivation.Planned.{Planned}
 use Rattle.servient_cli.specs.declared.replay.Inputs.{Inputs}
-use Rattle.servient_edge.specs.declared.files.HeldFile.{HeldFile}
-use Rattle.servient_edge.specs.declared.net.EventWithBytes.{EventWithBytes}
+use Rattle.servient_outside.specs.declared.files.HeldFile.{HeldFile}
+use Rattle.servient_outside.specs.declared.net.EventWithBytes.{EventWithBytes}
 use Rattle.servient_cli.specs.Stages.{Around, Deed, Outcome, goes_on, ends, AndThen, ends_first, goes_further}
 use Rattle.servient_cli.specs.Reading.{ReadsFile, is_read, is_absent, is_unreadable, is_long, file_memory, ReadsTree, is_tree, has_no_tree, tree_memory, longest_json, longest_script}
 use Rattle.servient_cli.specs.Replaying.{Plans, is_built_in, built_in_memory, plan_name, ReadsEvents, ReadsInputs, HasRead, has_read, RunsOn, ReadsScript, is_script, is_no_script, script_memory, RunsScript, is_whole, is_spent, run_memory}
@@ -25,7 +25,8 @@ use Rattle.servient_cli.specs.Listening.{Listens, is_listening, cannot_listen, p
 use Rattle.servient_cli.specs.Checking.{Checks, Judges, is_valid, is_refused, judge_memory}
 use Rattle.servient_cli.specs.Deriving.{IsPlanned, is_planned, ReadsPlanned, Prints, is_printed, print_memory, DerivesAndPrints, ReadsPlan, is_plan, is_no_plan, plan_memory, AddsModel, is_added, is_not_added, add_memory, TakesModel, TakesModels, Derives, is_derived, derive_memory}
 use Rattle.servient_cli.specs.Deriving as plans
-use Rattle.servient_cli.specs.Command.{Commands, Does, Ends, IsNoCommand, OutSeen, is_built, is_command, is_no_command, words_memory}
+use Rattle.servient_outside.specs.Out.{OutSeen}
+use Rattle.servient_cli.specs.Command.{Commands, Does, Ends, IsNoCommand, is_built, is_command, is_no_command, words_memory}
 
 abbrev status_of : {A : Type 0} → Outcome A → ℕ
 status_of (goes_on value) = 0
@@ -45,7 +46,7 @@ then_not : {A B : Type 0} (P : List Deed → Outcome A → Type 0) (Q : A → Li
     → ((s : List Deed) (r : Outcome A) → P s r → NotUsage r) → ((value : A) (s : List Deed) (r : Outcome B) → Q value s r → NotUsage r)
     → AndThen P Q seen o → NotUsage o
 then_not P Q seen o first next (ends_first status p is) = by_status o status is (first seen (ends status) p)
-then_not P Q seen o first next (goes_further value a b p q is) = next value b o q
+then_not P Q seen o first next (goes_further (value, both)) = next value both.second o both.other
 
 file_not : (held : Option (List HeldFile)) (limit : ℕ) (name : List ℕ) (seen : List Deed) (o : Outcome (List ℕ)) → ReadsFile held limit name seen o → NotUsage o
 file_not held limit name seen o (is_read content a b d is) = goes_by o content is

@@ -14,9 +14,10 @@ use Rattle.thing_core.specs.Exposing.{kinds_of}
 use Rattle.command_words.specs.Grammar.{meaning_of}
 use Rattle.command_words.specs.declared.command.Command.{Command}
 use Rattle.command_words.specs.declared.command.Command.TheVariants.{Replay, Serve, Check, Derive}
-use Rattle.servient_edge.specs.declared.files.HeldFile.{HeldFile}
-use Rattle.servient_edge.specs.Told.{Continues}
-use Rattle.servient_edge.specs.Files.{content_of}
+use Rattle.servient_outside.specs.declared.files.HeldFile.{HeldFile}
+use Rattle.servient_outside.specs.Told.{Continues}
+use Rattle.servient_outside.specs.Files.{content_of}
+use Rattle.servient_outside.specs.Out.{OutSeen}
 use Rattle.servient_cli.specs.declared.derivation.Planned.{Planned}
 use Rattle.servient_cli.specs.Lines.{usage_line}
 use Rattle.servient_cli.specs.Stages.{Deed, text_in, Outcome, ends, EndsWith, RunsOut, AndThen, Around, ShowsDeeds}
@@ -63,19 +64,11 @@ pub data Commands (held : Option (List HeldFile)) (kinds : List Kind) (words : L
 
 -- The text was written and the status is its own; or the output failed, which its count records, a prefix of the text was
 -- written, and the status is 7.
-abbrev pub IsReported : ℕ → List ℕ → Option (List ℕ) → Option (List ℕ) → ℕ → ℕ → ℕ → Type 0
-IsReported status text written written_now faults faults_now result =
-    (result ≡ status) × Continues written written_now text
-    ⊎ (result ≡ 7) × Rose faults faults_now
-    × (prefix : List ℕ) × (rest : List ℕ) × (text ≡ prefix ++ rest) × Continues written written_now prefix
-
--- what is known of the output at one time: what was written, where that is recorded, and how often it failed
-pub record OutSeen : Type 0 where
-  pub written : Option (List ℕ)
-  pub faults : ℕ
-
-abbrev pub out_seen : Option (List ℕ) → ℕ → OutSeen
-out_seen written faults = record { written = written; faults = faults }
+abbrev pub IsReported : ℕ → List ℕ → OutSeen → OutSeen → ℕ → Type 0
+IsReported status text out out_now result =
+    (result ≡ status) × Continues out.written out_now.written text
+    ⊎ (result ≡ 7) × Rose out.faults out_now.faults
+    × (prefix : List ℕ) × (rest : List ℕ) × (text ≡ prefix ++ rest) × Continues out.written out_now.written prefix
 
 -- What the top call did: the command of its words ended with a status, the files, the network and the handlers show what it
 -- did, and the output shows what it wrote.
@@ -84,7 +77,7 @@ pub record Ends (words : List (List ℕ)) (before now : Around) (out out_now : O
   pub status : ℕ
   pub command : Commands before.files.held (kinds_of before.outside.slots) words seen (ends status)
   pub shows : ShowsDeeds before now seen
-  pub reported : IsReported status (text_in seen) out.written out_now.written out.faults out_now.faults result
+  pub reported : IsReported status (text_in seen) out out_now result
 
 -- Nothing is wrong with a file: the files hold it, it is not too long, and nothing is wrong with what it holds.
 pub record HoldsFaultless (files : List HeldFile) (limit : ℕ) (name : List ℕ) (Good : List ℕ → Type 0) : Type 0 where

@@ -10,10 +10,10 @@ use Rattle.tm_parts.specs.declared.library.AddFault.TheVariants as add
 use Rattle.tm_parts.specs.Library.{Models, with_model, HasAddFault, MayAdd}
 use Rattle.tm_derive.specs.Derivation.{derived}
 use Rattle.tm_derive.specs.declared.fault.DeriveFault.{DeriveFault}
-use Rattle.servient_edge.specs.declared.files.HeldFile.{HeldFile}
-use Rattle.servient_edge.specs.Files.{content_of}
-use Rattle.servient_core.specs.declared.plan.Plan.{Plan}
-use Rattle.servient_core.specs.Plan.{plan_of}
+use Rattle.servient_outside.specs.declared.files.HeldFile.{HeldFile}
+use Rattle.servient_outside.specs.Files.{content_of}
+use Rattle.servient_plan.specs.declared.plan.Plan.{Plan}
+use Rattle.servient_plan.specs.Plan.{plan_of}
 use Rattle.servient_cli.specs.declared.derivation.Planned.{Planned}
 use Rattle.servient_cli.specs.Lines.{input_line}
 use Rattle.servient_cli.specs.FaultLines.{refused_line}

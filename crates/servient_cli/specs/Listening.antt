@@ -1,13 +1,13 @@
 -- `serve PLAN`: the Things of a plan are served at the plan's place, over the network, until a Stop comes.
 use Rattle.std.specs.Prelude.{◌≡◌, ◌*◌, ℕ, List, [], map, Option}
 use Rattle.wot_terms.specs.declared.kind.Kind.{Kind}
-use Rattle.servient_edge.specs.declared.files.HeldFile.{HeldFile}
-use Rattle.servient_edge.specs.declared.net.Listened.TheVariants as listened
-use Rattle.servient_edge.specs.declared.place.Place.{Place}
-use Rattle.servient_edge.specs.Network.{Happening, listens_as}
+use Rattle.servient_outside.specs.declared.files.HeldFile.{HeldFile}
+use Rattle.servient_outside.specs.declared.net.Listened.TheVariants as listened
+use Rattle.servient_outside.specs.declared.place.Place.{Place}
+use Rattle.servient_outside.specs.Network.{Happening, listens_as}
 use Rattle.servient_core.specs.declared.serving.Served.{Served}
 use Rattle.servient_core.specs.declared.serving.Served.TheVariants as served
-use Rattle.servient_core.specs.Plan.{place_of}
+use Rattle.servient_plan.specs.Plan.{place_of}
 use Rattle.servient_core.specs.Trace.{Sighting, at_network}
 use Rattle.servient_core.specs.Machine.{Site, State, start}
 use Rattle.servient_core.specs.Serving.{Serves}

@@ -9,8 +9,8 @@ use Rattle.thing_handler.specs.declared.handler.Answer.{Answer}
 use Rattle.thing_handler.specs.declared.handler.Answer.TheVariants.{Value, Done, Started, Running, Finished, Cancelled, Quiet, Fired, Refused, DeviceFault}
 use Rattle.thing_handler.specs.declared.handler.Turn.{Turn}
 use Rattle.thing_handler.specs.Turns.{RunTurn}
-use Rattle.servient_edge.specs.declared.net.Act.{Act}
-use Rattle.servient_edge.specs.declared.net.Act.TheVariants as act
+use Rattle.servient_outside.specs.declared.net.Act.{Act}
+use Rattle.servient_outside.specs.declared.net.Act.TheVariants as act
 use Rattle.servient_cli.specs.Fields.{fields_text}
 use Rattle.servient_cli.specs.Script.{endpoint_text, hex_text}
 

@@ -4,9 +4,9 @@ use Rattle.wot_json.specs.Json.{json_string}
 use Rattle.wot_json.specs.Meaning.{json_of}
 use Rattle.wot_json.specs.declared.tree.Tree.{Tree}
 use Rattle.wot_json.specs.Reading.{value_of, tree_of, IsTooDeep, IsFirstWrong}
-use Rattle.servient_edge.specs.declared.files.HeldFile.{HeldFile}
-use Rattle.servient_edge.specs.declared.files.FileRead.{FileRead}
-use Rattle.servient_edge.specs.Files.{content_of}
+use Rattle.servient_outside.specs.declared.files.HeldFile.{HeldFile}
+use Rattle.servient_outside.specs.declared.files.FileRead.{FileRead}
+use Rattle.servient_outside.specs.Files.{content_of}
 use Rattle.servient_cli.specs.Lines.{file_line, input_line}
 use Rattle.servient_cli.specs.Stages.{Deed, did_read, did_fail, Outcome, goes_on, EndsWith, RunsOut}
 

@@ -4,13 +4,13 @@ use Rattle.std.specs.Prelude.{◌≡◌, ◌<◌, ◌≤◌, ℕ, List, [], ◌�
 use Rattle.tm_parts.specs.Library.{with_model}
 use Rattle.wot_terms.specs.declared.kind.Kind.{Kind}
 use Rattle.thing_handler.specs.Turns.{turns_in}
-use Rattle.servient_edge.specs.declared.files.HeldFile.{HeldFile}
-use Rattle.servient_edge.specs.declared.net.EventWithBytes.{EventWithBytes}
-use Rattle.servient_edge.specs.Network.{acts_in}
-use Rattle.servient_edge.specs.Ending.{with_stop}
-use Rattle.servient_edge.specs.declared.net_memory.NetMemory.{NetMemory}
-use Rattle.servient_edge.specs.NetMemory.{left_events, told_history}
-use Rattle.servient_core.specs.BuiltIn.{built_in_plan, built_in_url, built_in_model}
+use Rattle.servient_outside.specs.declared.files.HeldFile.{HeldFile}
+use Rattle.servient_outside.specs.declared.net.EventWithBytes.{EventWithBytes}
+use Rattle.servient_outside.specs.Network.{acts_in}
+use Rattle.servient_outside.specs.Ending.{with_stop}
+use Rattle.servient_outside.specs.declared.net_memory.NetMemory.{NetMemory}
+use Rattle.servient_outside.specs.NetMemory.{left_events, told_history}
+use Rattle.servient_plan.specs.BuiltIn.{built_in_plan, built_in_url, built_in_model}
 use Rattle.servient_core.specs.Trace.{Sighting, at_handler, happened_in, calls_in}
 use Rattle.servient_core.specs.Machine.{Site, State, Run, start}
 use Rattle.servient_cli.specs.declared.derivation.Planned.{Planned}

@@ -1,10 +1,12 @@
 -- Stages of a command: each goes on with a value, or ends the command with a status. What is seen of a stage is a list
 -- of what it reads, does at the network, calls and writes, in order, and a command is one stage after another.
-use Rattle.std.specs.Prelude.{◌≡◌, ◌≤◌, ℕ, List, [], ◌∷◌, ◌++◌, map, Option}
+use Rattle.std.specs.Prelude.{◌≡◌, ◌≤◌, ℕ, List, [], ◌∷◌, ◌++◌, map, Option, Some, None}
+use Rattle.std.specs.List.{filter_map, flat_map}
 use Rattle.servient_base.specs.Count.{Rose}
-use Rattle.servient_edge.specs.declared.files.HeldFile.{HeldFile}
-use Rattle.servient_edge.specs.declared.files.FileRead.{FileRead}
-use Rattle.servient_edge.specs.Told.{Continues}
+use Rattle.servient_base.specs.Moves.{Passing}
+use Rattle.servient_outside.specs.declared.files.FileRead.{FileRead}
+use Rattle.servient_outside.specs.Told.{Continues}
+use Rattle.servient_outside.specs.Files.{FilesSeen}
 use Rattle.servient_core.specs.Trace.{Sighting, Outside, Shows}
 use Rattle.servient_cli.specs.Lines.{memory_line}
 
@@ -20,12 +22,14 @@ pub data Deed : Type 0 where
   did_write : List ℕ → Deed
 
 -- the reads among some deeds, in order
+abbrev pub read_in : Deed → Option FileRead
+read_in (did_read file) = Some file
+read_in (did_fail file) = Some file
+read_in (did_see sighting) = None
+read_in (did_write text) = None
+
 abbrev pub reads_in : List Deed → List FileRead
-reads_in [] = []
-reads_in (did_read file ∷ seen) = file ∷ reads_in seen
-reads_in (did_fail file ∷ seen) = file ∷ reads_in seen
-reads_in (did_see sighting ∷ seen) = reads_in seen
-reads_in (did_write text ∷ seen) = reads_in seen
+reads_in = filter_map read_in
 
 -- one of these reads failed
 abbrev pub HasFailed : List Deed → Type 0
@@ -36,24 +40,28 @@ HasFailed (did_see sighting ∷ seen) = HasFailed seen
 HasFailed (did_write text ∷ seen) = HasFailed seen
 
 -- what is seen at the network and at the handlers, in order
+abbrev pub sighting_in : Deed → Option Sighting
+sighting_in (did_read file) = None
+sighting_in (did_fail file) = None
+sighting_in (did_see sighting) = Some sighting
+sighting_in (did_write text) = None
+
 abbrev pub sightings_in : List Deed → List Sighting
-sightings_in [] = []
-sightings_in (did_read file ∷ seen) = sightings_in seen
-sightings_in (did_fail file ∷ seen) = sightings_in seen
-sightings_in (did_see sighting ∷ seen) = sighting ∷ sightings_in seen
-sightings_in (did_write text ∷ seen) = sightings_in seen
+sightings_in = filter_map sighting_in
 
 -- these were seen
 abbrev pub sees : List Sighting → List Deed
 sees = map (λ sighting. did_see sighting)
 
 -- all that was written, one text after another
+abbrev pub written_in : Deed → List ℕ
+written_in (did_read file) = []
+written_in (did_fail file) = []
+written_in (did_see sighting) = []
+written_in (did_write text) = text
+
 abbrev pub text_in : List Deed → List ℕ
-text_in [] = []
-text_in (did_read file ∷ seen) = text_in seen
-text_in (did_fail file ∷ seen) = text_in seen
-text_in (did_see sighting ∷ seen) = text_in seen
-text_in (did_write text ∷ seen) = text ++ text_in seen
+text_in = flat_map written_in
 
 -- How a stage comes out.
 pub data Outcome (A : Type 0) : Type 0 where
@@ -68,24 +76,15 @@ EndsWith before status line seen o = (seen ≡ before ++ did_write line ∷ []) 
 abbrev pub RunsOut : {A : Type 0} → List Deed → List Deed → Outcome A → Type 0
 RunsOut before seen o = EndsWith before 9 memory_line seen o
 
--- One stage, and where it goes on the next, which takes its value.
+-- One stage, and where it goes on the next, which takes its value: two moves with a value that is passed on. What a stage
+-- reads is constant, so these moves have no state.
 pub data AndThen {A B : Type 0} (P : List Deed → Outcome A → Type 0) (Q : A → List Deed → Outcome B → Type 0) (seen : List Deed) (o : Outcome B) : Type 0 where
   ends_first : (status : ℕ) → P seen (ends status) → o ≡ ends status → AndThen P Q seen o
-  goes_further : (value : A) (first second : List Deed) → P first (goes_on value) → Q value second o → seen ≡ first ++ second → AndThen P Q seen o
+  goes_further : Passing {S = Unit {0}} (λ value s first t. P first (goes_on value)) (λ value s second t. Q value second o) tt seen tt → AndThen P Q seen o
 
 -- ---- what the outside shows of them
 
--- What is known of the files at one time: what they hold and which reads were made, where they record it, and how often a
--- read failed.
-pub record FilesSeen : Type 0 where
-  pub held : Option (List HeldFile)
-  pub reads : Option (List FileRead)
-  pub faults : ℕ
-
-abbrev pub files_seen : Option (List HeldFile) → Option (List FileRead) → ℕ → FilesSeen
-files_seen held reads faults = record { held = held; reads = reads; faults = faults }
-
--- What is known at one time of the files, and of the network and the handlers.
+-- What is seen at one time of the files, and of the network and the handlers.
 pub record Around : Type 0 where
   pub files : FilesSeen
   pub outside : Outside

@@ -3,7 +3,7 @@
 ghost use Rattle.std.specs.Prelude.{◌≡◌, Some, true, false};
 ghost use Rattle.servient_core.specs.Trace.{Outside, outside};
 ghost use Rattle.thing_core.specs.Exposing.{kinds_of};
-ghost use Rattle.servient_cli.specs.Stages.{AndThen, around, files_seen};
+ghost use Rattle.servient_cli.specs.Stages.{AndThen, around};
 ghost use Rattle.servient_cli.specs.Reading.{ReadsFile, longest_json};
 ghost use Rattle.servient_cli.specs.Checking.{Checks};
 ghost use Rattle.servient_cli.specs.Command.{Does, is_built, is_serving};
@@ -16,7 +16,7 @@ use crate::listening::{Request, serve_plan};
 use crate::reading::{LONGEST_JSON, read_file};
 use crate::replay::{plan_name, read_inputs, run_inputs};
 use command_words::Command;
-use servient_edge::{Files, Net};
+use servient_outside::{Files, Net};
 use std::alloc::Global;
 use thing_handler::Handlers;
 
@@ -29,11 +29,9 @@ pub fn run_command<F: Files, N: Net, R: Handlers>(
     rack: &mut R,
 ) -> Result<Ending, Ended>
     requires { is_built command.now ≡ true }
-    ensures ends { let files_before = files_seen (F.held files.old) (F.reads files.old) (F.faults files.old) in
-        let files_now = files_seen (F.held files.new) (F.reads files.new) (F.faults files.new) in
-        EndsBy (Does (F.held files.old) (kinds_of (R.slots rack.old)) command.now)
-        (around files_before (outside (N.seen net.old) (R.slots rack.old)))
-        (around files_now (outside (N.seen net.new) (R.slots rack.new))) result }
+    ensures ends { EndsBy (Does (F.seen files.old).held (kinds_of (R.slots rack.old)) command.now)
+        (around (F.seen files.old) (outside (N.seen net.old) (R.slots rack.old)))
+        (around (F.seen files.new) (outside (N.seen net.new) (R.slots rack.new))) result }
     ensures net { is_serving (Some command.now) ≡ false → net.new ≡ net.old }
 {
     match command {
@@ -61,10 +59,8 @@ pub fn run_command<F: Files, N: Net, R: Handlers>(
 
 /// Reads a description and checks it.
 fn check_from<F: Files>(alloc: Global, name: &str, files: &mut F) -> Result<Ending, Ended>
-    ensures { let files_before = files_seen (F.held files.old) (F.reads files.old) (F.faults files.old) in
-        let files_now = files_seen (F.held files.new) (F.reads files.new) (F.faults files.new) in
-        (w : Outside) → EndsBy (AndThen (ReadsFile (F.held files.old) longest_json name.now) (Checks name.now))
-        (around files_before w) (around files_now w) result }
+    ensures { (w : Outside) → EndsBy (AndThen (ReadsFile (F.seen files.old).held longest_json name.now) (Checks name.now))
+        (around (F.seen files.old) w) (around (F.seen files.new) w) result }
 {
     let content = read_file(alloc, name, LONGEST_JSON, files)?;
     check_file(alloc, name, content.as_slice())

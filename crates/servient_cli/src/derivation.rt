@@ -5,8 +5,8 @@ ghost use Rattle.servient_core.specs.Trace.{Outside};
 ghost use Rattle.std.specs.List.{AllByRecursion};
 ghost use Rattle.wot_terms.specs.Faults.{IsValid};
 ghost use Rattle.wot_terms.specs.ThingLists.{kept_thing, kept_things};
-ghost use Rattle.servient_core.specs.Plan.{HasFewExchanges};
-ghost use Rattle.servient_cli.specs.Stages.{AndThen, Around, around, files_seen};
+ghost use Rattle.servient_plan.specs.Plan.{HasFewExchanges};
+ghost use Rattle.servient_cli.specs.Stages.{AndThen, Around, around};
 ghost use Rattle.servient_cli.specs.Reading.{ReadsFile, longest_json};
 ghost use Rattle.servient_cli.specs.Deriving.{AddsModel, Derives, DerivesAndPrints, ReadsPlan, ReadsPlanned, TakesModel, TakesModels, thing_text, things_text};
 ghost use Rattle.servient_cli.specs.Ending.{EndsBy, Performs};
@@ -15,7 +15,7 @@ use crate::ending::{Ended, Ending, end_with};
 use crate::fault_lines::refused;
 use crate::reading::{LONGEST_JSON, read_file, read_tree};
 use servient_core::{ModelFiles, Plan, PlanFault};
-use servient_edge::Files;
+use servient_outside::Files;
 use std::alloc::Global;
 use tm_derive::derive;
 use tm_parts::{AddFault, Library};
@@ -31,9 +31,7 @@ pub struct Planned {
 
 /// Reads a plan and its models, derives the root, and prints the descriptions of its Things.
 pub fn derive_plan<F: Files>(alloc: Global, name: &str, files: &mut F) -> Result<Ending, Ended>
-    ensures { let before = files_seen (F.held files.old) (F.reads files.old) (F.faults files.old) in
-        let now = files_seen (F.held files.new) (F.reads files.new) (F.faults files.new) in
-        (w : Outside) → EndsBy (AndThen (ReadsPlanned (F.held files.old) name.now) DerivesAndPrints) (around before w) (around now w) result }
+    ensures { (w : Outside) → EndsBy (AndThen (ReadsPlanned (F.seen files.old).held name.now) DerivesAndPrints) (around (F.seen files.old) w) (around (F.seen files.new) w) result }
 {
     let planned = read_planned(alloc, name, files)?;
     derive_and_print(alloc, &planned)
@@ -49,10 +47,8 @@ fn derive_and_print(alloc: Global, planned: &Planned) -> Result<Ending, Ended>
 
 /// Reads a plan and then its models.
 pub fn read_planned<F: Files>(alloc: Global, name: &str, files: &mut F) -> Result<Planned, Ended>
-    ensures stage { let before = files_seen (F.held files.old) (F.reads files.old) (F.faults files.old) in
-        let now = files_seen (F.held files.new) (F.reads files.new) (F.faults files.new) in
-        (w : Outside) → Performs (ReadsPlanned (F.held files.old) name.now) (around before w) (around now w) result }
-    ensures held { F.held files.new ≡ F.held files.old }
+    ensures stage { (w : Outside) → Performs (ReadsPlanned (F.seen files.old).held name.now) (around (F.seen files.old) w) (around (F.seen files.new) w) result }
+    ensures held { (F.seen files.new).held ≡ (F.seen files.old).held }
     ensures exchanges { IfOk result (λ p. HasFewExchanges p.plan) }
 {
     let content = read_file(alloc, name, LONGEST_JSON, files)?;
@@ -82,10 +78,8 @@ fn take_models<F: Files>(
     models: &ModelFiles,
     files: &mut F,
 ) -> Result<Library, Ended>
-    ensures stage { let before = files_seen (F.held files.old) (F.reads files.old) (F.faults files.old) in
-        let now = files_seen (F.held files.new) (F.reads files.new) (F.faults files.new) in
-        (w : Outside) → Performs (TakesModels (F.held files.old) models.now []) (around before w) (around now w) result }
-    ensures held { F.held files.new ≡ F.held files.old }
+    ensures stage { (w : Outside) → Performs (TakesModels (F.seen files.old).held models.now []) (around (F.seen files.old) w) (around (F.seen files.new) w) result }
+    ensures held { (F.seen files.new).held ≡ (F.seen files.old).held }
 {
     let mut library = Library::new(alloc);
     for model in models.as_slice() {
@@ -101,10 +95,8 @@ fn take_model<F: Files>(
     library: Library,
     files: &mut F,
 ) -> Result<Library, Ended>
-    ensures stage { let before = files_seen (F.held files.old) (F.reads files.old) (F.faults files.old) in
-        let now = files_seen (F.held files.new) (F.reads files.new) (F.faults files.new) in
-        (w : Outside) → Performs (TakesModel (F.held files.old) model.now library) (around before w) (around now w) result }
-    ensures held { F.held files.new ≡ F.held files.old }
+    ensures stage { (w : Outside) → Performs (TakesModel (F.seen files.old).held model.now library) (around (F.seen files.old) w) (around (F.seen files.new) w) result }
+    ensures held { (F.seen files.new).held ≡ (F.seen files.old).held }
 {
     let (url, file) = (model.0.as_str(), model.1.as_str());
     let content = read_model(alloc, file, files)?;
@@ -114,10 +106,8 @@ fn take_model<F: Files>(
 
 /// Reads the whole file of a model.
 fn read_model<F: Files>(alloc: Global, file: &str, files: &mut F) -> Result<Bytes, Ended>
-    ensures stage { let before = files_seen (F.held files.old) (F.reads files.old) (F.faults files.old) in
-        let now = files_seen (F.held files.new) (F.reads files.new) (F.faults files.new) in
-        (w : Outside) → Performs (ReadsFile (F.held files.old) longest_json file.now) (around before w) (around now w) result }
-    ensures held { F.held files.new ≡ F.held files.old }
+    ensures stage { (w : Outside) → Performs (ReadsFile (F.seen files.old).held longest_json file.now) (around (F.seen files.old) w) (around (F.seen files.new) w) result }
+    ensures held { (F.seen files.new).held ≡ (F.seen files.old).held }
 {
     read_file(alloc, file, LONGEST_JSON, files)
 }

@@ -1,7 +1,7 @@
 //! What follows from the definitions of lines and their fields: contracts of functions that no code needs to call.
 
 ghost use Rattle.std.specs.Prelude.{◌≡◌, ℕ, List};
-ghost use Rattle.servient_edge.specs.declared.net.EventWithBytes.{EventWithBytes};
+ghost use Rattle.servient_outside.specs.declared.net.EventWithBytes.{EventWithBytes};
 ghost use Rattle.servient_cli.specs.Fields.{fields_text, AreFields};
 ghost use Rattle.servient_cli.specs.Script.{line_fields, IsScriptEvent};
 

@@ -5,10 +5,10 @@ ghost use Rattle.thing_core.specs.Exposing.{kinds_of};
 ghost use Rattle.thing_core.specs.Kept.{Fits};
 ghost use Rattle.thing_handler.specs.Handler.{Seen};
 ghost use Rattle.servient_core.specs.Trace.{outside};
-ghost use Rattle.servient_core.specs.Plan.{HasFewExchanges, place_of};
+ghost use Rattle.servient_plan.specs.Plan.{HasFewExchanges, place_of};
 ghost use Rattle.servient_core.specs.Machine.{start};
 ghost use Rattle.servient_core.specs.Serving.{StandsFor};
-ghost use Rattle.servient_cli.specs.Stages.{FilesSeen, around, files_seen};
+ghost use Rattle.servient_cli.specs.Stages.{FilesSeen, around};
 ghost use Rattle.servient_cli.specs.Listening.{Listens, ServesEvents, ServesPlan, ServesPlanned};
 ghost use Rattle.servient_cli.specs.Ending.{EndsBy, Performs};
 
@@ -16,7 +16,7 @@ use crate::derivation::{Planned, read_planned};
 use crate::ending::{Ended, Ending};
 use crate::opening::open;
 use servient_core::{Plan, Served, Servient, serve};
-use servient_edge::{Files, Listened, Net};
+use servient_outside::{Files, Listened, Net};
 use std::alloc::Global;
 use thing_handler::Handlers;
 use wot_json::Bytes;
@@ -40,11 +40,9 @@ pub fn serve_plan<F: Files, N: Net, R: Handlers>(
     net: &mut N,
     rack: &mut R,
 ) -> Result<Ending, Ended>
-    ensures { let files_before = files_seen (F.held files.old) (F.reads files.old) (F.faults files.old) in
-        let files_now = files_seen (F.held files.new) (F.reads files.new) (F.faults files.new) in
-        EndsBy (ServesPlan (F.held files.old) (kinds_of (R.slots rack.old)) request.entry.plan.now request.entry.events request.entry.idle)
-        (around files_before (outside (N.seen net.old) (R.slots rack.old)))
-        (around files_now (outside (N.seen net.new) (R.slots rack.new))) result }
+    ensures { EndsBy (ServesPlan (F.seen files.old).held (kinds_of (R.slots rack.old)) request.entry.plan.now request.entry.events request.entry.idle)
+        (around (F.seen files.old) (outside (N.seen net.old) (R.slots rack.old)))
+        (around (F.seen files.new) (outside (N.seen net.new) (R.slots rack.new))) result }
 {
     let planned = read_planned(alloc, request.plan, files)?;
     serve_planned(alloc, &planned, request, net, rack)

@@ -2,16 +2,16 @@
 
 ghost use Rattle.std.specs.Prelude.{◌≡◌, ◌⊎◌, false};
 ghost use Rattle.thing_core.specs.Exposing.{kinds_of};
-ghost use Rattle.servient_cli.specs.Stages.{around, files_seen};
+ghost use Rattle.servient_cli.specs.Stages.{around};
 ghost use Rattle.command_words.specs.Grammar.{meaning_of};
 ghost use Rattle.servient_core.specs.Trace.{outside};
-ghost use Rattle.servient_cli.specs.Command.{Commands, Ends, IsFaultless, IsNoCommand, IsReported, IsWell, NothingFailed, is_serving, out_seen};
+ghost use Rattle.servient_cli.specs.Command.{Commands, Ends, IsFaultless, IsNoCommand, IsReported, IsWell, NothingFailed, is_serving};
 ghost use Rattle.servient_cli.specs.Ending.{EndsBy, final_status as status_in, final_text as text_in};
 
 use crate::command::command_of;
 use crate::commands::run_command;
 use crate::ending::{Ended, Ending, SPENT_LINE};
-use servient_edge::{Files, Net, Out, Put};
+use servient_outside::{Files, Net, Out, Put};
 use std::alloc::Global;
 use thing_handler::Handlers;
 use wot_json::Text;
@@ -35,23 +35,19 @@ pub fn servient_main<F: Files, N: Net, R: Handlers, O: Out>(
     out: &mut O,
 ) -> u8
     // The command of the words ended with a status, and what it wrote and the status were reported.
-    ensures ends { let files_before = files_seen (F.held files.old) (F.reads files.old) (F.faults files.old) in
-        let files_now = files_seen (F.held files.new) (F.reads files.new) (F.faults files.new) in
-        Ends words.now
-        (around files_before (outside (N.seen net.old) (R.slots rack.old)))
-        (around files_now (outside (N.seen net.new) (R.slots rack.new)))
-        (out_seen (O.written out.old) (O.faults out.old))
-        (out_seen (O.written out.new) (O.faults out.new)) result }
+    ensures ends { Ends words.now
+        (around (F.seen files.old) (outside (N.seen net.old) (R.slots rack.old)))
+        (around (F.seen files.new) (outside (N.seen net.new) (R.slots rack.new)))
+        (O.seen out.old)
+        (O.seen out.new) result }
     // Where nothing is wrong and nothing failed, the command does what it is for, unless it is out of memory; and serving may
     // spend its budget.
-    ensures complete { let files_before = files_seen (F.held files.old) (F.reads files.old) (F.faults files.old) in
-        let files_now = files_seen (F.held files.new) (F.reads files.new) (F.faults files.new) in
-        IsFaultless words.now (F.held files.old) (kinds_of (R.slots rack.old))
+    ensures complete { IsFaultless words.now (F.seen files.old).held (kinds_of (R.slots rack.old))
         → NothingFailed
-        (around files_before (outside (N.seen net.old) (R.slots rack.old)))
-        (around files_now (outside (N.seen net.new) (R.slots rack.new)))
-        (out_seen (O.written out.old) (O.faults out.old))
-        (out_seen (O.written out.new) (O.faults out.new))
+        (around (F.seen files.old) (outside (N.seen net.old) (R.slots rack.old)))
+        (around (F.seen files.new) (outside (N.seen net.new) (R.slots rack.new)))
+        (O.seen out.old)
+        (O.seen out.new)
         → IsWell words.now result }
     // Status 2 says that the words are no command that is built, and nothing else does, unless the output failed or there was no memory.
     ensures usage { (result ≡ 2 → IsNoCommand words.now) × (IsNoCommand words.now → (result ≡ 2) ⊎ (result ≡ 7) ⊎ (result ≡ 9)) }
@@ -70,11 +66,9 @@ fn do_words<F: Files, N: Net, R: Handlers>(
     net: &mut N,
     rack: &mut R,
 ) -> Result<Ending, Ended>
-    ensures ends { let files_before = files_seen (F.held files.old) (F.reads files.old) (F.faults files.old) in
-        let files_now = files_seen (F.held files.new) (F.reads files.new) (F.faults files.new) in
-        EndsBy (Commands (F.held files.old) (kinds_of (R.slots rack.old)) words.now)
-        (around files_before (outside (N.seen net.old) (R.slots rack.old)))
-        (around files_now (outside (N.seen net.new) (R.slots rack.new))) result }
+    ensures ends { EndsBy (Commands (F.seen files.old).held (kinds_of (R.slots rack.old)) words.now)
+        (around (F.seen files.old) (outside (N.seen net.old) (R.slots rack.old)))
+        (around (F.seen files.new) (outside (N.seen net.new) (R.slots rack.new))) result }
     ensures net { is_serving (meaning_of words.now) ≡ false → net.new ≡ net.old }
 {
     let command = command_of(alloc, words)?;
@@ -83,8 +77,7 @@ fn do_words<F: Files, N: Net, R: Handlers>(
 
 /// Writes the text with which a command ended, and gives its status, or 7 where the output failed.
 fn report<O: Out>(out: &mut O, ended: &Result<Ending, Ended>) -> u8
-    ensures { IsReported (status_in ended.now) (text_in ended.now) (O.written out.old) (O.written out.new)
-        (O.faults out.old) (O.faults out.new) result }
+    ensures { IsReported (status_in ended.now) (text_in ended.now) (O.seen out.old) (O.seen out.new) result }
 {
     match out.put(final_text(ended)) {
         Put::Done => final_status(ended),

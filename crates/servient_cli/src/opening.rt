@@ -5,7 +5,7 @@ ghost use Rattle.std.specs.List.{AllByRecursion};
 ghost use Rattle.wot_terms.specs.Faults.{IsValid};
 ghost use Rattle.thing_core.specs.Exposing.{kinds_of};
 ghost use Rattle.thing_core.specs.Kept.{Fits};
-ghost use Rattle.servient_core.specs.Plan.{HasFewExchanges};
+ghost use Rattle.servient_plan.specs.Plan.{HasFewExchanges};
 ghost use Rattle.servient_core.specs.Machine.{start};
 ghost use Rattle.servient_core.specs.Serving.{StandsFor};
 ghost use Rattle.servient_cli.specs.Stages.{Around};

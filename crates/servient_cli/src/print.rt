@@ -2,14 +2,14 @@
 
 ghost use Rattle.std.specs.Prelude.{◌≡◌, ◌++◌, codes, map, OnOk};
 ghost use Rattle.std.specs.List.{flat_map};
-ghost use Rattle.servient_edge.specs.declared.net.Act.TheVariants as act;
+ghost use Rattle.servient_outside.specs.declared.net.Act.TheVariants as act;
 ghost use Rattle.servient_cli.specs.Script.{endpoint_text, hex_text};
 ghost use Rattle.servient_cli.specs.Print.{act_line, answer_text, call_text, in_slot, text_if_any, turn_line};
 ghost use Rattle.wot_json.specs.Json.{json_text};
 
 use coap_msg::Endpoint;
 use itoa::{Buffer, Integer};
-use servient_edge::Act;
+use servient_outside::Act;
 use std::alloc::Global;
 use thing_handler::{Answer, CallKind, Turn};
 use wot_json::{Bytes, NoMemory, Tree, text_of};

@@ -2,12 +2,12 @@
 
 ghost use Rattle.std.specs.Prelude.{◌≡◌, ◌≤◌, List, length, IfOk};
 ghost use Rattle.servient_core.specs.Trace.{Outside};
-ghost use Rattle.servient_cli.specs.Stages.{Around, around, files_seen};
+ghost use Rattle.servient_cli.specs.Stages.{Around, around};
 ghost use Rattle.servient_cli.specs.Reading.{ReadsFile, ReadsTree};
 ghost use Rattle.servient_cli.specs.Ending.{Performs};
 
 use crate::ending::{Ended, Ending, end_with};
-use servient_edge::{Files, Got};
+use servient_outside::{Files, Got};
 use std::alloc::Global;
 use wot_json::{Bytes, ReadFault, Tree, read};
 
@@ -24,11 +24,9 @@ pub fn read_file<F: Files>(
     limit: usize,
     files: &mut F,
 ) -> Result<Bytes, Ended>
-    ensures stage { let before = files_seen (F.held files.old) (F.reads files.old) (F.faults files.old) in
-        let now = files_seen (F.held files.new) (F.reads files.new) (F.faults files.new) in
-        (w : Outside) → Performs (ReadsFile (F.held files.old) limit name.now) (around before w) (around now w) result }
+    ensures stage { (w : Outside) → Performs (ReadsFile (F.seen files.old).held limit name.now) (around (F.seen files.old) w) (around (F.seen files.new) w) result }
     ensures within { IfOk result (λ content. length content ≤ limit) }
-    ensures held { F.held files.new ≡ F.held files.old }
+    ensures held { (F.seen files.new).held ≡ (F.seen files.old).held }
 {
     let mut content = Bytes::new(alloc);
     match files.read(alloc, name, limit, &mut content) {

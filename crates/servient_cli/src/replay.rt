@@ -2,20 +2,20 @@
 
 ghost use Rattle.std.specs.Prelude.{◌≡◌, ◌≤◌, ◌++◌, ℕ, List, length, map, IfOk, IfSome, IsSome};
 ghost use Rattle.thing_handler.specs.Turns.{RunTurn};
-ghost use Rattle.servient_edge.specs.declared.net.EventWithBytes.{EventWithBytes};
-ghost use Rattle.servient_edge.specs.Network.{Happening, NetSeen, acts_in};
-ghost use Rattle.servient_edge.specs.NetMemory.{left_events, told_history};
+ghost use Rattle.servient_outside.specs.declared.net.EventWithBytes.{EventWithBytes};
+ghost use Rattle.servient_outside.specs.Network.{Happening, NetSeen, acts_in};
+ghost use Rattle.servient_outside.specs.NetMemory.{left_events, told_history};
 ghost use Rattle.servient_core.specs.Trace.{Outside, outside};
 ghost use Rattle.thing_core.specs.Exposing.{kinds_of};
 ghost use Rattle.thing_core.specs.Kept.{Fits};
-ghost use Rattle.servient_core.specs.Plan.{HasFewExchanges};
+ghost use Rattle.servient_plan.specs.Plan.{HasFewExchanges};
 ghost use Rattle.servient_core.specs.Machine.{start};
 ghost use Rattle.servient_core.specs.Serving.{StandsFor};
 ghost use Rattle.servient_cli.specs.Script.{StopsAtEnd};
 ghost use Rattle.servient_cli.specs.Print.{print_text};
 ghost use Rattle.servient_cli.specs.Merging.{HaveKept, IsMerged, turns_after};
 ghost use Rattle.servient_cli.specs.Lines.{spent_line};
-ghost use Rattle.servient_cli.specs.Stages.{Around, FilesSeen, around, files_seen};
+ghost use Rattle.servient_cli.specs.Stages.{Around, FilesSeen, around};
 ghost use Rattle.servient_cli.specs.Reading.{longest_script};
 ghost use Rattle.servient_cli.specs.Replaying.{HasScript, Plans, ReadsEvents, ReadsInputs, ReadsScript, RunsOn, RunsScript, TakesBuiltIn, plan_name as name_of_plan};
 ghost use Rattle.servient_cli.specs.Ending.{EndsBy, Performs};
@@ -28,7 +28,7 @@ use crate::reading::{LONGEST_SCRIPT, read_file};
 use crate::script::{Script, ScriptFault};
 use crate::turns::{put_turns, turn_counts, turns_since};
 use servient_core::{Plan, Served, Servient, serve};
-use servient_edge::{Act, Calls, Events, Files, NetMemory};
+use servient_outside::{Act, Calls, Events, Files, NetMemory};
 use std::alloc::{AllocError, Global};
 use thing_handler::{Handlers, Turn};
 use tm_parts::Library;
@@ -58,9 +58,7 @@ pub fn read_inputs<F: Files>(
     script: &str,
     files: &mut F,
 ) -> Result<Inputs, Ended>
-    ensures stage { let before = files_seen (F.held files.old) (F.reads files.old) (F.faults files.old) in
-        let now = files_seen (F.held files.new) (F.reads files.new) (F.faults files.new) in
-        (w : Outside) → Performs (ReadsInputs (F.held files.old) plan.now script.now) (around before w) (around now w) result }
+    ensures stage { (w : Outside) → Performs (ReadsInputs (F.seen files.old).held plan.now script.now) (around (F.seen files.old) w) (around (F.seen files.new) w) result }
     ensures exchanges { IfOk result (λ read. HasFewExchanges read.planned.plan) }
     ensures ends { IfOk result (λ read. StopsAtEnd read.events) }
 {
@@ -71,10 +69,8 @@ pub fn read_inputs<F: Files>(
 
 /// The plan of this file with its models, or the built-in Thing where none is named.
 fn plan_of<F: Files>(alloc: Global, plan: &Option<Text>, files: &mut F) -> Result<Planned, Ended>
-    ensures stage { let before = files_seen (F.held files.old) (F.reads files.old) (F.faults files.old) in
-        let now = files_seen (F.held files.new) (F.reads files.new) (F.faults files.new) in
-        (w : Outside) → Performs (Plans (F.held files.old) plan.now) (around before w) (around now w) result }
-    ensures held { F.held files.new ≡ F.held files.old }
+    ensures stage { (w : Outside) → Performs (Plans (F.seen files.old).held plan.now) (around (F.seen files.old) w) (around (F.seen files.new) w) result }
+    ensures held { (F.seen files.new).held ≡ (F.seen files.old).held }
     ensures exchanges { IfOk result (λ p. HasFewExchanges p.plan) }
 {
     match plan {
@@ -100,9 +96,7 @@ fn built_in(alloc: Global) -> Result<Planned, Ended>
 
 /// Reads the events of a script.
 fn read_events<F: Files>(alloc: Global, name: &str, files: &mut F) -> Result<Events, Ended>
-    ensures stage { let before = files_seen (F.held files.old) (F.reads files.old) (F.faults files.old) in
-        let now = files_seen (F.held files.new) (F.reads files.new) (F.faults files.new) in
-        (w : Outside) → Performs (ReadsEvents (F.held files.old) name.now) (around before w) (around now w) result }
+    ensures stage { (w : Outside) → Performs (ReadsEvents (F.seen files.old).held name.now) (around (F.seen files.old) w) (around (F.seen files.new) w) result }
     ensures ends { IfOk result StopsAtEnd }
 {
     let content = read_file(alloc, name, LONGEST_SCRIPT, files)?;

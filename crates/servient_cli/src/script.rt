@@ -9,7 +9,7 @@ ghost use Rattle.std.specs.Char.{is_ascii_uppercase};
 ghost use Rattle.std.specs.List.{list_any};
 ghost use Rattle.std.specs.Str.{IsUtf8};
 ghost use Rattle.coap_msg.specs.declared.endpoint.Endpoint.{Endpoint};
-ghost use Rattle.servient_edge.specs.declared.net.EventWithBytes.{EventWithBytes};
+ghost use Rattle.servient_outside.specs.declared.net.EventWithBytes.{EventWithBytes};
 ghost use Rattle.servient_cli.specs.Fields.{fields_text, AreFields};
 ghost use Rattle.servient_cli.specs.Script.{hex_text, endpoint_text, line_text, has_stop, IsScriptEndpoint, IsScriptEvent, StopsAtEnd, IsScript, IsFirstBadLine, ReadsEvent};
 ghost use Rattle.servient_cli.specs.Reading.{longest_script};
@@ -18,7 +18,7 @@ use arrayvec::ArrayVec;
 use coap_msg::Endpoint;
 use hex::FromHexError;
 use servient_base::parse_decimal;
-use servient_edge::{Event, EventWithBytes, Events, What};
+use servient_outside::{Event, EventWithBytes, Events, What};
 use std::alloc::{AllocError, Global};
 use std::marker::Model;
 use std::str;
@@ -277,7 +277,7 @@ pub struct Script {
 
 impl Model for Script {
     ghost use Rattle.std.specs.Prelude.{List};
-    ghost use Rattle.servient_edge.specs.declared.net.EventWithBytes.{EventWithBytes};
+    ghost use Rattle.servient_outside.specs.declared.net.EventWithBytes.{EventWithBytes};
 
     ghost Value = { List EventWithBytes };
 

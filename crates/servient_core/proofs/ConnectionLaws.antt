@@ -19,10 +19,10 @@ use Rattle.http_bind.specs.Slots.{Held, Slots, Leads, StandsFor as ConnectionsSt
 use Rattle.coap_bind.specs.declared.server.Server.{Server}
 use Rattle.std.specs.List.{AllByRecursion}
 use Rattle.http_bind.specs.Given.{StaysDry as StreamStaysDry}
-use Rattle.servient_edge.specs.declared.net.Act.{Act}
-use Rattle.servient_edge.specs.declared.net.Act.TheVariants as act
-use Rattle.servient_edge.specs.Network.{Happening, NetSeen, NetShows, did}
-use Rattle.servient_edge.proofs.NetLaws.{net_shows_then}
+use Rattle.servient_outside.specs.declared.net.Act.{Act}
+use Rattle.servient_outside.specs.declared.net.Act.TheVariants as act
+use Rattle.servient_outside.specs.Network.{Happening, NetSeen, NetShows, did}
+use Rattle.servient_outside.proofs.NetLaws.{net_shows_then}
 use Rattle.servient_core.specs.Trace.{at_network, happened_in, calls_in, Outside, outside, Shows}
 use Rattle.servient_core.specs.Machine.{State, OnHttp, Does, Performs, acts_of_reply, Sends, Handles, TakesAndHandles, TakesMessages, ClosesIdle, ClosesAllIdle}
 use Rattle.servient_core.specs.Serving.{StandsFor, IsReady}

@@ -5,9 +5,6 @@ mod ActionPaths
 pub mod OutcomeLaws
 pub mod PathLaws
 pub mod NumberLaws
-mod PlanLaws
-mod PlanTexts
-mod PlanLists
 pub mod MachineLaws
 mod PromiseLaws
 mod ServingLaws

@@ -1,5 +1,6 @@
 -- What every move of the machine keeps.
 use Rattle.std.proofs.Common.{◌≡◌, ℕ, ◌+◌, List, [], ◌∷◌, ◌++◌, map, refl, sym, ap, subst, ◌∙◌, arith, max, length, length-append, inl, inr, true, false}
+use Rattle.std.proofs.lemmas.List.Elements.{filter_map-append}
 use Rattle.std.proofs.lemmas.List.{append-nil}
 use Rattle.servient_base.specs.Moves.{Until, is_done, goes_on}
 use Rattle.coap_msg.specs.declared.endpoint.Endpoint.{Endpoint}
@@ -9,22 +10,22 @@ use Rattle.thing_core.specs.State.{State as ThingState}
 use Rattle.thing_core.specs.Thing.{Move as ThingMove, Acts, Polls}
 use Rattle.coap_bind.specs.declared.server.Server.{Server}
 use Rattle.coap_bind.specs.Server.{Heard, ignored, answered_at_once, asked, Hears, Answers}
-use Rattle.servient_edge.specs.declared.net.Act.{Act}
-use Rattle.servient_edge.specs.declared.net.Act.TheVariants as act
-use Rattle.servient_edge.specs.declared.net.What.{What}
-use Rattle.servient_edge.specs.declared.net.What.TheVariants as what
-use Rattle.servient_edge.specs.declared.net.EventWithBytes.{EventWithBytes}
-use Rattle.servient_edge.specs.Network.{Happening, did, broke, next_event, events_in, break_count}
-use Rattle.servient_edge.proofs.NetLaws.{break_count-append}
+use Rattle.servient_outside.specs.declared.net.Act.{Act}
+use Rattle.servient_outside.specs.declared.net.Act.TheVariants as act
+use Rattle.servient_outside.specs.declared.net.What.{What}
+use Rattle.servient_outside.specs.declared.net.What.TheVariants as what
+use Rattle.servient_outside.specs.declared.net.EventWithBytes.{EventWithBytes}
+use Rattle.servient_outside.specs.Network.{Happening, did, broke, next_event, events_in, break_count}
+use Rattle.servient_outside.proofs.NetLaws.{break_count-append}
 use Rattle.servient_core.specs.declared.serving.Served.{Served}
 use Rattle.servient_core.specs.declared.serving.Served.TheVariants as served
-use Rattle.servient_core.specs.Trace.{Sighting, at_network, at_handler, happened_in, calls_in}
+use Rattle.servient_core.specs.Trace.{Sighting, at_network, at_handler, happened_in, calls_in, happening_in}
 use Rattle.servient_core.specs.Machine.{Site, State, Move, OnHttp, OnCoap, OnThing, Does, Responds, Receives, acts_of_reply, Handles, TakesAndHandles, ClosesIdle, Follows, Step, Run}
 use Rattle.http_bind.specs.Streams.{Streams, Taken, asks, wants_continue, is_faulty, Opened, Ended, Lengthened, Takes, IsDry, Replies, Refuses, Closes, IsIdle, NoneIdle}
 use Rattle.servient_core.specs.Serving.{Serves, BreaksAtEnd}
 use Rattle.servient_core.proofs.PartLaws.{nothing_happened, the_calls}
 use Rattle.servient_core.proofs.NumberLaws.{Counts, acts_count, polls_count}
-use Rattle.servient_core.proofs.TraceLaws.{happened_in-append, events-append, breaks-append, turns-append}
+use Rattle.servient_core.proofs.TraceLaws.{events-append, breaks-append, turns-append}
 
 -- These events are heard, the network doesn't break, and the turns are numbered on from those that the state has.
 pub record Keeps (events : List EventWithBytes) (s : State) (seen : List Sighting) (t : State) : Type 0 where
@@ -177,7 +178,7 @@ pub serves_breaks : (site : Site) (budget : ℕ) (result : Served) (s : State) (
 serves_breaks site budget served.Failed s seen t r =
     let run = r.run in
     let k = run_keeps site r.took s run.first run.mid run.one in (
-      λ is. (happened_in run.first, ap happened_in run.whole ∙ happened_in-append run.first run.second ∙ ap (λ (z : List Sighting). happened_in run.first ++ happened_in z) run.other.saw, k.unbroken),
+      λ is. (happened_in run.first, ap happened_in run.whole ∙ filter_map-append happening_in run.first run.second ∙ ap (λ (z : List Sighting). happened_in run.first ++ happened_in z) run.other.saw, k.unbroken),
       λ other. absurd (other refl),
     )
 serves_breaks site budget served.Stopped s seen t r = (λ is. cc, λ other. (ended_keeps site r.took s t seen r.run.first r.run.second r.run.mid r.run.one r.run.other.next r.run.other.saw r.run.whole).unbroken)

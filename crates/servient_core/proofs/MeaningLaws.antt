@@ -1,28 +1,28 @@
 -- Two messages that are read as one request have one meaning.
 use Rattle.std.proofs.Common.{◌≡◌, List, [], ◌∷◌, ◌++◌, map, refl, sym, ap, ap₂, subst, ◌∙◌}
+use Rattle.std.proofs.lemmas.List.Elements.{filter_map-append}
 use Rattle.std.proofs.lemmas.List.{append-nil}
 use Rattle.thing_ops.specs.Requests.{PlainRequest}
 use Rattle.thing_handler.specs.Turns.{HandlerCall}
 use Rattle.thing_core.specs.State.{State as ThingState}
 use Rattle.thing_core.specs.Thing.{Done, Acts}
 use Rattle.thing_core.proofs.DeterminedLaws.{determined}
-use Rattle.servient_edge.specs.declared.net.Act.{Act}
-use Rattle.servient_edge.specs.declared.net.Act.TheVariants as act
-use Rattle.servient_edge.specs.Network.{did}
-use Rattle.servient_core.specs.Trace.{Sighting, at_network, calls_in}
+use Rattle.servient_outside.specs.declared.net.Act.{Act}
+use Rattle.servient_outside.specs.declared.net.Act.TheVariants as act
+use Rattle.servient_outside.specs.Network.{did}
+use Rattle.servient_core.specs.Trace.{Sighting, at_network, calls_in, call_in}
 use Rattle.servient_core.specs.Machine.{Site, State, Does, acts_of_reply}
 use Rattle.servient_core.specs.Promises.{ActsOnNothing}
 use Rattle.servient_core.specs.Meaning.{Message, by_coap, by_http, request_of, Writes, ComesTo, IsWritten, HaveOneMeaning}
 use Rattle.servient_core.proofs.ConnectionLaws.{no_calls}
 use Rattle.servient_core.proofs.PartLaws.{the_calls}
 use Rattle.servient_core.proofs.PromiseLaws.{acts_as}
-use Rattle.servient_core.proofs.TraceLaws.{calls_in-append}
 
 -- ---- what calls nothing
 
 then_quiet : (s m t : State) (first second seen : List Sighting) → ActsOnNothing s first m → ActsOnNothing m second t → seen ≡ first ++ second → ActsOnNothing s seen t
 then_quiet s m t first second seen p q whole = record {
-  calls = ap calls_in whole ∙ calls_in-append first second ∙ ap₂ (λ (x y : List HandlerCall). x ++ y) p.calls q.calls;
+  calls = ap calls_in whole ∙ filter_map-append call_in first second ∙ ap₂ (λ (x y : List HandlerCall). x ++ y) p.calls q.calls;
   thing = q.thing ∙ p.thing;
 }
 
@@ -44,7 +44,7 @@ act_of site m done s t seen c =
     let on = c.one in
     let quiet = writes_quiet m done c.mid t c.second c.other in
     let calls_are : on.1 ≡ calls_in seen =
-    sym (ap calls_in c.whole ∙ calls_in-append c.first c.second ∙ ap₂ (λ (x y : List HandlerCall). x ++ y) (ap calls_in on.3.saw ∙ the_calls on.1) quiet.calls ∙ append-nil on.1) in
+    sym (ap calls_in c.whole ∙ filter_map-append call_in c.first c.second ∙ ap₂ (λ (x y : List HandlerCall). x ++ y) (ap calls_in on.3.saw ∙ the_calls on.1) quiet.calls ∙ append-nil on.1) in
     let thing_is : on.0 ≡ t.thing = sym (quiet.thing ∙ ap (λ (x : State). x.thing) on.3.next) in
     subst (λ (x : ThingState). Acts site (request_of m) done s.thing (calls_in seen) x) thing_is
     (subst (λ (x : List HandlerCall). Acts site (request_of m) done s.thing x on.0) calls_are on.2)

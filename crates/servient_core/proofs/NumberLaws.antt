@@ -1,5 +1,6 @@
 -- The turns of requests and of polls are numbered one by one.
 use Rattle.std.proofs.Common.{◌≡◌, ℕ, ◌+◌, List, [], ◌∷◌, ◌++◌, length, refl, sym, ap, subst, arith, inl, inr, length-append}
+use Rattle.std.proofs.lemmas.List.Elements.{filter_map-append}
 use Rattle.std.specs.Prelude.{Some, None, Result, Ok, Err}
 use Rattle.servient_base.specs.Moves.{Becomes, Stays, Then}
 use Rattle.wot_json.specs.Tree.{Json}
@@ -8,8 +9,7 @@ use Rattle.thing_ops.specs.Requests.{PlainRequest}
 use Rattle.thing_handler.specs.declared.handler.CallKind.{CallKind}
 use Rattle.thing_handler.specs.declared.handler.CallKind.TheVariants as call
 use Rattle.thing_handler.specs.declared.handler.Answer.TheVariants as answer
-use Rattle.thing_handler.specs.Turns.{RunTurn, HandlerCall, turns_in, AreNumberedFrom}
-use Rattle.thing_handler.proofs.RackLaws.{turns_in-append}
+use Rattle.thing_handler.specs.Turns.{RunTurn, HandlerCall, turns_in, AreNumberedFrom, turn_in}
 use Rattle.thing_handler.proofs.TurnLaws.{numbered_then}
 use Rattle.thing_core.specs.Site.{Placed, Site, events_of}
 use Rattle.thing_core.specs.State.{State, Status, running, completed, Emission}
@@ -33,7 +33,7 @@ counts_stays s t calls b = counts_quiet s s t calls refl b
 
 counts_then : (s m t : State) (a b calls : List HandlerCall) → Counts s a m → Counts m b t → calls ≡ a ++ b → Counts s calls t
 counts_then s m t a b calls p q whole =
-    let turns = turns_in-append a b in
+    let turns = filter_map-append turn_in a b in
     subst (λ (cs : List HandlerCall). Counts s cs t) (sym whole) (record {
       count = omega (arith, p.count, q.count, ap (λ (ts : List RunTurn). length ts) turns, length-append (turns_in a) (turns_in b));
       numbered = subst (λ (ts : List RunTurn). AreNumberedFrom s.turns ts) (sym turns)

@@ -20,11 +20,11 @@ use Rattle.coap_bind.specs.declared.server.Server.{Server}
 use Rattle.coap_bind.specs.Server.{Heard, ignored, answered_at_once, asked, Hears, Answers}
 use Rattle.http_bind.specs.Streams.{Connection, Streams}
 use Rattle.http_bind.specs.Slots.{Held, Slots, Leads, StandsFor as ConnectionsStandFor, HoldsIfOpen, HasRoomFor, HasRoom, OthersStay, held_at, with_held, longest_piece}
-use Rattle.servient_edge.specs.declared.net.Act.{Act}
-use Rattle.servient_edge.specs.declared.net.Act.TheVariants as act
-use Rattle.servient_edge.specs.declared.net.EventWithBytes.{EventWithBytes}
-use Rattle.servient_edge.specs.Network.{Happening, NetSeen, NetShows, did}
-use Rattle.servient_edge.proofs.NetLaws.{net_shows_none}
+use Rattle.servient_outside.specs.declared.net.Act.{Act}
+use Rattle.servient_outside.specs.declared.net.Act.TheVariants as act
+use Rattle.servient_outside.specs.declared.net.EventWithBytes.{EventWithBytes}
+use Rattle.servient_outside.specs.Network.{Happening, NetSeen, NetShows, did}
+use Rattle.servient_outside.proofs.NetLaws.{net_shows_none}
 use Rattle.servient_core.specs.Trace.{at_network, at_handler, happened_in, calls_in, Outside, outside, Shows}
 use Rattle.servient_core.specs.Machine.{State, Move, OnHttp, OnCoap, OnThing, Does, Performs, Responds, Receives, Follows, Step, ClosesAllIdle, longest_datagram}
 use Rattle.servient_core.specs.Serving.{StandsFor}

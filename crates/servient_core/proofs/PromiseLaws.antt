@@ -14,8 +14,8 @@ use Rattle.coap_bind.specs.declared.head.OpenRequest.{OpenRequest}
 use Rattle.coap_bind.specs.declared.server.Server.{Server}
 use Rattle.coap_bind.specs.Server.{Heard, ignored, answered_at_once, asked, arrival, is_request, with_id_used, malformed, no_request, repeated, full, Hears, settled, admitted}
 use Rattle.coap_bind.proofs.HistoryLaws.{repeats_ask_nothing}
-use Rattle.servient_edge.specs.declared.net.Act.TheVariants as act
-use Rattle.servient_edge.specs.Network.{did}
+use Rattle.servient_outside.specs.declared.net.Act.TheVariants as act
+use Rattle.servient_outside.specs.Network.{did}
 use Rattle.servient_core.specs.Trace.{Sighting, at_network, calls_in}
 use Rattle.servient_core.specs.Machine.{Site, State, Responds}
 use Rattle.servient_core.specs.Promises.{ActsOnNothing, RepeatsActOnNothing, FullTableActsOnNothing}

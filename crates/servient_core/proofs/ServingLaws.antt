@@ -4,10 +4,10 @@ use Rattle.servient_base.specs.Moves.{Then, Becomes, Refines}
 use Rattle.servient_base.proofs.MovesLaws.{refines_then, refines_as, refines_each_more, refines_stays}
 use Rattle.thing_handler.specs.Handler.{Seen}
 use Rattle.thing_core.specs.Kept.{Fits}
-use Rattle.servient_edge.specs.declared.net.What.TheVariants as what
-use Rattle.servient_edge.specs.declared.net.Event.{Event}
-use Rattle.servient_edge.specs.declared.net.EventWithBytes.{EventWithBytes}
-use Rattle.servient_edge.specs.Network.{byte_count, in_buffer, Happening, NetSeen, NetShows, heard, broke, next_event}
+use Rattle.servient_outside.specs.declared.net.What.TheVariants as what
+use Rattle.servient_outside.specs.declared.net.Event.{Event}
+use Rattle.servient_outside.specs.declared.net.EventWithBytes.{EventWithBytes}
+use Rattle.servient_outside.specs.Network.{byte_count, in_buffer, Happening, NetSeen, NetShows, heard, broke, next_event}
 use Rattle.servient_core.specs.declared.serving.Served.{Served}
 use Rattle.servient_core.specs.declared.serving.Served.TheVariants as served
 use Rattle.servient_core.specs.Trace.{at_network, Outside, outside, Shows}

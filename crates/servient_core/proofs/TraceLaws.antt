@@ -1,41 +1,32 @@
 -- Laws of what is seen of the servient.
 use Rattle.std.proofs.Common.{◌≡◌, ◌+◌, List, [], ◌∷◌, ◌++◌, refl, sym, ap, subst, ◌∙◌}
+use Rattle.std.proofs.lemmas.List.Elements.{filter_map-append}
 use Rattle.servient_base.specs.Moves.{ShowsInOrder}
 use Rattle.thing_handler.specs.Handler.{Seen}
-use Rattle.thing_handler.specs.Turns.{HandlerCall, RackShows, turns_in}
-use Rattle.thing_handler.proofs.RackLaws.{rack_shows_none, rack_shows_then, turns_in-append}
-use Rattle.servient_edge.specs.Network.{Happening, NetSeen, NetShows, events_in, break_count}
-use Rattle.servient_edge.proofs.NetLaws.{net_shows_none, net_shows_then, events_in-append, break_count-append}
-use Rattle.servient_core.specs.Trace.{Sighting, at_network, at_handler, happened_in, calls_in, outside, Shows}
-
-pub happened_in-append : (a b : List Sighting) → happened_in (a ++ b) ≡ happened_in a ++ happened_in b
-happened_in-append [] b = refl
-happened_in-append (at_network h ∷ a) b = ap (λ (happened : List Happening). h ∷ happened) (happened_in-append a b)
-happened_in-append (at_handler call ∷ a) b = happened_in-append a b
-
-pub calls_in-append : (a b : List Sighting) → calls_in (a ++ b) ≡ calls_in a ++ calls_in b
-calls_in-append [] b = refl
-calls_in-append (at_network h ∷ a) b = calls_in-append a b
-calls_in-append (at_handler call ∷ a) b = ap (λ (calls : List HandlerCall). call ∷ calls) (calls_in-append a b)
+use Rattle.thing_handler.specs.Turns.{HandlerCall, RackShows, turns_in, turn_in}
+use Rattle.thing_handler.proofs.RackLaws.{rack_shows_none, rack_shows_then}
+use Rattle.servient_outside.specs.Network.{Happening, NetSeen, NetShows, events_in, break_count, event_in}
+use Rattle.servient_outside.proofs.NetLaws.{net_shows_none, net_shows_then, break_count-append}
+use Rattle.servient_core.specs.Trace.{Sighting, at_network, at_handler, happened_in, calls_in, outside, Shows, happening_in, call_in}
 
 -- the events, the breaks and the turns that are seen, one after another
 pub events-append : (a b : List Sighting) → events_in (happened_in (a ++ b)) ≡ events_in (happened_in a) ++ events_in (happened_in b)
-events-append a b = ap events_in (happened_in-append a b) ∙ events_in-append (happened_in a) (happened_in b)
+events-append a b = ap events_in (filter_map-append happening_in a b) ∙ filter_map-append event_in (happened_in a) (happened_in b)
 
 pub breaks-append : (a b : List Sighting) → break_count (happened_in (a ++ b)) ≡ break_count (happened_in a) + break_count (happened_in b)
-breaks-append a b = ap break_count (happened_in-append a b) ∙ break_count-append (happened_in a) (happened_in b)
+breaks-append a b = ap break_count (filter_map-append happening_in a b) ∙ break_count-append (happened_in a) (happened_in b)
 
 pub turns-append : (a b : List Sighting) → turns_in (calls_in (a ++ b)) ≡ turns_in (calls_in a) ++ turns_in (calls_in b)
-turns-append a b = ap turns_in (calls_in-append a b) ∙ turns_in-append (calls_in a) (calls_in b)
+turns-append a b = ap turns_in (filter_map-append call_in a b) ∙ filter_map-append turn_in (calls_in a) (calls_in b)
 
 -- the outside shows traces in their order
 pub shows_in_order : ShowsInOrder Shows
 shows_in_order = record {
   none = λ w. record { net = net_shows_none w.net; rack = rack_shows_none w.slots };
   more = λ w v u a b p q. record {
-    net = subst (λ (happened : List Happening). NetShows w.net u.net happened) (sym (happened_in-append a b))
+    net = subst (λ (happened : List Happening). NetShows w.net u.net happened) (sym (filter_map-append happening_in a b))
         (net_shows_then w.net v.net u.net (happened_in a) (happened_in b) p.net q.net);
-    rack = subst (λ (calls : List HandlerCall). RackShows w.slots u.slots calls) (sym (calls_in-append a b))
+    rack = subst (λ (calls : List HandlerCall). RackShows w.slots u.slots calls) (sym (filter_map-append call_in a b))
         (rack_shows_then w.slots v.slots u.slots (calls_in a) (calls_in b) p.rack q.rack);
   };
 }

@@ -8,7 +8,7 @@ use Rattle.thing_core.specs.Site.{Site}
 use Rattle.thing_core.specs.Kept.{Fits}
 use Rattle.http_bind.specs.Streams.{Replies, Refuses, IsDry}
 use Rattle.http_bind.specs.Slots.{Slots, Leads}
-use Rattle.servient_edge.specs.Network.{NetSeen, NetShows, did}
+use Rattle.servient_outside.specs.Network.{NetSeen, NetShows, did}
 use Rattle.servient_core.specs.Machine.{Move, TakesAndHandles, acts_of_reply}
 use Rattle.servient_core.specs.declared.parts.Parts.{Parts}
 

@@ -1,5 +1,3 @@
-pub mod Plan
-pub mod BuiltIn
 pub mod Trace
 pub mod Machine
 pub mod Keeping

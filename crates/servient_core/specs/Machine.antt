@@ -14,12 +14,12 @@ use Rattle.thing_core.specs.Thing.{Move as ThingMove, Done, Acts, Polls}
 use Rattle.coap_bind.specs.declared.server.Server.{Server}
 use Rattle.coap_bind.specs.Server.{start as nothing_came, Heard, ignored, answered_at_once, asked, Hears, Answers}
 use Rattle.http_bind.specs.Streams.{Streams, none_open, Taken, asks, wants_continue, is_faulty, Opened, Ended, Lengthened, Takes, IsDry, Replies, Refuses, Closes, IsIdle, NoneIdle}
-use Rattle.servient_edge.specs.declared.net.What.{What}
-use Rattle.servient_edge.specs.declared.net.What.TheVariants as what
-use Rattle.servient_edge.specs.declared.net.EventWithBytes.{EventWithBytes}
-use Rattle.servient_edge.specs.declared.net.Act.{Act}
-use Rattle.servient_edge.specs.declared.net.Act.TheVariants as act
-use Rattle.servient_edge.specs.Network.{heard, did}
+use Rattle.servient_outside.specs.declared.net.What.{What}
+use Rattle.servient_outside.specs.declared.net.What.TheVariants as what
+use Rattle.servient_outside.specs.declared.net.EventWithBytes.{EventWithBytes}
+use Rattle.servient_outside.specs.declared.net.Act.{Act}
+use Rattle.servient_outside.specs.declared.net.Act.TheVariants as act
+use Rattle.servient_outside.specs.Network.{heard, did}
 use Rattle.servient_core.specs.Trace.{Sighting, at_network, at_handler}
 
 -- what is constant in a run: the Things, each affordance with the slot of its handler

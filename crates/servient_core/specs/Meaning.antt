@@ -10,7 +10,7 @@ use Rattle.coap_opts.specs.Reading.{PlainAsk}
 use Rattle.coap_bind.specs.declared.head.OpenRequest.{OpenRequest}
 use Rattle.coap_bind.specs.Server.{asked, Answers}
 use Rattle.http_bind.specs.Streams.{asks, Replies}
-use Rattle.servient_edge.specs.declared.net.Act.TheVariants as act
+use Rattle.servient_outside.specs.declared.net.Act.TheVariants as act
 use Rattle.servient_core.specs.Trace.{Sighting, calls_in}
 use Rattle.servient_core.specs.Machine.{Site, State, Move, OnHttp, OnCoap, Does, Performs, Responds, Sends, Handles}
 

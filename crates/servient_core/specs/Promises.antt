@@ -6,8 +6,8 @@ use Rattle.coap_exchange.specs.Admission.{Arrival, is_repeat_of, admitted_among}
 use Rattle.coap_exchange.specs.Table.{at_moment, repeated_exchange}
 use Rattle.coap_bind.specs.Server.{is_request, arrival}
 use Rattle.coap_bind.specs.Laws.{Did}
-use Rattle.servient_edge.specs.declared.net.Act.TheVariants as act
-use Rattle.servient_edge.specs.Network.{did}
+use Rattle.servient_outside.specs.declared.net.Act.TheVariants as act
+use Rattle.servient_outside.specs.Network.{did}
 use Rattle.servient_core.specs.Trace.{Sighting, at_network, calls_in}
 use Rattle.servient_core.specs.Machine.{Site, State, Receives, longest_datagram}
 

@@ -4,9 +4,9 @@ use Rattle.coap_exchange.specs.Admission.{Arrival}
 use Rattle.coap_bind.specs.Laws.{AreArrivals, Did}
 use Rattle.thing_handler.specs.Handler.{Seen}
 use Rattle.thing_handler.specs.Turns.{misses_in, times}
-use Rattle.servient_edge.specs.declared.net.What.{What}
-use Rattle.servient_edge.specs.declared.net.What.TheVariants as what
-use Rattle.servient_edge.specs.declared.net.EventWithBytes.{EventWithBytes}
+use Rattle.servient_outside.specs.declared.net.What.{What}
+use Rattle.servient_outside.specs.declared.net.What.TheVariants as what
+use Rattle.servient_outside.specs.declared.net.EventWithBytes.{EventWithBytes}
 use Rattle.servient_core.specs.declared.serving.Served.{Served}
 use Rattle.servient_core.specs.Trace.{Sighting, calls_in, Outside, Shows}
 use Rattle.servient_core.specs.Machine.{Site, State, start, Run, longest_datagram}

@@ -1,9 +1,9 @@
 -- What the calls of the servient promise: moves of the machine, which the network and the rack show.
 use Rattle.std.specs.Prelude.{◌≡◌, ◌≢◌, ◌≤◌, ◌<◌, ℕ, List, [], ◌∷◌, ◌++◌, length}
 use Rattle.servient_base.specs.Moves.{Becomes, Stays, Then}
-use Rattle.servient_edge.specs.declared.net.What.TheVariants as what
-use Rattle.servient_edge.specs.declared.net.EventWithBytes.{EventWithBytes}
-use Rattle.servient_edge.specs.Network.{Happening, broke, next_event, break_count}
+use Rattle.servient_outside.specs.declared.net.What.TheVariants as what
+use Rattle.servient_outside.specs.declared.net.EventWithBytes.{EventWithBytes}
+use Rattle.servient_outside.specs.Network.{Happening, broke, next_event, break_count}
 use Rattle.thing_core.specs.declared.fault.ExposeFault.{ExposeFault}
 use Rattle.thing_core.specs.Exposing.{IsFirst}
 use Rattle.std.specs.List.{AllByRecursion}

@@ -1,8 +1,9 @@
 -- What is seen of the servient from outside: what happens at the network, and the calls of device handlers.
-use Rattle.std.specs.Prelude.{List, [], ◌∷◌}
+use Rattle.std.specs.Prelude.{List, Option, Some, None}
+use Rattle.std.specs.List.{filter_map}
 use Rattle.thing_handler.specs.Handler.{Seen}
 use Rattle.thing_handler.specs.Turns.{HandlerCall, RackShows}
-use Rattle.servient_edge.specs.Network.{Happening, NetSeen, NetShows}
+use Rattle.servient_outside.specs.Network.{Happening, NetSeen, NetShows}
 
 -- One thing that is seen.
 pub data Sighting : Type 0 where
@@ -10,16 +11,20 @@ pub data Sighting : Type 0 where
   at_handler : HandlerCall → Sighting
 
 -- what happened at the network, in order
+abbrev pub happening_in : Sighting → Option Happening
+happening_in (at_network h) = Some h
+happening_in (at_handler call) = None
+
 abbrev pub happened_in : List Sighting → List Happening
-happened_in [] = []
-happened_in (at_network h ∷ seen) = h ∷ happened_in seen
-happened_in (at_handler call ∷ seen) = happened_in seen
+happened_in = filter_map happening_in
 
 -- the calls of handlers, in order
+abbrev pub call_in : Sighting → Option HandlerCall
+call_in (at_network h) = None
+call_in (at_handler call) = Some call
+
 abbrev pub calls_in : List Sighting → List HandlerCall
-calls_in [] = []
-calls_in (at_network h ∷ seen) = calls_in seen
-calls_in (at_handler call ∷ seen) = call ∷ calls_in seen
+calls_in = filter_map call_in
 
 -- What is known of the outside at one time: of the network, and of each handler in the order of their slots.
 pub record Outside : Type 0 where

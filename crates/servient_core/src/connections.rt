@@ -9,7 +9,7 @@ ghost use Rattle.http_bind.specs.Replying.{fault_word};
 ghost use Rattle.http_bind.specs.Looking.{room_size};
 ghost use Rattle.http_bind.specs.Slots.{left_at, longest_piece, IsOpen, IsAskedBy, OthersStay, HasRoom};
 ghost use Rattle.servient_core.specs.Trace.{Shows, outside};
-ghost use Rattle.servient_edge.specs.Network.{NetShows, did};
+ghost use Rattle.servient_outside.specs.Network.{NetShows, did};
 ghost use Rattle.servient_core.specs.Machine.{ReceivesPiece, TakesMessages, ClosesAllIdle, acts_of_reply};
 ghost use Rattle.servient_core.specs.Serving.{StandsFor, IsReady};
 ghost use Rattle.servient_core.specs.Keeping.{DoesMove};

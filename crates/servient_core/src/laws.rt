@@ -2,7 +2,7 @@
 
 ghost use Rattle.std.specs.Prelude.{◌≡◌, ◌↔◌, ℕ, List};
 ghost use Rattle.thing_handler.specs.Turns.{AreNumberedFrom, turns_in};
-ghost use Rattle.servient_edge.specs.Network.{break_count};
+ghost use Rattle.servient_outside.specs.Network.{break_count};
 ghost use Rattle.servient_core.specs.declared.serving.Served.{Served};
 ghost use Rattle.servient_core.specs.declared.serving.Served.TheVariants as served;
 ghost use Rattle.servient_core.specs.Trace.{Sighting, happened_in, calls_in};

@@ -6,13 +6,9 @@
 //! socket and no clock.
 #![tactic(auto)]
 
-mod built_in;
 mod connections;
 mod laws;
 mod parts;
-mod plan;
-mod plan_texts;
-mod plan_values;
 mod servient;
 mod serving;
 
@@ -20,12 +16,12 @@ pub use laws::{
     each_stands_for_a_state, failing_is_exact, full_table_acts_on_nothing, repeats_act_on_nothing,
     turns_are_numbered,
 };
-pub use plan::{ModelFiles, Plan, PlanFault};
 pub use servient::{OpenFault, Servient};
 pub use servient_edge::{
     Act, Calls, Dialled, Event, EventWithBytes, Events, FileRead, Files, FilesMemory, FilesReal,
     Found, Got, Held, HeldFile, Listened, Net, NetMemory, Next, Out, OutMemory, OutReal, Place,
     Put, What,
 };
+pub use servient_plan::{ModelFiles, Plan, PlanFault};
 pub use serving::{Served, serve};
 pub use thing_core::Slots;

@@ -5,7 +5,7 @@ ghost use Rattle.std.specs.List.{All};
 ghost use Rattle.thing_core.specs.Kept.{Fits};
 ghost use Rattle.thing_ops.specs.Requests.{plain_request};
 ghost use Rattle.servient_core.specs.Machine.{Follows, Receives};
-ghost use Rattle.servient_edge.specs.Network.{byte_count, IsEvent};
+ghost use Rattle.servient_outside.specs.Network.{byte_count, IsEvent};
 ghost use Rattle.http_bind.specs.Looking.{room_size};
 ghost use Rattle.servient_core.specs.Serving.{IsReady};
 ghost use Rattle.servient_core.specs.Keeping.{IsSendable, DoesMove, IsPerformed, ArePolled};
@@ -103,6 +103,7 @@ pub fn perform<R: Handlers>(exposed: &mut Exposed, rack: &mut R, request: &Reque
     ensures performed { IsPerformed exposed.old exposed.new (plain_request request.now) result (R.slots rack.old) (R.slots rack.new) }
     ensures sendable { All (λ segment. length segment ≤ 255) request.now.path → IsSendable result }
 {
+    // For the proof: the number that was read has 64 bits.
     let _next = exposed.next_invocation();
     let outcome = exposed.perform(rack, request);
     let_go(exposed);

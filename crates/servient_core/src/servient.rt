@@ -7,7 +7,7 @@ ghost use Rattle.wot_terms.specs.Faults.{IsValid};
 ghost use Rattle.thing_core.specs.Site.{site_of, expose_faults};
 ghost use Rattle.thing_core.specs.Exposing.{kinds_of};
 ghost use Rattle.thing_core.specs.Kept.{Fits};
-ghost use Rattle.servient_edge.specs.Network.{byte_count, IsEvent};
+ghost use Rattle.servient_outside.specs.Network.{byte_count, IsEvent};
 ghost use Rattle.servient_core.specs.Trace.{Shows, outside};
 ghost use Rattle.servient_core.specs.Machine.{start, Step};
 ghost use Rattle.servient_core.specs.Serving.{StandsFor, IsOpenFault};

@@ -1,6 +1,1 @@
-pub mod GivenEvents
 pub mod BytesInTurns
-pub mod ToldLaws
-pub mod NetLaws
-pub mod OrderLaws
-pub mod ActsKept

@@ -1,16 +1,4 @@
-pub mod Told
-pub mod Network
-pub mod CallCount
-pub mod Ending
-pub mod Order
-pub mod ActLog
-pub mod NetMemory
 pub mod Timing
 pub mod Turns
-pub mod MioNet
-pub mod Files
-pub mod FilesMemory
-pub mod Out
-pub mod OutMemory
 pub mod FilesReal
 pub mod OutReal

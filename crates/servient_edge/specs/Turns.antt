@@ -1,6 +1,6 @@
 -- What the turns of sockets come to.
 use Rattle.std.specs.Prelude.{◌≤◌}
-use Rattle.servient_edge.specs.Network.{MayCome}
+use Rattle.servient_outside.specs.Network.{MayCome}
 use Rattle.servient_edge.specs.declared.turns.Took.{Took}
 use Rattle.servient_edge.specs.declared.turns.Took.TheVariants as took
 use Rattle.servient_edge.specs.declared.turns.Turn.{Turn}

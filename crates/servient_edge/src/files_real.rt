@@ -3,7 +3,7 @@
 ghost use Rattle.std.specs.Prelude.{◌≡◌, ◌≢◌, ◌≤◌, ◌<◌, ◌+◌, ◌++◌, ◌↔◌, ◌⊎◌, [], length, IfErr, IfOk, IfSome, IsErrAnd, OnOk};
 ghost use Rattle.std.specs.IoError.{error_kind};
 
-use crate::{Files, Got};
+use servient_outside::{Files, Got};
 use std::alloc::Global;
 use std::io::{ErrorKind, Read};
 use std::{fs, io, rt};
@@ -110,23 +110,19 @@ fn read_opened<F: Read + Drop>(
 }
 
 impl<R: rt::Files + Drop> Files for FilesReal<R> {
-    ghost use Rattle.std.specs.Prelude.{◌≡◌, ◌≢◌, ◌≤◌, None, length};
-    ghost use Rattle.servient_base.specs.Count.{Rose, one_more};
-    ghost use Rattle.servient_edge.specs.Files.{AnswersRead};
-    ghost use Rattle.servient_edge.specs.FilesReal.{fault_count};
+    ghost use Rattle.std.specs.Prelude.{◌≡◌, ◌≢◌};
+    ghost use Rattle.servient_base.specs.Count.{one_more};
+    ghost use Rattle.servient_outside.specs.Files.{AnswersRead, FilesShow};
+    ghost use Rattle.servient_edge.specs.FilesReal.{fault_count, seen_of};
 
-    ghost held = { λ f. None };
-
-    ghost reads = { λ f. None };
-
-    ghost faults = { fault_count };
+    ghost seen = { seen_of };
 
     /// An interruption counts as a failure, as every error does but that there is no such file.
     fn read(&mut self, alloc: Global, name: &str, limit: usize, into: &mut Bytes) -> Got
-        ensures answer { AnswersRead None name.now limit result into.new }
-        ensures fault { result ≡ Got.Failed → Rose (fault_count self.old) (fault_count self.new) }
-        ensures faults { fault_count self.old ≤ fault_count self.new }
+        ensures answer { AnswersRead (seen_of self.old).held name.now limit result into.new }
+        ensures shows { FilesShow (seen_of self.old) (seen_of self.new) name.now limit result }
 
+        // What is counted.
         ensures counted { result ≡ Got.Failed → fault_count self.new ≡ one_more (fault_count self.old) }
         ensures no_fault { result ≢ Got.Failed → fault_count self.new ≡ fault_count self.old }
     {

@@ -3,14 +3,14 @@
 
 ghost use Rattle.std.specs.Prelude.{◌≡◌, ◌≤◌, ◌<◌, ◌^◌, IfOk, IfSome, length};
 ghost use Rattle.servient_base.specs.Count.{Rose};
-ghost use Rattle.servient_edge.specs.Network.{MayCome};
+ghost use Rattle.servient_outside.specs.Network.{MayCome};
 
 use crate::addresses::{endpoint_of, resolve};
 use crate::sockets::Sockets;
 use crate::timing::{Due, Timing};
 use crate::turns::Turn;
-use crate::{Dialled, Event, Found, Listened, Net, Next, Place, What};
 use coap_msg::Endpoint;
+use servient_outside::{Dialled, Event, Found, Listened, Net, Next, Place, What};
 use std::alloc::Global;
 use std::io::{self, ErrorKind};
 use std::net;
@@ -225,10 +225,10 @@ impl<R: net::Net + Clock + Drop> MioNet<R> {
 
 impl<R: net::Net + Clock + Drop> Net for MioNet<R> {
     ghost use Rattle.std.specs.Prelude.{◌≡◌, ◌≢◌, [], ◌∷◌, ◌++◌, length};
-    ghost use Rattle.servient_edge.specs.declared.net.Act.TheVariants as act;
-    ghost use Rattle.servient_edge.specs.Network.{NetShows, did, came, IsAnswer, IsConnection};
-    ghost use Rattle.servient_edge.specs.Network.{listens_as, dials_as, finds_as};
-    ghost use Rattle.servient_edge.specs.MioNet.{counted_only};
+    ghost use Rattle.servient_outside.specs.declared.net.Act.TheVariants as act;
+    ghost use Rattle.servient_outside.specs.Network.{NetShows, did, came, IsAnswer, IsConnection};
+    ghost use Rattle.servient_outside.specs.Network.{listens_as, dials_as, finds_as};
+    ghost use Rattle.servient_outside.specs.Network.{counted_only};
 
     ghost seen = { λ n. counted_only n.faults };
 

@@ -3,7 +3,7 @@
 ghost use Rattle.std.specs.Prelude.{◌≡◌, ◌++◌, List, ℕ};
 ghost use Rattle.std.specs.Io.KnownBytes.{Appends};
 
-use crate::{Out, Put};
+use servient_outside::{Out, Put};
 use std::io::Write;
 
 /// An output over a writer, as that to the standard output. It counts what fails.
@@ -44,20 +44,18 @@ fn write_whole<W: Write>(writer: &mut W, piece: &[u8]) -> Put
 }
 
 impl<W: Write + Drop> Out for OutReal<W> {
-    ghost use Rattle.std.specs.Prelude.{◌≡◌, ◌≤◌, ◌++◌, ℕ, List, None};
+    ghost use Rattle.std.specs.Prelude.{◌≡◌, ◌++◌, ℕ, List};
     ghost use Rattle.std.specs.Io.KnownBytes.{Appends};
-    ghost use Rattle.servient_base.specs.Count.{Rose, one_more};
-    ghost use Rattle.servient_edge.specs.OutReal.{fault_count, writer_of};
+    ghost use Rattle.servient_base.specs.Count.{one_more};
+    ghost use Rattle.servient_outside.specs.Out.{OutShows};
+    ghost use Rattle.servient_edge.specs.OutReal.{fault_count, seen_of, writer_of};
 
-    ghost written = { λ o. None };
-
-    ghost faults = { fault_count };
+    ghost seen = { seen_of };
 
     /// A write that takes nothing of a piece that isn't empty is a failure, and so is every error, an
     /// interruption too.
     fn put(&mut self, bytes: &[u8]) -> Put
-        ensures fault { result ≡ Put.Failed → Rose (fault_count self.old) (fault_count self.new) }
-        ensures faults { fault_count self.old ≤ fault_count self.new }
+        ensures shows { OutShows (seen_of self.old) (seen_of self.new) result bytes.now }
 
         // What reached the writer, where it is known what that holds.
         ensures done { result ≡ Put.Done

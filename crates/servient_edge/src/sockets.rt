@@ -4,7 +4,6 @@
 ghost use Rattle.std.specs.Prelude.{◌≡◌, ◌<◌, IfOk, IfSome, length};
 ghost use Rattle.servient_edge.specs.Turns.{IsTurn, TookWithin};
 
-use crate::What;
 use crate::addresses::{address_of, endpoint_of};
 use crate::connection::Connection;
 use crate::dialling::connect;
@@ -12,6 +11,7 @@ use crate::turns::{CONNECTIONS, LISTENER, Took, Turn, Turns};
 use coap_msg::Endpoint;
 use mio::net::{TcpListener, TcpStream, UdpSocket};
 use mio::{Events, Interest, Poll, Token};
+use servient_outside::What;
 use std::alloc::{AllocError, Global};
 use std::io::{self, ErrorKind};
 use std::net::{Ipv4Addr, Net, SocketAddr};

@@ -2,7 +2,7 @@
 
 ghost use Rattle.std.specs.Prelude.{◌<◌, IfSome};
 
-use crate::What;
+use servient_outside::What;
 
 /// How many connections there are at most.
 pub const CONNECTIONS: usize = 64;

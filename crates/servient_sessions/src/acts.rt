@@ -1,7 +1,7 @@
 //! What was done to the network, in words.
 
 use case_notation::{put, put_message};
-use servient_edge::{Act, Place};
+use servient_outside::{Act, Place};
 use std::alloc::AllocError;
 use std::fmt::Write;
 

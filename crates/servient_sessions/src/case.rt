@@ -17,7 +17,7 @@
 use crate::devices::{Device, device_of};
 use crate::spelling::put_spelled;
 use case_notation::{bytes_of, number};
-use servient_edge::{Calls, Held, HeldFile};
+use servient_outside::{Calls, Held, HeldFile};
 use std::alloc::{AllocError, Global};
 use thing_handler::SHIPPED_SLOTS;
 use wot_json::{Bytes, Text};

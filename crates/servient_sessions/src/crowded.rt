@@ -1,7 +1,7 @@
 //! A network that is out of memory when it is to listen, dial or look up, and that gives nothing.
 
 use coap_msg::Endpoint;
-use servient_edge::{Dialled, Found, Listened, Net, Next, Place};
+use servient_outside::{Dialled, Found, Listened, Net, Next, Place};
 use std::alloc::Global;
 
 /// The network. Nothing is recorded.
@@ -10,7 +10,7 @@ pub struct Crowded;
 
 impl Net for Crowded {
     ghost use Rattle.std.specs.Prelude.{◌^◌, ◌-◌};
-    ghost use Rattle.servient_edge.specs.MioNet.{counted_only};
+    ghost use Rattle.servient_outside.specs.Network.{counted_only};
 
     ghost seen = { λ _. counted_only (2 ^ 64 - 1) };
 

@@ -7,7 +7,7 @@ use crate::devices::Device;
 use crate::scripts::LONGEST_SCRIPT;
 use crate::spelling::put_printed;
 use servient_cli::{Script, servient_main};
-use servient_edge::{Calls, Events, FilesMemory, Held, Net, NetMemory, OutMemory};
+use servient_outside::{Calls, Events, FilesMemory, Held, Net, NetMemory, OutMemory};
 use std::alloc::{AllocError, Global};
 use std::fmt::Write;
 use std::{mem, str};

@@ -2,7 +2,7 @@
 
 use case_notation::{bytes_of, put};
 use servient_cli::{Script, ScriptFault};
-use servient_edge::{EventWithBytes, Events};
+use servient_outside::{EventWithBytes, Events};
 use std::alloc::{AllocError, Global};
 use std::fmt::Write;
 

@@ -1,5 +1,6 @@
 -- Laws of what the handlers of a rack show.
 use Rattle.std.proofs.Common.{◌≡◌, ◌≢◌, ℕ, zero, suc, ◌+◌, ◌<◌, List, [], ◌∷◌, ◌++◌, length, set, Some, Ok, Err, refl, sym, ap, subst, ◌∙◌, arith, true, false, eqb, inl, inr}
+use Rattle.std.proofs.lemmas.List.Elements.{filter_map-append}
 use Rattle.std.specs.Prelude.{slice_get}
 use Rattle.std.specs.declared.alloc.AllocError.{AllocError}
 use Rattle.std.proofs.lemmas.Bool.{cases_eq, eq-eqb, ne_eqb}
@@ -12,18 +13,8 @@ use Rattle.thing_handler.specs.declared.handler.CallKind.{CallKind}
 use Rattle.thing_handler.specs.declared.handler.Answer.{Answer}
 use Rattle.thing_handler.specs.declared.handler.Turn.{Turn}
 use Rattle.thing_handler.specs.Handler.{Seen, CallsHandler}
-use Rattle.thing_handler.specs.Turns.{RunTurn, HandlerCall, answered, missed, turns_in, misses_in, GrewBy, times, CountMisses, RackShows}
+use Rattle.thing_handler.specs.Turns.{RunTurn, HandlerCall, answered, missed, turns_in, misses_in, GrewBy, times, CountMisses, RackShows, turn_in, miss_in}
 use Rattle.thing_handler.proofs.TurnLaws.{as_many, grew_by_none, grew_by_then, stand_then, grew_by_set, of_slot, of_other}
-
-pub turns_in-append : (a b : List HandlerCall) → turns_in (a ++ b) ≡ turns_in a ++ turns_in b
-turns_in-append [] b = refl
-turns_in-append (answered turn ∷ a) b = ap (λ (turns : List RunTurn). turn ∷ turns) (turns_in-append a b)
-turns_in-append (missed slot ∷ a) b = turns_in-append a b
-
-pub misses_in-append : (a b : List HandlerCall) → misses_in (a ++ b) ≡ misses_in a ++ misses_in b
-misses_in-append [] b = refl
-misses_in-append (answered turn ∷ a) b = misses_in-append a b
-misses_in-append (missed slot ∷ a) b = ap (λ (slots : List ℕ). slot ∷ slots) (misses_in-append a b)
 
 times-append : (slot : ℕ) (a b : List ℕ) → times slot (a ++ b) ≡ times slot a + times slot b
 times-append slot [] b = omega arith
@@ -52,12 +43,12 @@ rack_shows_none slots = record { slots = tt; turns = grew_by_none 0 slots; misse
 -- at one time and then at another
 pub rack_shows_then : (old mid new : List Seen) (a b : List HandlerCall) → RackShows old mid a → RackShows mid new b → RackShows old new (a ++ b)
 rack_shows_then old mid new a b p q = record {
-  slots = subst (λ (turns : List RunTurn). AllByRecursion (λ (t : RunTurn). t.slot < length old) turns) (sym (turns_in-append a b))
+  slots = subst (λ (turns : List RunTurn). AllByRecursion (λ (t : RunTurn). t.slot < length old) turns) (sym (filter_map-append turn_in a b))
       (stand_then (length old) (turns_in a) (turns_in b) p.slots
       (subst (λ (n : ℕ). AllByRecursion (λ (t : RunTurn). t.slot < n) (turns_in b)) (as_many (turns_in a) 0 old mid p.turns) q.slots));
-  turns = subst (λ (turns : List RunTurn). GrewBy turns 0 old new) (sym (turns_in-append a b))
+  turns = subst (λ (turns : List RunTurn). GrewBy turns 0 old new) (sym (filter_map-append turn_in a b))
       (grew_by_then (turns_in a) (turns_in b) 0 old mid new p.turns q.turns);
-  misses = subst (λ (slots : List ℕ). CountMisses slots 0 old new) (sym (misses_in-append a b))
+  misses = subst (λ (slots : List ℕ). CountMisses slots 0 old new) (sym (filter_map-append miss_in a b))
       (misses_then (misses_in a) (misses_in b) 0 old mid new p.misses q.misses);
 }
 

@@ -1,6 +1,6 @@
 -- The calls of handlers in a run, and what a rack shows of them.
-use Rattle.std.specs.Prelude.{◌≡◌, ◌<◌, ℕ, suc, ◌+◌, ◌==◌, List, [], ◌∷◌, ◌++◌, length, if◌then◌else◌}
-use Rattle.std.specs.List.{AllByRecursion}
+use Rattle.std.specs.Prelude.{◌≡◌, ◌<◌, ℕ, suc, ◌+◌, ◌==◌, List, [], ◌∷◌, ◌++◌, length, Option, Some, None, if◌then◌else◌}
+use Rattle.std.specs.List.{AllByRecursion, filter_map}
 use Rattle.servient_base.specs.Count.{raised}
 use Rattle.thing_handler.specs.declared.handler.CallKind.{CallKind}
 use Rattle.thing_handler.specs.declared.handler.Answer.{Answer}
@@ -22,16 +22,20 @@ pub data HandlerCall : Type 0 where
   missed : ℕ → HandlerCall
 
 -- the turns among some calls, in order
+abbrev pub turn_in : HandlerCall → Option RunTurn
+turn_in (answered turn) = Some turn
+turn_in (missed slot) = None
+
 abbrev pub turns_in : List HandlerCall → List RunTurn
-turns_in [] = []
-turns_in (answered turn ∷ calls) = turn ∷ turns_in calls
-turns_in (missed slot ∷ calls) = turns_in calls
+turns_in = filter_map turn_in
 
 -- the slots of the handlers that found no memory, in order
+abbrev pub miss_in : HandlerCall → Option ℕ
+miss_in (answered turn) = None
+miss_in (missed slot) = Some slot
+
 abbrev pub misses_in : List HandlerCall → List ℕ
-misses_in [] = []
-misses_in (answered turn ∷ calls) = misses_in calls
-misses_in (missed slot ∷ calls) = slot ∷ misses_in calls
+misses_in = filter_map miss_in
 
 -- the turn as its handler keeps it
 abbrev pub kept_turn : RunTurn → Turn

@@ -1,6 +1,6 @@
 use Rattle.std.proofs.Common.{List, ℕ, subst}
 use Rattle.std.proofs.lemmas.Result.{err_from_is_err_and}
-use Rattle.servient_cli.specs.Stages.{around, files_seen}
+use Rattle.servient_cli.specs.Stages.{around}
 use Rattle.servient_cli.specs.Ending.{EndsBy}
 use Rattle.servient_cli.specs.Reading.{ReadsFile, longest_json}
 use Rattle.servient_cli.specs.Checking.{Checks}
@@ -9,17 +9,17 @@ use Rattle.servient_cli.proofs.commands.check_from.Goals as goal
 
 pub returns-in_err-content : goal.returns-in_err-content
 returns-in_err-content g c = λ w.
-    let held = g.F.Files.held c.args.files.now in
-    let before = files_seen held (g.F.Files.reads c.args.files.now) (g.F.Files.faults c.args.files.now) in
-    let now = files_seen (g.F.Files.held c.read_file.new.files) (g.F.Files.reads c.read_file.new.files) (g.F.Files.faults c.read_file.new.files) in
+    let held = (g.F.Files.seen c.args.files.now).held in
+    let before = g.F.Files.seen c.args.files.now in
+    let now = g.F.Files.seen c.read_file.new.files in
     let error = err_from_is_err_and c.from_residual.result c.from_residual.ensures.1 in
     rw (error.1, error.2) (error_ends (ReadsFile held longest_json c.args.name.now) (Checks c.args.name.now) (around before w) (around now w) c.in_err-content.field-0.0 (c.in_err-content.ensures.stage w))
 
 pub returns : goal.returns
 returns g c = λ w.
-    let held = g.F.Files.held c.args.files.now in
-    let before = files_seen held (g.F.Files.reads c.args.files.now) (g.F.Files.faults c.args.files.now) in
-    let now = files_seen (g.F.Files.held c.read_file.new.files) (g.F.Files.reads c.read_file.new.files) (g.F.Files.faults c.read_file.new.files) in
+    let held = (g.F.Files.seen c.args.files.now).held in
+    let before = g.F.Files.seen c.args.files.now in
+    let now = g.F.Files.seen c.read_file.new.files in
     let done = subst (λ (bytes : List ℕ). EndsBy (Checks c.args.name.now bytes) (around now w) (around now w) c.check_file.result) c.as_slice.ensures (c.check_file.ensures (around now w)) in
     then_ends (ReadsFile held longest_json c.args.name.now) (Checks c.args.name.now) (around before w) (around now w) (around now w)
     c.in_ok-content.content c.check_file.result (c.in_ok-content.ensures.stage w) done

@@ -5,7 +5,7 @@ use Rattle.command_words.specs.declared.command.Command.{Command}
 use Rattle.command_words.specs.declared.command.Command.TheVariants.{Check, Derive, Serve}
 use Rattle.thing_core.specs.Exposing.{kinds_of}
 use Rattle.servient_core.specs.Trace.{outside}
-use Rattle.servient_cli.specs.Stages.{around, files_seen}
+use Rattle.servient_cli.specs.Stages.{around}
 use Rattle.servient_cli.specs.Command.{Does}
 use Rattle.servient_cli.specs.Ending.{EndsBy}
 use Rattle.servient_cli.specs.Replaying.{ReadsInputs, RunsOn, Replays, plan_name}
@@ -14,34 +14,34 @@ use Rattle.servient_cli.proofs.commands.run_command.Goals as goal
 
 pub returns-in-Check-clause-ends : goal.returns-in-Check-clause-ends
 returns-in-Check-clause-ends g c =
-    let held = g.F.Files.held c.args.files.now in
+    let held = (g.F.Files.seen c.args.files.now).held in
     let slots = g.R.Handlers.slots c.args.rack.now in
     let kinds = kinds_of slots in
     let w = outside (g.N.Net.seen c.args.net.now) slots in
-    let before = around (files_seen held (g.F.Files.reads c.args.files.now) (g.F.Files.faults c.args.files.now)) w in
-    let now = around (files_seen (g.F.Files.held c.check_from.new.files) (g.F.Files.reads c.check_from.new.files) (g.F.Files.faults c.check_from.new.files)) w in
+    let before = around (g.F.Files.seen c.args.files.now) w in
+    let now = around (g.F.Files.seen c.check_from.new.files) w in
     let named = subst (λ (name : List ℕ). EndsBy (Does held kinds (Check name)) before now c.check_from.result) c.as_str-in-Check.ensures (c.check_from.ensures w) in
     subst (λ (command : Command). EndsBy (Does held kinds command) before now c.check_from.result) (sym c.in-Check.is) named
 
 pub returns-in-Derive-clause-ends : goal.returns-in-Derive-clause-ends
 returns-in-Derive-clause-ends g c =
-    let held = g.F.Files.held c.args.files.now in
+    let held = (g.F.Files.seen c.args.files.now).held in
     let slots = g.R.Handlers.slots c.args.rack.now in
     let kinds = kinds_of slots in
     let w = outside (g.N.Net.seen c.args.net.now) slots in
-    let before = around (files_seen held (g.F.Files.reads c.args.files.now) (g.F.Files.faults c.args.files.now)) w in
-    let now = around (files_seen (g.F.Files.held c.derive_plan.new.files) (g.F.Files.reads c.derive_plan.new.files) (g.F.Files.faults c.derive_plan.new.files)) w in
+    let before = around (g.F.Files.seen c.args.files.now) w in
+    let now = around (g.F.Files.seen c.derive_plan.new.files) w in
     let named = subst (λ (name : List ℕ). EndsBy (Does held kinds (Derive name)) before now c.derive_plan.result) c.as_str-in-Derive.ensures (c.derive_plan.ensures w) in
     subst (λ (command : Command). EndsBy (Does held kinds command) before now c.derive_plan.result) (sym c.in-Derive.is) named
 
 pub returns-in_err-inputs-in-Replay-clause-ends : goal.returns-in_err-inputs-in-Replay-clause-ends
 returns-in_err-inputs-in-Replay-clause-ends g c =
-    let held = g.F.Files.held c.args.files.now in
+    let held = (g.F.Files.seen c.args.files.now).held in
     let slots = g.R.Handlers.slots c.args.rack.now in
     let kinds = kinds_of slots in
     let w = outside (g.N.Net.seen c.args.net.now) slots in
-    let a = around (files_seen held (g.F.Files.reads c.args.files.now) (g.F.Files.faults c.args.files.now)) w in
-    let b = around (files_seen (g.F.Files.held c.read_inputs.new.files) (g.F.Files.reads c.read_inputs.new.files) (g.F.Files.faults c.read_inputs.new.files)) w in
+    let a = around (g.F.Files.seen c.args.files.now) w in
+    let b = around (g.F.Files.seen c.read_inputs.new.files) w in
     let plan = c.in-Replay.plan in
     let events = c.in-Replay.events in
     let e = c.in_err-inputs-in-Replay.field-0.0 in
@@ -52,12 +52,12 @@ returns-in_err-inputs-in-Replay-clause-ends g c =
 
 pub returns-in_ok-inputs-in-Replay-clause-ends : goal.returns-in_ok-inputs-in-Replay-clause-ends
 returns-in_ok-inputs-in-Replay-clause-ends g c =
-    let held = g.F.Files.held c.args.files.now in
+    let held = (g.F.Files.seen c.args.files.now).held in
     let slots = g.R.Handlers.slots c.args.rack.now in
     let kinds = kinds_of slots in
-    let now = files_seen (g.F.Files.held c.read_inputs.new.files) (g.F.Files.reads c.read_inputs.new.files) (g.F.Files.faults c.read_inputs.new.files) in
+    let now = g.F.Files.seen c.read_inputs.new.files in
     let w = outside (g.N.Net.seen c.args.net.now) slots in
-    let a = around (files_seen held (g.F.Files.reads c.args.files.now) (g.F.Files.faults c.args.files.now)) w in
+    let a = around (g.F.Files.seen c.args.files.now) w in
     let b = around now w in
     let d = around now (outside (g.N.Net.seen c.args.net.now) (g.R.Handlers.slots c.run_inputs.new.rack)) in
     let plan = c.in-Replay.plan in
@@ -72,11 +72,11 @@ returns-in_ok-inputs-in-Replay-clause-ends g c =
 
 pub returns-in-Serve-clause-ends : goal.returns-in-Serve-clause-ends
 returns-in-Serve-clause-ends g c =
-    let held = g.F.Files.held c.args.files.now in
+    let held = (g.F.Files.seen c.args.files.now).held in
     let slots = g.R.Handlers.slots c.args.rack.now in
     let kinds = kinds_of slots in
-    let a = around (files_seen held (g.F.Files.reads c.args.files.now) (g.F.Files.faults c.args.files.now)) (outside (g.N.Net.seen c.args.net.now) slots) in
-    let b = around (files_seen (g.F.Files.held c.serve_plan.new.files) (g.F.Files.reads c.serve_plan.new.files) (g.F.Files.faults c.serve_plan.new.files))
+    let a = around (g.F.Files.seen c.args.files.now) (outside (g.N.Net.seen c.args.net.now) slots) in
+    let b = around (g.F.Files.seen c.serve_plan.new.files)
     (outside (g.N.Net.seen c.serve_plan.new.net) (g.R.Handlers.slots c.serve_plan.new.rack)) in
     subst (λ (command : Command). EndsBy (Does held kinds command) a b c.serve_plan.result) (sym c.in-Serve.is)
     (subst (λ (name : List ℕ). EndsBy (Does held kinds (Serve name c.in-Serve.events c.in-Serve.idle)) a b c.serve_plan.result) c.as_str-in-Serve.ensures c.serve_plan.ensures)

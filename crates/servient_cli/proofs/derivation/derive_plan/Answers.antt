@@ -1,20 +1,20 @@
 use Rattle.std.proofs.lemmas.Result.{err_from_is_err_and}
-use Rattle.servient_cli.specs.Stages.{around, files_seen}
+use Rattle.servient_cli.specs.Stages.{around}
 use Rattle.servient_cli.specs.Deriving.{ReadsPlanned, DerivesAndPrints}
 use Rattle.servient_cli.proofs.StageLaws.{then_ends, error_ends}
 use Rattle.servient_cli.proofs.derivation.derive_plan.Goals as goal
 
 pub returns-in_err-planned : goal.returns-in_err-planned
 returns-in_err-planned g c = λ w.
-    let held = g.F.Files.held c.args.files.now in
-    let a = around (files_seen held (g.F.Files.reads c.args.files.now) (g.F.Files.faults c.args.files.now)) w in
-    let b = around (files_seen (g.F.Files.held c.read_planned.new.files) (g.F.Files.reads c.read_planned.new.files) (g.F.Files.faults c.read_planned.new.files)) w in
+    let held = (g.F.Files.seen c.args.files.now).held in
+    let a = around (g.F.Files.seen c.args.files.now) w in
+    let b = around (g.F.Files.seen c.read_planned.new.files) w in
     let error = err_from_is_err_and c.from_residual.result c.from_residual.ensures.1 in
     rw (error.1, error.2) (error_ends (ReadsPlanned held c.args.name.now) DerivesAndPrints a b c.in_err-planned.field-0.0 (c.in_err-planned.ensures.stage w))
 
 pub returns : goal.returns
 returns g c = λ w.
-    let held = g.F.Files.held c.args.files.now in
-    let a = around (files_seen held (g.F.Files.reads c.args.files.now) (g.F.Files.faults c.args.files.now)) w in
-    let b = around (files_seen (g.F.Files.held c.read_planned.new.files) (g.F.Files.reads c.read_planned.new.files) (g.F.Files.faults c.read_planned.new.files)) w in
+    let held = (g.F.Files.seen c.args.files.now).held in
+    let a = around (g.F.Files.seen c.args.files.now) w in
+    let b = around (g.F.Files.seen c.read_planned.new.files) w in
     then_ends (ReadsPlanned held c.args.name.now) DerivesAndPrints a b b c.in_ok-planned.planned c.derive_and_print.result (c.in_ok-planned.ensures.stage w) (c.derive_and_print.ensures b)

@@ -2,9 +2,9 @@ use Rattle.std.proofs.Common.{◌∙◌, ◌++◌, refl, ap, sym, subst}
 use Rattle.std.specs.Prelude.{codes, Err}
 use Rattle.wot_json.specs.Json.{json_string}
 use Rattle.wot_json.specs.Meaning.{json_of}
-use Rattle.servient_core.specs.declared.plan.Plan.{Plan}
-use Rattle.servient_core.specs.declared.plan.PlanFault.{PlanFault}
-use Rattle.servient_core.specs.Plan.{plan_of, Reads}
+use Rattle.servient_plan.specs.declared.plan.Plan.{Plan}
+use Rattle.servient_plan.specs.declared.plan.PlanFault.{PlanFault}
+use Rattle.servient_plan.specs.Plan.{plan_of, Reads}
 use Rattle.servient_cli.specs.Lines.{input_line}
 use Rattle.servient_cli.specs.Deriving.{ReadsPlan, is_plan, is_no_plan, plan_memory}
 use Rattle.servient_cli.proofs.StageLaws.{goes_quietly, ends_memory, writes_line}

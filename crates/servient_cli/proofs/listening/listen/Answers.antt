@@ -1,9 +1,9 @@
 use Rattle.std.proofs.Common.{[], ◌∙◌, ◌*◌, ℕ, refl, ap, subst}
 use Rattle.std.proofs.lemmas.Result.{err_from_is_err_and}
-use Rattle.servient_edge.specs.declared.net.Listened.TheVariants as listened
-use Rattle.servient_edge.specs.declared.place.Place.{Place}
-use Rattle.servient_edge.specs.Network.{listens_as}
-use Rattle.servient_core.specs.Plan.{place_of}
+use Rattle.servient_outside.specs.declared.net.Listened.TheVariants as listened
+use Rattle.servient_outside.specs.declared.place.Place.{Place}
+use Rattle.servient_outside.specs.Network.{listens_as}
+use Rattle.servient_plan.specs.Plan.{place_of}
 use Rattle.servient_core.specs.Trace.{outside}
 use Rattle.servient_cli.specs.Lines.{network_line, memory_line}
 use Rattle.servient_cli.specs.Stages.{around}

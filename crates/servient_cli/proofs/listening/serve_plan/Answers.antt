@@ -1,7 +1,7 @@
 use Rattle.std.proofs.lemmas.Result.{err_from_is_err_and}
 use Rattle.thing_core.specs.Exposing.{kinds_of}
 use Rattle.servient_core.specs.Trace.{outside}
-use Rattle.servient_cli.specs.Stages.{around, files_seen}
+use Rattle.servient_cli.specs.Stages.{around}
 use Rattle.servient_cli.specs.Deriving.{ReadsPlanned}
 use Rattle.servient_cli.specs.Listening.{ServesPlanned}
 use Rattle.servient_cli.proofs.StageLaws.{then_ends, error_ends}
@@ -9,10 +9,10 @@ use Rattle.servient_cli.proofs.listening.serve_plan.Goals as goal
 
 pub returns-in_err-planned : goal.returns-in_err-planned
 returns-in_err-planned g c =
-    let held = g.F.Files.held c.args.files.now in
+    let held = (g.F.Files.seen c.args.files.now).held in
     let w = outside (g.N.Net.seen c.args.net.now) (g.R.Handlers.slots c.args.rack.now) in
-    let a = around (files_seen held (g.F.Files.reads c.args.files.now) (g.F.Files.faults c.args.files.now)) w in
-    let b = around (files_seen (g.F.Files.held c.read_planned.new.files) (g.F.Files.reads c.read_planned.new.files) (g.F.Files.faults c.read_planned.new.files)) w in
+    let a = around (g.F.Files.seen c.args.files.now) w in
+    let b = around (g.F.Files.seen c.read_planned.new.files) w in
     let q = c.args.request in
     let kinds = kinds_of w.slots in
     let error = err_from_is_err_and c.from_residual.result c.from_residual.ensures.1 in
@@ -20,11 +20,11 @@ returns-in_err-planned g c =
 
 pub returns : goal.returns
 returns g c =
-    let held = g.F.Files.held c.args.files.now in
+    let held = (g.F.Files.seen c.args.files.now).held in
     let slots = g.R.Handlers.slots c.args.rack.now in
     let w = outside (g.N.Net.seen c.args.net.now) slots in
-    let now = files_seen (g.F.Files.held c.read_planned.new.files) (g.F.Files.reads c.read_planned.new.files) (g.F.Files.faults c.read_planned.new.files) in
-    let a = around (files_seen held (g.F.Files.reads c.args.files.now) (g.F.Files.faults c.args.files.now)) w in
+    let now = g.F.Files.seen c.read_planned.new.files in
+    let a = around (g.F.Files.seen c.args.files.now) w in
     let b = around now w in
     let f = around now (outside (g.N.Net.seen c.serve_planned.new.net) (g.R.Handlers.slots c.serve_planned.new.rack)) in
     let q = c.args.request in

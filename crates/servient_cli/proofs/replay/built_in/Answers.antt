@@ -1,7 +1,7 @@
 use Rattle.std.proofs.Common.{◌∙◌, refl, ap}
 use Rattle.wot_json.specs.Meaning.{json_of}
-use Rattle.servient_core.specs.declared.plan.Plan.{Plan}
-use Rattle.servient_core.specs.BuiltIn.{built_in_plan, built_in_url, built_in_model}
+use Rattle.servient_plan.specs.declared.plan.Plan.{Plan}
+use Rattle.servient_plan.specs.BuiltIn.{built_in_plan, built_in_url, built_in_model}
 use Rattle.std.proofs.lemmas.Result.{err_from_is_err_and}
 use Rattle.servient_cli.specs.Replaying.{TakesBuiltIn, is_built_in, built_in_memory}
 use Rattle.servient_cli.proofs.StageLaws.{ends_memory, goes_quietly}

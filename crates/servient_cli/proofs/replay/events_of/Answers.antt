@@ -1,6 +1,6 @@
 use Rattle.std.proofs.Common.{◌∙◌, ◌++◌, List, refl, sym, ap, subst}
 use Rattle.std.specs.Prelude.{codes, decimal, Result, Err}
-use Rattle.servient_edge.specs.declared.net.EventWithBytes.{EventWithBytes}
+use Rattle.servient_outside.specs.declared.net.EventWithBytes.{EventWithBytes}
 use Rattle.servient_cli.specs.declared.script.ScriptFault.{ScriptFault}
 use Rattle.servient_cli.specs.Script.{IsScript}
 use Rattle.servient_cli.specs.Lines.{input_line}

@@ -1,9 +1,9 @@
 use Rattle.std.proofs.Common.{[], List, refl, subst}
 use Rattle.std.specs.Prelude.{Option, Err}
 use Rattle.std.proofs.lemmas.Result.{err_from_is_err_and}
-use Rattle.servient_edge.specs.declared.files.HeldFile.{HeldFile}
-use Rattle.servient_edge.specs.declared.net.EventWithBytes.{EventWithBytes}
-use Rattle.servient_cli.specs.Stages.{AndThen, around, files_seen, goes_on}
+use Rattle.servient_outside.specs.declared.files.HeldFile.{HeldFile}
+use Rattle.servient_outside.specs.declared.net.EventWithBytes.{EventWithBytes}
+use Rattle.servient_cli.specs.Stages.{AndThen, around, goes_on}
 use Rattle.servient_cli.specs.Ending.{ComesOut, Performs}
 use Rattle.servient_cli.specs.Replaying.{Plans, ReadsEvents, HasRead, has_read}
 use Rattle.servient_cli.proofs.StageLaws.{error_performs, then_performs, second_comes, goes_quietly}
@@ -12,19 +12,19 @@ use Rattle.servient_cli.proofs.replay.read_inputs.Goals as goal
 
 pub returns-in_err-planned-clause-stage : goal.returns-in_err-planned-clause-stage
 returns-in_err-planned-clause-stage g c = λ w.
-    let held = g.F.Files.held c.args.files.now in
-    let a = around (files_seen held (g.F.Files.reads c.args.files.now) (g.F.Files.faults c.args.files.now)) w in
-    let b = around (files_seen (g.F.Files.held c.plan_of.new.files) (g.F.Files.reads c.plan_of.new.files) (g.F.Files.faults c.plan_of.new.files)) w in
+    let held = (g.F.Files.seen c.args.files.now).held in
+    let a = around (g.F.Files.seen c.args.files.now) w in
+    let b = around (g.F.Files.seen c.plan_of.new.files) w in
     let script = c.args.script.now in
     let error = err_from_is_err_and c.from_residual.result c.from_residual.ensures.1 in
     rw (error.1, error.2) (error_performs (Plans held c.args.plan.now) (λ p. AndThen (ReadsEvents held script) (HasRead p)) a b c.in_err-planned.field-0.0 (c.in_err-planned.ensures.stage w))
 
 pub returns-in_err-events-clause-stage : goal.returns-in_err-events-clause-stage
 returns-in_err-events-clause-stage g c = λ w.
-    let held = g.F.Files.held c.args.files.now in
-    let a = around (files_seen held (g.F.Files.reads c.args.files.now) (g.F.Files.faults c.args.files.now)) w in
-    let b = around (files_seen (g.F.Files.held c.plan_of.new.files) (g.F.Files.reads c.plan_of.new.files) (g.F.Files.faults c.plan_of.new.files)) w in
-    let d = around (files_seen (g.F.Files.held c.read_events.new.files) (g.F.Files.reads c.read_events.new.files) (g.F.Files.faults c.read_events.new.files)) w in
+    let held = (g.F.Files.seen c.args.files.now).held in
+    let a = around (g.F.Files.seen c.args.files.now) w in
+    let b = around (g.F.Files.seen c.plan_of.new.files) w in
+    let d = around (g.F.Files.seen c.read_events.new.files) w in
     let script = c.args.script.now in
     let planned = c.in_ok-planned.planned in
     let error = err_from_is_err_and c.from_residual-in_err-events.result c.from_residual-in_err-events.ensures.1 in
@@ -34,10 +34,10 @@ returns-in_err-events-clause-stage g c = λ w.
 
 pub returns-clause-stage : goal.returns-clause-stage
 returns-clause-stage g c = λ w.
-    let held = g.F.Files.held c.args.files.now in
-    let a = around (files_seen held (g.F.Files.reads c.args.files.now) (g.F.Files.faults c.args.files.now)) w in
-    let b = around (files_seen (g.F.Files.held c.plan_of.new.files) (g.F.Files.reads c.plan_of.new.files) (g.F.Files.faults c.plan_of.new.files)) w in
-    let d = around (files_seen (g.F.Files.held c.read_events.new.files) (g.F.Files.reads c.read_events.new.files) (g.F.Files.faults c.read_events.new.files)) w in
+    let held = (g.F.Files.seen c.args.files.now).held in
+    let a = around (g.F.Files.seen c.args.files.now) w in
+    let b = around (g.F.Files.seen c.plan_of.new.files) w in
+    let d = around (g.F.Files.seen c.read_events.new.files) w in
     let script = c.args.script.now in
     let planned = c.in_ok-planned.planned in
     let events = c.in_ok-events.events in

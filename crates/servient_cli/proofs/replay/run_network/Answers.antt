@@ -1,8 +1,8 @@
 use Rattle.std.proofs.Common.{◌≡◌, [], List, ℕ, length, refl, sym, ap, subst}
 use Rattle.std.proofs.lemmas.Result.{err_from_is_err_and}
 use Rattle.thing_handler.specs.Turns.{turns_in}
-use Rattle.servient_edge.specs.declared.net.EventWithBytes.{EventWithBytes}
-use Rattle.servient_edge.specs.NetMemory.{net_seen}
+use Rattle.servient_outside.specs.declared.net.EventWithBytes.{EventWithBytes}
+use Rattle.servient_outside.specs.NetMemory.{net_seen}
 use Rattle.servient_core.specs.declared.serving.Served.TheVariants as served
 use Rattle.servient_core.specs.Trace.{happened_in, calls_in, outside}
 use Rattle.servient_core.specs.Machine.{start, Run}

@@ -1,7 +1,7 @@
 use Rattle.std.proofs.Common.{◌≡◌, ◌∙◌, ℕ, List, decimal, arith}
 use Rattle.std.specs.Prelude.{Result, Ok, Err, Option, Some, IfOk}
 use Rattle.std.specs.declared.alloc.AllocError.{AllocError}
-use Rattle.servient_edge.specs.declared.net.EventWithBytes.{EventWithBytes}
+use Rattle.servient_outside.specs.declared.net.EventWithBytes.{EventWithBytes}
 use Rattle.servient_cli.specs.Script.{IsScriptEvent, ReadsEvent, line_fields, what_fields}
 use Rattle.servient_cli.proofs.FieldTexts.{first_and_rest}
 use Rattle.servient_cli.proofs.LineTexts.{AreFields-line_fields, body_is, length-line_fields, line_is_utf8}

@@ -1,5 +1,5 @@
 use Rattle.std.proofs.Common.{◌++◌, ℕ, List, Bool, map, subst}
-use Rattle.servient_edge.specs.Network.{NetShows, did}
+use Rattle.servient_outside.specs.Network.{NetShows, did}
 use Rattle.servient_core.specs.Machine.{acts_of_reply}
 use Rattle.servient_core.proofs.connections.refuse.Goals as goal
 

@@ -1,5 +1,5 @@
 use Rattle.std.proofs.Common.{◌∙◌, arith}
-use Rattle.servient_edge.specs.Network.{in_buffer}
+use Rattle.servient_outside.specs.Network.{in_buffer}
 use Rattle.servient_core.proofs.ServingLaws.{progress_none, progress_more, serves_failed, serves_stopped, serves_spent, same_event}
 use Rattle.servient_core.proofs.serving.serve.Goals as goal
 

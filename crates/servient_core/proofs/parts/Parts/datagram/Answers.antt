@@ -1,8 +1,8 @@
 use Rattle.std.proofs.Common.{◌∷◌, [], List, ℕ, refl, subst, arith}
 use Rattle.coap_opts.specs.PlainAsk.{plain_ask}
 use Rattle.coap_bind.proofs.LengthLaws.{replies_fit}
-use Rattle.servient_edge.specs.declared.net.Act.TheVariants as act
-use Rattle.servient_edge.specs.Network.{NetShows, did}
+use Rattle.servient_outside.specs.declared.net.Act.TheVariants as act
+use Rattle.servient_outside.specs.Network.{NetShows, did}
 use Rattle.servient_core.specs.Trace.{outside}
 use Rattle.servient_core.proofs.PartLaws.{receives_long, heard_nothing, heard_at_once, heard_asked}
 use Rattle.servient_core.proofs.PathLaws.{asked_short}

@@ -3,8 +3,8 @@ use Rattle.servient_base.specs.Moves.{Refines}
 use Rattle.servient_base.proofs.MovesLaws.{refines_as}
 use Rattle.thing_core.specs.Thing.{Polls}
 use Rattle.http_bind.specs.Streams.{Opened, Ended}
-use Rattle.servient_edge.specs.declared.net.What.{What}
-use Rattle.servient_edge.specs.declared.net.What.TheVariants as what
+use Rattle.servient_outside.specs.declared.net.What.{What}
+use Rattle.servient_outside.specs.declared.net.What.TheVariants as what
 use Rattle.servient_core.specs.Trace.{Shows, outside}
 use Rattle.servient_core.specs.Machine.{Follows, OnThing}
 use Rattle.servient_core.specs.Serving.{StandsFor}

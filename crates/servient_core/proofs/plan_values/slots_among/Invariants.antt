@@ -1,7 +1,0 @@
-use Rattle.std.proofs.Common.{◌≡◌, drop}
-use Rattle.servient_core.specs.Plan.{slot_entry}
-use Rattle.servient_core.proofs.PlanLists.{after, read_as}
-use Rattle.servient_core.proofs.plan_values.slots_among.Given as goal
-
-abbrev pub invariant-loop-entry : goal.invariant-loop-entry
-invariant-loop-entry l = read_as slot_entry l.entry-items ≡ after l.slots (read_as slot_entry (drop l.entry-index l.entry-items))

@@ -1,8 +1,0 @@
-use Rattle.servient_edge.specs.declared.net.Act.TheVariants as act
-use Rattle.servient_edge.proofs.ActsKept.{shows_act}
-use Rattle.servient_edge.proofs.net_memory.NetMemoryNet.datagram.Goals as goal
-
-pub returns-clause-shows : goal.returns-clause-shows
-returns-clause-shows c =
-    let done = (act.Datagram c.args.to c.args.bytes.now) in
-    shows_act c.args.self.now c.keep.new.self done tt (c.keep.ensures.history done c.datagram.ensures) c.keep.ensures.left c.keep.ensures.events_stay

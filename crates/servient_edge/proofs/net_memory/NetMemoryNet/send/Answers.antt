@@ -1,9 +1,0 @@
-use Rattle.std.proofs.Common.{◌++◌}
-use Rattle.servient_edge.specs.declared.net.Act.TheVariants as act
-use Rattle.servient_edge.proofs.ActsKept.{shows_act}
-use Rattle.servient_edge.proofs.net_memory.NetMemoryNet.send.Goals as goal
-
-pub returns-clause-shows : goal.returns-clause-shows
-returns-clause-shows c =
-    let done = (act.Sent c.args.c (c.args.head.now ++ c.args.body.now)) in
-    shows_act c.args.self.now c.keep.new.self done tt (c.keep.ensures.history done c.sent.ensures) c.keep.ensures.left c.keep.ensures.events_stay

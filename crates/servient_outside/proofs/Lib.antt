@@ -1,0 +1,5 @@
+pub mod GivenEvents
+pub mod ToldLaws
+pub mod NetLaws
+pub mod OrderLaws
+pub mod ActsKept

@@ -1,0 +1,27 @@
+-- What is seen of files in memory.
+use Rattle.std.specs.Prelude.{ℕ, List, Some}
+use Rattle.servient_outside.specs.declared.calls.CallCount.{CallCount}
+use Rattle.servient_outside.specs.declared.files.HeldFile.{HeldFile}
+use Rattle.servient_outside.specs.declared.files.FileRead.{FileRead}
+use Rattle.servient_outside.specs.declared.files_memory.FilesMemory.{FilesMemory}
+use Rattle.servient_outside.specs.Files.{FilesSeen}
+
+-- their calls of `read`
+abbrev pub calls_of : FilesMemory → CallCount
+calls_of f = f.calls
+
+-- what they hold
+abbrev pub held_files : FilesMemory → List HeldFile
+held_files f = f.held
+
+-- the reads so far, but those for which there was no memory
+abbrev pub listed_reads : FilesMemory → List FileRead
+listed_reads f = f.reads.items
+
+-- how often a read failed
+abbrev pub fault_count : FilesMemory → ℕ
+fault_count f = f.faults
+
+-- all that is seen of them
+abbrev pub seen_of : FilesMemory → FilesSeen
+seen_of f = record { held = Some (held_files f); reads = Some (listed_reads f); faults = fault_count f }

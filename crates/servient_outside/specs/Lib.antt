@@ -1,0 +1,11 @@
+pub mod Told
+pub mod Network
+pub mod CallCount
+pub mod Ending
+pub mod Order
+pub mod ActLog
+pub mod NetMemory
+pub mod Files
+pub mod FilesMemory
+pub mod Out
+pub mod OutMemory

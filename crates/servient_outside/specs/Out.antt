@@ -1,0 +1,24 @@
+-- What is seen of an output.
+use Rattle.std.specs.Prelude.{◌≡◌, ◌≤◌, ℕ, List, ◌++◌, Option}
+use Rattle.servient_base.specs.Count.{Rose}
+use Rattle.servient_outside.specs.declared.out.Put.{Put}
+use Rattle.servient_outside.specs.declared.out.Put.TheVariants.{Done, Failed}
+use Rattle.servient_outside.specs.Told.{Continues}
+
+-- All of the piece was written; or the call failed, and a prefix of the piece was written.
+abbrev pub Writes : Option (List ℕ) → Option (List ℕ) → Put → List ℕ → Type 0
+Writes before now Done piece = Continues before now piece
+Writes before now Failed piece =
+    (prefix : List ℕ) × (rest : List ℕ) × (piece ≡ prefix ++ rest) × Continues before now prefix
+
+-- What is seen of an output at one time: the bytes written, where it records them, and how often a write failed.
+pub record OutSeen : Type 0 where
+  pub written : Option (List ℕ)
+  pub faults : ℕ
+
+-- From one time to another a piece was to be written, which was answered so. The count of failures never falls, and rose
+-- where the write failed.
+pub record OutShows (before now : OutSeen) (put : Put) (piece : List ℕ) : Type 0 where
+  pub writes : Writes before.written now.written put piece
+  pub faults : before.faults ≤ now.faults
+  pub failed : put ≡ Failed → Rose before.faults now.faults

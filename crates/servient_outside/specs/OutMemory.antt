@@ -1,0 +1,30 @@
+-- What is seen of an output in memory.
+use Rattle.std.specs.Prelude.{ℕ, ◌+◌, ◌≤◌, List, Some, length}
+use Rattle.servient_outside.specs.declared.calls.CallCount.{CallCount}
+use Rattle.servient_outside.specs.declared.out_memory.OutMemory.{OutMemory}
+use Rattle.servient_outside.specs.CallCount.{FailsNext}
+use Rattle.servient_outside.specs.Out.{OutSeen}
+
+-- its calls of `put`
+abbrev pub calls_of : OutMemory → CallCount
+calls_of o = o.calls
+
+-- the bytes written
+abbrev pub written_bytes : OutMemory → List ℕ
+written_bytes o = o.bytes.items
+
+-- how many bytes it has room for, those that are written among them
+abbrev pub room_of : OutMemory → ℕ
+room_of o = o.room
+
+-- how often a write failed
+abbrev pub fault_count : OutMemory → ℕ
+fault_count o = o.faults
+
+-- The next call takes this piece: it isn't one of those that fail, and the piece fits into what is left.
+abbrev pub Takes : OutMemory → List ℕ → Type 0
+Takes o piece = ¬ FailsNext (calls_of o) × (length (written_bytes o) + length piece ≤ room_of o)
+
+-- all that is seen of it
+abbrev pub seen_of : OutMemory → OutSeen
+seen_of o = record { written = Some (written_bytes o); faults = fault_count o }

@@ -1,0 +1,31 @@
+//! The outside of the servient as it is proved: the network, the files and the output.
+//!
+//! Each is a trait whose ghost member says what is seen of it: what happened at the network, in order, and what is still to
+//! come; what the files hold and which reads were made; the bytes written; how often each failed. A version in memory
+//! records all of that; but a network in memory that has lost an act, because it was out of memory, records no more of
+//! what happened. The adapters to the machine, which record only what failed, stand in `servient_edge`: what is said of the
+//! sockets, files and writers there is tested, and what is said here is proved.
+#![tactic(auto)]
+
+mod act_log;
+mod acts;
+mod calls;
+mod events;
+mod files;
+mod files_memory;
+mod net;
+mod net_memory;
+mod out;
+mod out_memory;
+mod place;
+
+pub use calls::Calls;
+pub use events::Events;
+pub use files::{FileRead, Files, Got, Held, HeldFile};
+pub use files_memory::FilesMemory;
+pub use net::{Act, Dialled, Event, EventWithBytes, Found, Listened, Net, Next, What};
+pub use net_memory::NetMemory;
+pub use out::{Out, Put};
+pub use out_memory::OutMemory;
+pub use place::Place;
+pub use servient_base::NoMemory;

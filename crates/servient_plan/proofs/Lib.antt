@@ -1,0 +1,3 @@
+mod PlanLaws
+mod PlanTexts
+mod PlanLists

@@ -11,7 +11,7 @@ use crate::runs;
 use crate::targets::put_path;
 use case_notation::{message_of, number, put_message};
 use coap_bind::{CoapBind, CoapNext};
-use coap_msg::Endpoint;
+use coap_msg::{Endpoint, LONGEST_MESSAGE};
 use coap_opts::CoapAsk;
 use std::alloc::{AllocError, Global};
 use std::fmt::Write;
@@ -66,7 +66,7 @@ fn put_done(
     requires place { HasShortPlace outcome.now }
     ensures { server.new.exchanges.moment ≤ origin.now }
 {
-    let mut room = [0u8; 1152];
+    let mut room = [0u8; LONGEST_MESSAGE];
     match server.datagram(origin.from, datagram, origin.now, &mut room) {
         CoapNext::Nothing => text.push_str("nothing"),
         CoapNext::Send(size) => put_sent(text, room.get(..size).unwrap_or(b"")),

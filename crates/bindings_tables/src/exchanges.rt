@@ -7,8 +7,8 @@ ghost use Rattle.coap_msg.specs.declared.message.Type4.TheVariants.{Con, Non};
 
 use crate::runs;
 use case_notation::{bytes_of, number};
-use coap_exchange::{Exchanges, LONGEST_REPLY, Met};
-use coap_msg::{Endpoint, Type4};
+use coap_exchange::{Exchanges, Met};
+use coap_msg::{Endpoint, LONGEST_MESSAGE, Type4};
 use std::alloc::{AllocError, Global};
 
 /// A request, and the reply to it.
@@ -67,7 +67,7 @@ fn keep(alloc: Global, exchanges: &mut Exchanges, slot: u32, reply: &str) -> Res
         return Ok(());
     }
     let reply = bytes_of(alloc, reply)?;
-    if reply.len() <= LONGEST_REPLY {
+    if reply.len() <= LONGEST_MESSAGE {
         exchanges.keep(slot, reply.as_slice());
     }
     Ok(())
@@ -89,9 +89,9 @@ fn put_met(
             keep(alloc, exchanges, slot, arrival.reply)?;
             text.push_str("fresh")
         }
-        Met::Repeat(None) => text.push_str("a repeat without a reply"),
+        Met::Repeat(None) => text.push_str("a duplicate without a reply"),
         Met::Repeat(Some(slot)) => {
-            text.push_str("a repeat of ")?;
+            text.push_str("a duplicate of ")?;
             runs::put(text, exchanges.reply(slot))
         }
         Met::Full => text.push_str("full"),

@@ -1,11 +1,11 @@
-//! The message ids of the CoAP server: a message comes from one host so many times, each so many milliseconds after the one before it; and the ids of
+//! The message IDs of the CoAP server: a message comes from one host so many times, each so many milliseconds after the one before it; and the ids of
 //! what is sent.
 
 ghost use Rattle.std.specs.Prelude.{◌≤◌};
 
 use case_notation::{message_of, number};
 use coap_bind::{CoapBind, CoapNext};
-use coap_msg::Endpoint;
+use coap_msg::{Endpoint, LONGEST_MESSAGE};
 use std::alloc::{AllocError, Global};
 use std::fmt::Write;
 use thing_ops::Outcome;
@@ -26,7 +26,7 @@ struct Ids {
 }
 
 /// The id of a message.
-fn id_in(room: &[u8; 1152]) -> u16 {
+fn id_in(room: &[u8; LONGEST_MESSAGE]) -> u16 {
     let [_, _, high, low, ..] = room;
     u16::from(*high) * 256 + u16::from(*low)
 }
@@ -36,7 +36,7 @@ fn next_id(server: &mut CoapBind, datagram: &[u8], now: u64) -> Option<u16>
     requires { server.old.exchanges.moment ≤ now }
     ensures { server.new.exchanges.moment ≤ now }
 {
-    let mut room = [0u8; 1152];
+    let mut room = [0u8; LONGEST_MESSAGE];
     match server.datagram(FROM, datagram, now, &mut room) {
         CoapNext::Nothing => None,
         CoapNext::Send(_) => Some(id_in(&room)),

@@ -12,7 +12,7 @@ fn put_option(text: &mut String, number: u16, value: &[u8]) -> Result<(), AllocE
     runs::put(text, value)
 }
 
-/// Type, code, message id and token of a message, its options, and its payload.
+/// Type, code, message ID and token of a message, its options, and its payload.
 fn put_message(text: &mut String, message: &Message<'_>) -> Result<(), AllocError> {
     write!(
         text,

@@ -1,4 +1,4 @@
-//! CoAP messages in words: type, code, message id and token (hexadecimal digits, `-` for none), then the options in the order
+//! CoAP messages in words: type, code, message ID and token (hexadecimal digits, `-` for none), then the options in the order
 //! of their numbers, then the payload as `bytes.rt` writes bytes.
 //!
 //! ```text

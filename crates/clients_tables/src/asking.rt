@@ -5,7 +5,7 @@ ghost use Rattle.coap_client.specs.Asking.{MayAsk, asking_of};
 
 use case_notation::{bytes_of, number, put_message};
 use coap_client::{Ask, Client};
-use coap_msg::Endpoint;
+use coap_msg::{Endpoint, LONGEST_MESSAGE};
 use std::alloc::{AllocError, Global};
 use std::fmt::Write;
 use thing_ops::Segments;
@@ -129,7 +129,7 @@ fn put_ask(
     requires ask { MayAsk (asking_of ask.now) }
     ensures { client.new.moment ≤ now }
 {
-    let mut room = [0; 1152];
+    let mut room = [0; LONGEST_MESSAGE];
     match client.request(now, peer, ask, &mut room) {
         Ok(size) => put_sent(text, room.get(..size).unwrap_or(b"")),
         Err(fault) => write!(text, "{fault:?}"),

@@ -5,7 +5,7 @@ ghost use Rattle.std.specs.Prelude.{◌≤◌};
 use crate::asking::{endpoint_of, put_sent};
 use case_notation::{message_of, put as put_bytes};
 use coap_client::{Client, Due, News};
-use coap_msg::Endpoint;
+use coap_msg::{Endpoint, LONGEST_MESSAGE};
 use std::alloc::{AllocError, Global};
 use std::fmt::Write;
 
@@ -37,7 +37,7 @@ fn put_delivered(
     requires { client.old.moment ≤ now }
     ensures { client.new.moment ≤ now }
 {
-    let mut room = [0; 1152];
+    let mut room = [0; LONGEST_MESSAGE];
     let delivered = client.deliver(now, from, bytes, &mut room);
     put_news(text, delivered.news)?;
     match delivered.reply {
@@ -70,7 +70,7 @@ pub fn put_due(text: &mut String, client: &mut Client, now: u64) -> Result<(), A
     requires { client.old.moment ≤ now }
     ensures { client.new.moment ≤ now }
 {
-    let mut room = [0; 1152];
+    let mut room = [0; LONGEST_MESSAGE];
     match client.due(now, &mut room) {
         Due::Nothing => text.push_str("nothing"),
         Due::Send(size) => put_sent(text, room.get(..size).unwrap_or(b"")),

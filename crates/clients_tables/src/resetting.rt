@@ -6,7 +6,7 @@ ghost use Rattle.coap_client.specs.Asking.{MayAsk, asking_of};
 use crate::asking::{ask_of, asked_of, path_of};
 use case_notation::number;
 use coap_client::{Ask, Client, News};
-use coap_msg::Endpoint;
+use coap_msg::{Endpoint, LONGEST_MESSAGE};
 use std::alloc::{AllocError, Global};
 use std::fmt::Write;
 
@@ -42,7 +42,7 @@ fn ask_once(client: &mut Client, now: u64, peer: Endpoint, ask: &Ask<'_>) -> Opt
     requires ask { MayAsk (asking_of ask.now) }
     ensures { client.new.moment ≤ now }
 {
-    let mut room = [0; 1152];
+    let mut room = [0; LONGEST_MESSAGE];
     if client.request(now, peer, ask, &mut room).is_err() {
         return None;
     }

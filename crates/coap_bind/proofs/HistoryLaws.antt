@@ -6,13 +6,14 @@ use Rattle.std.proofs.lemmas.List.{append-nil}
 use Rattle.std.proofs.lemmas.List.Folds.{list_any_at}
 use Rattle.coap_msg.specs.declared.endpoint.Endpoint.{Endpoint}
 use Rattle.coap_msg.specs.declared.message.MsgFault.{MsgFault}
-use Rattle.coap_msg.specs.declared.message.Type4.{Type4}
-use Rattle.coap_msg.specs.declared.message.Type4.TheVariants.{Con, Non, Ack, Rst}
+use Rattle.coap_msg.specs.declared.message.RequestType.{RequestType}
+use Rattle.coap_msg.specs.declared.message.RequestType.TheVariants.{Confirmable, NonConfirmable}
 use Rattle.coap_msg.specs.Grammar.{CoapMessage, Spells}
+use Rattle.coap_msg.specs.Requests.{request_type}
 use Rattle.coap_msg.specs.Faults.{HasMsgFault}
 use Rattle.coap_msg.proofs.Messages.{at_most_one_message}
 use Rattle.coap_msg.proofs.FaultLaws.{no_fault_of_message}
-use Rattle.coap_exchange.specs.Admission.{Arrival, is_repeat_of, Verdict, admitted as is_admitted, repeated as is_repeated, verdict, admitted_among}
+use Rattle.coap_exchange.specs.Admission.{Arrival, is_duplicate_of, Verdict, admitted as is_admitted, duplicate as is_duplicate, verdict, admitted_among}
 use Rattle.coap_exchange.specs.Table.{Exchange, Table, at_moment, answered as with_answer, with_reply, Meets, StandsFor}
 use Rattle.coap_exchange.specs.declared.met.Met.{Met}
 use Rattle.coap_exchange.specs.declared.met.Met.TheVariants.{Fresh, Repeat, Full}
@@ -21,8 +22,8 @@ use Rattle.coap_opts.specs.Reading.{PlainAsk}
 use Rattle.coap_bind.specs.declared.head.OpenRequest.{OpenRequest}
 use Rattle.coap_bind.specs.declared.server.Server.{Server}
 use Rattle.coap_bind.specs.Writing.{Reply}
-use Rattle.coap_bind.specs.Server.{Heard, ignored, answered_at_once, asked, with_id_used, with_kept, Replies, rejected, may_ask, is_request, unasked, again, arrival, IsMet, malformed, no_request, repeated, full, bad_option, bad_option_ignored, for_proxy, asks, no_memory, opened, Reads, settled, admitted, Hears}
-use Rattle.coap_bind.specs.Laws.{AreArrivals, Did, nothing, heard_of, answered, ExchangesAreOfTheHistory, RepeatsAskNothing}
+use Rattle.coap_bind.specs.Server.{Heard, ignored, answered_at_once, asked, with_id_used, with_kept, Replies, is_request, replied_at_once, duplicate_reply, arrival, IsMet, malformed, no_request, duplicate, full, bad_option, bad_option_ignored, for_proxy, asks, no_memory, opened, Reads, settled, admitted, Hears}
+use Rattle.coap_bind.specs.Laws.{AreArrivals, Did, nothing, heard_of, answered, ExchangesAreOfTheHistory, DuplicatesAskNothing}
 
 -- ---- replies change no arrival
 
@@ -45,19 +46,15 @@ follows_reply : (capacity : ℕ) (history : List Arrival) (slot : ℕ) (bytes : 
     → Follows capacity history (with_reply slot bytes t)
 follows_reply capacity history slot bytes t f = record { stands = arrivals_stay slot bytes t.exchanges ∙ f.stands; same = f.same }
 
-follows_id : (capacity : ℕ) (history : List Arrival) (kind : Type4) (s : Server) → Follows capacity history s.exchanges
+follows_id : (capacity : ℕ) (history : List Arrival) (kind : RequestType) (s : Server) → Follows capacity history s.exchanges
     → Follows capacity history (with_id_used kind s).exchanges
-follows_id capacity history Con s f = f
-follows_id capacity history Non s f = f
-follows_id capacity history Ack s f = f
-follows_id capacity history Rst s f = f
+follows_id capacity history Confirmable s f = f
+follows_id capacity history NonConfirmable s f = f
 
-follows_kept : (capacity : ℕ) (history : List Arrival) (kind : Type4) (slot : ℕ) (bytes : List ℕ) (s : Server) → Follows capacity history s.exchanges
+follows_kept : (capacity : ℕ) (history : List Arrival) (kind : RequestType) (slot : ℕ) (bytes : List ℕ) (s : Server) → Follows capacity history s.exchanges
     → Follows capacity history (with_kept kind slot bytes s).exchanges
-follows_kept capacity history Con slot bytes s f = follows_reply capacity history slot bytes s.exchanges f
-follows_kept capacity history Non slot bytes s f = f
-follows_kept capacity history Ack slot bytes s f = f
-follows_kept capacity history Rst slot bytes s f = f
+follows_kept capacity history Confirmable slot bytes s f = follows_reply capacity history slot bytes s.exchanges f
+follows_kept capacity history NonConfirmable slot bytes s f = f
 
 follows_same : (capacity : ℕ) (history : List Arrival) (s t : Server) → t ≡ s → Follows capacity history s.exchanges → Follows capacity history t.exchanges
 follows_same capacity history s t is f = subst (λ (x : Server). Follows capacity history x.exchanges) (sym is) f
@@ -98,16 +95,6 @@ after_no_request capacity history (a ∷ []) m from bytes now t spells none are 
     cc
 after_no_request capacity history (a ∷ b ∷ more) m from bytes now t spells none are follows = absurd are
 
-first_of_both : (b c : Bool) → (b && c) ≡ true → b ≡ true
-first_of_both true c e = refl
-first_of_both false c e = e
-
-request_type : (k : Type4) → may_ask k ≡ true → (k ≡ Con) ⊎ (k ≡ Non)
-request_type Con e = inl refl
-request_type Non e = inr refl
-request_type Ack e = cc
-request_type Rst e = cc
-
 capacity_stays : (t : Table) (a : Arrival) (met : Met) (u : Table) → Meets t a met u → u.capacity ≡ t.capacity
 capacity_stays t a (Fresh slot) u h = ap (λ (w : Table). w.capacity) h.1.2
 capacity_stays t a (Repeat kept) u h = ap (λ (w : Table). w.capacity) h.1
@@ -121,8 +108,7 @@ after_request capacity history [] from bytes now m met s u is later are f = absu
 after_request capacity history (a ∷ []) from bytes now m met s u is later are f =
     let same : are.0 ≡ m = at_most_one_message are.0 m bytes are.1 is.spells in
     let which : arrival from now m ≡ a = ap (arrival from now) (sym same) ∙ sym are.3 in
-    let next = tables_follow_the_history s.exchanges u.exchanges history (arrival from now m) met f.stands later
-    (request_type m.kind (first_of_both (may_ask m.kind) _ is.request)) is.meets in
+    let next = tables_follow_the_history s.exchanges u.exchanges history (arrival from now m) met f.stands later is.meets in
     record {
       stands = subst (λ (x : Arrival). StandsFor u.exchanges (history ++ x ∷ [])) which next.1;
       same = capacity_stays (at_moment now s.exchanges) (arrival from now m) met u.exchanges is.meets ∙ f.same;
@@ -138,11 +124,11 @@ follows_hears capacity history new s t from bytes now heard (settled (malformed 
     follows_same capacity (history ++ new) s t is (after_malformed capacity history new f from bytes now s.exchanges fault are x)
 follows_hears capacity history new s t from bytes now heard (settled (no_request m spells none h is)) later are x =
     follows_same capacity (history ++ new) s t is (after_no_request capacity history new m from bytes now s.exchanges spells none are x)
-follows_hears capacity history new s t from bytes now heard (settled (repeated m kept e met found h)) later are x =
+follows_hears capacity history new s t from bytes now heard (settled (duplicate m kept e met found h)) later are x =
     after_request capacity history new from bytes now m (Repeat kept) s t met later are x
 follows_hears capacity history new s t from bytes now heard (settled (full m u met h is)) later are x =
     follows_same capacity (history ++ new) _ t is
-    (follows_id capacity (history ++ new) m.kind u (after_request capacity history new from bytes now m Full s u met later are x))
+    (follows_id capacity (history ++ new) (request_type m.kind) u (after_request capacity history new from bytes now m Full s u met later are x))
 follows_hears capacity history new s t from bytes now heard (admitted m slot u met reads) later are x =
     follows_reads capacity (history ++ new) m slot heard u t reads (after_request capacity history new from bytes now m (Fresh slot) s u met later are x)
 
@@ -156,52 +142,36 @@ follows capacity history s (answered before r t request o bytes did answers) =
 pub exchanges_are_of_the_history : ExchangesAreOfTheHistory
 exchanges_are_of_the_history capacity history s did = let f = follows capacity history s did in (f.stands, f.same)
 
--- ---- repeats ask nothing
+-- ---- duplicates ask nothing
 
-not_rejected_at : (what : PlainAsk) (request : OpenRequest) (bytes : List ℕ) (b : Bool) → asked what request ≡ cond b (answered_at_once bytes) ignored → ⊥
-not_rejected_at what request bytes true e = cc
-not_rejected_at what request bytes false e = cc
+not_replied : (what : PlainAsk) (request : OpenRequest) (reply : Option CoapMessage) → asked what request ≡ replied_at_once reply → ⊥
+not_replied what request None e = cc
+not_replied what request (Some m) e = cc
 
-not_rejected : (what : PlainAsk) (request : OpenRequest) (bytes : List ℕ) → asked what request ≡ rejected bytes → ⊥
-not_rejected what request [] e = cc
-not_rejected what request (first ∷ []) e = cc
-not_rejected what request (first ∷ code ∷ []) e = cc
-not_rejected what request (first ∷ code ∷ high ∷ []) e = cc
-not_rejected what request (first ∷ code ∷ high ∷ low ∷ rest) e = not_rejected_at what request _ _ e
+not_duplicate : (what : PlainAsk) (request : OpenRequest) (kind : RequestType) (kept : Option (List ℕ)) → asked what request ≡ duplicate_reply kind kept → ⊥
+not_duplicate what request Confirmable (Some bytes) e = cc
+not_duplicate what request Confirmable None e = cc
+not_duplicate what request NonConfirmable kept e = cc
 
-not_unasked : (what : PlainAsk) (request : OpenRequest) (kind : Type4) (id : ℕ) → asked what request ≡ unasked kind id → ⊥
-not_unasked what request Con id e = cc
-not_unasked what request Non id e = cc
-not_unasked what request Ack id e = cc
-not_unasked what request Rst id e = cc
-
-not_again : (what : PlainAsk) (request : OpenRequest) (kind : Type4) (kept : Option (List ℕ)) → asked what request ≡ again kind kept → ⊥
-not_again what request Con (Some bytes) e = cc
-not_again what request Con None e = cc
-not_again what request Non kept e = cc
-not_again what request Ack kept e = cc
-not_again what request Rst kept e = cc
-
-verdict_at : (b : Bool) (v : Verdict) → b ≡ true → (if b then is_repeated else v) ≡ is_repeated
+verdict_at : (b : Bool) (v : Verdict) → b ≡ true → (if b then is_duplicate else v) ≡ is_duplicate
 verdict_at true v e = refl
 verdict_at false v e = cc
 
-pub repeats_ask_nothing : RepeatsAskNothing
-repeats_ask_nothing capacity history s t from bytes now m earlier did later spells has again what request (settled (malformed f fault h is)) = not_rejected what request bytes h
-repeats_ask_nothing capacity history s t from bytes now m earlier did later spells has again what request (settled (no_request n of_n none h is)) = not_unasked what request n.kind n.id h
-repeats_ask_nothing capacity history s t from bytes now m earlier did later spells has again what request (settled (repeated n kept e met found h)) = not_again what request n.kind e.reply h
-repeats_ask_nothing capacity history s t from bytes now m earlier did later spells has again what request (settled (full n u met h is)) = cc
-repeats_ask_nothing capacity history s t from bytes now m earlier did later spells has again what request (admitted n slot u met reads) =
+pub duplicates_ask_nothing : DuplicatesAskNothing
+duplicates_ask_nothing capacity history s t from bytes now m earlier did later spells has again what request (settled (malformed f fault h is)) = not_replied what request _ h
+duplicates_ask_nothing capacity history s t from bytes now m earlier did later spells has again what request (settled (no_request n of_n none h is)) = not_replied what request _ h
+duplicates_ask_nothing capacity history s t from bytes now m earlier did later spells has again what request (settled (duplicate n kept e met found h)) = not_duplicate what request (request_type n.kind) e.reply h
+duplicates_ask_nothing capacity history s t from bytes now m earlier did later spells has again what request (settled (full n u met h is)) = cc
+duplicates_ask_nothing capacity history s t from bytes now m earlier did later spells has again what request (admitted n slot u met reads) =
     let same : n ≡ m = at_most_one_message n m bytes met.spells spells in
     let f = follows capacity history s did in
-    let next = tables_follow_the_history s.exchanges u.exchanges history (arrival from now n) (Fresh slot) f.stands later
-    (request_type n.kind (first_of_both (may_ask n.kind) _ met.request)) met.meets in
-    let one : is_repeat_of (arrival from now n) earlier ≡ true = subst (λ x. is_repeat_of (arrival from now x) earlier ≡ true) (sym same) again in
+    let next = tables_follow_the_history s.exchanges u.exchanges history (arrival from now n) (Fresh slot) f.stands later met.meets in
+    let one : is_duplicate_of (arrival from now n) earlier ≡ true = subst (λ x. is_duplicate_of (arrival from now x) earlier ≡ true) (sym same) again in
     let there : Contains (admitted_among s.exchanges.capacity history) earlier = subst (λ k. Contains (admitted_among k history) earlier) (sym f.same) has in
-    let any : list_any (is_repeat_of (arrival from now n)) (admitted_among s.exchanges.capacity history) ≡ true
-    = list_any_at (is_repeat_of (arrival from now n)) (admitted_among s.exchanges.capacity history) there.0 earlier there.1
-    (ap (is_repeat_of (arrival from now n)) there.2 ∙ one) in
-    let v : verdict s.exchanges.capacity (admitted_among s.exchanges.capacity history) (arrival from now n) ≡ is_repeated
-    = verdict_at (list_any (is_repeat_of (arrival from now n)) (admitted_among s.exchanges.capacity history)) _ any in
-    let w : is_repeated ≡ is_admitted = sym v ∙ next.0 in
+    let any : list_any (is_duplicate_of (arrival from now n)) (admitted_among s.exchanges.capacity history) ≡ true
+    = list_any_at (is_duplicate_of (arrival from now n)) (admitted_among s.exchanges.capacity history) there.0 earlier there.1
+    (ap (is_duplicate_of (arrival from now n)) there.2 ∙ one) in
+    let v : verdict s.exchanges.capacity (admitted_among s.exchanges.capacity history) (arrival from now n) ≡ is_duplicate
+    = verdict_at (list_any (is_duplicate_of (arrival from now n)) (admitted_among s.exchanges.capacity history)) _ any in
+    let w : is_duplicate ≡ is_admitted = sym v ∙ next.0 in
     cc

@@ -1,15 +1,18 @@
 -- How long replies are.
-use Rattle.std.proofs.Common.{◌≡◌, ℕ, ◌+◌, ◌*◌, ◌-◌, ◌≤◌, ◌<◌, ◌⊎◌, ◌∙◌, Bool, true, false, inl, inr, Option, Some, None, List, [], ◌∷◌, ◌++◌, length, refl, ap, arith, length-append}
+use Rattle.std.proofs.Common.{◌≡◌, ℕ, ◌+◌, ◌*◌, ◌-◌, ◌/◌, ◌%◌, ◌≤◌, ◌<◌, ◌⊎◌, ◌∙◌, Bool, true, false, inl, inr, Option, Some, None, List, [], ◌∷◌, ◌++◌, length, refl, ap, arith, length-append}
 use Rattle.std.specs.Prelude.{nat_lt, All, if◌then◌else◌}
 use Rattle.std.specs.Option.{option_map_or}
 use Rattle.std.proofs.lemmas.List.Elements.{All-nil, All-cons, All-head, All-tail}
 use Rattle.std.proofs.lemmas.Bool.Decides.{nat_tests}
+use Rattle.coap_msg.specs.declared.constants.TheConstants.{LOCATION_PATH, CONTENT_FORMAT, LONGEST_TOKEN, LONGEST_SEGMENT, LONGEST_PAYLOAD, LONGEST_MESSAGE}
+use Rattle.coap_msg.specs.Numbers.{number_bytes}
+use Rattle.coap_msg.specs.Opts.{segment_options}
 use Rattle.coap_msg.specs.Grammar.{CoapOption, extended, option_spelling, options_spelling, payload_spelling, spelling}
 use Rattle.thing_ops.specs.declared.outcome.Outcome.{Outcome}
-use Rattle.thing_ops.specs.declared.outcome.Outcome.TheVariants.{Started, Description}
+use Rattle.thing_ops.specs.declared.outcome.Outcome.TheVariants.{Started}
 use Rattle.thing_ops.specs.Outcomes.{payload_of, text_of}
 use Rattle.coap_bind.specs.declared.head.RequestHead.{RequestHead}
-use Rattle.coap_bind.specs.Writing.{place_of, location_options, text_format, format_options, long_reply, whole_reply, coap_reply}
+use Rattle.coap_bind.specs.Writing.{place_of, text_format, format_options, long_reply, whole_reply, coap_reply}
 use Rattle.coap_bind.specs.Laws.{HasShortPlace, RepliesFit}
 
 -- ---- one option
@@ -39,42 +42,46 @@ option_length last o rest delta size =
 -- ---- the options of a place
 
 -- no segment is longer than the options
-pub segments_within : (last n : ℕ) (place : List (List ℕ)) (os : List CoapOption) → length (options_spelling last (location_options place ++ os)) ≤ n
+pub segments_within : (last n : ℕ) (place : List (List ℕ)) (os : List CoapOption) → length (options_spelling last (segment_options LOCATION_PATH place ++ os)) ≤ n
     → All (λ segment. length segment ≤ n) place
 segments_within last n [] os h = All-nil (λ (segment : List ℕ). length segment ≤ n)
 segments_within last n (segment ∷ place) os h =
-    let rest : List ℕ = options_spelling 8 (location_options place ++ os) in
-    let here = value_within last (8, segment) (options_spelling 8 (location_options place ++ os)) in
-    let both = length-append (option_spelling last (8, segment)) (options_spelling 8 (location_options place ++ os)) in
+    let rest : List ℕ = options_spelling 8 (segment_options LOCATION_PATH place ++ os) in
+    let here = value_within last (8, segment) (options_spelling 8 (segment_options LOCATION_PATH place ++ os)) in
+    let both = length-append (option_spelling last (8, segment)) (options_spelling 8 (segment_options LOCATION_PATH place ++ os)) in
     All-cons (λ (s : List ℕ). length s ≤ n) segment place (omega arith) (segments_within 8 n place os (omega arith))
 
-place_length : (last more : ℕ) (place : List (List ℕ)) (os : List CoapOption) → last ≤ 8 → All (λ segment. length segment ≤ 255) place
+place_length : (last more : ℕ) (place : List (List ℕ)) (os : List CoapOption) → last ≤ 8 → All (λ segment. length segment ≤ LONGEST_SEGMENT) place
     → ((l : ℕ) → l ≤ 8 → length (options_spelling l os) ≤ more)
-    → length (options_spelling last (location_options place ++ os)) ≤ 257 * length place + more
+    → length (options_spelling last (segment_options LOCATION_PATH place ++ os)) ≤ 257 * length place + more
 place_length last more [] os low short rest = let r = rest last low in omega arith
 place_length last more (segment ∷ place) os low short rest =
-    let P : List ℕ → Type 0 = λ s. length s ≤ 255 in
-    let head : length segment ≤ 255 = All-head P segment place short in
+    let P : List ℕ → Type 0 = λ s. length s ≤ LONGEST_SEGMENT in
+    let head : length segment ≤ LONGEST_SEGMENT = All-head P segment place short in
     let tail = place_length 8 more place os (omega arith) (All-tail P segment place short) rest in
-    let one = option_length last (8, segment) (options_spelling 8 (location_options place ++ os)) (omega arith) (omega arith) in
+    let one = option_length last (8, segment) (options_spelling 8 (segment_options LOCATION_PATH place ++ os)) (omega arith) (omega arith) in
     omega arith
 
 -- ---- the format
 
-format_value : (o : Outcome) → length (text_format o) ≤ 2
-format_value (Description text true) = omega arith
-format_value _ = omega arith
+few_bytes : (b c : Bool) (n : ℕ) → length (if b then [] else if c then n ∷ [] else (n / 256) ∷ (n % 256) ∷ []) ≤ 2
+few_bytes true c n = omega arith
+few_bytes false true n = omega arith
+few_bytes false false n = omega arith
+
+format_value : (n : ℕ) → length (number_bytes n) ≤ 2
+format_value n = few_bytes (nat_lt n 1) (nat_lt n 256) n
 
 format_at : (last : ℕ) (value : List ℕ) (text : Option (List ℕ)) → last ≤ 8 → length value ≤ 2
-    → length (options_spelling last (option_map_or (λ _. (12, value) ∷ []) text [])) ≤ 4
+    → length (options_spelling last (option_map_or (λ _. (CONTENT_FORMAT, value) ∷ []) text [])) ≤ 4
 format_at last value None low short = omega arith
-format_at last value (Some text) low short = let one = option_length last (12, value) [] (omega arith) (omega arith) in omega arith
+format_at last value (Some text) low short = let one = option_length last (CONTENT_FORMAT, value) [] (omega arith) (omega arith) in omega arith
 
 -- ---- a whole reply
 
 -- what is started has a short place and a short status, and nothing else has a place
 place_bound : (o : Outcome) → HasShortPlace o
-    → (place_of o ≡ []) ⊎ ((length (place_of o) ≤ 4) × All (λ segment. length segment ≤ 255) (place_of o) × (length (payload_of o) ≤ 100))
+    → (place_of o ≡ []) ⊎ ((length (place_of o) ≤ 4) × All (λ segment. length segment ≤ LONGEST_SEGMENT) (place_of o) × (length (payload_of o) ≤ 100))
 place_bound (Started place status) h = inr h
 place_bound _ h = inl refl
 
@@ -85,36 +92,36 @@ payload_length (b ∷ bytes) = omega arith
 pub all_lengths : (token options payload : List ℕ) → length (token ++ (options ++ payload)) ≡ length token + (length options + length payload)
 all_lengths token options payload = length-append token (options ++ payload) ∙ ap (λ n. length token + n) (length-append options payload)
 
-whole_fits : (o : Outcome) (head : RequestHead) (next : ℕ) → length head.token ≤ 8 → length (payload_of o) ≤ 1024
-    → (place_of o ≡ []) ⊎ ((length (place_of o) ≤ 4) × All (λ segment. length segment ≤ 255) (place_of o) × (length (payload_of o) ≤ 100))
-    → length (spelling (coap_reply (whole_reply o) head next)) ≤ 1152
+whole_fits : (o : Outcome) (head : RequestHead) (next : ℕ) → length head.token ≤ LONGEST_TOKEN → length (payload_of o) ≤ LONGEST_PAYLOAD
+    → (place_of o ≡ []) ⊎ ((length (place_of o) ≤ 4) × All (λ segment. length segment ≤ LONGEST_SEGMENT) (place_of o) × (length (payload_of o) ≤ 100))
+    → length (spelling (coap_reply (whole_reply o) head next)) ≤ LONGEST_MESSAGE
 whole_fits o head next token short (inl none) =
-    let all = all_lengths head.token (options_spelling 0 (location_options (place_of o) ++ format_options o)) (payload_spelling (payload_of o)) in
-    let is : options_spelling 0 (location_options (place_of o) ++ format_options o) ≡ options_spelling 0 (format_options o)
-    = ap (λ place. options_spelling 0 (location_options place ++ format_options o)) none in
+    let all = all_lengths head.token (options_spelling 0 (segment_options LOCATION_PATH (place_of o) ++ format_options o)) (payload_spelling (payload_of o)) in
+    let is : options_spelling 0 (segment_options LOCATION_PATH (place_of o) ++ format_options o) ≡ options_spelling 0 (format_options o)
+    = ap (λ place. options_spelling 0 (segment_options LOCATION_PATH place ++ format_options o)) none in
     let count = ap length is in
-    let format = format_at 0 (text_format o) (text_of o) (omega arith) (format_value o) in
+    let format = format_at 0 (number_bytes (text_format o)) (text_of o) (omega arith) (format_value (text_format o)) in
     let payload = payload_length (payload_of o) in
     omega arith
 whole_fits o head next token short (inr h) =
-    let all = all_lengths head.token (options_spelling 0 (location_options (place_of o) ++ format_options o)) (payload_spelling (payload_of o)) in
+    let all = all_lengths head.token (options_spelling 0 (segment_options LOCATION_PATH (place_of o) ++ format_options o)) (payload_spelling (payload_of o)) in
     let few = h.0 in
     let status = h.2 in
-    let options = place_length 0 4 (place_of o) (format_options o) (omega arith) h.1 (λ l low. format_at l (text_format o) (text_of o) low (format_value o)) in
+    let options = place_length 0 4 (place_of o) (format_options o) (omega arith) h.1 (λ l low. format_at l (number_bytes (text_format o)) (text_of o) low (format_value (text_format o))) in
     let payload = payload_length (payload_of o) in
     omega arith
 
-long_fits : (head : RequestHead) (next : ℕ) → length head.token ≤ 8 → length (spelling (coap_reply long_reply head next)) ≤ 1152
+long_fits : (head : RequestHead) (next : ℕ) → length head.token ≤ LONGEST_TOKEN → length (spelling (coap_reply long_reply head next)) ≤ LONGEST_MESSAGE
 long_fits head next token =
     let all = all_lengths head.token [] (payload_spelling long_reply.payload) in
     omega arith
 
-reply_at : (o : Outcome) (head : RequestHead) (next : ℕ) (b : Bool) → nat_lt 1024 (length (payload_of o)) ≡ b → length head.token ≤ 8 → HasShortPlace o
-    → length (spelling (coap_reply (if b then long_reply else whole_reply o) head next)) ≤ 1152
+reply_at : (o : Outcome) (head : RequestHead) (next : ℕ) (b : Bool) → nat_lt LONGEST_PAYLOAD (length (payload_of o)) ≡ b → length head.token ≤ LONGEST_TOKEN → HasShortPlace o
+    → length (spelling (coap_reply (if b then long_reply else whole_reply o) head next)) ≤ LONGEST_MESSAGE
 reply_at o head next true e token place = long_fits head next token
 reply_at o head next false e token place =
-    let short : length (payload_of o) ≤ 1024 = grind (arith, nat_tests) in
+    let short : length (payload_of o) ≤ LONGEST_PAYLOAD = grind (arith, nat_tests) in
     whole_fits o head next token short (place_bound o place)
 
 pub replies_fit : RepliesFit
-replies_fit o head next token place = reply_at o head next (nat_lt 1024 (length (payload_of o))) refl token place
+replies_fit o head next token place = reply_at o head next (nat_lt LONGEST_PAYLOAD (length (payload_of o))) refl token place

@@ -1,5 +1,4 @@
 pub mod HistoryLaws
 pub mod LengthLaws
-pub mod OptionParts
 pub mod ReadingLaws
 pub mod TellingLaws

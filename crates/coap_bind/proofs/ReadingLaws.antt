@@ -1,8 +1,6 @@
 -- What a request that was admitted does, by the first fault of its options.
 use Rattle.std.proofs.Common.{◌≡◌, ◌≢◌, ◌⊎◌, ◌∙◌, ◌&&◌, not, cond, ℕ, Bool, true, false, Option, Some, None, List, [], ◌∷◌, inl, inr, refl, ap}
 use Rattle.std.specs.Prelude.{slice_get}
-use Rattle.coap_msg.specs.declared.message.Type4.{Type4}
-use Rattle.coap_msg.specs.declared.message.Type4.TheVariants.{Con, Non, Ack, Rst}
 use Rattle.coap_msg.specs.Grammar.{CoapOption, CoapMessage}
 use Rattle.coap_opts.specs.declared.fault.AskFault.{AskFault}
 use Rattle.coap_opts.specs.declared.fault.AskFault.TheVariants.{BadOption, Proxy, NoMemory}
@@ -13,8 +11,9 @@ use Rattle.coap_bind.specs.declared.next.CoapNext.{CoapNext}
 use Rattle.coap_bind.specs.declared.next.CoapNext.TheVariants.{Nothing, Send, Ask}
 use Rattle.coap_bind.specs.declared.server.Server.{Server}
 use Rattle.coap_bind.specs.Writing.{proxy_reply, reply_of}
-use Rattle.coap_bind.specs.Server.{ignored, answered_at_once, may_ask, is_request, opened, bad_option, bad_option_ignored, for_proxy, no_memory}
-use Rattle.coap_bind.specs.Telling.{RepliesAs, RefusesOption, ReadsAs}
+use Rattle.coap_bind.specs.Server.{ignored, answered_at_once, opened, bad_option, bad_option_ignored, for_proxy, no_memory}
+use Rattle.coap_bind.specs.Telling.{RepliesAs}
+use Rattle.coap_bind.specs.Settling.{RefusesOption, ReadsAs}
 
 -- ---- faults
 
@@ -44,31 +43,20 @@ no_fault_here os e same (inr h) = h.0
 
 -- ---- what is done
 
-first_of_both : (b c : Bool) → (b && c) ≡ true → b ≡ true
-first_of_both true c e = refl
-first_of_both false c e = e
-
--- a request that isn't confirmable
-other_type : (k : Type4) → may_ask k ≡ true → k ≢ Con → k ≡ Non
-other_type Con e h = absurd (h refl)
-other_type Non e h = refl
-other_type Ack e h = cc
-other_type Rst e h = cc
-
-pub reads_bad_option : (m : CoapMessage) (slot number : ℕ) (next : CoapNext) (old new : List ℕ) (s t : Server) → is_request m ≡ true
+pub reads_bad_option : (m : CoapMessage) (slot number : ℕ) (next : CoapNext) (old new : List ℕ) (s t : Server)
     → slice_get (faults_of m.options) 0 ≡ Some (BadOption number) → RefusesOption (opened m slot) number next old new s t
     → ReadsAs m slot next old new s t
-reads_bad_option m slot number Nothing old new s t request fault h = record {
+reads_bad_option m slot number Nothing old new s t fault h = record {
   heard = ignored;
-  reads = bad_option_ignored number fault (other_type m.kind (first_of_both (may_ask m.kind) _ request) h.0) refl h.1;
+  reads = bad_option_ignored number fault h.0 refl h.1;
   tells = (refl, h.2);
 }
-reads_bad_option m slot number (Send n) old new s t request fault h = record {
+reads_bad_option m slot number (Send n) old new s t fault h = record {
   heard = answered_at_once h.1.bytes;
   reads = bad_option number h.1.bytes fault h.0 h.1.replies refl;
   tells = (h.1.bytes, refl, h.1.written);
 }
-reads_bad_option m slot number (Ask ask ticket) old new s t request fault h = absurd h
+reads_bad_option m slot number (Ask ask ticket) old new s t fault h = absurd h
 
 pub reads_for_proxy : (m : CoapMessage) (slot n : ℕ) (old new : List ℕ) (s t : Server)
     → slice_get (faults_of m.options) 0 ≡ Some Proxy → RepliesAs proxy_reply (opened m slot) n old new s t

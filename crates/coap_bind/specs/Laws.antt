@@ -1,8 +1,9 @@
--- Laws of the server, over all that it does from its beginning.
+-- Laws of the server, over all that it does from its beginning (RFC 7252, sections 4.5 and 4.6).
 use Rattle.std.specs.Prelude.{◌≡◌, ◌≤◌, ℕ, true, false, List, [], ◌∷◌, ◌++◌, length, Contains, All}
 use Rattle.coap_msg.specs.declared.endpoint.Endpoint.{Endpoint}
+use Rattle.coap_msg.specs.declared.constants.TheConstants.{LONGEST_TOKEN, LONGEST_SEGMENT, LONGEST_MESSAGE}
 use Rattle.coap_msg.specs.Grammar.{CoapMessage, Spells, spelling}
-use Rattle.coap_exchange.specs.Admission.{Arrival, is_repeat_of, admitted_among}
+use Rattle.coap_exchange.specs.Admission.{Arrival, is_duplicate_of, admitted_among}
 use Rattle.coap_exchange.specs.Table.{StandsFor}
 use Rattle.thing_ops.specs.declared.outcome.Outcome.{Outcome}
 use Rattle.thing_ops.specs.declared.outcome.Outcome.TheVariants.{Started}
@@ -36,22 +37,22 @@ ExchangesAreOfTheHistory =
     (capacity : ℕ) (history : List Arrival) (s : Server) → Did capacity history s
     → StandsFor s.exchanges history × (s.exchanges.capacity ≡ capacity)
 
--- A repeat of a request that was admitted and lives asks for nothing (RFC 7252, section 4.5).
-abbrev pub RepeatsAskNothing : Type 0
-RepeatsAskNothing =
+-- A duplicate of a request that was admitted and lives asks for nothing (RFC 7252, section 4.5).
+abbrev pub DuplicatesAskNothing : Type 0
+DuplicatesAskNothing =
     (capacity : ℕ) (history : List Arrival) (s t : Server) (from : Endpoint) (bytes : List ℕ) (now : ℕ) (m : CoapMessage) (earlier : Arrival)
     → Did capacity history s → s.exchanges.moment ≤ now → Spells m bytes → Contains (admitted_among capacity history) earlier
-    → is_repeat_of (arrival from now m) earlier ≡ true
+    → is_duplicate_of (arrival from now m) earlier ≡ true
     → (what : PlainAsk) (request : OpenRequest) → ¬ (Hears from bytes now (asked what request) s t)
 
 -- The place of what was started has at most four segments, each of at most 255 bytes (section 5.10), and its status at most
 -- 100 bytes.
 abbrev pub HasShortPlace : Outcome → Type 0
-HasShortPlace (Started place status) = (length place ≤ 4) × All (λ segment. length segment ≤ 255) place × (length status ≤ 100)
+HasShortPlace (Started place status) = (length place ≤ 4) × All (λ segment. length segment ≤ LONGEST_SEGMENT) place × (length status ≤ 100)
 HasShortPlace _ = Unit {0}
 
 -- A reply has at most 1,152 bytes (RFC 7252, section 4.6), unless the place of what was started is long.
 abbrev pub RepliesFit : Type 0
 RepliesFit =
-    (o : Outcome) (head : RequestHead) (next : ℕ) → length head.token ≤ 8 → HasShortPlace o
-    → length (spelling (coap_reply (reply_of o) head next)) ≤ 1152
+    (o : Outcome) (head : RequestHead) (next : ℕ) → length head.token ≤ LONGEST_TOKEN → HasShortPlace o
+    → length (spelling (coap_reply (reply_of o) head next)) ≤ LONGEST_MESSAGE

@@ -1,5 +1,5 @@
-pub mod Options
 pub mod Writing
 pub mod Server
 pub mod Telling
 pub mod Laws
+pub mod Settling

@@ -2,17 +2,21 @@
 -- does to that.
 --
 -- What it holds is `Server` of src/server.rt: the `exchanges` that live, with the replies that are kept
--- (coap_exchange/specs/Table.antt), and `next_id`, the id of the next message that isn't an acknowledgement. What a request
+-- (coap_exchange/specs/Table.antt), and `next_id`, the message ID of the next message that isn't an acknowledgement. What a request
 -- asks for is coap_opts/specs/Reading.antt, and what a reply is on the wire is in Writing.antt.
 use Rattle.std.specs.Prelude.{◌≡◌, ℕ, ◌+◌, ◌*◌, ◌/◌, ◌%◌, ◌==◌, ◌&&◌, nat_lt, Bool, true, false, List, [], ◌∷◌, Option, Some, None, slice_get, if◌then◌else◌}
 use Rattle.coap_msg.specs.declared.endpoint.Endpoint.{Endpoint}
 use Rattle.coap_msg.specs.declared.message.MsgFault.{MsgFault}
 use Rattle.coap_msg.specs.declared.message.Type4.{Type4}
 use Rattle.coap_msg.specs.declared.message.Type4.TheVariants.{Con, Non, Ack, Rst}
+use Rattle.coap_msg.specs.declared.message.RequestType.{RequestType}
+use Rattle.coap_msg.specs.declared.message.RequestType.TheVariants.{Confirmable, NonConfirmable}
 use Rattle.coap_msg.specs.Grammar.{CoapMessage, Spells, spelling}
 use Rattle.coap_msg.specs.Faults.{HasMsgFault}
+use Rattle.coap_msg.specs.Requests.{request_type}
+use Rattle.coap_msg.specs.Empty.{empty_reply, rejection_of}
 use Rattle.coap_exchange.specs.Admission.{Arrival}
-use Rattle.coap_exchange.specs.Table.{Exchange, empty_table, at_moment, repeated_exchange, with_reply, Meets}
+use Rattle.coap_exchange.specs.Table.{Exchange, empty_table, at_moment, duplicated_exchange, with_reply, Meets}
 use Rattle.coap_exchange.specs.declared.met.Met.{Met}
 use Rattle.coap_exchange.specs.declared.met.Met.TheVariants.{Fresh, Repeat, Full}
 use Rattle.thing_ops.specs.declared.outcome.Outcome.{Outcome}
@@ -21,7 +25,7 @@ use Rattle.coap_opts.specs.Reading.{PlainAsk, faults_of, asked as what_is_asked}
 use Rattle.coap_opts.specs.declared.fault.AskFault.TheVariants.{BadOption, Proxy}
 use Rattle.coap_bind.specs.declared.head.OpenRequest.{OpenRequest}
 use Rattle.coap_bind.specs.declared.server.Server.{Server}
-use Rattle.coap_bind.specs.Writing.{Reply, full_reply, proxy_reply, option_reply, reply_of, head_of, coap_reply, reset}
+use Rattle.coap_bind.specs.Writing.{Reply, full_reply, proxy_reply, option_reply, reply_of, head_of, coap_reply}
 
 -- a server to which nothing came yet, in which so many exchanges may live
 abbrev pub start : ℕ → Server
@@ -38,19 +42,15 @@ pub data Heard : Type 0 where
 
 -- ---- replies
 
--- the server after a reply to a request of this type: one that isn't an acknowledgement used the next id (section 4.4)
-abbrev pub with_id_used : Type4 → Server → Server
-with_id_used Con s = s
-with_id_used Non s = record s { next_id = (s.next_id + 1) % 65536 }
-with_id_used Ack s = record s { next_id = (s.next_id + 1) % 65536 }
-with_id_used Rst s = record s { next_id = (s.next_id + 1) % 65536 }
+-- the server after a reply to a request of this type: one that isn't an acknowledgement used the next message ID (section 4.4)
+abbrev pub with_id_used : RequestType → Server → Server
+with_id_used Confirmable s = s
+with_id_used NonConfirmable s = record s { next_id = (s.next_id + 1) % 65536 }
 
--- the server with the reply to a confirmable request, which is kept for its repeats (section 4.2); that to any other isn't
-abbrev pub with_kept : Type4 → ℕ → List ℕ → Server → Server
-with_kept Con slot bytes s = record s { exchanges = with_reply slot bytes s.exchanges }
-with_kept Non slot bytes s = s
-with_kept Ack slot bytes s = s
-with_kept Rst slot bytes s = s
+-- the server with the reply to a Confirmable request, which is kept for its duplicates (section 4.2); that to any other isn't
+abbrev pub with_kept : RequestType → ℕ → List ℕ → Server → Server
+with_kept Confirmable slot bytes s = record s { exchanges = with_reply slot bytes s.exchanges }
+with_kept NonConfirmable slot bytes s = s
 
 -- A request that was admitted is replied to in these bytes.
 pub record Replies (r : Reply) (request : OpenRequest) (bytes : List ℕ) (s t : Server) : Type 0 where
@@ -63,17 +63,12 @@ Answers request o bytes s t = Replies (reply_of o) request bytes s t
 
 -- ---- datagrams that aren't admitted
 
--- Bytes that spell no message: where there is a header of version 1 and of a confirmable message, that is reset (sections 3
--- and 4.2), and nothing else is done.
-abbrev pub rejected : List ℕ → Heard
-rejected [] = ignored
-rejected (first ∷ []) = ignored
-rejected (first ∷ code ∷ []) = ignored
-rejected (first ∷ code ∷ high ∷ []) = ignored
-rejected (first ∷ code ∷ high ∷ low ∷ rest) =
-    if first / 16 == 4 then answered_at_once (spelling (reset (256 * high + low))) else ignored
+-- a message is sent back at once, if there is one
+abbrev pub replied_at_once : Option CoapMessage → Heard
+replied_at_once None = ignored
+replied_at_once (Some m) = answered_at_once (spelling m)
 
--- the types of a request: confirmable and not (sections 4.2 and 4.3)
+-- the types of a request: Confirmable and Non-confirmable (sections 4.2 and 4.3)
 abbrev pub may_ask : Type4 → Bool
 may_ask Con = true
 may_ask Non = true
@@ -84,25 +79,15 @@ may_ask Rst = false
 abbrev pub is_request : CoapMessage → Bool
 is_request m = may_ask m.kind && (nat_lt 0 m.code && nat_lt m.code 32)
 
--- A message that is no request: a confirmable one, empty or a response, is reset (section 4.2); one that isn't confirmable is
--- ignored (section 4.3); and so are an acknowledgement and a reset, for which nothing waits.
-abbrev pub unasked : Type4 → ℕ → Heard
-unasked Con id = answered_at_once (spelling (reset id))
-unasked Non id = ignored
-unasked Ack id = ignored
-unasked Rst id = ignored
-
--- A repeat: a confirmable one is answered by the reply that is kept, if there is one (section 4.5).
-abbrev pub again : Type4 → Option (List ℕ) → Heard
-again Con (Some bytes) = answered_at_once bytes
-again Con None = ignored
-again Non kept = ignored
-again Ack kept = ignored
-again Rst kept = ignored
+-- A duplicate: a Confirmable one is answered by the reply that is kept, if there is one (section 4.5).
+abbrev pub duplicate_reply : RequestType → Option (List ℕ) → Heard
+duplicate_reply Confirmable (Some bytes) = answered_at_once bytes
+duplicate_reply Confirmable None = ignored
+duplicate_reply NonConfirmable kept = ignored
 
 -- a request as the table of exchanges has it
 abbrev pub arrival : Endpoint → ℕ → CoapMessage → Arrival
-arrival from now m = record { moment = now; from = from; id = m.id; kind = m.kind }
+arrival from now m = record { moment = now; from = from; id = m.id; kind = request_type m.kind }
 
 -- The datagram is a request, which meets this in the table of exchanges (section 4.5); and the server afterwards.
 pub record IsMet (from : Endpoint) (bytes : List ℕ) (now : ℕ) (m : CoapMessage) (met : Met) (s t : Server) : Type 0 where
@@ -113,18 +98,18 @@ pub record IsMet (from : Endpoint) (bytes : List ℕ) (now : ℕ) (m : CoapMessa
 
 -- What is done with a datagram that isn't admitted. It takes no memory.
 pub data Settles (from : Endpoint) (bytes : List ℕ) (now : ℕ) (heard : Heard) (s t : Server) : Type 0 where
-  -- it is no message
-  malformed : (f : MsgFault) → HasMsgFault f bytes → heard ≡ rejected bytes → t ≡ s → Settles from bytes now heard s t
-  -- it is a message and no request
-  no_request : (m : CoapMessage) → Spells m bytes → is_request m ≡ false → heard ≡ unasked m.kind m.id → t ≡ s
+  -- it is no message: it is rejected, and nothing else is done
+  malformed : (f : MsgFault) → HasMsgFault f bytes → heard ≡ replied_at_once (rejection_of bytes) → t ≡ s → Settles from bytes now heard s t
+  -- it is a message and no request, as a response, an empty message, an acknowledgement or a Reset, for which nothing waits
+  no_request : (m : CoapMessage) → Spells m bytes → is_request m ≡ false → heard ≡ replied_at_once (empty_reply m.kind m.id false) → t ≡ s
       → Settles from bytes now heard s t
-  -- it is a request that repeats this exchange
-  repeated : (m : CoapMessage) (kept : Option ℕ) (e : Exchange) → IsMet from bytes now m (Repeat kept) s t
-      → repeated_exchange (arrival from now m) (at_moment now s.exchanges) ≡ Some e → heard ≡ again m.kind e.reply
+  -- it is a duplicate of the request of this exchange
+  duplicate : (m : CoapMessage) (kept : Option ℕ) (e : Exchange) → IsMet from bytes now m (Repeat kept) s t
+      → duplicated_exchange (arrival from now m) (at_moment now s.exchanges) ≡ Some e → heard ≡ duplicate_reply (request_type m.kind) e.reply
       → Settles from bytes now heard s t
   -- as many exchanges live as may
   full : (m : CoapMessage) (u : Server) → IsMet from bytes now m Full s u
-      → heard ≡ answered_at_once (spelling (coap_reply full_reply (head_of m) s.next_id)) → t ≡ with_id_used m.kind u
+      → heard ≡ answered_at_once (spelling (coap_reply full_reply (head_of m) s.next_id)) → t ≡ with_id_used (request_type m.kind) u
       → Settles from bytes now heard s t
 
 -- ---- datagrams that are admitted
@@ -136,10 +121,10 @@ opened m slot = record { head = head_of m; slot = slot }
 -- What is done with a request that was admitted, by the first fault of its options. Out of memory is free to come where there
 -- is none.
 pub data Reads (m : CoapMessage) (slot : ℕ) (heard : Heard) (s t : Server) : Type 0 where
-  -- a bad option: a confirmable request is told (section 5.4.1), and any other ignored
-  bad_option : (number : ℕ) (bytes : List ℕ) → slice_get (faults_of m.options) 0 ≡ Some (BadOption number) → m.kind ≡ Con
+  -- a bad option: a Confirmable request is told (section 5.4.1), and any other ignored
+  bad_option : (number : ℕ) (bytes : List ℕ) → slice_get (faults_of m.options) 0 ≡ Some (BadOption number) → request_type m.kind ≡ Confirmable
       → Replies (option_reply number) (opened m slot) bytes s t → heard ≡ answered_at_once bytes → Reads m slot heard s t
-  bad_option_ignored : (number : ℕ) → slice_get (faults_of m.options) 0 ≡ Some (BadOption number) → m.kind ≡ Non
+  bad_option_ignored : (number : ℕ) → slice_get (faults_of m.options) 0 ≡ Some (BadOption number) → request_type m.kind ≡ NonConfirmable
       → heard ≡ ignored → t ≡ s → Reads m slot heard s t
   -- it is for a proxy
   for_proxy : (bytes : List ℕ) → slice_get (faults_of m.options) 0 ≡ Some Proxy

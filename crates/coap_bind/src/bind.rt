@@ -5,7 +5,7 @@ use crate::next::{CoapNext, Ticket};
 use crate::server::Server;
 use crate::settled::Settled;
 use coap_exchange::Exchanges;
-use coap_msg::Endpoint;
+use coap_msg::{Endpoint, LONGEST_MESSAGE};
 use std::alloc::Global;
 use std::marker::Model;
 use thing_ops::Outcome;
@@ -59,12 +59,12 @@ impl CoapBind {
         from: Endpoint,
         bytes: &'a [u8],
         now: u64,
-        out: &mut [u8; 1152],
+        out: &mut [u8; LONGEST_MESSAGE],
     ) -> CoapNext<'a>
         requires { self.old.exchanges.moment ≤ now }
         ensures ok { HearsAs from bytes.now now result out.old out.new self.old self.new }
 
-        // What isn't admitted takes no memory, and is never answered that there is none: repeats, what finds the table full, and
+        // What isn't admitted takes no memory, and is never answered that there is none: duplicates, what finds the table full, and
         // what is no request.
         ensures memory { IsAdmitted from bytes.now now self.old ⊎ SettlesAs from bytes.now now result out.old out.new self.old self.new }
 
@@ -81,10 +81,15 @@ impl CoapBind {
 
     /// Answers what was asked: the reply is written to the beginning of `out`, is to be sent to where the request came from, and
     /// has as many bytes as are returned. It takes no memory.
-    pub fn answer(&mut self, ticket: Ticket, outcome: &Outcome, out: &mut [u8; 1152]) -> usize
+    pub fn answer(
+        &mut self,
+        ticket: Ticket,
+        outcome: &Outcome,
+        out: &mut [u8; LONGEST_MESSAGE],
+    ) -> usize
         requires ticket { IsAwaited ticket.slot self.old.exchanges }
         requires code { HasCode outcome.now }
-        requires room { length (spelling (coap_reply (reply_of outcome.now) ticket.head self.old.next_id)) ≤ 1152 }
+        requires room { length (spelling (coap_reply (reply_of outcome.now) ticket.head self.old.next_id)) ≤ LONGEST_MESSAGE }
         ensures ok { RepliesAs (reply_of outcome.now) ticket result out.old out.new self.old self.new }
         ensures moment { self.new.exchanges.moment ≡ self.old.exchanges.moment }
     {

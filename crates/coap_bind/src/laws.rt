@@ -1,15 +1,15 @@
 //! Laws of the server, as contracts of functions that do nothing.
 
-ghost use Rattle.coap_bind.specs.Laws.{ExchangesAreOfTheHistory, RepeatsAskNothing, RepliesFit};
+ghost use Rattle.coap_bind.specs.Laws.{ExchangesAreOfTheHistory, DuplicatesAskNothing, RepliesFit};
 
 /// The exchanges of a server are those of the admitted requests that live (RFC 7252, section 4.5).
 pub fn exchanges_are_of_the_history()
     ensures { ExchangesAreOfTheHistory }
 {}
 
-/// A repeat of a request that was admitted and lives asks for nothing (RFC 7252, section 4.5).
-pub fn repeats_ask_nothing()
-    ensures { RepeatsAskNothing }
+/// A duplicate of a request that was admitted and lives asks for nothing (RFC 7252, section 4.5).
+pub fn duplicates_ask_nothing()
+    ensures { DuplicatesAskNothing }
 {}
 
 /// A reply has at most 1,152 bytes (RFC 7252, section 4.6), unless the place of what was started is long.

@@ -21,7 +21,7 @@
 //!
 //! What a server holds and what its calls do is one machine, `specs/Server.antt`, and what a reply is on the wire is
 //! `specs/Writing.antt`. The contract in a sentence: each call does what the machine does (`Hears`, `Answers`), whatever comes
-//! in whatever order. The laws: the exchanges of a server are those of the admitted requests that live, a repeat asks for
+//! in whatever order. The laws: the exchanges of a server are those of the admitted requests that live, a duplicate asks for
 //! nothing, and a reply fits its room. Memory is taken when the server is made, and then by the path of a request that was
 //! admitted.
 #![tactic(auto)]
@@ -32,12 +32,11 @@ mod head;
 mod laws;
 mod next;
 mod options;
-mod rejecting;
 mod server;
 mod settled;
 mod writing;
 
 pub use bind::CoapBind;
-pub use laws::{exchanges_are_of_the_history, repeats_ask_nothing, replies_fit};
+pub use laws::{duplicates_ask_nothing, exchanges_are_of_the_history, replies_fit};
 pub use next::{CoapNext, Ticket};
 pub use servient_base::NoMemory;

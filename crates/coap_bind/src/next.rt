@@ -15,7 +15,7 @@ pub enum CoapNext<'a> {
 }
 
 /// A request that was admitted and is to be answered, by `CoapBind::answer` alone: a ticket can't be dropped, copied or made
-/// elsewhere. Contracts see what the reply repeats of the request, and the slot of its exchange (`OpenRequest`).
+/// elsewhere. Contracts see what the reply takes over from the request, and the slot of its exchange (`OpenRequest`).
 pub struct Ticket {
     request: OpenRequest,
 }

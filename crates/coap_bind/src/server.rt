@@ -1,15 +1,19 @@
 //! What a server holds, and what is done with each datagram.
 
-ghost use Rattle.std.specs.Prelude.{◌≡◌, ◌&&◌, nat_lt};
+ghost use Rattle.std.specs.Prelude.{◌≡◌, ◌≤◌, ◌&&◌, nat_lt, length};
+ghost use Rattle.coap_msg.specs.Written.{IsWritten};
 ghost use Rattle.coap_bind.specs.Server.{may_ask};
 
 use crate::head::{OpenRequest, RequestHead};
 use crate::next::{CoapNext, Ticket};
-use crate::rejecting::{answer_unasked, put_again, reject};
 use crate::settled::Settled;
 use coap_exchange::{Exchanges, Met};
-use coap_msg::{Endpoint, Message, Type4, decode};
+use coap_msg::{
+    Endpoint, LONGEST_MESSAGE, Message, PROXYING_NOT_SUPPORTED, RequestType, SERVICE_UNAVAILABLE,
+    Type4, decode, put_empty_reply, put_rejection,
+};
 use coap_opts::{AskFault, request_of};
+use servient_base::put_bytes;
 use std::alloc::Global;
 use thing_ops::Outcome;
 
@@ -18,22 +22,17 @@ use thing_ops::Outcome;
 pub struct Server {
     /// The exchanges that live, with the replies that are kept.
     pub exchanges: Exchanges,
-    /// The id of the next message that isn't an acknowledgement.
+    /// The message ID of the next message that isn't an acknowledgement.
     pub next_id: u16,
 }
-
-/// The code 5.03.
-const SERVICE_UNAVAILABLE: u8 = 32 * 5 + 3;
-
-/// The code 5.05.
-const PROXYING_NOT_SUPPORTED: u8 = 32 * 5 + 5;
 
 impl Server {
     ghost use Rattle.std.specs.Prelude.{◌≡◌, ◌≤◌, ℕ, true, length, Some, option_map};
     ghost use Rattle.coap_msg.specs.MessageOf.{message_of};
     ghost use Rattle.coap_exchange.specs.Table.{Exchange, exchange_in, HasReply, IsAwaited};
-    ghost use Rattle.coap_bind.specs.Server.{is_request, again};
-    ghost use Rattle.coap_bind.specs.Telling.{TellsDone, SettlesOrAdmits, ReadsAs, TicketIsOpen};
+    ghost use Rattle.coap_bind.specs.Server.{is_request, duplicate_reply};
+    ghost use Rattle.coap_bind.specs.Telling.{TicketIsOpen};
+    ghost use Rattle.coap_bind.specs.Settling.{TellsDone, SettlesOrAdmits, ReadsAs};
 
     /// Judges a datagram as far as that takes no memory.
     pub fn settle<'a>(
@@ -41,7 +40,7 @@ impl Server {
         from: Endpoint,
         bytes: &'a [u8],
         now: u64,
-        out: &mut [u8; 1152],
+        out: &mut [u8; LONGEST_MESSAGE],
     ) -> Settled<'a>
         requires { self.old.exchanges.moment ≤ now }
         ensures ok { SettlesOrAdmits from bytes.now now result out.old out.new self.old self.new }
@@ -49,14 +48,15 @@ impl Server {
     {
         let message = match decode(bytes) {
             Ok(message) => message,
-            Err(_fault) => return Settled::Done(reject(bytes, out)),
+            Err(_fault) => return Settled::Done(put_rejection(bytes, out)),
         };
         if !is_request(message.kind, message.code) {
-            return Settled::Done(answer_unasked(message.kind, message.id, out));
+            return Settled::Done(put_empty_reply(message.kind, message.id, false, out));
         }
+        let kind = RequestType::of(message.kind);
         match self.exchanges.meet(from, message.id, message.kind, now) {
             Met::Fresh(slot) => Settled::Admitted(message, slot),
-            Met::Repeat(kept) => Settled::Done(self.repeat(message.kind, kept, out)),
+            Met::Repeat(kept) => Settled::Done(self.answer_duplicate(kind, kept, out)),
             Met::Full => {
                 let head = RequestHead::of(&message);
                 Settled::Done(Some(self.send(SERVICE_UNAVAILABLE, b"full", &head, out)))
@@ -64,18 +64,24 @@ impl Server {
         }
     }
 
-    /// Answers a repeat of an exchange by the reply in this slot, if it is answered: gives how many bytes are to be sent.
-    fn repeat(&self, kind: Type4, kept: Option<u32>, out: &mut [u8; 1152]) -> Option<usize>
+    /// Answers a duplicate of a request by the reply that is kept in this slot, if it is answered: gives how many bytes are to
+    /// be sent.
+    fn answer_duplicate(
+        &self,
+        kind: RequestType,
+        kept: Option<u32>,
+        out: &mut [u8; LONGEST_MESSAGE],
+    ) -> Option<usize>
         requires { (slot : ℕ) → kept ≡ Some slot → HasReply slot self.now.exchanges }
         ensures { (e : Exchange) → exchange_in e.slot self.now.exchanges ≡ Some e → kept ≡ option_map (λ _. e.slot) e.reply →
-            TellsDone (again kind e.reply) result out.old out.new }
+            TellsDone (duplicate_reply kind e.reply) result out.old out.new }
     {
         match kind {
-            Type4::Con => match kept {
-                Some(slot) => Some(put_again(self.exchanges.reply(slot), out)),
+            RequestType::Confirmable => match kept {
+                Some(slot) => Some(put_kept(self.exchanges.reply(slot), out)),
                 None => None,
             },
-            Type4::Non | Type4::Ack | Type4::Rst => None,
+            RequestType::NonConfirmable => None,
         }
     }
 
@@ -85,7 +91,7 @@ impl Server {
         alloc: Global,
         message: &Message<'a>,
         slot: u32,
-        out: &mut [u8; 1152],
+        out: &mut [u8; LONGEST_MESSAGE],
     ) -> CoapNext<'a>
         requires request { is_request (message_of message.now) ≡ true }
         requires token { length message.now.token.now ≤ 8 }
@@ -117,4 +123,12 @@ fn is_request(kind: Type4, code: u8) -> bool
         Type4::Con | Type4::Non => code > 0 && code < 32,
         Type4::Ack | Type4::Rst => false,
     }
+}
+
+/// Writes a reply that was kept, and returns how many bytes it has.
+fn put_kept(reply: &[u8], out: &mut [u8; LONGEST_MESSAGE]) -> usize
+    requires { length reply.now ≤ LONGEST_MESSAGE }
+    ensures { IsWritten reply.now result out.old out.new }
+{
+    put_bytes(out, 0, reply)
 }

@@ -4,37 +4,33 @@ ghost use Rattle.std.specs.Prelude.{◌≡◌, ◌≤◌, ◌/◌, ◌⊎◌, le
 ghost use Rattle.coap_msg.specs.Grammar.{spelling};
 ghost use Rattle.thing_ops.specs.Outcomes.{HasCode, payload_of};
 ghost use Rattle.coap_bind.specs.Writing.{word_reply, reply_of, whole_reply, coap_reply, reply_kind, reply_id};
-ghost use Rattle.coap_bind.specs.Telling.{IsWritten};
+ghost use Rattle.coap_msg.specs.Written.{IsWritten};
 
 use crate::head::RequestHead;
 use crate::options::put_options;
-use coap_msg::{Opts, Plain, Type4, encode};
+use coap_msg::{
+    INTERNAL_SERVER_ERROR, LONGEST_MESSAGE, LONGEST_PAYLOAD, Opts, Plain, RequestType, Type4,
+    encode,
+};
 use thing_ops::{LONGEST_WORD, Outcome, coap_code, word};
 
-/// The most bytes of a payload: what one datagram has room for where nothing is known of the path to its receiver (RFC 7252,
-/// section 4.6).
-const LONGEST_PAYLOAD: usize = 1024;
-
-/// The code 5.00.
-const INTERNAL_SERVER_ERROR: u8 = 32 * 5;
-
 /// The type of a reply to a request of this type.
-fn kind_of_reply(kind: Type4) -> Type4
+fn kind_of_reply(kind: RequestType) -> Type4
     ensures { result ≡ reply_kind kind }
 {
     match kind {
-        Type4::Con => Type4::Ack,
-        Type4::Non | Type4::Ack | Type4::Rst => Type4::Non,
+        RequestType::Confirmable => Type4::Ack,
+        RequestType::NonConfirmable => Type4::Non,
     }
 }
 
-/// The id of a reply to a request of this type and id.
-fn id_of_reply(kind: Type4, id: u16, next: u16) -> u16
+/// The message ID of a reply to a request of this type and ID.
+fn id_of_reply(kind: RequestType, id: u16, next: u16) -> u16
     ensures { result ≡ reply_id kind id next }
 {
     match kind {
-        Type4::Con => id,
-        Type4::Non | Type4::Ack | Type4::Rst => next,
+        RequestType::Confirmable => id,
+        RequestType::NonConfirmable => next,
     }
 }
 
@@ -44,7 +40,7 @@ pub fn put_word(
     word: &[u8],
     head: &RequestHead,
     next_id: u16,
-    out: &mut [u8; 1152],
+    out: &mut [u8; LONGEST_MESSAGE],
 ) -> usize
     requires code { (code / 32 ≡ 4) ⊎ (code / 32 ≡ 5) }
     requires word { length word.now ≤ 64 }
@@ -68,10 +64,10 @@ pub fn put_outcome(
     outcome: &Outcome,
     head: &RequestHead,
     next_id: u16,
-    out: &mut [u8; 1152],
+    out: &mut [u8; LONGEST_MESSAGE],
 ) -> usize
     requires code { HasCode outcome.now }
-    requires room { length (spelling (coap_reply (reply_of outcome.now) head.now next_id)) ≤ 1152 }
+    requires room { length (spelling (coap_reply (reply_of outcome.now) head.now next_id)) ≤ LONGEST_MESSAGE }
     ensures { IsWritten (spelling (coap_reply (reply_of outcome.now) head.now next_id)) result out.old out.new }
 {
     let mut words = [0u8; LONGEST_WORD];
@@ -89,14 +85,14 @@ fn put_whole(
     payload: &[u8],
     head: &RequestHead,
     next_id: u16,
-    out: &mut [u8; 1152],
+    out: &mut [u8; LONGEST_MESSAGE],
 ) -> usize
     requires code { HasCode outcome.now }
     requires payload { payload.now ≡ payload_of outcome.now }
-    requires room { length (spelling (coap_reply (whole_reply outcome.now) head.now next_id)) ≤ 1152 }
+    requires room { length (spelling (coap_reply (whole_reply outcome.now) head.now next_id)) ≤ LONGEST_MESSAGE }
     ensures { IsWritten (spelling (coap_reply (whole_reply outcome.now) head.now next_id)) result out.old out.new }
 {
-    let mut room = [0u8; 1152];
+    let mut room = [0u8; LONGEST_MESSAGE];
     let mut options = Opts::on(&mut room);
     put_options(outcome, &mut options).unwrap();
     let message = Plain {

@@ -11,8 +11,8 @@ use Rattle.coap_client.specs.declared.state.State.{State}
 use Rattle.coap_client.specs.Exchange.{at_moment, IsNew, request_for, Delivers, of_message, of_fault}
 use Rattle.coap_client.specs.Answers.{meaning, is_for_request, is_for_observation}
 use Rattle.coap_client.specs.Names.{is_same_endpoint}
-use Rattle.coap_client.specs.Times.{first_timeout, last_copy, deadline, repeats_by}
-use Rattle.coap_client.specs.Laws.{Did, nothing, asked, refused, took, repeated, CopiesEnd, TakenFromTheAsked, TakenFromAPeer, IdsRest}
+use Rattle.coap_client.specs.Times.{first_timeout, transmission_end, deadline, retransmissions_by}
+use Rattle.coap_client.specs.Laws.{Did, nothing, asked, refused, took, retransmitted, RetransmissionsEnd, TakenFromTheAsked, TakenFromAPeer, IdsRest}
 use Rattle.coap_client.proofs.StepLaws.{Follows, IsSame, Keeps, keeps_self, keeps_after, keeps_due, follows_kept, follows_later, follows_asked}
 
 -- ---- all that a client did
@@ -39,7 +39,7 @@ follows sent s (asked before r t now peer a n old new did later ask) =
 follows sent s (refused before r now did later) = follows_later before r now (follows before r did) later
 follows sent s (took before r t now from bytes told old new did later delivers) =
     follows_kept before (at_moment now r) t (follows_later before r now (follows before r did) later) (keeps_delivered (at_moment now r) t from bytes told old new delivers)
-follows sent s (repeated before r t now due old new did later comes) =
+follows sent s (retransmitted before r t now due old new did later comes) =
     follows_kept before (at_moment now r) t (follows_later before r now (follows before r did) later) (keeps_due (at_moment now r) t due old new comes)
 
 -- ---- the laws
@@ -47,7 +47,7 @@ follows sent s (repeated before r t now due old new did later comes) =
 pub ids_rest : IdsRest
 ids_rest sent s did = (follows sent s did).rested
 
--- a request that is repeated isn't acknowledged
+-- a request that is retransmitted isn't acknowledged
 not_acknowledged : (b : Bool) (k n : ℕ) (old new : ℕ) → (old ≡ (elim b as (λ _. ℕ) [ true ↦ 100000 | false ↦ k ])) → n < (elim b as (λ _. ℕ) [ true ↦ 0 | false ↦ new ]) → old ≡ k
 not_acknowledged true k n old new e h = absurd (omega arith)
 not_acknowledged false k n old new e h = e
@@ -55,17 +55,17 @@ not_acknowledged false k n old new e h = e
 timeout_bound : (id : ℕ) → 31 * first_timeout id ≤ 93000
 timeout_bound id = omega arith
 
-before_last : (now : ℕ) (o : Outstanding) (b : Bool) → o.is_acknowledged ≡ b → now - o.first < deadline o → o.reached < repeats_by o (now - o.first) → now < last_copy o
-before_last now o true e h g = let zero : repeats_by o (now - o.first) ≡ 0 = rw e refl in absurd (omega arith)
+before_last : (now : ℕ) (o : Outstanding) (b : Bool) → o.is_acknowledged ≡ b → now - o.first < deadline o → o.reached < retransmissions_by o (now - o.first) → now < transmission_end o
+before_last now o true e h g = let zero : retransmissions_by o (now - o.first) ≡ 0 = rw e refl in absurd (omega arith)
 before_last now o false e h g = let is : deadline o ≡ 31 * first_timeout o.id = rw e refl in omega arith
 
-pub copies_end : CopiesEnd
-copies_end sent s t now n old new did later comes =
+pub retransmissions_end : RetransmissionsEnd
+retransmissions_end sent s t now n old new did later comes =
     let f : Follows sent s = follows sent s did in
     let o : Outstanding = comes.0 in
     let a = f.outstanding comes.0 comes.1 in
     let same : IsSame a.0 comes.0 = a.2 in
-    let last : now < last_copy comes.0 = before_last now comes.0 comes.0.is_acknowledged refl comes.2 comes.3 in (
+    let last : now < transmission_end comes.0 = before_last now comes.0 comes.0.is_acknowledged refl comes.2 comes.3 in (
       a.0,
       a.1,
       comes.4.front ∙ sym same.sent,

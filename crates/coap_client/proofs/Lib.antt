@@ -1,4 +1,3 @@
 pub mod HistoryLaws
 pub mod IdLaws
-pub mod OptionParts
 pub mod StepLaws

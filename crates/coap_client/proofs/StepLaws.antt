@@ -19,7 +19,7 @@ use Rattle.coap_client.specs.Exchange.{at_moment, request_for, with_request, reg
 use Rattle.coap_client.specs.Names.{IsNextId, is_recent}
 use Rattle.coap_client.specs.Answers.{is_for_request, is_for_observation}
 
--- one request at two moments: how often it was repeated and whether it was acknowledged may differ
+-- one request at two moments: how often it was sent again and whether it was acknowledged may differ
 pub record IsSame (a o : Outstanding) : Type 0 where
   pub peer : a.peer ≡ o.peer
   pub id : a.id ≡ o.id
@@ -92,7 +92,7 @@ keeps_after s from token meant.Old = record {
   outstanding = λ o e. kept_request s.outstanding (registers s.outstanding) o e;
   observed = λ o e. (o, e, refl, refl);
 }
-keeps_after s from token meant.Answer = record {
+keeps_after s from token meant.Response = record {
   uses = refl;
   moment = refl;
   outstanding = λ o e. kept_request s.outstanding (is_for_request s.outstanding from token) o e;
@@ -107,8 +107,8 @@ keeps_after s from token meant.Received = record {
 }
 keeps_after s from token meant.Foreign = keeps_self s
 
-keeps_repeated : (s : State) (o : Outstanding) (n : ℕ) → s.outstanding ≡ Some o → Keeps s (record s { outstanding = Some (record o { reached = n }) })
-keeps_repeated s o n is = record {
+keeps_retransmitted : (s : State) (o : Outstanding) (n : ℕ) → s.outstanding ≡ Some o → Keeps s (record s { outstanding = Some (record o { reached = n }) })
+keeps_retransmitted s o n is = record {
   uses = refl;
   moment = refl;
   outstanding = λ p e. (o, is, subst (IsSame o) (same_Some (record o { reached = n }) p e) (record { peer = refl; id = refl; token = refl; first = refl; sent = refl }));
@@ -117,7 +117,7 @@ keeps_repeated s o n is = record {
 
 pub keeps_due : (s t : State) (d : Due) (old new : List ℕ) → ComesDue s d old new t → Keeps s t
 keeps_due s t due.TimedOut old new h = subst (Keeps s) (sym h.3) (keeps_ended s)
-keeps_due s t (due.Send n) old new h = subst (Keeps s) (sym h.5) (keeps_repeated s h.0 _ h.1)
+keeps_due s t (due.Send n) old new h = subst (Keeps s) (sym h.5) (keeps_retransmitted s h.0 _ h.1)
 keeps_due s t due.Nothing old new h = subst (Keeps s) (sym h.1) (keeps_self s)
 
 pub follows_kept : (sent : List Outstanding) (s t : State) → Follows sent s → Keeps s t → Follows sent t

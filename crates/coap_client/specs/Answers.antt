@@ -1,10 +1,12 @@
 -- Which messages a client takes, and what each message means to it (RFC 7252, sections 4.2 and 5.3.2; RFC 7641, section 3).
-use Rattle.std.specs.Prelude.{◌+◌, ◌-◌, ◌*◌, ◌/◌, ◌^◌, ◌==◌, ◌&&◌, ◌||◌, ℕ, nat_lt, Bool, true, false, List, [], ◌∷◌, Option, Some, None, if◌then◌else◌}
+use Rattle.std.specs.Prelude.{◌+◌, ◌-◌, ◌*◌, ◌/◌, ◌^◌, ◌==◌, ◌&&◌, ◌||◌, ℕ, nat_lt, nat_le, length, Bool, true, false, List, [], ◌∷◌, Option, Some, None, if◌then◌else◌}
 use Rattle.std.specs.Str.{bytes_eq}
 use Rattle.coap_msg.specs.declared.endpoint.Endpoint.{Endpoint}
 use Rattle.coap_msg.specs.declared.message.Type4.{Type4}
 use Rattle.coap_msg.specs.declared.message.Type4.TheVariants.{Con, Non, Ack, Rst}
+use Rattle.coap_msg.specs.declared.constants.TheConstants.{OBSERVE}
 use Rattle.coap_msg.specs.Grammar.{CoapOption, CoapMessage}
+use Rattle.coap_msg.specs.Numbers.{number_of}
 use Rattle.coap_client.specs.declared.outstanding.Outstanding.{Outstanding}
 use Rattle.coap_client.specs.declared.observation.Latest.{Latest}
 use Rattle.coap_client.specs.declared.observation.Observation.{Observation}
@@ -36,10 +38,10 @@ is_from_server None from id = false
 is_from_server (Some o) from id = is_same_endpoint from o.peer && id == o.id
 
 -- a success, a client error or a server error (section 5.9)
-abbrev pub is_answer_class : ℕ → Bool
-is_answer_class class = class == 2 || class == 4 || class == 5
+abbrev pub is_response_class : ℕ → Bool
+is_response_class class = class == 2 || class == 4 || class == 5
 
--- an acknowledgement carries an answer only with the id of the request (section 5.2.1), a reset carries none
+-- an acknowledgement carries a response only with the message ID of the request (section 5.2.1), a Reset carries none
 abbrev pub may_carry : Option Outstanding → Type4 → ℕ → Bool
 may_carry o Con id = true
 may_carry o Non id = true
@@ -49,24 +51,20 @@ may_carry o Rst id = false
 -- A message is taken.
 abbrev pub takes : State → Endpoint → CoapMessage → Bool
 takes s from m =
-    is_answer_class (m.code / 32) && may_carry s.outstanding m.kind m.id
+    is_response_class (m.code / 32) && may_carry s.outstanding m.kind m.id
     && (is_for_request s.outstanding from m.token || is_for_observation s.observation from m.token)
 
 -- ---- what a message means
 
--- the number that at most three bytes say, in network byte order (section 3.2)
+-- the number that at most three bytes say (RFC 7641, section 2)
 abbrev pub number_within : List ℕ → Option ℕ
-number_within [] = Some 0
-number_within (low ∷ []) = Some low
-number_within (high ∷ low ∷ []) = Some (256 * high + low)
-number_within (high ∷ middle ∷ low ∷ []) = Some (65536 * high + 256 * middle + low)
-number_within (high ∷ middle ∷ low ∷ more ∷ rest) = None
+number_within value = if nat_le (length value) 3 then Some (number_of value) else None
 
 -- the sequence number of a notification: the first Observe counts, if it isn't too long (RFC 7641, section 2; RFC 7252,
 -- sections 5.4.3 and 5.4.5)
 abbrev pub sequence_of : List CoapOption → Option ℕ
 sequence_of [] = None
-sequence_of (o ∷ os) = if o.0 == 6 then number_within o.1 else sequence_of os
+sequence_of (o ∷ os) = if o.0 == OBSERVE then number_within o.1 else sequence_of os
 
 -- a notification is newer than the latest (RFC 7641, section 3.4)
 abbrev pub is_newer_than : Latest → ℕ → ℕ → Bool
@@ -89,13 +87,13 @@ abbrev pub notified : State → Endpoint → CoapMessage → Option ℕ
 notified s from m =
     if m.code / 32 == 2 && is_for_observation s.observation from m.token then sequence_of m.options else None
 
--- what a message that is taken means: a notification, or else an answer
+-- what a message that is taken means: a notification, or else a response
 abbrev pub meaning_taken : State → Option ℕ → Meaning
-meaning_taken s None = meant.Answer
+meaning_taken s None = meant.Response
 meaning_taken s (Some sequence) =
     if is_newer (latest_of s.observation) s.moment sequence then meant.Value sequence else meant.Old
 
--- what any other message means, of this type: a reset of the outstanding request, its empty acknowledgement, or nothing
+-- what any other message means, of this type: a Reset of the outstanding request, its empty acknowledgement, or nothing
 -- (section 4.2)
 abbrev pub meaning_else : State → Endpoint → CoapMessage → Type4 → Meaning
 meaning_else s from m Rst = if is_from_server s.outstanding from m.id then meant.Reset else meant.Foreign

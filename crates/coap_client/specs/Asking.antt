@@ -1,6 +1,9 @@
 -- The message that asks for something: a confirmable request (RFC 7252, sections 4.2, 5.2 and 5.10; RFC 7641, section 2).
-use Rattle.std.specs.Prelude.{◌≢◌, ◌<◌, ◌≤◌, ◌/◌, ◌%◌, ℕ, nat_lt, Bool, true, false, List, [], ◌∷◌, ◌++◌, length, map, All, Option, Some, None, if◌then◌else◌}
+use Rattle.std.specs.Prelude.{◌≢◌, ◌<◌, ◌≤◌, ℕ, Bool, true, false, List, [], ◌∷◌, ◌++◌, length, All, Option, Some, None}
+use Rattle.coap_msg.specs.declared.constants.TheConstants.{OBSERVE, URI_PATH, CONTENT_FORMAT, LONGEST_SEGMENT}
 use Rattle.coap_msg.specs.Grammar.{CoapOption, CoapMessage}
+use Rattle.coap_msg.specs.Numbers.{number_bytes}
+use Rattle.coap_msg.specs.Opts.{segment_options}
 use Rattle.coap_msg.specs.declared.message.Type4.TheVariants.{Con}
 use Rattle.coap_client.specs.declared.ask.Ask.{Ask}
 
@@ -20,30 +23,22 @@ asking_of a = record { code = a.code; path = a.path.now; observe = a.observe; fo
 pub record MayAsk (a : Asking) : Type 0 where
   pub code : a.code ≢ 0
   pub class : a.code < 32
-  pub segments : All (λ segment. length segment ≤ 255) a.path
-
--- a number below 65,536 in as few bytes as say it, in network byte order; 0 in none (section 3.2)
-abbrev pub number_bytes : ℕ → List ℕ
-number_bytes n = if nat_lt n 1 then [] else if nat_lt n 256 then n ∷ [] else (n / 256) ∷ (n % 256) ∷ []
+  pub segments : All (λ segment. length segment ≤ LONGEST_SEGMENT) a.path
 
 -- Observe is 0 to register and 1 to deregister (RFC 7641, section 2)
 abbrev pub observe_option : Option Bool → List CoapOption
 observe_option None = []
-observe_option (Some true) = (6, number_bytes 0) ∷ []
-observe_option (Some false) = (6, number_bytes 1) ∷ []
-
--- one Uri-Path for each segment (section 5.10.1)
-abbrev pub path_options : List (List ℕ) → List CoapOption
-path_options path = map (λ segment. (11, segment)) path
+observe_option (Some true) = (OBSERVE, number_bytes 0) ∷ []
+observe_option (Some false) = (OBSERVE, number_bytes 1) ∷ []
 
 -- Content-Format (section 5.10.3)
 abbrev pub format_option : Option ℕ → List CoapOption
 format_option None = []
-format_option (Some format) = (12, number_bytes format) ∷ []
+format_option (Some format) = (CONTENT_FORMAT, number_bytes format) ∷ []
 
--- the options in order of their numbers
+-- the options in order of their numbers: one Uri-Path for each segment (section 5.10.1)
 abbrev pub options_for : Asking → List CoapOption
-options_for a = observe_option a.observe ++ (path_options a.path ++ format_option a.format)
+options_for a = observe_option a.observe ++ (segment_options URI_PATH a.path ++ format_option a.format)
 
 -- the message with this id and this token
 abbrev pub message_for : Asking → ℕ → List ℕ → CoapMessage

@@ -4,13 +4,14 @@
 -- What it holds is `State` of src/state.rt: the last `moment` that was handed in; the `outstanding` request; the
 -- `observation`; `next_token`, the number whose bytes are the next token; `next_id`, from which the next id is sought; and in
 -- `uses` when each id was used last. An outstanding request has its `peer`, its `id` and its `token`, the bytes that were
--- `sent`, when they were sent `first`, how many of the moments for a repeat a call has `reached`, whether an empty message
+-- `sent`, when they were sent `first`, how many of the moments for a retransmission a call has `reached`, whether an empty message
 -- acknowledged it, and whether it `registers` the observation. An observation has its `peer` and its `token`, and of the
 -- `latest` value, once there was one, the sequence number and the moment.
 --
 -- The message of an ask is in Asking.antt, ids and tokens are in Names.antt, times in Times.antt, and which messages are taken
 -- (`takes`) and what they mean (`meaning`) in Answers.antt.
 use Rattle.std.specs.Prelude.{◌≡◌, ◌<◌, ◌≤◌, ◌+◌, ◌-◌, ◌%◌, ◌^◌, ◌⊎◌, ℕ, Bool, true, false, List, length, slice_set, slice_index_or, Option, Some, None, IsSome, IfSome, is_some, if◌then◌else◌}
+use Rattle.coap_msg.specs.declared.constants.TheConstants.{LONGEST_MESSAGE}
 use Rattle.coap_msg.specs.declared.endpoint.Endpoint.{Endpoint}
 use Rattle.coap_msg.specs.declared.message.MsgFault.{MsgFault}
 use Rattle.coap_msg.specs.Grammar.{CoapMessage, Spells, spelling}
@@ -28,10 +29,11 @@ use Rattle.coap_client.specs.declared.news.Delivered.{Delivered}
 use Rattle.coap_client.specs.declared.due.Due.{Due}
 use Rattle.coap_client.specs.declared.due.Due.TheVariants as due
 use Rattle.coap_client.specs.Asking.{Asking, message_for}
-use Rattle.coap_client.specs.Times.{deadline, repeats_by}
+use Rattle.coap_client.specs.Times.{deadline, retransmissions_by}
 use Rattle.coap_client.specs.Names.{IsNextId, AreAllUsed, kept_token, token_after}
 use Rattle.coap_client.specs.Answers.{is_for_request, is_for_observation, takes, meaning}
-use Rattle.coap_client.specs.Replies.{IsWritten, IsReplied, reply_of, rejection_of}
+use Rattle.coap_msg.specs.Empty.{empty_reply, rejection_of}
+use Rattle.coap_msg.specs.Written.{IsWritten, IsReplied}
 
 -- the state at a later moment
 abbrev pub at_moment : ℕ → State → State
@@ -96,7 +98,7 @@ abbrev pub IsRefused : State → Endpoint → Asking → ClientFault → Type 0
 IsRefused s peer a Busy = IsSome s.outstanding
 IsRefused s peer a IdsUsed = (s.outstanding ≡ None) × AreAllUsed s.uses s.moment
 IsRefused s peer a NoRoom =
-    (s.outstanding ≡ None) × (id : ℕ) × IsNextId s.uses s.next_id s.moment id × (1152 < length (spelling (message_for a id (token_for s peer a.observe))))
+    (s.outstanding ≡ None) × (id : ℕ) × IsNextId s.uses s.next_id s.moment id × (LONGEST_MESSAGE < length (spelling (message_for a id (token_for s peer a.observe))))
 
 -- An ask is sent: so many bytes in a room, and the state afterwards.
 pub record Asks (s : State) (peer : Endpoint) (a : Asking) (n : ℕ) (old new : List ℕ) (t : State) : Type 0 where
@@ -113,7 +115,7 @@ abbrev pub registers : Option Outstanding → Bool
 registers None = false
 registers (Some o) = o.registers
 
--- the request ended without an answer, and with a registration its observation did
+-- the request ended without a response, and with a registration its observation did
 abbrev pub ended : State → State
 ended s = record s { outstanding = None; observation = if registers s.outstanding then None else s.observation }
 
@@ -122,16 +124,16 @@ abbrev pub age : State → Outstanding → ℕ
 age s o = s.moment - o.first
 
 -- What comes due at the moment of a state. A request whose time is over ends before anything else. It goes again, byte for
--- byte, at the first call at which another of its moments for a repeat has come; a call that is late for several sends it
+-- byte, at the first call at which another of its moments for a retransmission has come; a call that is late for several sends it
 -- once.
 abbrev pub ComesDue : State → Due → List ℕ → List ℕ → State → Type 0
 ComesDue s due.TimedOut old new t =
     (o : Outstanding) × (s.outstanding ≡ Some o) × (deadline o ≤ age s o) × (t ≡ ended s) × (new ≡ old)
 ComesDue s (due.Send n) old new t =
-    (o : Outstanding) × (s.outstanding ≡ Some o) × (age s o < deadline o) × (o.reached < repeats_by o (age s o))
-    × IsWritten o.sent n old new × (t ≡ record s { outstanding = Some (record o { reached = repeats_by o (age s o) }) })
+    (o : Outstanding) × (s.outstanding ≡ Some o) × (age s o < deadline o) × (o.reached < retransmissions_by o (age s o))
+    × IsWritten o.sent n old new × (t ≡ record s { outstanding = Some (record o { reached = retransmissions_by o (age s o) }) })
 ComesDue s due.Nothing old new t =
-    IfSome s.outstanding (λ o. (age s o < deadline o) × (repeats_by o (age s o) ≤ o.reached)) × (t ≡ s) × (new ≡ old)
+    IfSome s.outstanding (λ o. (age s o < deadline o) × (retransmissions_by o (age s o) ≤ o.reached)) × (t ≡ s) × (new ≡ old)
 
 -- ---- what comes
 
@@ -149,11 +151,11 @@ abbrev pub acknowledged : Option Outstanding → Option Outstanding
 acknowledged None = None
 acknowledged (Some o) = Some (record o { is_acknowledged = true })
 
--- a notification is the latest value, and answers the registration
+-- a notification is the latest value, and the response to the registration
 abbrev pub valued : State → ℕ → State
 valued s sequence = record (registered s) { observation = with_latest sequence s.moment s.observation }
 
--- an answer ends the request and the observation that it belongs to
+-- a response ends the request and the observation that it belongs to
 abbrev pub answered : State → Endpoint → List ℕ → State
 answered s from token =
     record s {
@@ -169,14 +171,14 @@ received s = record s { outstanding = acknowledged s.outstanding }
 abbrev pub after : State → Endpoint → List ℕ → Meaning → State
 after s from token (meant.Value sequence) = valued s sequence
 after s from token meant.Old = registered s
-after s from token meant.Answer = answered s from token
+after s from token meant.Response = answered s from token
 after s from token meant.Reset = ended s
 after s from token meant.Received = received s
 after s from token meant.Foreign = s
 
 -- what is told of a message
 abbrev pub IsNews : Meaning → CoapMessage → News → Type 0
-IsNews meaning m (news.Answered code payload) = (meaning ≡ meant.Answer) × (code ≡ m.code) × (payload.now ≡ m.payload)
+IsNews meaning m (news.Answered code payload) = (meaning ≡ meant.Response) × (code ≡ m.code) × (payload.now ≡ m.payload)
 IsNews meaning m (news.Value payload) = (sequence : ℕ) × (meaning ≡ meant.Value sequence) × (payload.now ≡ m.payload)
 IsNews meaning m news.Old = meaning ≡ meant.Old
 IsNews meaning m news.Reset = meaning ≡ meant.Reset
@@ -185,7 +187,7 @@ IsNews meaning m news.Nothing = (meaning ≡ meant.Received) ⊎ (meaning ≡ me
 -- What bytes from an endpoint do: what is told of them and whether there is a reply, which is written, and the state
 -- afterwards.
 pub data Delivers (s : State) (from : Endpoint) (bytes : List ℕ) (told : Delivered) (old new : List ℕ) (t : State) : Type 0 where
-  of_message : (m : CoapMessage) → Spells m bytes → IsReplied (reply_of m.kind m.id (takes s from m)) told.reply old new
+  of_message : (m : CoapMessage) → Spells m bytes → IsReplied (empty_reply m.kind m.id (takes s from m)) told.reply old new
       → IsNews (meaning s from m) m told.news → t ≡ after s from m.token (meaning s from m) → Delivers s from bytes told old new t
   of_fault : (f : MsgFault) → HasMsgFault f bytes → IsReplied (rejection_of bytes) told.reply old new → told.news ≡ news.Nothing → t ≡ s
       → Delivers s from bytes told old new t

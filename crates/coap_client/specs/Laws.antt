@@ -11,7 +11,7 @@ use Rattle.coap_client.specs.declared.due.Due.TheVariants.{Send}
 use Rattle.coap_client.specs.Asking.{Asking}
 use Rattle.coap_client.specs.Exchange.{at_moment, IsNew, Asks, request_for, Delivers, ComesDue}
 use Rattle.coap_client.specs.Answers.{takes}
-use Rattle.coap_client.specs.Times.{last_copy}
+use Rattle.coap_client.specs.Times.{transmission_end}
 
 -- What a client did so far: the requests that it sent, in their order, and what it holds now.
 pub data Did : List Outstanding → State → Type 0 where
@@ -26,15 +26,15 @@ pub data Did : List Outstanding → State → Type 0 where
   took : (sent : List Outstanding) (s t : State) (now : ℕ) (from : Endpoint) (bytes : List ℕ) (told : Delivered) (old new : List ℕ)
       → Did sent s → s.moment ≤ now → Delivers (at_moment now s) from bytes told old new t → Did sent t
   -- it did what came due
-  repeated : (sent : List Outstanding) (s t : State) (now : ℕ) (due : Due) (old new : List ℕ)
+  retransmitted : (sent : List Outstanding) (s t : State) (now : ℕ) (due : Due) (old new : List ℕ)
       → Did sent s → s.moment ≤ now → ComesDue (at_moment now s) due old new t → Did sent t
 
 -- What is sent again is a request that was sent, byte for byte, and less than 93 seconds have passed since.
-abbrev pub CopiesEnd : Type 0
-CopiesEnd =
+abbrev pub RetransmissionsEnd : Type 0
+RetransmissionsEnd =
     (sent : List Outstanding) (s t : State) (now n : ℕ) (old new : List ℕ)
     → Did sent s → s.moment ≤ now → ComesDue (at_moment now s) (Send n) old new t
-    → (a : Outstanding) × Contains sent a × (take n new ≡ a.sent) × (now < last_copy a) × (last_copy a ≤ a.first + 93000)
+    → (a : Outstanding) × Contains sent a × (take n new ≡ a.sent) × (now < transmission_end a) × (transmission_end a ≤ a.first + 93000)
 
 -- What is taken comes from the peer of a request that was sent, and has its token.
 abbrev pub TakenFromTheAsked : Type 0

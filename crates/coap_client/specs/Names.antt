@@ -1,4 +1,4 @@
--- Endpoints, message ids and tokens: which of them are one, and which come next (RFC 7252, sections 4.4 and 5.3.1).
+-- Endpoints, message IDs and tokens: which of them are one, and which come next (RFC 7252, sections 4.4 and 5.3.1).
 use Rattle.std.specs.Prelude.{◌≡◌, ◌<◌, ◌+◌, ◌-◌, ◌%◌, ◌==◌, ◌&&◌, ℕ, nat_le, Bool, true, false, List, slice_index_or, Option, Some, None, if◌then◌else◌}
 use Rattle.std.specs.Int.{to_be_bytes, w64}
 use Rattle.coap_msg.specs.declared.endpoint.Endpoint.{Endpoint}
@@ -24,11 +24,6 @@ pub record IsNextId (uses : List (Option ℕ)) (next now id : ℕ) : Type 0 wher
 -- all ids are used
 abbrev pub AreAllUsed : List (Option ℕ) → ℕ → Type 0
 AreAllUsed uses now = (id : ℕ) → id < 65536 → is_used uses now id ≡ true
-
--- the next id was found, or there is none
-abbrev pub FindsId : List (Option ℕ) → ℕ → ℕ → Option ℕ → Type 0
-FindsId uses next now None = AreAllUsed uses now
-FindsId uses next now (Some id) = IsNextId uses next now id
 
 abbrev pub is_same_endpoint : Endpoint → Endpoint → Bool
 is_same_endpoint a b = a.host == b.host && a.port == b.port

@@ -2,13 +2,15 @@
 
 ghost use Rattle.std.specs.Prelude.{◌≡◌, ◌≤◌, ◌<◌, ◌++◌, Bool, [], ◌∷◌, length, slice_index_or, All, IfOk, OnOk, OnErr, take};
 ghost use Rattle.coap_msg.specs.Grammar.{options_spelling, spelling};
-ghost use Rattle.coap_msg.specs.Opts.{last_number};
-ghost use Rattle.coap_client.specs.Asking.{MayAsk, asking_of, number_bytes, observe_option, path_options, format_option, options_for, message_for};
-ghost use Rattle.coap_client.specs.Replies.{IsWritten};
-ghost use Rattle.coap_client.specs.Writing.{PutsOptions};
+ghost use Rattle.coap_msg.specs.Opts.{last_number, PutsOptions, segment_options};
+ghost use Rattle.coap_msg.specs.Written.{IsWritten};
+ghost use Rattle.coap_msg.specs.declared.constants.TheConstants.{LONGEST_SEGMENT};
+ghost use Rattle.coap_client.specs.Asking.{MayAsk, asking_of, observe_option, format_option, options_for, message_for};
 
-use crate::sent::LONGEST_MESSAGE;
-use coap_msg::{NoRoom, Opts, Plain, Type4, encode};
+use coap_msg::{
+    CONTENT_FORMAT, LONGEST_MESSAGE, NoRoom, OBSERVE, Opts, Plain, Type4, URI_PATH, encode,
+    put_number, put_segment,
+};
 use thing_ops::Segments;
 
 /// What is asked of a server.
@@ -26,26 +28,17 @@ pub struct Ask<'a> {
     pub payload: &'a [u8],
 }
 
-/// The number of Observe (RFC 7641, section 2).
-const OBSERVE: u16 = 6;
-
-/// The number of Uri-Path (RFC 7252, section 5.10.1).
-const URI_PATH: u16 = 11;
-
-/// The number of Content-Format (RFC 7252, section 5.10.3).
-const CONTENT_FORMAT: u16 = 12;
-
 /// Writes the message of an ask to the beginning of `out`, and returns how many bytes it has.
 pub fn put_ask(
     ask: &Ask<'_>,
     id: u16,
     token: &[u8; 8],
-    out: &mut [u8; 1152],
+    out: &mut [u8; LONGEST_MESSAGE],
 ) -> Result<usize, NoRoom>
     requires { MayAsk (asking_of ask.now) }
     ensures ok { IfOk result (λ n. IsWritten (spelling (message_for (asking_of ask.now) id token.now)) n out.old out.new) }
     ensures unchanged { OnErr result (out.new ≡ out.old) }
-    ensures no_room { OnErr result (1152 < length (spelling (message_for (asking_of ask.now) id token.now))) }
+    ensures no_room { OnErr result (LONGEST_MESSAGE < length (spelling (message_for (asking_of ask.now) id token.now))) }
 {
     let mut room = [0; LONGEST_MESSAGE];
     let mut options = Opts::on(&mut room);
@@ -76,58 +69,38 @@ fn put_options(ask: &Ask<'_>, options: &mut Opts<'_>) -> Result<(), NoRoom>
 fn put_observe(options: &mut Opts<'_>, observe: Option<bool>) -> Result<(), NoRoom>
     requires { options.old.list ≡ [] }
     ensures ok { PutsOptions (observe_option observe) result options.old options.new }
-    ensures last { OnOk result (last_number 0 options.new.list ≤ 6) }
+    ensures last { OnOk result (last_number 0 options.new.list ≤ OBSERVE) }
 {
     match observe {
-        Some(true) => options.push(OBSERVE, &[]),
-        Some(false) => options.push(OBSERVE, &[1]),
+        Some(true) => put_number(options, OBSERVE, 0),
+        Some(false) => put_number(options, OBSERVE, 1),
         None => Ok(()),
     }
 }
 
 /// Writes one Uri-Path for each segment.
 fn put_path(options: &mut Opts<'_>, path: &Segments) -> Result<(), NoRoom>
-    requires order { last_number 0 options.old.list ≤ 11 }
-    requires segments { All (λ segment. length segment ≤ 255) path.now }
-    ensures ok { PutsOptions (path_options path.now) result options.old options.new }
-    ensures last { OnOk result (last_number 0 options.new.list ≤ 11) }
+    requires order { last_number 0 options.old.list ≤ URI_PATH }
+    requires segments { All (λ segment. length segment ≤ LONGEST_SEGMENT) path.now }
+    ensures ok { PutsOptions (segment_options URI_PATH path.now) result options.old options.new }
+    ensures last { OnOk result (last_number 0 options.new.list ≤ URI_PATH) }
 {
     for index in 0..path.len() {
-        put_segment(options, path, index)?;
+        match path.get(index) {
+            Some(segment) => put_segment(options, URI_PATH, segment)?,
+            None => return Ok(()),
+        }
     }
     Ok(())
 }
 
-/// Writes Uri-Path for one segment.
-fn put_segment(options: &mut Opts<'_>, path: &Segments, index: usize) -> Result<(), NoRoom>
-    requires within { index < length path.now }
-    requires order { last_number 0 options.old.list ≤ 11 }
-    requires segments { All (λ segment. length segment ≤ 255) path.now }
-    ensures ok { PutsOptions ((11, slice_index_or path.now index []) ∷ []) result options.old options.new }
-    ensures last { OnOk result (last_number 0 options.new.list ≤ 11) }
-{
-    match path.get(index) {
-        Some(segment) => options.push(URI_PATH, segment),
-        None => Ok(()),
-    }
-}
-
 /// Writes Content-Format.
 fn put_format(options: &mut Opts<'_>, format: Option<u16>) -> Result<(), NoRoom>
-    requires { last_number 0 options.old.list ≤ 11 }
+    requires { last_number 0 options.old.list ≤ URI_PATH }
     ensures { PutsOptions (format_option format) result options.old options.new }
 {
     match format {
-        Some(number) => {
-            let [high, low] = number.to_be_bytes();
-            if number == 0 {
-                options.push(CONTENT_FORMAT, &[])
-            } else if high == 0 {
-                options.push(CONTENT_FORMAT, &[low])
-            } else {
-                options.push(CONTENT_FORMAT, &[high, low])
-            }
-        }
+        Some(number) => put_number(options, CONTENT_FORMAT, number),
         None => Ok(()),
     }
 }

@@ -7,10 +7,9 @@ ghost use Rattle.coap_client.specs.Exchange.{is_registration};
 use crate::ask::{Ask, put_ask};
 use crate::observation::{Observation, is_same_endpoint};
 use crate::outstanding::Outstanding;
-use crate::sent::Sent;
 use crate::state::State;
 use crate::{ClientFault, Due};
-use coap_msg::Endpoint;
+use coap_msg::{BoundedBytes, Endpoint, LONGEST_MESSAGE};
 use servient_base::put_bytes;
 
 impl State {
@@ -23,7 +22,7 @@ impl State {
         &mut self,
         peer: Endpoint,
         ask: &Ask<'_>,
-        out: &mut [u8; 1152],
+        out: &mut [u8; LONGEST_MESSAGE],
     ) -> Result<usize, ClientFault>
         requires { MayAsk (asking_of ask.now) }
         ensures ok { IfOk result (λ n. Asks self.old peer (asking_of ask.now) n out.old out.new self.new) }
@@ -48,7 +47,7 @@ impl State {
             reached: 0,
             is_acknowledged: false,
             registers: is_registration(ask.observe),
-            sent: Sent::of(&out[..size]),
+            sent: BoundedBytes::of(&out[..size]),
         };
         self.begin(request, kept.is_some());
         Ok(size)
@@ -75,7 +74,7 @@ impl State {
     }
 
     /// Does what comes due now.
-    pub fn due(&mut self, out: &mut [u8; 1152]) -> Due
+    pub fn due(&mut self, out: &mut [u8; LONGEST_MESSAGE]) -> Due
         ensures { ComesDue self.old result out.old out.new self.new }
     {
         match &mut self.outstanding {
@@ -85,7 +84,7 @@ impl State {
                     self.end();
                     return Due::TimedOut;
                 }
-                let reached = request.repeats_by(age);
+                let reached = request.retransmissions_by(age);
                 if reached <= request.reached {
                     return Due::Nothing;
                 }
@@ -96,7 +95,7 @@ impl State {
         }
     }
 
-    /// Ends the outstanding request, without an answer.
+    /// Ends the outstanding request, without a response.
     pub fn end(&mut self)
         ensures { self.new ≡ ended self.old }
     {

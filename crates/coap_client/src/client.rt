@@ -5,7 +5,7 @@ ghost use Rattle.std.specs.Prelude.{IfOk};
 use crate::ids::Ids;
 use crate::state::State;
 use crate::{Ask, ClientFault, Delivered, Due, NoMemory};
-use coap_msg::Endpoint;
+use coap_msg::{Endpoint, LONGEST_MESSAGE};
 use std::alloc::Global;
 use std::marker::Model;
 
@@ -54,7 +54,7 @@ impl Client {
         now: u64,
         peer: Endpoint,
         ask: &Ask<'_>,
-        out: &mut [u8; 1152],
+        out: &mut [u8; LONGEST_MESSAGE],
     ) -> Result<usize, ClientFault>
         requires now { self.old.moment ≤ now }
         requires ask { MayAsk (asking_of ask.now) }
@@ -74,7 +74,7 @@ impl Client {
         now: u64,
         from: Endpoint,
         bytes: &'b [u8],
-        out: &mut [u8; 1152],
+        out: &mut [u8; LONGEST_MESSAGE],
     ) -> Delivered<'b>
         requires { self.old.moment ≤ now }
         ensures ok { Delivers (at_moment now self.old) from bytes.now result out.old out.new self.new }
@@ -86,7 +86,7 @@ impl Client {
 
     /// Does what is due at a moment: a message to be sent again, to the peer of the request, is written to the beginning of
     /// `out`.
-    pub fn due(&mut self, now: u64, out: &mut [u8; 1152]) -> Due
+    pub fn due(&mut self, now: u64, out: &mut [u8; LONGEST_MESSAGE]) -> Due
         requires { self.old.moment ≤ now }
         ensures ok { ComesDue (at_moment now self.old) result out.old out.new self.new }
         ensures moment { self.new.moment ≡ now }

@@ -6,16 +6,16 @@ ghost use Rattle.coap_client.specs.Exchange.{IsNews};
 
 use crate::meaning::Meaning;
 use crate::observation::Latest;
-use crate::replies::{put_rejection, put_reply};
 use crate::state::State;
 use crate::{Delivered, News};
-use coap_msg::{Endpoint, Message, decode};
+use coap_msg::{Endpoint, LONGEST_MESSAGE, Message, decode, put_empty_reply, put_rejection};
 
 impl State {
     ghost use Rattle.std.specs.Prelude.{◌≡◌};
     ghost use Rattle.coap_msg.specs.MessageOf.{message_of};
     ghost use Rattle.coap_client.specs.Exchange.{Delivers, IsNews, after, registered, valued, answered, received};
-    ghost use Rattle.coap_client.specs.Replies.{IsReplied, reply_of};
+    ghost use Rattle.coap_msg.specs.Empty.{empty_reply};
+    ghost use Rattle.coap_msg.specs.Written.{IsReplied};
     ghost use Rattle.coap_client.specs.Answers.{takes, meaning};
 
     /// Takes bytes from an endpoint.
@@ -23,7 +23,7 @@ impl State {
         &mut self,
         from: Endpoint,
         bytes: &'b [u8],
-        out: &mut [u8; 1152],
+        out: &mut [u8; LONGEST_MESSAGE],
     ) -> Delivered<'b>
         ensures { Delivers self.old from bytes.now result out.old out.new self.new }
     {
@@ -41,15 +41,15 @@ impl State {
         &mut self,
         from: Endpoint,
         message: &Message<'b>,
-        out: &mut [u8; 1152],
+        out: &mut [u8; LONGEST_MESSAGE],
     ) -> Delivered<'b>
-        ensures reply { IsReplied (reply_of message.now.kind message.now.id (takes self.old from (message_of message.now)))
+        ensures reply { IsReplied (empty_reply message.now.kind message.now.id (takes self.old from (message_of message.now)))
             result.reply out.old out.new }
         ensures news { IsNews (meaning self.old from (message_of message.now)) (message_of message.now) result.news }
         ensures after { self.new ≡ after self.old from message.now.token.now (meaning self.old from (message_of message.now)) }
     {
         let taken = self.takes(from, message);
-        let reply = put_reply(message.kind, message.id, taken, out);
+        let reply = put_empty_reply(message.kind, message.id, taken, out);
         let meaning = self.meaning(from, message);
         self.follow(meaning, from, message.token);
         Delivered {
@@ -65,7 +65,7 @@ impl State {
         match meaning {
             Meaning::Value(sequence) => self.note(sequence),
             Meaning::Old => self.close_registration(),
-            Meaning::Answer => self.end_answered(from, token),
+            Meaning::Response => self.end_answered(from, token),
             Meaning::Reset => self.end(),
             Meaning::Received => self.acknowledge(),
             Meaning::Foreign => {}
@@ -92,7 +92,7 @@ impl State {
         }
     }
 
-    /// Ends the request and the observation that an answer belongs to.
+    /// Ends the request and the observation that a response belongs to.
     fn end_answered(&mut self, from: Endpoint, token: &[u8])
         ensures { self.new ≡ answered self.old from token.now }
     {
@@ -121,7 +121,7 @@ fn news_of<'b>(meaning: Meaning, message: &Message<'b>) -> News<'b>
     match meaning {
         Meaning::Value(_sequence) => News::Value(message.payload),
         Meaning::Old => News::Old,
-        Meaning::Answer => News::Answered(message.code, message.payload),
+        Meaning::Response => News::Answered(message.code, message.payload),
         Meaning::Reset => News::Reset,
         Meaning::Received | Meaning::Foreign => News::Nothing,
     }

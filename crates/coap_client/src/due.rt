@@ -7,6 +7,6 @@ pub enum Due {
     Nothing,
     /// To send the outstanding request again, which has this many bytes.
     Send(usize),
-    /// The time of the outstanding request is over: it ended without an answer.
+    /// The time of the outstanding request is over: it ended without a response.
     TimedOut,
 }

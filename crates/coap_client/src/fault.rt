@@ -9,8 +9,8 @@ pub enum ClientFault {
     /// A request is unanswered (RFC 7252, section 4.7).
     #[error("a request is unanswered")]
     Busy,
-    /// All message ids were used in the last 400 seconds (RFC 7252, section 4.4).
-    #[error("all message ids are in use")]
+    /// All message IDs were used in the last 400 seconds (RFC 7252, section 4.4).
+    #[error("all message IDs are in use")]
     IdsUsed,
     /// The message would pass 1,152 bytes (RFC 7252, section 4.6).
     #[error("the message has more than 1152 bytes")]

@@ -1,19 +1,20 @@
-//! When message ids were used.
+//! When message IDs were used.
 
 ghost use Rattle.std.specs.Prelude.{◌≡◌, ◌<◌, ◌≤◌, ℕ, None, Some, length, slice_index_or, slice_set, IfOk};
-ghost use Rattle.coap_client.specs.Names.{is_recent, FindsId};
+ghost use Rattle.coap_client.specs.Names.{is_recent};
+ghost use Rattle.coap_client.specs.Finding.{FindsId};
 
 use crate::NoMemory;
 use std::alloc::Global;
 use std::marker::Model;
 
-/// How many message ids there are.
+/// How many message IDs there are.
 const IDS: u32 = 65_536;
 
 /// How long an id isn't used again, in milliseconds.
 const REST: u64 = 400_000;
 
-/// When each message id was used last, seen as a list by id.
+/// When each message ID was used last, seen as a list by id.
 #[derive(Drop)]
 pub struct Ids {
     uses: Vec<Option<u64>>,

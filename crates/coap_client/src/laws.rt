@@ -1,10 +1,10 @@
 //! Laws of the client, as contracts of functions that do nothing.
 
-ghost use Rattle.coap_client.specs.Laws.{CopiesEnd, TakenFromTheAsked, TakenFromAPeer, IdsRest};
+ghost use Rattle.coap_client.specs.Laws.{RetransmissionsEnd, TakenFromTheAsked, TakenFromAPeer, IdsRest};
 
-/// A copy of a request is sent less than 93 seconds after the first (RFC 7252, section 4.8.2, MAX_TRANSMIT_WAIT).
-pub fn copies_end()
-    ensures { CopiesEnd }
+/// A retransmission is sent less than 93 seconds after the first (RFC 7252, section 4.8.2, MAX_TRANSMIT_WAIT).
+pub fn retransmissions_end()
+    ensures { RetransmissionsEnd }
 {}
 
 /// What is taken comes from a server that was asked (RFC 7252, section 5.3.2).

@@ -1,4 +1,4 @@
-//! The exchanges of a CoAP client (RFC 7252; RFC 7641): it asks, repeats until it is answered, and observes. The client has
+//! The exchanges of a CoAP client (RFC 7252; RFC 7641): it asks, sends again until there is a response, and observes. The client has
 //! no clock and no socket: moments and datagrams are handed in, and what is to be sent is written into the caller's room. It
 //! takes memory once, when it is made. `Client`, `Ask`, `Delivered` and `Due` carry everything.
 //!
@@ -26,8 +26,8 @@
 //! ```
 //!
 //! What a client holds and what its calls do is one machine, `specs/Exchange.antt`. The contract in a sentence: each call does
-//! what the machine does (`Asks` and `IsRefused`, `Delivers`, `ComesDue`), whatever comes in whatever order. The laws: a copy
-//! of a request is sent less than 93 seconds after the first, what is taken comes from a peer that was asked, and an id isn't
+//! what the machine does (`Asks` and `IsRefused`, `Delivers`, `ComesDue`), whatever comes in whatever order. The laws: a
+//! retransmission is sent less than 93 seconds after the first, what is taken comes from a peer that was asked, and an id isn't
 //! used again within 400 seconds.
 #![tactic(auto)]
 
@@ -43,14 +43,12 @@ mod meaning;
 mod news;
 mod observation;
 mod outstanding;
-mod replies;
-mod sent;
 mod state;
 
 pub use ask::Ask;
 pub use client::Client;
 pub use due::Due;
 pub use fault::ClientFault;
-pub use laws::{copies_end, ids_rest, taken_from_a_peer, taken_from_the_asked};
+pub use laws::{ids_rest, retransmissions_end, taken_from_a_peer, taken_from_the_asked};
 pub use news::{Delivered, News};
 pub use servient_base::NoMemory;

@@ -2,12 +2,12 @@
 
 ghost use Rattle.std.specs.Prelude.{◌≡◌, ◌/◌, IsTrue, ◌↔◌};
 ghost use Rattle.coap_msg.specs.MessageOf.{message_of};
-ghost use Rattle.coap_client.specs.Answers.{is_answer_class, number_within, sequence_of};
+ghost use Rattle.coap_client.specs.Answers.{is_response_class, number_within, sequence_of};
 
 use crate::observation::Observation;
 use crate::outstanding::Outstanding;
 use crate::state::State;
-use coap_msg::{Endpoint, Message, Options, Type4};
+use coap_msg::{Endpoint, Message, OBSERVE, Options, Type4, number_of};
 
 /// What a message means to a client. The first three are said of messages that are taken.
 #[derive(Clone, Copy)]
@@ -16,18 +16,15 @@ pub enum Meaning {
     Value(u32),
     /// A value that isn't newer.
     Old,
-    /// An answer.
-    Answer,
-    /// The outstanding request was rejected.
+    /// A response.
+    Response,
+    /// The outstanding request was reset.
     Reset,
-    /// The outstanding request was received; its answer is to come in a message of its own.
+    /// The outstanding request was received; its response is to come in a message of its own.
     Received,
     /// Nothing.
     Foreign,
 }
-
-/// The number of Observe (RFC 7641, section 2).
-const OBSERVE: u16 = 6;
 
 impl State {
     ghost use Rattle.std.specs.Prelude.{◌≡◌};
@@ -38,7 +35,7 @@ impl State {
     pub fn takes(&self, from: Endpoint, message: &Message<'_>) -> bool
         ensures { result ≡ takes self.now from (message_of message.now) }
     {
-        is_answer_class(message.code / 32)
+        is_response_class(message.code / 32)
             && self.may_carry(message.kind, message.id)
             && (self.is_for_request(from, message.token)
                 || self.is_for_observation(from, message.token))
@@ -55,7 +52,7 @@ impl State {
         }
     }
 
-    /// Whether a message of this type and id may carry an answer.
+    /// Whether a message of this type and ID may carry a response.
     fn may_carry(&self, kind: Type4, id: u16) -> bool
         ensures { result ≡ may_carry self.now.outstanding kind id }
     {
@@ -100,7 +97,7 @@ impl State {
         }
     }
 
-    /// What a message means that is taken, a notification with this sequence number or else an answer.
+    /// What a message means that is taken, a notification with this sequence number or else a response.
     fn meaning_taken(&self, notified: Option<u32>) -> Meaning
         ensures { result ≡ meaning_taken self.now notified }
     {
@@ -112,7 +109,7 @@ impl State {
                     Meaning::Old
                 }
             }
-            None => Meaning::Answer,
+            None => Meaning::Response,
         }
     }
 
@@ -164,9 +161,9 @@ impl State {
     }
 }
 
-/// Whether messages of a class are answers (RFC 7252, section 5.9).
-fn is_answer_class(class: u8) -> bool
-    ensures { result ≡ is_answer_class class }
+/// Whether messages of a class are responses (RFC 7252, section 5.9).
+fn is_response_class(class: u8) -> bool
+    ensures { result ≡ is_response_class class }
 {
     class == 2 || class == 4 || class == 5
 }
@@ -183,17 +180,13 @@ fn sequence_of(options: &Options<'_>) -> Option<u32>
     None
 }
 
-/// The number that at most three bytes say, in network byte order (RFC 7252, section 3.2).
+/// The number that at most three bytes say (RFC 7641, section 2).
 fn number_within(value: &[u8]) -> Option<u32>
     ensures { result ≡ number_within value.now }
 {
-    match value {
-        [] => Some(0),
-        [low] => Some(u32::from(*low)),
-        [high, low] => Some(256 * u32::from(*high) + u32::from(*low)),
-        [high, middle, low] => {
-            Some(65536 * u32::from(*high) + 256 * u32::from(*middle) + u32::from(*low))
-        }
-        _ => None,
+    if value.len() <= 3 {
+        Some(number_of(value))
+    } else {
+        None
     }
 }

@@ -3,7 +3,7 @@
 /// What a datagram that was delivered comes to.
 #[derive(Clone, Copy, Debug)]
 pub struct Delivered<'b> {
-    /// How many bytes the acknowledgement or the reset has that is to be sent to where the datagram came from.
+    /// How many bytes the acknowledgement or the Reset has that is to be sent to where the datagram came from.
     pub reply: Option<usize>,
     /// What it tells.
     pub news: News<'b>,
@@ -14,7 +14,7 @@ pub struct Delivered<'b> {
 pub enum News<'b> {
     /// Nothing that a user would want.
     Nothing,
-    /// An answer, with its code and its payload. The request and the observation that it belongs to have ended.
+    /// A response, with its code and its payload. The request and the observation that it belongs to have ended.
     Answered(u8, &'b [u8]),
     /// A value of what is observed, newer than all before it (RFC 7641, section 3.4).
     Value(&'b [u8]),

@@ -1,31 +1,30 @@
 //! The request that is unanswered.
 
 ghost use Rattle.std.specs.Prelude.{◌≡◌, ◌≤◌, ◌<◌};
-ghost use Rattle.coap_client.specs.Times.{first_timeout, repeats_within};
+ghost use Rattle.coap_client.specs.Times.{first_timeout, retransmissions_within};
 
 use crate::observation::is_same_endpoint;
-use crate::sent::Sent;
-use coap_msg::Endpoint;
+use coap_msg::{BoundedBytes, Endpoint, LONGEST_MESSAGE};
 
 /// A request that is unanswered.
 #[derive(Drop)]
 pub struct Outstanding {
     /// The server.
     pub peer: Endpoint,
-    /// The id of the message.
+    /// The message ID.
     pub id: u16,
     /// The token.
     pub token: [u8; 8],
     /// When the message was sent first, in milliseconds.
     pub first: u64,
-    /// How many of the moments for a repeat have come and were seen to.
+    /// How many of the moments for a retransmission have come and were seen to.
     pub reached: u8,
     /// Whether an empty acknowledgement came for it.
     pub is_acknowledged: bool,
     /// Whether it is the registration of what is observed.
     pub registers: bool,
     /// The message.
-    pub sent: Sent,
+    pub sent: BoundedBytes<LONGEST_MESSAGE>,
 }
 
 /// How long after its first sending a request is given up that was acknowledged, in milliseconds.
@@ -33,7 +32,7 @@ const PATIENCE: u64 = 100_000;
 
 impl Outstanding {
     ghost use Rattle.std.specs.Prelude.{◌≡◌, Some};
-    ghost use Rattle.coap_client.specs.Times.{deadline, repeats_by};
+    ghost use Rattle.coap_client.specs.Times.{deadline, retransmissions_by};
     ghost use Rattle.coap_client.specs.Answers.{is_for_request, is_request_id, is_from_server};
 
     /// How long after its first sending it is given up, in milliseconds.
@@ -47,25 +46,25 @@ impl Outstanding {
         }
     }
 
-    /// How many of its moments for a repeat have come so long after its first sending.
-    pub fn repeats_by(&self, age: u64) -> u8
-        ensures { result ≡ repeats_by self.now age }
+    /// How many of its moments for a retransmission have come so long after its first sending.
+    pub fn retransmissions_by(&self, age: u64) -> u8
+        ensures { result ≡ retransmissions_by self.now age }
     {
         if self.is_acknowledged {
             0
         } else {
-            repeats_within(first_timeout(self.id), age)
+            retransmissions_within(first_timeout(self.id), age)
         }
     }
 
-    /// Whether an answer from this endpoint with this token belongs to it.
+    /// Whether a response from this endpoint with this token belongs to it.
     pub fn is_of(&self, from: Endpoint, token: &[u8]) -> bool
         ensures { result ≡ is_for_request (Some self.now) from token.now }
     {
         is_same_endpoint(from, self.peer) && token == self.token.as_slice()
     }
 
-    /// Whether a message from this endpoint with this id, an acknowledgement or a reset, is of it.
+    /// Whether a message from this endpoint with this ID, an acknowledgement or a Reset, is of it.
     pub fn is_named(&self, from: Endpoint, id: u16) -> bool
         ensures { result ≡ is_from_server (Some self.now) from id }
     {
@@ -73,7 +72,7 @@ impl Outstanding {
     }
 }
 
-/// How long after its first sending a request with this id is repeated first, in milliseconds (RFC 7252, section 4.2).
+/// How long after its first sending a request with this ID is sent again, in milliseconds (RFC 7252, section 4.2).
 fn first_timeout(id: u16) -> u64
     ensures ok { result ≡ first_timeout id }
     ensures bound { result ≤ 3000 }
@@ -81,10 +80,10 @@ fn first_timeout(id: u16) -> u64
     2000 + u64::from(id % 1001)
 }
 
-/// How many moments for a repeat have come so long after the first sending.
-fn repeats_within(timeout: u64, age: u64) -> u8
+/// How many moments for a retransmission have come so long after the first sending.
+fn retransmissions_within(timeout: u64, age: u64) -> u8
     requires { timeout ≤ 3000 }
-    ensures { result ≡ repeats_within timeout age }
+    ensures { result ≡ retransmissions_within timeout age }
 {
     if age < timeout {
         0

@@ -8,7 +8,7 @@ use Rattle.std.proofs.lemmas.List.Quantifiers.{all_pairs_push}
 use Rattle.std.proofs.lemmas.List.Folds.{list_any_at}
 use Rattle.std.proofs.lemmas.Map.Views.{any-filter_same}
 use Rattle.std.proofs.lemmas.Bool.Decides.{nat_tests}
-use Rattle.coap_exchange.specs.Admission.{Arrival, lifetime, lives, is_same_exchange, is_repeat_of, Verdict, admitted, repeated, refused, verdict, after_verdict, with_arrival, admitted_after, admitted_among}
+use Rattle.coap_exchange.specs.Admission.{Arrival, lifetime, lives, is_same_exchange, is_duplicate_of, Verdict, admitted, duplicate, refused, verdict, after_verdict, with_arrival, admitted_after, admitted_among}
 use Rattle.coap_exchange.specs.Table.{Exchange, Table, at_moment, with_exchange, StandsFor}
 use Rattle.coap_exchange.specs.Laws.{DifferWhileLiving, TablesFollowTheHistory, AdmittedOnce, LivingExchangesDiffer}
 use Rattle.coap_exchange.specs.declared.met.Met.TheVariants.{Fresh, Repeat, Full}
@@ -83,14 +83,14 @@ filter_after p q w (x ∷ xs) = filter_at p x (filter q xs) (filter p xs) (p x) 
 
 -- ---- no two of the admitted ones that live are one exchange
 
-pairs_at : (now : ℕ) (before : List Arrival) (a : Arrival) (b c : Bool) → a.moment ≤ now → list_any (is_repeat_of a) before ≡ b → AllPairs (DifferWhileLiving now) before
-    → AllPairs (DifferWhileLiving now) (after_verdict before a (if b then repeated else (if c then admitted else refused)))
+pairs_at : (now : ℕ) (before : List Arrival) (a : Arrival) (b c : Bool) → a.moment ≤ now → list_any (is_duplicate_of a) before ≡ b → AllPairs (DifferWhileLiving now) before
+    → AllPairs (DifferWhileLiving now) (after_verdict before a (if b then duplicate else (if c then admitted else refused)))
 pairs_at now before a true c h e pairs = pairs
 pairs_at now before a false false h e pairs = pairs
 pairs_at now before a false true h e pairs =
     all_pairs_push (DifferWhileLiving now) before a pairs (λ k d within. λ alive new.
     let x : Arrival = get_or before k d in
-    let other : is_repeat_of a (get_or before k d) ≡ false = none_at (is_repeat_of a) before k d (is_repeat_of a (get_or before k d)) e within refl in
+    let other : is_duplicate_of a (get_or before k d) ≡ false = none_at (is_duplicate_of a) before k d (is_duplicate_of a (get_or before k d)) e within refl in
     both_false (lives a.moment (get_or before k d)) (is_same_exchange a (get_or before k d)) other (lives_before a.moment now (get_or before k d) h alive))
 
 distinct_after : (capacity now : ℕ) (before rest : List Arrival) → All (λ a. a.moment ≤ now) rest → AllPairs (DifferWhileLiving now) before
@@ -98,25 +98,25 @@ distinct_after : (capacity now : ℕ) (before rest : List Arrival) → All (λ a
 distinct_after capacity now before [] h pairs = pairs
 distinct_after capacity now before (a ∷ rest) h pairs =
     distinct_after capacity now (with_arrival capacity before a) rest (All-tail (λ x. x.moment ≤ now) a rest h)
-    (pairs_at now before a (list_any (is_repeat_of a) before) (nat_lt (length (filter (lives a.moment) before)) capacity) (All-head (λ x. x.moment ≤ now) a rest h) refl pairs)
+    (pairs_at now before a (list_any (is_duplicate_of a) before) (nat_lt (length (filter (lives a.moment) before)) capacity) (All-head (λ x. x.moment ≤ now) a rest h) refl pairs)
 
 pub living_exchanges_differ : LivingExchangesDiffer
 living_exchanges_differ capacity now history h = distinct_after capacity now [] history h (λ i j d before within. absurd (omega arith))
 
--- ---- a repeat isn't admitted
+-- ---- a duplicate isn't admitted
 
-verdict_at : (b : Bool) (v : Verdict) → b ≡ true → (if b then repeated else v) ≡ repeated
+verdict_at : (b : Bool) (v : Verdict) → b ≡ true → (if b then duplicate else v) ≡ duplicate
 verdict_at true v e = refl
 verdict_at false v e = cc
 
 pub admitted_once : AdmittedOnce
 admitted_once capacity history earlier a has again =
     let before : List Arrival = admitted_among capacity history in
-    let passes : is_repeat_of a (get_or (admitted_among capacity history) has.0 earlier) ≡ true = ap (is_repeat_of a) has.2 ∙ again in
-    let any : list_any (is_repeat_of a) (admitted_among capacity history) ≡ true
-    = list_any_at (is_repeat_of a) (admitted_among capacity history) has.0 earlier has.1 passes in
-    let v : verdict capacity (admitted_among capacity history) a ≡ repeated
-    = verdict_at (list_any (is_repeat_of a) (admitted_among capacity history)) _ any in
+    let passes : is_duplicate_of a (get_or (admitted_among capacity history) has.0 earlier) ≡ true = ap (is_duplicate_of a) has.2 ∙ again in
+    let any : list_any (is_duplicate_of a) (admitted_among capacity history) ≡ true
+    = list_any_at (is_duplicate_of a) (admitted_among capacity history) has.0 earlier has.1 passes in
+    let v : verdict capacity (admitted_among capacity history) a ≡ duplicate
+    = verdict_at (list_any (is_duplicate_of a) (admitted_among capacity history)) _ any in
     last_of capacity history a ∙ ap (after_verdict (admitted_among capacity history) a) v
 
 -- ---- tables
@@ -129,26 +129,26 @@ shown_later t history m stands h =
     ∙ (ap (filter (lives m)) stands
     ∙ filter_after (lives m) (lives t.moment) (λ x e. lives_before t.moment m x h e) (admitted_among t.capacity history))
 
--- whether a request repeats one, by the table and by the history
-repeats_shown : (t : Table) (history : List Arrival) (a : Arrival) → StandsFor t history → t.moment ≤ a.moment
-    → list_any (is_repeat_of a) (admitted_among t.capacity history) ≡ list_any (λ e. is_repeat_of a e.arrival) (at_moment a.moment t).exchanges
-repeats_shown t history a stands h =
+-- whether a request is a duplicate of one, by the table and by the history
+duplicates_shown : (t : Table) (history : List Arrival) (a : Arrival) → StandsFor t history → t.moment ≤ a.moment
+    → list_any (is_duplicate_of a) (admitted_among t.capacity history) ≡ list_any (λ e. is_duplicate_of a e.arrival) (at_moment a.moment t).exchanges
+duplicates_shown t history a stands h =
     let all : List Arrival = admitted_among t.capacity history in
-    let kept : list_any (is_repeat_of a) (filter (lives a.moment) (admitted_among t.capacity history)) ≡ list_any (is_repeat_of a) (admitted_among t.capacity history)
-    = any-filter_same (is_repeat_of a) (lives a.moment) true (λ x e. both_left (lives a.moment x) (is_same_exchange a x) e) (admitted_among t.capacity history) in
+    let kept : list_any (is_duplicate_of a) (filter (lives a.moment) (admitted_among t.capacity history)) ≡ list_any (is_duplicate_of a) (admitted_among t.capacity history)
+    = any-filter_same (is_duplicate_of a) (lives a.moment) true (λ x e. both_left (lives a.moment x) (is_same_exchange a x) e) (admitted_among t.capacity history) in
     sym kept
-    ∙ (sym (ap (list_any (is_repeat_of a)) (shown_later t history a.moment stands h))
-    ∙ list_any-map (is_repeat_of a) (λ (e : Exchange). e.arrival) (at_moment a.moment t).exchanges)
+    ∙ (sym (ap (list_any (is_duplicate_of a)) (shown_later t history a.moment stands h))
+    ∙ list_any-map (is_duplicate_of a) (λ (e : Exchange). e.arrival) (at_moment a.moment t).exchanges)
 
 count_shown : (t : Table) (history : List Arrival) (a : Arrival) → StandsFor t history → t.moment ≤ a.moment
     → length (filter (lives a.moment) (admitted_among t.capacity history)) ≡ length (at_moment a.moment t).exchanges
 count_shown t history a stands h =
     sym (ap length (shown_later t history a.moment stands h)) ∙ length-map (at_moment a.moment t).exchanges (λ (e : Exchange). e.arrival)
 
-admitted_at : (b c : Bool) → b ≡ false → c ≡ true → (if b then repeated else (if c then admitted else refused)) ≡ admitted
+admitted_at : (b c : Bool) → b ≡ false → c ≡ true → (if b then duplicate else (if c then admitted else refused)) ≡ admitted
 admitted_at b c e h = rw e (rw h refl)
 
-refused_at : (b c : Bool) → b ≡ false → c ≡ false → (if b then repeated else (if c then admitted else refused)) ≡ refused
+refused_at : (b c : Bool) → b ≡ false → c ≡ false → (if b then duplicate else (if c then admitted else refused)) ≡ refused
 refused_at b c e h = rw e (rw h refl)
 
 is_below : (m n : ℕ) → m < n → nat_lt m n ≡ true
@@ -167,30 +167,30 @@ stands_unchanged t history a v stands h e same =
     shown_later t history a.moment stands h ∙ sym (ap (filter (lives a.moment)) more)
 
 pub tables_follow_the_history : TablesFollowTheHistory
-tables_follow_the_history t u history a (Repeat kept) stands h kind meets =
-    let any : list_any (λ e. is_repeat_of a e.arrival) (at_moment a.moment t).exchanges ≡ true
-    = some_passes (λ e. is_repeat_of a e.arrival) (at_moment a.moment t).exchanges meets.0.0 meets.0.1 in
-    let v : verdict t.capacity (admitted_among t.capacity history) a ≡ repeated
-    = verdict_at (list_any (is_repeat_of a) (admitted_among t.capacity history)) _ (repeats_shown t history a stands h ∙ any) in
-    (v, subst (λ w. StandsFor w (history ++ a ∷ [])) (sym meets.1) (stands_unchanged t history a repeated stands h v refl))
-tables_follow_the_history t u history a Full stands h kind meets =
-    let none : list_any (is_repeat_of a) (admitted_among t.capacity history) ≡ false
-    = repeats_shown t history a stands h ∙ none_passes (λ e. is_repeat_of a e.arrival) (at_moment a.moment t).exchanges meets.0 in
+tables_follow_the_history t u history a (Repeat kept) stands h meets =
+    let any : list_any (λ e. is_duplicate_of a e.arrival) (at_moment a.moment t).exchanges ≡ true
+    = some_passes (λ e. is_duplicate_of a e.arrival) (at_moment a.moment t).exchanges meets.0.0 meets.0.1 in
+    let v : verdict t.capacity (admitted_among t.capacity history) a ≡ duplicate
+    = verdict_at (list_any (is_duplicate_of a) (admitted_among t.capacity history)) _ (duplicates_shown t history a stands h ∙ any) in
+    (v, subst (λ w. StandsFor w (history ++ a ∷ [])) (sym meets.1) (stands_unchanged t history a duplicate stands h v refl))
+tables_follow_the_history t u history a Full stands h meets =
+    let none : list_any (is_duplicate_of a) (admitted_among t.capacity history) ≡ false
+    = duplicates_shown t history a stands h ∙ none_passes (λ e. is_duplicate_of a e.arrival) (at_moment a.moment t).exchanges meets.0 in
     let count = count_shown t history a stands h in
     let many : t.capacity ≤ length (at_moment a.moment t).exchanges = meets.1.0 in
     let v : verdict t.capacity (admitted_among t.capacity history) a ≡ refused
     = refused_at _ _ none (is_not_below (length (filter (lives a.moment) (admitted_among t.capacity history))) t.capacity (omega arith)) in
     (v, subst (λ w. StandsFor w (history ++ a ∷ [])) (sym meets.1.1) (stands_unchanged t history a refused stands h v refl))
-tables_follow_the_history t u history a (Fresh slot) stands h kind meets =
-    let none : list_any (is_repeat_of a) (admitted_among t.capacity history) ≡ false
-    = repeats_shown t history a stands h ∙ none_passes (λ e. is_repeat_of a e.arrival) (at_moment a.moment t).exchanges meets.0 in
+tables_follow_the_history t u history a (Fresh slot) stands h meets =
+    let none : list_any (is_duplicate_of a) (admitted_among t.capacity history) ≡ false
+    = duplicates_shown t history a stands h ∙ none_passes (λ e. is_duplicate_of a e.arrival) (at_moment a.moment t).exchanges meets.0 in
     let count = count_shown t history a stands h in
     let few : length (at_moment a.moment t).exchanges < t.capacity = meets.1.0 in
     let v : verdict t.capacity (admitted_among t.capacity history) a ≡ admitted
     = admitted_at _ _ none (is_below (length (filter (lives a.moment) (admitted_among t.capacity history))) t.capacity (omega arith)) in
     let more : admitted_among t.capacity (history ++ a ∷ []) ≡ admitted_among t.capacity history ++ a ∷ []
     = last_of t.capacity history a ∙ ap (after_verdict (admitted_among t.capacity history) a) v in
-    let new : filter (lives a.moment) (a ∷ []) ≡ a ∷ [] = rw (lives_at_first a kind) refl in
+    let new : filter (lives a.moment) (a ∷ []) ≡ a ∷ [] = rw (lives_at_first a) refl in
     let shown : map (λ e. e.arrival) (with_exchange a slot (at_moment a.moment t)).exchanges ≡ filter (lives a.moment) (admitted_among t.capacity (history ++ a ∷ []))
     = map-append (λ (e : Exchange). e.arrival) (at_moment a.moment t).exchanges (record { arrival = a; slot = slot; reply = None } ∷ [])
     ∙ (ap (λ l. l ++ a ∷ []) (shown_later t history a.moment stands h)

@@ -4,10 +4,11 @@ use Rattle.std.specs.Option.{option_map}
 use Rattle.std.specs.Prelude.{nat_lt}
 use Rattle.std.proofs.lemmas.List.Elements.{All-push, filter_passes}
 use Rattle.std.proofs.lemmas.List.Filters.{length-filter_both}
-use Rattle.coap_msg.specs.declared.message.Type4.TheVariants.{Con, Non}
-use Rattle.coap_exchange.specs.Admission.{Arrival, lives, is_repeat_of}
+use Rattle.coap_msg.specs.declared.message.RequestType.{RequestType}
+use Rattle.coap_msg.specs.declared.message.RequestType.TheVariants.{Confirmable, NonConfirmable}
+use Rattle.coap_exchange.specs.Admission.{Arrival, lifetime, lives, is_duplicate_of}
 use Rattle.coap_exchange.specs.Kept.{arrival_of, is_of, exchange_of, table_of, IsKept, once_below, times_used, times_free}
-use Rattle.coap_exchange.specs.Table.{Exchange, exchange_in, answered, repeated_exchange}
+use Rattle.coap_exchange.specs.Table.{Exchange, exchange_in, answered, duplicated_exchange}
 use Rattle.coap_exchange.specs.declared.entry.Entry.{Entry}
 use Rattle.coap_exchange.specs.declared.exchanges.Exchanges.TheInside.{Inside}
 use Rattle.coap_exchange.proofs.ListLaws.{find-map, option_map_some, found_is_counted, found_once, found_passes, find_agreeing, uncounted_is_not_found}
@@ -83,21 +84,21 @@ unused_changes_nothing replies slot r (e ∷ es) h =
     let rest : map (exchange_of (set replies slot r)) es ≡ map (exchange_of replies) es = unused_changes_nothing replies slot r es split.1 in
     cc
 
--- ---- what a request repeats
+-- ---- what a request duplicates
 
--- among entries that all live, what a request repeats is what has its endpoint and message id
+-- among entries that all live, what a request duplicates is what has its endpoint and message ID
 tests_agree : (x : Inside) (a : Arrival) (es : List Entry) → a.moment ≡ x.moment → AllByRecursion (λ e. lives x.moment (arrival_of e) ≡ true) es
-    → AllByRecursion (λ e. is_repeat_of a (arrival_of e) ≡ is_of a.from a.id e) es
+    → AllByRecursion (λ e. is_duplicate_of a (arrival_of e) ≡ is_of a.from a.id e) es
 tests_agree x a [] m h = tt
 tests_agree x a (e ∷ es) m h =
     let alive : lives a.moment (arrival_of e) ≡ true = rw m h.0 in
     (rw alive refl, tests_agree x a es m h.1)
 
-pub repeated_is : (x : Inside) → IsKept x → (a : Arrival) → a.moment ≡ x.moment
-    → repeated_exchange a (table_of x) ≡ option_map (exchange_of x.replies.items) (find (is_of a.from a.id) x.entries.items)
-repeated_is x kept a m =
-    let mapped = find-map (λ e. is_repeat_of a e.arrival) (exchange_of x.replies.items) x.entries.items in
-    let agree = find_agreeing (λ e. is_repeat_of a (arrival_of e)) (is_of a.from a.id) x.entries.items
+pub duplicated_is : (x : Inside) → IsKept x → (a : Arrival) → a.moment ≡ x.moment
+    → duplicated_exchange a (table_of x) ≡ option_map (exchange_of x.replies.items) (find (is_of a.from a.id) x.entries.items)
+duplicated_is x kept a m =
+    let mapped = find-map (λ e. is_duplicate_of a e.arrival) (exchange_of x.replies.items) x.entries.items in
+    let agree = find_agreeing (λ e. is_duplicate_of a (arrival_of e)) (is_of a.from a.id) x.entries.items
     (tests_agree x a x.entries.items m (recursion_from_All (λ e. lives x.moment (arrival_of e) ≡ true) x.entries.items kept.living)) in
     mapped ∙ ap (option_map (exchange_of x.replies.items)) agree
 
@@ -129,9 +130,12 @@ slot_is_place x kept slot e h =
 lives_for : (m n : ℕ) → 0 < n → nat_lt (m - m) n ≡ true
 lives_for m n h = grind (arith, nat_tests)
 
-pub lives_at_first : (a : Arrival) → (a.kind ≡ Con) ⊎ (a.kind ≡ Non) → lives a.moment a ≡ true
-lives_at_first a (inl h) = rw h (lives_for a.moment 247000 (omega arith))
-lives_at_first a (inr h) = rw h (lives_for a.moment 145000 (omega arith))
+has_lifetime : (kind : RequestType) → 0 < lifetime kind
+has_lifetime Confirmable = omega arith
+has_lifetime NonConfirmable = omega arith
+
+pub lives_at_first : (a : Arrival) → lives a.moment a ≡ true
+lives_at_first a = lives_for a.moment (lifetime a.kind) (has_lifetime a.kind)
 
 -- a slot that was free is a place, and no entry has it
 pub was_free : (x : Inside) → IsKept x → (rest : List ℕ) (slot : ℕ) → x.free.items ≡ rest ++ slot ∷ []

@@ -1,57 +1,54 @@
 -- Which of the requests that a server received are admitted (RFC 7252, sections 4.2, 4.5 and 4.8.2): none is admitted that
--- repeats one which was and whose message id may still be in use.
+-- duplicates one which was and whose message ID may still be in use.
 use Rattle.std.specs.Prelude.{◌==◌, ◌&&◌, ◌-◌, ℕ, nat_lt, Bool, List, [], ◌∷◌, ◌++◌, length, filter, if◌then◌else◌}
 use Rattle.std.specs.List.{list_any}
 use Rattle.coap_msg.specs.declared.endpoint.Endpoint.{Endpoint}
-use Rattle.coap_msg.specs.declared.message.Type4.{Type4}
-use Rattle.coap_msg.specs.declared.message.Type4.TheVariants.{Con, Non, Ack, Rst}
+use Rattle.coap_msg.specs.declared.message.RequestType.{RequestType}
+use Rattle.coap_msg.specs.declared.message.RequestType.TheVariants.{Confirmable, NonConfirmable}
 
--- a request that came: when, in milliseconds, from which endpoint, with which message id, confirmable or not
+-- a request that came: when, in milliseconds, from which endpoint, with which message ID, Confirmable or Non-confirmable
 pub record Arrival : Type 0 where
   pub moment : ℕ
   pub from : Endpoint
   pub id : ℕ
-  pub kind : Type4
+  pub kind : RequestType
 
--- how long the message id of a request may be in use, in milliseconds: EXCHANGE_LIFETIME and NON_LIFETIME (section 4.8.2);
--- an acknowledgement and a reset are no requests
-abbrev pub lifetime : Type4 → ℕ
-lifetime Con = 247000
-lifetime Non = 145000
-lifetime Ack = 0
-lifetime Rst = 0
+-- how long the message ID of a request may be in use, in milliseconds: EXCHANGE_LIFETIME and NON_LIFETIME (section 4.8.2)
+abbrev pub lifetime : RequestType → ℕ
+lifetime Confirmable = 247000
+lifetime NonConfirmable = 145000
 
 -- a request lives as long as less than its lifetime has passed since it came
 abbrev pub lives : ℕ → Arrival → Bool
 lives now a = nat_lt (now - a.moment) (lifetime a.kind)
 
--- an endpoint and a message id name one exchange (section 4.5)
+-- an endpoint and a message ID name one exchange (section 4.5)
 abbrev pub is_same_exchange : Arrival → Arrival → Bool
 is_same_exchange a b = a.from.host == b.from.host && a.from.port == b.from.port && a.id == b.id
 
 -- the later request is the earlier one again, which lives
-abbrev pub is_repeat_of : Arrival → Arrival → Bool
-is_repeat_of later earlier = lives later.moment earlier && is_same_exchange later earlier
+abbrev pub is_duplicate_of : Arrival → Arrival → Bool
+is_duplicate_of later earlier = lives later.moment earlier && is_same_exchange later earlier
 
 -- What becomes of a request.
 pub data Verdict : Type 0 where
   -- it is acted on
   admitted : Verdict
-  -- it is one that was admitted, again
-  repeated : Verdict
+  -- it is a duplicate of one that was admitted
+  duplicate : Verdict
   -- as many live as may
   refused : Verdict
 
 -- what becomes of a request after these were admitted, where so many may live
 abbrev pub verdict : ℕ → List Arrival → Arrival → Verdict
 verdict capacity before a =
-    if list_any (is_repeat_of a) before then repeated
+    if list_any (is_duplicate_of a) before then duplicate
     else (if nat_lt (length (filter (lives a.moment) before)) capacity then admitted else refused)
 
 -- the admitted ones with this one, by its verdict
 abbrev pub after_verdict : List Arrival → Arrival → Verdict → List Arrival
 after_verdict before a admitted = before ++ a ∷ []
-after_verdict before a repeated = before
+after_verdict before a duplicate = before
 after_verdict before a refused = before
 
 abbrev pub with_arrival : ℕ → List Arrival → Arrival → List Arrival

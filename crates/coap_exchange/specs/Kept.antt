@@ -1,4 +1,4 @@
--- How the code keeps its exchanges.
+-- Inside: how the code keeps its exchanges.
 use Rattle.std.specs.Prelude.{◌≡◌, ◌+◌, ◌≤◌, ◌==◌, ◌&&◌, ℕ, Bool, List, [], ◌∷◌, length, map, All, Option, None, slice_index_or, vec_capacity, if◌then◌else◌, nat_lt, true}
 use Rattle.coap_msg.specs.declared.endpoint.Endpoint.{Endpoint}
 use Rattle.coap_exchange.specs.Admission.{Arrival, lives}
@@ -10,7 +10,7 @@ use Rattle.coap_exchange.specs.declared.exchanges.Exchanges.TheInside.{Inside}
 abbrev pub arrival_of : Entry → Arrival
 arrival_of e = record { moment = e.moment; from = e.from; id = e.id; kind = e.kind }
 
--- it is the entry of this endpoint and message id
+-- it is the entry of this endpoint and message ID
 abbrev pub is_of : Endpoint → ℕ → Entry → Bool
 is_of from id e = from.host == e.from.host && from.port == e.from.port && id == e.id
 

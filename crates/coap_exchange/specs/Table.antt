@@ -1,6 +1,6 @@
--- What contracts see of an `Exchanges`, and what its calls do to that.
+-- What contracts see of an `Exchanges`, and what its calls do to that (RFC 7252, sections 4.2 and 4.5).
 use Rattle.std.specs.Prelude.{◌≡◌, ◌<◌, ◌≤◌, ◌==◌, ℕ, List, [], ◌∷◌, ◌++◌, length, map, filter, find, Option, Some, None, option_map, if◌then◌else◌}
-use Rattle.coap_exchange.specs.Admission.{Arrival, lives, is_repeat_of, admitted_among}
+use Rattle.coap_exchange.specs.Admission.{Arrival, lives, is_duplicate_of, admitted_among}
 use Rattle.coap_exchange.specs.declared.met.Met.{Met}
 use Rattle.coap_exchange.specs.declared.met.Met.TheVariants.{Fresh, Repeat, Full}
 
@@ -25,9 +25,9 @@ empty_table capacity = record { capacity = capacity; moment = 0; exchanges = [] 
 abbrev pub at_moment : ℕ → Table → Table
 at_moment now t = record t { moment = now; exchanges = filter (λ e. lives now e.arrival) t.exchanges }
 
--- the exchange that a request repeats
-abbrev pub repeated_exchange : Arrival → Table → Option Exchange
-repeated_exchange a t = find (λ e. is_repeat_of a e.arrival) t.exchanges
+-- the exchange of which a request is a duplicate
+abbrev pub duplicated_exchange : Arrival → Table → Option Exchange
+duplicated_exchange a t = find (λ e. is_duplicate_of a e.arrival) t.exchanges
 
 -- the exchange whose reply is in this slot
 abbrev pub exchange_in : ℕ → Table → Option Exchange
@@ -57,23 +57,23 @@ answered slot bytes e = if e.slot == slot then record e { reply = Some bytes } e
 abbrev pub with_reply : ℕ → List ℕ → Table → Table
 with_reply slot bytes t = record t { exchanges = map (answered slot bytes) t.exchanges }
 
--- The exchange that a request repeats was found, with the slot of its reply where that was kept; or there is none.
-abbrev pub FindsRepeated : Table → Arrival → Option (Option ℕ) → Type 0
-FindsRepeated t a None = repeated_exchange a t ≡ None
-FindsRepeated t a (Some kept) =
-    (e : Exchange) × (repeated_exchange a t ≡ Some e) × (exchange_in e.slot t ≡ Some e) × (kept ≡ option_map (λ _. e.slot) e.reply)
+-- The exchange of which a request is a duplicate was found, with the slot of its reply where that was kept; or there is none.
+abbrev pub FindsDuplicated : Table → Arrival → Option (Option ℕ) → Type 0
+FindsDuplicated t a None = duplicated_exchange a t ≡ None
+FindsDuplicated t a (Some kept) =
+    (e : Exchange) × (duplicated_exchange a t ≡ Some e) × (exchange_in e.slot t ≡ Some e) × (kept ≡ option_map (λ _. e.slot) e.reply)
 
 -- A request got a slot, in which there is no reply to another; or as many exchanges live as may.
 abbrev pub Admits : Table → Arrival → Option ℕ → Table → Type 0
 Admits t a (Some slot) u = (length t.exchanges < t.capacity) × (exchange_in slot t ≡ None) × (u ≡ with_exchange a slot t)
 Admits t a None u = (t.capacity ≤ length t.exchanges) × (u ≡ t)
 
--- What a request meets in a table at its moment, and the table afterwards: it repeats an exchange that lives; or it gets a
+-- What a request meets in a table at its moment, and the table afterwards: it is a duplicate of one that lives; or it gets a
 -- slot; or as many live as may.
 abbrev pub Meets : Table → Arrival → Met → Table → Type 0
-Meets t a (Repeat kept) u = FindsRepeated t a (Some kept) × (u ≡ t)
-Meets t a (Fresh slot) u = FindsRepeated t a None × Admits t a (Some slot) u
-Meets t a Full u = FindsRepeated t a None × Admits t a None u
+Meets t a (Repeat kept) u = FindsDuplicated t a (Some kept) × (u ≡ t)
+Meets t a (Fresh slot) u = FindsDuplicated t a None × Admits t a (Some slot) u
+Meets t a Full u = FindsDuplicated t a None × Admits t a None u
 
 -- A table stands for a history of requests: what lives in it is what lives of those that were admitted, in order.
 abbrev pub StandsFor : Table → List Arrival → Type 0

@@ -3,7 +3,7 @@
 ghost use Rattle.std.specs.Prelude.{◌≡◌};
 ghost use Rattle.coap_exchange.specs.Admission.{lifetime};
 
-use coap_msg::{Endpoint, Type4};
+use coap_msg::{Endpoint, RequestType};
 
 /// A request that was admitted, and the slot of its reply.
 #[derive(Clone, Copy)]
@@ -12,10 +12,10 @@ pub struct Entry {
     pub moment: u64,
     /// Where it came from.
     pub from: Endpoint,
-    /// Its message id.
+    /// Its message ID.
     pub id: u16,
-    /// Whether it is confirmable.
-    pub kind: Type4,
+    /// How it was sent.
+    pub kind: RequestType,
     /// The slot of its reply.
     pub slot: u32,
 }
@@ -32,7 +32,7 @@ impl Entry {
         now.saturating_sub(self.moment) < lifetime_of(self.kind)
     }
 
-    /// Whether it is the exchange of this endpoint and message id.
+    /// Whether it is the exchange of this endpoint and message ID.
     pub fn is_of(&self, from: Endpoint, id: u16) -> bool
         ensures { result ≡ (from.host == self.now.from.host && from.port == self.now.from.port && id == self.now.id) }
     {
@@ -40,13 +40,13 @@ impl Entry {
     }
 }
 
-/// How long the message id of a request of this type may be in use, in milliseconds (RFC 7252, section 4.8.2).
-pub fn lifetime_of(kind: Type4) -> u64
+/// How long the message ID of a request may be in use, in milliseconds: EXCHANGE_LIFETIME and NON_LIFETIME (RFC 7252,
+/// section 4.8.2).
+pub fn lifetime_of(kind: RequestType) -> u64
     ensures { result ≡ lifetime kind }
 {
     match kind {
-        Type4::Con => 247_000,
-        Type4::Non => 145_000,
-        Type4::Ack | Type4::Rst => 0,
+        RequestType::Confirmable => 247_000,
+        RequestType::NonConfirmable => 145_000,
     }
 }

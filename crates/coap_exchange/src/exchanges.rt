@@ -6,9 +6,8 @@ ghost use Rattle.coap_exchange.specs.Kept.{arrival_of, is_of, once_below, times_
 ghost use Rattle.coap_msg.specs.declared.message.Type4.TheVariants.{Con, Non};
 
 use crate::entry::Entry;
-use crate::reply::{LONGEST_REPLY, Reply};
 use crate::{Met, NoMemory};
-use coap_msg::{Endpoint, Type4};
+use coap_msg::{BoundedBytes, Endpoint, LONGEST_MESSAGE, RequestType, Type4};
 use std::alloc::Global;
 use std::marker::Model;
 
@@ -23,7 +22,7 @@ pub struct Exchanges {
     moment: u64,
     entries: Vec<Entry>,
     free: Vec<u32>,
-    replies: Vec<Option<Reply>>,
+    replies: Vec<Option<BoundedBytes<LONGEST_MESSAGE>>>,
 }
 
 impl Model for Exchanges {
@@ -40,8 +39,9 @@ impl Model for Exchanges {
 
 impl Exchanges {
     ghost use Rattle.std.specs.Prelude.{◌⊎◌, ℕ};
-    ghost use Rattle.coap_msg.specs.declared.message.Type4.{Type4};
-    ghost use Rattle.coap_exchange.specs.Table.{empty_table, at_moment, Meets, IsAwaited, HasReply, HoldsReply, with_reply, FindsRepeated, Admits};
+    ghost use Rattle.coap_msg.specs.declared.message.RequestType.{RequestType};
+    ghost use Rattle.coap_msg.specs.Requests.{request_type};
+    ghost use Rattle.coap_exchange.specs.Table.{empty_table, at_moment, Meets, IsAwaited, HasReply, HoldsReply, with_reply, FindsDuplicated, Admits};
 
     /// A table in which so many exchanges may live. All its memory is taken here.
     pub fn new(alloc: Global, capacity: u32) -> Result<Exchanges, NoMemory>
@@ -65,7 +65,7 @@ impl Exchanges {
     pub fn meet(&mut self, from: Endpoint, id: u16, kind: Type4, now: u64) -> Met
         requires kind { (kind ≡ Con) ⊎ (kind ≡ Non) }
         requires now { self.old.moment ≤ now }
-        ensures met { Meets (at_moment now self.old) (record { moment = now; from = from; id = id; kind = kind }) result self.new }
+        ensures met { Meets (at_moment now self.old) (record { moment = now; from = from; id = id; kind = request_type kind }) result self.new }
         ensures moment { self.new.moment ≡ now }
 
         // What the slots are for.
@@ -73,23 +73,23 @@ impl Exchanges {
         ensures kept { (slot : ℕ) → result ≡ Met.Repeat (Some slot) → HasReply slot self.new }
     {
         self.go_on(now);
-        self.judge(from, id, kind)
+        self.judge(from, id, RequestType::of(kind))
     }
 
     /// Keeps the reply to the request that got this slot.
     pub fn keep(&mut self, slot: u32, reply: &[u8])
         requires slot { IsAwaited slot self.old }
-        requires length { length reply.now ≤ LONGEST_REPLY }
+        requires length { length reply.now ≤ LONGEST_MESSAGE }
         ensures { self.new ≡ with_reply slot reply.now self.old }
     {
-        self.replies[slot as usize] = Some(Reply::of(reply));
+        self.replies[slot as usize] = Some(BoundedBytes::of(reply));
     }
 
     /// The reply that is kept in this slot.
     pub fn reply(&self, slot: u32) -> &[u8]
         requires { HasReply slot self.now }
         ensures ok { HoldsReply slot result.now self.now }
-        ensures bound { length result.now ≤ LONGEST_REPLY }
+        ensures bound { length result.now ≤ LONGEST_MESSAGE }
     {
         match &self.replies[slot as usize] {
             Some(reply) => reply.as_bytes(),
@@ -108,11 +108,10 @@ impl Exchanges {
     }
 
     /// Judges a request that came now.
-    fn judge(&mut self, from: Endpoint, id: u16, kind: Type4) -> Met
-        requires { (kind ≡ Con) ⊎ (kind ≡ Non) }
+    fn judge(&mut self, from: Endpoint, id: u16, kind: RequestType) -> Met
         ensures { Meets self.old (record { moment = self.old.moment; from = from; id = id; kind = kind }) result self.new }
     {
-        if let Some(kept) = self.repeated(from, id) {
+        if let Some(kept) = self.duplicated(from, id) {
             return Met::Repeat(kept);
         }
         match self.admit(from, id, kind) {
@@ -121,9 +120,9 @@ impl Exchanges {
         }
     }
 
-    /// The slot of the reply to the exchange of this endpoint and message id, where one was kept, if that exchange lives.
-    fn repeated(&self, from: Endpoint, id: u16) -> Option<Option<u32>>
-        ensures { (kind : Type4) → FindsRepeated self.now (record { moment = self.now.moment; from = from; id = id; kind = kind }) result }
+    /// The slot of the reply to the exchange of this endpoint and message ID, where one was kept, if that exchange lives.
+    fn duplicated(&self, from: Endpoint, id: u16) -> Option<Option<u32>>
+        ensures { (kind : RequestType) → FindsDuplicated self.now (record { moment = self.now.moment; from = from; id = id; kind = kind }) result }
     {
         let entry = entry_of(self.entries.as_slice(), from, id)?;
         match &self.replies[entry.slot as usize] {
@@ -133,8 +132,7 @@ impl Exchanges {
     }
 
     /// Makes an exchange of a request that came now, and returns its slot, if there is room.
-    fn admit(&mut self, from: Endpoint, id: u16, kind: Type4) -> Option<u32>
-        requires { (kind ≡ Con) ⊎ (kind ≡ Non) }
+    fn admit(&mut self, from: Endpoint, id: u16, kind: RequestType) -> Option<u32>
         ensures { Admits self.old (record { moment = self.old.moment; from = from; id = id; kind = kind }) result self.new }
     {
         let slot = self.free.pop()?;
@@ -153,7 +151,7 @@ impl Exchanges {
     }
 }
 
-/// The entry of this endpoint and message id.
+/// The entry of this endpoint and message ID.
 fn entry_of(entries: &[Entry], from: Endpoint, id: u16) -> Option<Entry>
     ensures { result ≡ find (is_of from id) entries.now }
 {
@@ -179,7 +177,10 @@ fn all_slots(alloc: Global, capacity: u32) -> Result<Vec<u32>, NoMemory>
 }
 
 /// A place for the reply of each slot.
-fn no_replies(alloc: Global, capacity: u32) -> Result<Vec<Option<Reply>>, NoMemory>
+fn no_replies(
+    alloc: Global,
+    capacity: u32,
+) -> Result<Vec<Option<BoundedBytes<LONGEST_MESSAGE>>>, NoMemory>
     ensures { IfOk result (λ replies. length replies.items ≡ capacity) }
 {
     let mut replies = Vec::with_capacity(alloc, capacity as usize)?;

@@ -7,12 +7,12 @@ pub fn tables_follow_the_history()
     ensures { TablesFollowTheHistory }
 {}
 
-/// A repeat within the lifetime is never admitted (RFC 7252, section 4.5).
+/// A duplicate within the lifetime is never admitted (RFC 7252, section 4.5).
 pub fn admitted_once()
     ensures { AdmittedOnce }
 {}
 
-/// At most one admitted request that lives has a given endpoint and message id (RFC 7252, section 4.4).
+/// At most one admitted request that lives has a given endpoint and message ID (RFC 7252, section 4.4).
 pub fn living_exchanges_differ()
     ensures { LivingExchangesDiffer }
 {}

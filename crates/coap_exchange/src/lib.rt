@@ -1,5 +1,5 @@
 //! The exchanges of a CoAP server (RFC 7252, sections 4.2 and 4.5): a request that comes twice acts once. This crate knows
-//! endpoints, message ids and moments, and no message: what a request asks for is decided elsewhere. It has no clock and no
+//! endpoints, message IDs and moments, and no message: what a request asks for is decided elsewhere. It has no clock and no
 //! socket, and takes memory once, when the table is made. `Exchanges` and `Met` carry everything.
 //!
 //! ```
@@ -9,7 +9,7 @@
 //! let mut exchanges = Exchanges::new(alloc, 1024)?;
 //! let from = Endpoint { host: 1, port: 5683 };
 //! match exchanges.meet(from, 7, Type4::Con, now) {
-//!     // Act, and keep the reply for a repeat.
+//!     // Act, and keep the reply for a duplicate.
 //!     Met::Fresh(slot) => exchanges.keep(slot, reply),
 //!     // Don't act: send the reply again, if there is one.
 //!     Met::Repeat(Some(slot)) => send(exchanges.reply(slot)),
@@ -27,10 +27,8 @@ mod entry;
 mod exchanges;
 mod laws;
 mod met;
-mod reply;
 
 pub use exchanges::Exchanges;
 pub use laws::{admitted_once, living_exchanges_differ, tables_follow_the_history};
 pub use met::Met;
-pub use reply::LONGEST_REPLY;
 pub use servient_base::NoMemory;

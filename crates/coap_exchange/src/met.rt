@@ -5,7 +5,8 @@
 pub enum Met {
     /// No exchange that lives: it is admitted, and is to be acted on. Its reply may be kept in this slot as long as it lives.
     Fresh(u32),
-    /// An exchange that lives: it isn't to be acted on again. The slot of the reply, where one was kept.
+    /// An exchange that lives, of which it is a duplicate: it isn't to be acted on again. The slot of the reply, where one was
+    /// kept.
     Repeat(Option<u32>),
     /// No exchange that lives, and no room for another: it isn't to be acted on.
     Full,

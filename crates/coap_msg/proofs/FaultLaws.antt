@@ -5,7 +5,8 @@ use Rattle.coap_msg.specs.declared.header.Header.{Header}
 use Rattle.coap_msg.specs.declared.message.MsgFault.{MsgFault}
 use Rattle.coap_msg.specs.Grammar.{CoapOption, CoapMessage, IsClass, HasHeaderAlone, Spells, option_spelling, options_spelling, payload_spelling, MayFollow, AreInOrder}
 use Rattle.coap_msg.specs.Opts.{last_number}
-use Rattle.coap_msg.specs.Parts.{SpellsHeader, SpellsBody}
+use Rattle.coap_msg.specs.Headers.{SpellsHeader}
+use Rattle.coap_msg.specs.Parts.{SpellsBody}
 use Rattle.coap_msg.specs.Faults.{BeginsWhole, HasFaultHere, of_nibble, of_cut, of_number, of_payload, HasBodyFault, HasHeaderFault, of_version, of_token, of_empty, of_class, HasMsgFault, is_short, in_header, in_body}
 use Rattle.coap_msg.proofs.OneOption.{option_begins}
 use Rattle.coap_msg.proofs.OptionLists.{payload_begins_no_option}

@@ -6,3 +6,4 @@ pub mod Messages
 pub mod WholeOptions
 pub mod FaultLaws
 pub mod OneFault
+pub mod OptionParts

@@ -5,7 +5,8 @@ use Rattle.coap_msg.specs.declared.message.Type4.{Type4}
 use Rattle.coap_msg.specs.declared.message.Type4.TheVariants.{Con, Non, Ack, Rst}
 use Rattle.coap_msg.specs.declared.header.Header.{Header}
 use Rattle.coap_msg.specs.Grammar.{CoapOption, CoapMessage, type_bits, header, IsClass, HasHeaderAlone, IsWellFormed, Spells, options_spelling, payload_spelling}
-use Rattle.coap_msg.specs.Parts.{SpellsHeader, SpellsBody}
+use Rattle.coap_msg.specs.Headers.{SpellsHeader}
+use Rattle.coap_msg.specs.Parts.{SpellsBody}
 use Rattle.coap_msg.proofs.OptionLists.{one_body}
 
 -- type bits are two bits

@@ -6,7 +6,7 @@ use Rattle.coap_msg.specs.declared.message.MsgFault.{MsgFault}
 use Rattle.coap_msg.specs.declared.message.Type4.{Type4}
 use Rattle.coap_msg.specs.Grammar.{CoapOption, IsClass, type_bits, option_spelling, options_spelling, AreInOrder}
 use Rattle.coap_msg.specs.Opts.{last_number}
-use Rattle.coap_msg.specs.Parts.{SpellsHeader}
+use Rattle.coap_msg.specs.Headers.{SpellsHeader}
 use Rattle.coap_msg.specs.Faults.{HasReservedNibble, BeginsWhole, HasFaultHere, of_nibble, of_cut, of_number, of_payload, HasBodyFault, HasHeaderFault, of_version, of_token, of_empty, of_class, HasToken, MayGoOn, HasMsgFault, is_short, in_header, in_body}
 use Rattle.coap_msg.proofs.OptionLists.{same_option}
 use Rattle.coap_msg.proofs.Messages.{type_bits_below, same_type}

@@ -3,7 +3,8 @@ use Rattle.std.proofs.Common.{◌≡◌, ℕ, ◌≤◌, List, [], ◌∷◌, �
 use Rattle.std.proofs.lemmas.List.{append-nil}
 use Rattle.std.proofs.lemmas.Option.{same_Some}
 use Rattle.coap_msg.specs.Grammar.{CoapOption, option_spelling, options_spelling, payload_spelling, MayFollow, AreInOrder}
-use Rattle.coap_msg.specs.Opts.{last_number, AreWritten}
+use Rattle.coap_msg.specs.Kept.{AreWritten}
+use Rattle.coap_msg.specs.Opts.{last_number}
 use Rattle.coap_msg.specs.Options.{option_at, options_of}
 use Rattle.coap_msg.specs.Parts.{SpellsBody}
 use Rattle.coap_msg.proofs.OneOption.{some_read, option_at-spelling, option_begins, options_of-spelling}

@@ -1,19 +1,20 @@
 -- Why bytes are no message (RFC 7252, section 3): what is wrong with them, where all that is judged before it is right.
 -- At most one fault holds of given bytes, and none of the bytes of a message (`one_fault`, `no_fault`).
 use Rattle.std.specs.Prelude.{◌≡◌, ◌≢◌, ℕ, ◌+◌, ◌/◌, ◌%◌, ◌^◌, ◌<◌, ◌≤◌, ◌⊎◌, List, [], ◌∷◌, ◌++◌, length, drop}
+use Rattle.coap_msg.specs.declared.constants.TheConstants.{LONGEST_TOKEN}
 use Rattle.coap_msg.specs.declared.header.Header.{Header}
 use Rattle.coap_msg.specs.declared.message.MsgFault.{MsgFault}
 use Rattle.coap_msg.specs.declared.message.MsgFault.TheVariants as fault
 use Rattle.coap_msg.specs.Grammar.{CoapOption, IsClass, option_spelling, options_spelling, largest_number, AreInOrder}
 use Rattle.coap_msg.specs.Opts.{last_number}
-use Rattle.coap_msg.specs.Parts.{SpellsHeader}
+use Rattle.coap_msg.specs.Headers.{SpellsHeader}
 
 -- ---- the header
 
 -- The version is 1, and the token has at most 8 bytes, all of which are there.
 pub record HasToken (h : Header) (rest : List ℕ) : Type 0 where
   pub version : h.version ≡ 1
-  pub short : h.token_length ≤ 8
+  pub short : h.token_length ≤ LONGEST_TOKEN
   pub within : h.token_length ≤ length rest
 
 -- Nothing is wrong with a header and the number of bytes after it: the token is there, nothing follows the code 0.00
@@ -26,7 +27,7 @@ pub record MayGoOn (h : Header) (rest : List ℕ) : Type 0 where
 -- What is wrong with a header and the bytes after it. (The class of the code 0.00 is not reserved.)
 pub data HasHeaderFault (f : MsgFault) (h : Header) (rest : List ℕ) : Type 0 where
   of_version : f ≡ fault.Version → h.version ≢ 1 → HasHeaderFault f h rest
-  of_token : f ≡ fault.TokenLength → h.version ≡ 1 → (8 < h.token_length) ⊎ (length rest < h.token_length) → HasHeaderFault f h rest
+  of_token : f ≡ fault.TokenLength → h.version ≡ 1 → (LONGEST_TOKEN < h.token_length) ⊎ (length rest < h.token_length) → HasHeaderFault f h rest
   of_empty : f ≡ fault.EmptyCode → HasToken h rest → h.code ≡ 0 → 0 < length rest → HasHeaderFault f h rest
   of_class : f ≡ fault.Class → HasToken h rest → ¬ (IsClass (h.code / 32)) → HasHeaderFault f h rest
 

@@ -1,5 +1,6 @@
 -- The CoAP message format (RFC 7252, section 3).
 use Rattle.std.specs.Prelude.{◌≡◌, ℕ, ◌+◌, ◌-◌, ◌*◌, ◌/◌, ◌%◌, ◌^◌, ◌<◌, ◌≤◌, ◌⊎◌, List, [], ◌∷◌, ◌++◌, length, nat_lt, if◌then◌else◌}
+use Rattle.coap_msg.specs.declared.constants.TheConstants.{LONGEST_TOKEN}
 use Rattle.coap_msg.specs.declared.message.Type4.{Type4}
 use Rattle.coap_msg.specs.declared.message.Type4.TheVariants.{Con, Non, Ack, Rst}
 
@@ -92,7 +93,7 @@ pub record IsWellFormed (m : CoapMessage) : Type 0 where
   pub code : m.code < 2 ^ 8
   pub class : IsClass (m.code / 32)
   pub id : m.id < 2 ^ 16
-  pub token : length m.token ≤ 8
+  pub token : length m.token ≤ LONGEST_TOKEN
   pub options : AreInOrder 0 m.options
   pub empty : m.code ≡ 0 → HasHeaderAlone m
 

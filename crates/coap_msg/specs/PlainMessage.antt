@@ -1,4 +1,4 @@
--- A message that is to be written.
+-- A message that is to be written (RFC 7252, section 3).
 use Rattle.coap_msg.specs.declared.encoding.Plain.{Plain}
 use Rattle.coap_msg.specs.Grammar.{CoapMessage}
 

@@ -7,6 +7,7 @@ ghost use Rattle.coap_msg.specs.Options.{option_at};
 ghost use Rattle.coap_msg.specs.Parts.{SpellsBody};
 ghost use Rattle.coap_msg.specs.MessageOf.{message_of};
 
+use crate::constants::{EMPTY, LONGEST_TOKEN};
 use crate::header::{Header, take_header};
 use crate::message::PAYLOAD_MARKER;
 use crate::options::{take_number, take_option};
@@ -50,10 +51,10 @@ fn check_header(header: &Header, rest: &[u8]) -> Result<(), MsgFault>
     if header.version != 1 {
         return Err(MsgFault::Version);
     }
-    if token_length > 8 || token_length > rest.len() {
+    if token_length > LONGEST_TOKEN || token_length > rest.len() {
         return Err(MsgFault::TokenLength);
     }
-    if header.code == 0 && !rest.is_empty() {
+    if header.code == EMPTY && !rest.is_empty() {
         return Err(MsgFault::EmptyCode);
     }
     if !is_class(header.code / 32) {

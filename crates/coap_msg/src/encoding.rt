@@ -4,6 +4,7 @@ ghost use Rattle.std.specs.Prelude.{◌≡◌, ◌≤◌, ◌<◌, ◌+◌, ◌/
 ghost use Rattle.coap_msg.specs.Grammar.{CoapMessage, header, payload_spelling, spelling};
 ghost use Rattle.coap_msg.specs.Grammar.{IsClass, HasHeaderAlone, Spells};
 ghost use Rattle.coap_msg.specs.PlainMessage.{plain_message};
+ghost use Rattle.coap_msg.specs.declared.constants.TheConstants.{LONGEST_TOKEN};
 
 use crate::message::PAYLOAD_MARKER;
 use crate::{NoRoom, Opts, Type4};
@@ -28,7 +29,7 @@ pub struct Plain<'a> {
 
 /// Writes a message to the beginning of `out`, and returns how many bytes it has.
 pub fn encode(message: &Plain<'_>, out: &mut [u8]) -> Result<usize, NoRoom>
-    requires token { length message.now.token.now ≤ 8 }
+    requires token { length message.now.token.now ≤ LONGEST_TOKEN }
     requires class { IsClass (message.now.code / 32) }
     requires empty { message.now.code ≡ 0 → HasHeaderAlone (plain_message message.now) }
 
@@ -75,7 +76,7 @@ fn payload_length(payload: &[u8]) -> u128
 
 /// The four bytes of a header.
 fn header_bytes(message: &Plain<'_>) -> [u8; 4]
-    requires { length message.now.token.now ≤ 8 }
+    requires { length message.now.token.now ≤ LONGEST_TOKEN }
     ensures ok { result ≡ header (plain_message message.now) }
     ensures code { message.now.code < 2 ^ 8 }
     ensures id { message.now.id < 2 ^ 16 }

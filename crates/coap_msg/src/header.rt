@@ -1,7 +1,7 @@
 //! The header of a message: its first four bytes (RFC 7252, section 3).
 
 ghost use Rattle.std.specs.Prelude.{◌<◌, length, IfSome, IfNone};
-ghost use Rattle.coap_msg.specs.Parts.{SpellsHeader};
+ghost use Rattle.coap_msg.specs.Headers.{SpellsHeader};
 
 use crate::Type4;
 

@@ -33,19 +33,32 @@
 //! bytes have at most one.
 #![tactic(auto)]
 
+mod bounded;
+mod constants;
 mod decoding;
+mod empty;
 mod encoding;
 mod endpoint;
 mod header;
 mod laws;
 mod message;
+mod numbers;
 mod options;
 mod opts;
 
+pub use bounded::BoundedBytes;
+pub use constants::{
+    ACCEPT, BAD_OPTION, CONTENT_FORMAT, DELETE, EMPTY, GET, INTERNAL_SERVER_ERROR, JSON,
+    LOCATION_PATH, LONGEST_DATAGRAM, LONGEST_MESSAGE, LONGEST_PAYLOAD, LONGEST_SEGMENT,
+    LONGEST_TOKEN, OBSERVE, POST, PROXY_SCHEME, PROXY_URI, PROXYING_NOT_SUPPORTED, PUT,
+    SERVICE_UNAVAILABLE, TD_JSON, URI_HOST, URI_PATH, URI_PORT, URI_QUERY,
+};
 pub use decoding::decode;
+pub use empty::{put_empty_reply, put_rejection};
 pub use encoding::{Plain, encode};
 pub use endpoint::Endpoint;
 pub use laws::{no_fault, one_fault, one_message, one_spelling};
-pub use message::{Message, MsgFault, Type4};
+pub use message::{Message, MsgFault, RequestType, Type4};
+pub use numbers::{number_of, put_number};
 pub use options::{Options, OptionsIter};
-pub use opts::{NoRoom, Opts};
+pub use opts::{NoRoom, Opts, put_segment};

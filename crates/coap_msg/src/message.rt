@@ -50,6 +50,30 @@ impl Type4 {
     }
 }
 
+/// How a request is sent (RFC 7252, sections 4.2 and 4.3). An acknowledgement and a Reset are no requests.
+#[derive(Clone, Copy, Debug, PartialEq, Eq)]
+pub enum RequestType {
+    /// In a Confirmable message.
+    Confirmable,
+    /// In a Non-confirmable message.
+    NonConfirmable,
+}
+
+impl RequestType {
+    ghost use Rattle.std.specs.Prelude.{◌≡◌};
+    ghost use Rattle.coap_msg.specs.Requests.{request_type};
+
+    /// How the request of a message of this type is sent.
+    pub fn of(kind: Type4) -> RequestType
+        ensures { result ≡ request_type kind }
+    {
+        match kind {
+            Type4::Con => RequestType::Confirmable,
+            Type4::Non | Type4::Ack | Type4::Rst => RequestType::NonConfirmable,
+        }
+    }
+}
+
 /// Why bytes are no message (RFC 7252, section 3): the first of these that holds of them, where the options are judged one
 /// after another. `HasMsgFault` of `specs/Faults.antt` says when each holds.
 #[derive(Clone, Copy, Debug, PartialEq, Eq, Error)]

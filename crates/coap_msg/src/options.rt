@@ -31,6 +31,13 @@ impl<'a> Options<'a> {
         Options { bytes }
     }
 
+    /// The bytes that spell the options.
+    pub fn as_bytes(&self) -> &'a [u8]
+        ensures { options_of result.now ≡ self.now }
+    {
+        self.bytes
+    }
+
     /// Goes over the options in their order: number and value of each.
     pub fn iter(&self) -> OptionsIter<'a>
         ensures { options_left result ≡ self.now }

@@ -2,7 +2,7 @@
 
 ghost use Rattle.std.specs.Prelude.{◌≡◌, ◌≤◌, ◌<◌, ◌+◌, [], ◌∷◌, ◌++◌, length, take, IfOk, OnOk, OnErr};
 ghost use Rattle.coap_msg.specs.Grammar.{nibble, extended, option_spelling, options_spelling, largest_number, AreInOrder};
-ghost use Rattle.coap_msg.specs.Opts.{WrittenOptions, last_number};
+ghost use Rattle.coap_msg.specs.Opts.{WrittenOptions, last_number, PutsOptions};
 
 use servient_base::put_bytes;
 use std::marker::Model;
@@ -24,7 +24,8 @@ pub struct Opts<'r> {
 impl<'r> Model for Opts<'r> {
     ghost use Rattle.std.specs.Prelude.{◌≤◌, length, take};
     ghost use Rattle.coap_msg.specs.Options.{options_of};
-    ghost use Rattle.coap_msg.specs.Opts.{WrittenOptions, AreWritten};
+    ghost use Rattle.coap_msg.specs.Opts.{WrittenOptions};
+    ghost use Rattle.coap_msg.specs.Kept.{AreWritten};
 
     ghost Value = { WrittenOptions };
 
@@ -70,6 +71,17 @@ impl<'r> Opts<'r> {
     {
         &self.room[..self.used]
     }
+}
+
+/// Writes an option of this number for one segment of a path.
+#[tactic(auto, using(crate::proofs::OptionParts::last_written))]
+pub fn put_segment(options: &mut Opts<'_>, number: u16, segment: &[u8]) -> Result<(), NoRoom>
+    requires order { last_number 0 options.old.list ≤ number }
+    requires segment { length segment.now ≤ largest_number }
+    ensures ok { PutsOptions ((number, segment.now) ∷ []) result options.old options.new }
+    ensures last { OnOk result (last_number 0 options.new.list ≡ number) }
+{
+    options.push(number, segment)
 }
 
 /// Writes an option after one of the number `last`, and returns the place after it.

@@ -1,7 +1,9 @@
 -- What a CoAP request asks for, and what can be wrong with its options (RFC 7252, sections 5.4, 5.8 and 5.10).
-use Rattle.std.specs.Prelude.{ℕ, ◌+◌, ◌*◌, ◌%◌, ◌^◌, List, [], ◌∷◌, length, map, Bool, true, not, ◌==◌, ◌&&◌, ◌||◌, Option, Some, None, option_and_then, slice_get, if◌then◌else◌}
+use Rattle.std.specs.Prelude.{◌≡◌, ◌⊎◌, ℕ, ◌%◌, List, [], ◌∷◌, map, Bool, true, not, ◌==◌, ◌&&◌, ◌||◌, Option, Some, None, option_and_then, slice_get, if◌then◌else◌}
 use Rattle.std.specs.List.{filter}
+use Rattle.coap_msg.specs.declared.constants.TheConstants.{URI_PATH, PROXY_URI, PROXY_SCHEME, GET, POST, PUT, DELETE, JSON, TD_JSON}
 use Rattle.coap_msg.specs.Grammar.{CoapOption, CoapMessage}
+use Rattle.coap_msg.specs.Numbers.{number_of}
 use Rattle.thing_ops.specs.declared.verb.Verb.{Verb}
 use Rattle.thing_ops.specs.declared.verb.Verb.TheVariants as verb
 use Rattle.thing_ops.specs.declared.request.Accept.{Accept}
@@ -17,7 +19,7 @@ use Rattle.coap_opts.specs.Table.{observe, content_format, accept, has_length, m
 
 -- Proxy-Uri and Proxy-Scheme (section 5.10.2)
 abbrev pub is_proxy : ℕ → Bool
-is_proxy number = (number == 35) || (number == 39)
+is_proxy number = (number == PROXY_URI) || (number == PROXY_SCHEME)
 
 -- an option of an odd number is critical, any other is elective (section 5.4.6)
 abbrev pub is_critical : ℕ → Bool
@@ -45,16 +47,15 @@ faults_after before (o ∷ os) = and_then_these (fault_of before o) (faults_afte
 abbrev pub faults_of : List CoapOption → List AskFault
 faults_of os = faults_after None os
 
+-- A request is refused for this: the first fault of its options; or memory is out, and nothing is wrong with them.
+abbrev pub IsRefusal : List CoapOption → AskFault → Type 0
+IsRefusal os e = (slice_get (faults_of os) 0 ≡ Some e) ⊎ ((faults_of os ≡ []) × (e ≡ fault.NoMemory))
+
 -- ---- what is asked
 
 -- the values of all options of this number, in their order
 abbrev pub values_under : ℕ → List CoapOption → List (List ℕ)
 values_under number os = map (λ o. o.1) (filter (λ o. o.0 == number) os)
-
--- the number that bytes say, in network byte order; no bytes are the number 0 (section 3.2)
-abbrev pub number_of : List ℕ → ℕ
-number_of [] = 0
-number_of (b ∷ bytes) = 256 ^ length bytes * b + number_of bytes
 
 -- the number that a value says, where it is as long as the option's may be
 abbrev pub number_within : Known → List ℕ → Option ℕ
@@ -74,16 +75,16 @@ verb_of code =
     else if code == 4 then verb.Delete
     else verb.Other
 
--- the media type of a content format: 50 is `application/json` (section 12.3), 432 `application/td+json` (TD 1.1)
+-- the media type of a content format (section 12.3; TD 1.1)
 abbrev pub format_of : Option ℕ → Format
 format_of None = format.Absent
 format_of (Some number) =
-    if number == 50 then format.Json else if number == 432 then format.Td else format.Other
+    if number == JSON then format.Json else if number == TD_JSON then format.Td else format.Other
 
 -- what is taken in an answer; where the request says nothing, both are (section 5.10.4)
 abbrev pub accept_of : Option ℕ → Accept
 accept_of None = record { json = true; td = true }
-accept_of (Some number) = record { json = number == 50; td = number == 432 }
+accept_of (Some number) = record { json = number == JSON; td = number == TD_JSON }
 
 -- a request and the value of Observe, apart from where they lie in memory
 pub record PlainAsk : Type 0 where
@@ -96,7 +97,7 @@ abbrev pub asked : CoapMessage → PlainAsk
 asked m = record {
   request = record {
     verb = verb_of m.code;
-    path = values_under 11 m.options;
+    path = values_under URI_PATH m.options;
     query = [];
     accept = accept_of (number_under accept m.options);
     format = format_of (number_under content_format m.options);

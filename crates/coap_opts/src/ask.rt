@@ -2,16 +2,16 @@
 
 ghost use Rattle.std.specs.Prelude.{◌≡◌, ◌<◌, ◌⊎◌, [], ◌∷◌, Some, IfOk, IfErr, OnOk, slice_get};
 ghost use Rattle.coap_msg.specs.MessageOf.{message_of};
-ghost use Rattle.coap_opts.specs.Reading.{faults_of, faults_after, verb_of, format_of, accept_of, asked};
+ghost use Rattle.coap_opts.specs.Reading.{faults_of, verb_of, format_of, accept_of, asked, IsRefusal};
 ghost use Rattle.coap_opts.specs.PlainAsk.{plain_ask};
-ghost use Rattle.coap_opts.specs.declared.fault.AskFault.TheVariants.{NoMemory as no_memory};
 
 use crate::AskFault;
-use crate::known::{ACCEPT, CONTENT_FORMAT, OBSERVE, option_fault};
-use crate::values::{numeric, path_of};
-use coap_msg::{Message, Options};
+use crate::found::{Found, note_all, refusal};
+use crate::known::{ACCEPT, CONTENT_FORMAT, OBSERVE};
+use crate::values::numeric;
+use coap_msg::{DELETE, GET, JSON, Message, POST, PUT, TD_JSON};
 use std::alloc::Global;
-use thing_ops::{Accept, Format, Request, Verb};
+use thing_ops::{Accept, Format, Request, Segments, Verb};
 
 /// What a CoAP request asks for. It borrows the body from the message.
 #[derive(Debug, Drop)]
@@ -22,12 +22,6 @@ pub struct CoapAsk<'a> {
     pub observe: Option<u32>,
 }
 
-/// The content format `application/json` (RFC 7252, section 12.3).
-const JSON: u32 = 50;
-
-/// The content format `application/td+json` (TD 1.1, "IANA Considerations").
-const TD: u32 = 432;
-
 /// What a request asks for, or what is wrong with the first of its options that is.
 pub fn request_of<'a>(alloc: Global, message: &Message<'a>) -> Result<CoapAsk<'a>, AskFault>
     requires code { 0 < message.now.code }
@@ -37,36 +31,30 @@ pub fn request_of<'a>(alloc: Global, message: &Message<'a>) -> Result<CoapAsk<'a
         (plain_ask ask ≡ asked (message_of message.now))) }
 
     // Memory is out only where nothing is wrong with the options.
-    ensures fault { IfErr result (λ e. (slice_get (faults_of message.now.options) 0 ≡ Some e) ⊎
-        ((faults_of message.now.options ≡ []) × (e ≡ no_memory))) }
+    ensures fault { IfErr result (λ e. IsRefusal message.now.options e) }
 {
-    check_options(&message.options)?;
-    let path = path_of(alloc, &message.options)?;
+    // The bytes of all options are room enough for those of the path.
+    let path = match Segments::with_capacity(alloc, message.options.as_bytes().len()) {
+        Ok(path) => path,
+        Err(_) => return Err(refusal(&message.options)),
+    };
+    let mut found = Found {
+        path,
+        observe: None,
+        format: None,
+        accept: None,
+    };
+    note_all(&mut found, &message.options)?;
     let request = Request {
         verb: verb(message.code),
-        path,
+        path: found.path,
         query: b"",
-        accept: accept(numeric(ACCEPT, &message.options)),
-        format: format(numeric(CONTENT_FORMAT, &message.options)),
+        accept: accept(numeric(ACCEPT, found.accept)),
+        format: format(numeric(CONTENT_FORMAT, found.format)),
         body: message.payload,
     };
-    let observe = numeric(OBSERVE, &message.options);
+    let observe = numeric(OBSERVE, found.observe);
     Ok(CoapAsk { request, observe })
-}
-
-/// Finds the first option that is wrong.
-fn check_options(options: &Options<'_>) -> Result<(), AskFault>
-    ensures ok { OnOk result (faults_of options.now ≡ []) }
-    ensures fault { IfErr result (λ e. slice_get (faults_of options.now) 0 ≡ Some e) }
-{
-    let mut before = None;
-    for (number, value) in options.iter() {
-        match option_fault(before, number, value) {
-            Some(fault) => return Err(fault),
-            None => before = Some(number),
-        }
-    }
-    Ok(())
 }
 
 /// The verb of a code of class 0 (RFC 7252, section 12.1.1).
@@ -74,10 +62,10 @@ fn verb(code: u8) -> Verb
     ensures { result ≡ verb_of code }
 {
     match code {
-        1 => Verb::Get,
-        2 => Verb::Post,
-        3 => Verb::Put,
-        4 => Verb::Delete,
+        GET => Verb::Get,
+        POST => Verb::Post,
+        PUT => Verb::Put,
+        DELETE => Verb::Delete,
         _ => Verb::Other,
     }
 }
@@ -88,8 +76,8 @@ fn format(number: Option<u32>) -> Format
 {
     match number {
         None => Format::Absent,
-        Some(JSON) => Format::Json,
-        Some(TD) => Format::Td,
+        Some(number) if number == u32::from(JSON) => Format::Json,
+        Some(number) if number == u32::from(TD_JSON) => Format::Td,
         Some(_) => Format::Other,
     }
 }
@@ -104,8 +92,8 @@ fn accept(number: Option<u32>) -> Accept
             td: true,
         },
         Some(number) => Accept {
-            json: number == JSON,
-            td: number == TD,
+            json: number == u32::from(JSON),
+            td: number == u32::from(TD_JSON),
         },
     }
 }

@@ -1,10 +1,11 @@
 //! The options that are known, and what is wrong with others.
 
 ghost use Rattle.std.specs.Prelude.{◌≡◌};
-ghost use Rattle.coap_opts.specs.Table.{known_of, has_length, is_repeat, may_stand};
+ghost use Rattle.coap_opts.specs.Table.{known_of, has_length, stands_again, may_stand};
 ghost use Rattle.coap_opts.specs.Reading.{fault_of};
 
 use crate::AskFault;
+use coap_msg::{LONGEST_SEGMENT, PROXY_SCHEME, PROXY_URI, URI_HOST, URI_PATH, URI_PORT, URI_QUERY};
 
 /// A row of the table of options (RFC 7252, section 5.10).
 #[derive(Clone, Copy)]
@@ -19,12 +20,9 @@ pub struct Known {
     pub repeats: bool,
 }
 
-/// The number of Uri-Path, a segment of the path.
-pub const URI_PATH: u16 = 11;
-
 /// Observe (RFC 7641, section 2).
 pub const OBSERVE: Known = Known {
-    number: 6,
+    number: coap_msg::OBSERVE,
     shortest: 0,
     longest: 3,
     repeats: false,
@@ -32,7 +30,7 @@ pub const OBSERVE: Known = Known {
 
 /// Content-Format (RFC 7252, section 5.10.3).
 pub const CONTENT_FORMAT: Known = Known {
-    number: 12,
+    number: coap_msg::CONTENT_FORMAT,
     shortest: 0,
     longest: 2,
     repeats: false,
@@ -40,7 +38,7 @@ pub const CONTENT_FORMAT: Known = Known {
 
 /// Accept (RFC 7252, section 5.10.4).
 pub const ACCEPT: Known = Known {
-    number: 17,
+    number: coap_msg::ACCEPT,
     shortest: 0,
     longest: 2,
     repeats: false,
@@ -49,14 +47,14 @@ pub const ACCEPT: Known = Known {
 /// The table: Uri-Host, Observe, Uri-Port, Uri-Path, Content-Format, Uri-Query and Accept.
 const KNOWN: [Known; 7] = [
     Known {
-        number: 3,
+        number: URI_HOST,
         shortest: 1,
         longest: 255,
         repeats: false,
     },
     OBSERVE,
     Known {
-        number: 7,
+        number: URI_PORT,
         shortest: 0,
         longest: 2,
         repeats: false,
@@ -64,12 +62,12 @@ const KNOWN: [Known; 7] = [
     Known {
         number: URI_PATH,
         shortest: 0,
-        longest: 255,
+        longest: LONGEST_SEGMENT,
         repeats: true,
     },
     CONTENT_FORMAT,
     Known {
-        number: 15,
+        number: URI_QUERY,
         shortest: 0,
         longest: 255,
         repeats: true,
@@ -98,7 +96,7 @@ pub fn fits(row: Known, value: &[u8]) -> bool
 
 /// Whether the option before this one has its number.
 fn is_again(before: Option<u16>, number: u16) -> bool
-    ensures { result ≡ is_repeat before number }
+    ensures { result ≡ stands_again before number }
 {
     match before {
         Some(other) => other == number,
@@ -120,7 +118,7 @@ fn is_right(before: Option<u16>, number: u16, value: &[u8]) -> bool
 pub fn option_fault(before: Option<u16>, number: u16, value: &[u8]) -> Option<AskFault>
     ensures { result ≡ fault_of before (number, value.now) }
 {
-    if number == 35 || number == 39 {
+    if number == PROXY_URI || number == PROXY_SCHEME {
         return Some(AskFault::Proxy);
     }
     if number % 2 == 1 && !is_right(before, number, value) {

@@ -18,6 +18,7 @@
 
 mod ask;
 mod fault;
+mod found;
 mod known;
 mod values;
 

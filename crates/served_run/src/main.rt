@@ -34,7 +34,7 @@ const WRITE: &[u8] =
 const READ: &[u8] =
     b"GET /lamp/properties/level HTTP/1.1\r\nHost: localhost\r\nConnection: close\r\n\r\n";
 
-/// A Confirmable GET by CoAP of the same property, message id 1 (RFC 7252, section 3).
+/// A Confirmable GET by CoAP of the same property, message ID 1 (RFC 7252, section 3).
 const ASK: &[u8] = b"\x40\x01\x00\x01\xb4lamp\x0aproperties\x05level";
 
 fn main(rt: HostRuntime) -> ExitCode {

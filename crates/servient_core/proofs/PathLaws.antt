@@ -5,17 +5,18 @@ use Rattle.std.specs.List.{All, filter}
 use Rattle.std.proofs.lemmas.Bool.{and_parts, leb-true, eqb-true}
 use Rattle.std.proofs.lemmas.List.Elements.{All-nil, All-cons}
 use Rattle.coap_msg.specs.declared.endpoint.Endpoint.{Endpoint}
-use Rattle.coap_msg.specs.declared.message.Type4.{Type4}
-use Rattle.coap_msg.specs.declared.message.Type4.TheVariants.{Con, Non, Ack, Rst}
-use Rattle.coap_msg.specs.Grammar.{CoapOption, CoapMessage, spelling}
+use Rattle.coap_msg.specs.declared.message.RequestType.{RequestType}
+use Rattle.coap_msg.specs.declared.message.RequestType.TheVariants.{Confirmable, NonConfirmable}
+use Rattle.coap_msg.specs.Grammar.{CoapOption, CoapMessage}
+use Rattle.coap_msg.specs.Requests.{request_type}
+use Rattle.coap_msg.specs.Empty.{empty_reply, rejection_of}
 use Rattle.coap_opts.specs.declared.fault.AskFault.{AskFault}
 use Rattle.coap_opts.specs.declared.fault.AskFault.TheVariants as fault
 use Rattle.coap_opts.specs.Table.{may_stand}
 use Rattle.coap_opts.specs.Reading.{PlainAsk, fault_of, and_then_these, faults_after, faults_of, values_under, asked as what_is_asked}
 use Rattle.coap_bind.specs.declared.head.OpenRequest.{OpenRequest}
 use Rattle.coap_bind.specs.declared.server.Server.{Server}
-use Rattle.coap_bind.specs.Writing.{reset}
-use Rattle.coap_bind.specs.Server.{Heard, ignored, answered_at_once, asked, rejected, unasked, again, opened, Settles, malformed, no_request, repeated, full, Reads, bad_option, bad_option_ignored, for_proxy, asks, no_memory, Hears, settled, admitted}
+use Rattle.coap_bind.specs.Server.{Heard, ignored, answered_at_once, asked, replied_at_once, duplicate_reply, opened, Settles, malformed, no_request, duplicate, full, Reads, bad_option, bad_option_ignored, for_proxy, asks, no_memory, Hears, settled, admitted}
 
 abbrev IsShort : List ℕ → Type 0
 IsShort segment = length segment ≤ 255
@@ -62,34 +63,19 @@ IsShortHeard (asked ask request) = All (λ segment. length segment ≤ 255) ask.
 heard_as : (h other : Heard) → h ≡ other → IsShortHeard other → IsShortHeard h
 heard_as h other same short = subst (λ (x : Heard). IsShortHeard x) (sym same) short
 
-at_once_or : (b : Bool) (bytes : List ℕ) → IsShortHeard (if b then answered_at_once bytes else ignored)
-at_once_or true bytes = tt
-at_once_or false bytes = tt
+reply_short : (reply : Option CoapMessage) → IsShortHeard (replied_at_once reply)
+reply_short None = tt
+reply_short (Some m) = tt
 
-rejected_short : (bytes : List ℕ) → IsShortHeard (rejected bytes)
-rejected_short [] = tt
-rejected_short (first ∷ []) = tt
-rejected_short (first ∷ code ∷ []) = tt
-rejected_short (first ∷ code ∷ high ∷ []) = tt
-rejected_short (first ∷ code ∷ high ∷ low ∷ rest) = at_once_or (first / 16 == 4) (spelling (reset (256 * high + low)))
-
-unasked_short : (kind : Type4) (id : ℕ) → IsShortHeard (unasked kind id)
-unasked_short Con id = tt
-unasked_short Non id = tt
-unasked_short Ack id = tt
-unasked_short Rst id = tt
-
-again_short : (kind : Type4) (kept : Option (List ℕ)) → IsShortHeard (again kind kept)
-again_short Con (Some bytes) = tt
-again_short Con None = tt
-again_short Non kept = tt
-again_short Ack kept = tt
-again_short Rst kept = tt
+duplicate_short : (kind : RequestType) (kept : Option (List ℕ)) → IsShortHeard (duplicate_reply kind kept)
+duplicate_short Confirmable (Some bytes) = tt
+duplicate_short Confirmable None = tt
+duplicate_short NonConfirmable kept = tt
 
 settles_short : (from : Endpoint) (bytes : List ℕ) (now : ℕ) (heard : Heard) (s t : Server) → Settles from bytes now heard s t → IsShortHeard heard
-settles_short from bytes now heard s t (malformed f has is same) = heard_as heard (rejected bytes) is (rejected_short bytes)
-settles_short from bytes now heard s t (no_request m spells isnt is same) = heard_as heard (unasked m.kind m.id) is (unasked_short m.kind m.id)
-settles_short from bytes now heard s t (repeated m kept e met found is) = heard_as heard (again m.kind e.reply) is (again_short m.kind e.reply)
+settles_short from bytes now heard s t (malformed f has is same) = heard_as heard (replied_at_once (rejection_of bytes)) is (reply_short (rejection_of bytes))
+settles_short from bytes now heard s t (no_request m spells isnt is same) = heard_as heard (replied_at_once (empty_reply m.kind m.id false)) is (reply_short (empty_reply m.kind m.id false))
+settles_short from bytes now heard s t (duplicate m kept e met found is) = heard_as heard (duplicate_reply (request_type m.kind) e.reply) is (duplicate_short (request_type m.kind) e.reply)
 settles_short from bytes now heard s t (full m u met is after) = heard_as heard _ is tt
 
 reads_short : (m : CoapMessage) (slot : ℕ) (heard : Heard) (s t : Server) → Reads m slot heard s t → IsShortHeard heard

@@ -3,9 +3,10 @@ use Rattle.std.proofs.Common.{◌≡◌, ℕ, ◌≤◌, ◌++◌, List, [], ◌
 use Rattle.std.proofs.lemmas.List.{append-nil}
 use Rattle.servient_base.specs.Moves.{Becomes, Until, is_done, goes_on}
 use Rattle.coap_msg.specs.declared.endpoint.Endpoint.{Endpoint}
-use Rattle.coap_msg.specs.declared.message.Type4.{Type4}
-use Rattle.coap_msg.specs.declared.message.Type4.TheVariants.{Con, Non, Ack, Rst}
+use Rattle.coap_msg.specs.declared.message.RequestType.{RequestType}
+use Rattle.coap_msg.specs.declared.message.RequestType.TheVariants.{Confirmable, NonConfirmable}
 use Rattle.coap_msg.specs.Grammar.{CoapMessage}
+use Rattle.coap_msg.specs.Requests.{request_type}
 use Rattle.coap_msg.proofs.Messages.{at_most_one_message}
 use Rattle.coap_msg.proofs.FaultLaws.{no_fault_of_message}
 use Rattle.coap_exchange.specs.Admission.{Arrival}
@@ -15,7 +16,7 @@ use Rattle.coap_exchange.specs.declared.met.Met.TheVariants.{Fresh, Repeat, Full
 use Rattle.coap_bind.specs.declared.head.OpenRequest.{OpenRequest}
 use Rattle.coap_bind.specs.declared.server.Server.{Server}
 use Rattle.coap_bind.specs.Writing.{Reply}
-use Rattle.coap_bind.specs.Server.{Heard, ignored, answered_at_once, asked, arrival, is_request, with_id_used, with_kept, IsMet, Replies, Reads, bad_option, bad_option_ignored, for_proxy, asks as are_asked, no_memory, malformed, no_request, repeated, full, Hears, settled, admitted, Answers, opened}
+use Rattle.coap_bind.specs.Server.{Heard, ignored, answered_at_once, asked, arrival, is_request, with_id_used, with_kept, IsMet, Replies, Reads, bad_option, bad_option_ignored, for_proxy, asks as are_asked, no_memory, malformed, no_request, duplicate, full, Hears, settled, admitted, Answers, opened}
 use Rattle.coap_bind.specs.Laws.{AreArrivals, Did, nothing, heard_of, answered}
 use Rattle.http_bind.specs.Streams.{Streams, Taken, asks, wants_continue, is_faulty, IsDry, NoneIdle}
 use Rattle.thing_ops.specs.declared.outcome.Outcome.{Outcome}
@@ -41,7 +42,7 @@ arrivals : (from : Endpoint) (bytes : List ℕ) (now : ℕ) (h : Heard) (s t : S
 arrivals from bytes now h s t (settled (malformed f fault is same)) = ([], (λ m spells. absurd (no_fault_of_message f m bytes spells fault)))
 arrivals from bytes now h s t (settled (no_request n spells isnt is same)) =
     ([], (λ m other. subst (λ (x : CoapMessage). is_request x ≡ false) (at_most_one_message n m bytes spells other) isnt))
-arrivals from bytes now h s t (settled (repeated m kept e met found is)) = one_arrival from bytes now m (Repeat kept) s t met
+arrivals from bytes now h s t (settled (duplicate m kept e met found is)) = one_arrival from bytes now m (Repeat kept) s t met
 arrivals from bytes now h s t (settled (full m u met is same)) = one_arrival from bytes now m Full s u met
 arrivals from bytes now h s t (admitted m slot u met reads) = one_arrival from bytes now m (Fresh slot) s u met
 
@@ -52,17 +53,13 @@ met_moment now t u a (Fresh slot) is = ap (λ (x : Table). x.moment) is.1.2
 met_moment now t u a (Repeat kept) is = ap (λ (x : Table). x.moment) is.1
 met_moment now t u a Full is = ap (λ (x : Table). x.moment) is.1.1
 
-used_moment : (kind : Type4) (s : Server) → (with_id_used kind s).exchanges.moment ≡ s.exchanges.moment
-used_moment Con s = refl
-used_moment Non s = refl
-used_moment Ack s = refl
-used_moment Rst s = refl
+used_moment : (kind : RequestType) (s : Server) → (with_id_used kind s).exchanges.moment ≡ s.exchanges.moment
+used_moment Confirmable s = refl
+used_moment NonConfirmable s = refl
 
-kept_moment : (kind : Type4) (slot : ℕ) (bytes : List ℕ) (s : Server) → (with_kept kind slot bytes s).exchanges.moment ≡ s.exchanges.moment
-kept_moment Con slot bytes s = refl
-kept_moment Non slot bytes s = refl
-kept_moment Ack slot bytes s = refl
-kept_moment Rst slot bytes s = refl
+kept_moment : (kind : RequestType) (slot : ℕ) (bytes : List ℕ) (s : Server) → (with_kept kind slot bytes s).exchanges.moment ≡ s.exchanges.moment
+kept_moment Confirmable slot bytes s = refl
+kept_moment NonConfirmable slot bytes s = refl
 
 replies_moment : (r : Reply) (request : OpenRequest) (bytes : List ℕ) (s t : Server) → Replies r request bytes s t → t.exchanges.moment ≡ s.exchanges.moment
 replies_moment r request bytes s t is =
@@ -78,10 +75,10 @@ reads_moment m slot h s t (no_memory bytes none replies is) = replies_moment _ (
 hears_moment : (from : Endpoint) (bytes : List ℕ) (now : ℕ) (h : Heard) (s t : Server) → Hears from bytes now h s t → s.exchanges.moment ≤ now → t.exchanges.moment ≤ now
 hears_moment from bytes now h s t (settled (malformed f fault is same)) early = omega (arith, ap (λ (x : Server). x.exchanges.moment) same, early)
 hears_moment from bytes now h s t (settled (no_request n spells isnt is same)) early = omega (arith, ap (λ (x : Server). x.exchanges.moment) same, early)
-hears_moment from bytes now h s t (settled (repeated m kept e met found is)) early =
+hears_moment from bytes now h s t (settled (duplicate m kept e met found is)) early =
     omega (arith, met_moment now s.exchanges t.exchanges (arrival from now m) (Repeat kept) met.meets)
 hears_moment from bytes now h s t (settled (full m u met is same)) early =
-    omega (arith, ap (λ (x : Server). x.exchanges.moment) same, used_moment m.kind u, met_moment now s.exchanges u.exchanges (arrival from now m) Full met.meets)
+    omega (arith, ap (λ (x : Server). x.exchanges.moment) same, used_moment (request_type m.kind) u, met_moment now s.exchanges u.exchanges (arrival from now m) Full met.meets)
 hears_moment from bytes now h s t (admitted m slot u met reads) early =
     omega (arith, reads_moment m slot h u t reads, met_moment now s.exchanges u.exchanges (arrival from now m) (Fresh slot) met.meets)
 

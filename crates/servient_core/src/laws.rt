@@ -8,7 +8,7 @@ ghost use Rattle.servient_core.specs.declared.serving.Served.TheVariants as serv
 ghost use Rattle.servient_core.specs.Trace.{Sighting, happened_in, calls_in};
 ghost use Rattle.servient_core.specs.Machine.{Site, State};
 ghost use Rattle.servient_core.specs.Serving.{Serves, BreaksAtEnd, StandsFor};
-ghost use Rattle.servient_core.specs.Promises.{RepeatsActOnNothing, FullTableActsOnNothing};
+ghost use Rattle.servient_core.specs.Promises.{DuplicatesActOnNothing, FullTableActsOnNothing};
 ghost use Rattle.servient_core.specs.Meaning.{Message, IsWritten, HaveOneMeaning};
 ghost use Rattle.servient_core.specs.Runs.{EachRunHasAHistory, ServingHasAHistory, MissesAreCounted};
 ghost use Rattle.servient_core.specs.declared.parts.Parts.{Parts};
@@ -32,10 +32,10 @@ pub fn each_stands_for_a_state()
     ensures { (kept : Parts) → (s : State) × StandsFor kept s }
 {}
 
-/// A request that repeats one which was admitted and lives makes no turn and changes nothing of the Things (RFC 7252, section
+/// A duplicate of a request that was admitted and lives makes no turn and changes nothing of the Things (RFC 7252, section
 /// 4.5).
-pub fn repeats_act_on_nothing()
-    ensures { RepeatsActOnNothing }
+pub fn duplicates_act_on_nothing()
+    ensures { DuplicatesActOnNothing }
 {}
 
 /// Where as many exchanges live as may, a request is answered once, makes no turn and is no exchange.
@@ -52,7 +52,7 @@ pub fn one_meaning()
 {}
 
 /// Each state of a run from the beginning has a history, which are the requests in the events of that run; so
-/// `repeats_act_on_nothing` holds of each.
+/// `duplicates_act_on_nothing` holds of each.
 pub fn each_run_has_a_history()
     ensures runs { EachRunHasAHistory }
     ensures serving { ServingHasAHistory }

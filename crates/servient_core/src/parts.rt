@@ -13,18 +13,11 @@ ghost use Rattle.servient_core.specs.Trace.{outside};
 
 use crate::{Event, Net, What};
 use coap_bind::{CoapBind, CoapNext};
-use coap_msg::Endpoint;
+use coap_msg::{Endpoint, LONGEST_DATAGRAM, LONGEST_MESSAGE};
 use http_bind::HttpBind;
 use thing_core::Exposed;
 use thing_handler::Handlers;
 use thing_ops::{Outcome, Request};
-
-/// How many bytes a datagram may have that is heard; `longest_datagram` of the machine.
-const LONGEST_DATAGRAM: usize = 1280;
-
-/// The most bytes of a CoAP reply: what a message may have where nothing is known of the path to its receiver
-/// (RFC 7252, section 4.6).
-const LONGEST_REPLY: usize = 1152;
 
 /// What a servient keeps in a run. `specs/Serving.antt` says which states of the machine it stands for.
 #[derive(Drop)]
@@ -83,7 +76,7 @@ impl Parts {
         if bytes.len() > LONGEST_DATAGRAM {
             return;
         }
-        let mut out = [0u8; LONGEST_REPLY];
+        let mut out = [0u8; LONGEST_MESSAGE];
         match self.coap.datagram(from, bytes, self.moment, &mut out) {
             CoapNext::Nothing => {}
             CoapNext::Send(size) => net.datagram(from, &out[..size]),

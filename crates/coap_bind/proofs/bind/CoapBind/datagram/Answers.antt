@@ -4,7 +4,8 @@ use Rattle.coap_msg.specs.MessageOf.{message_of}
 use Rattle.coap_bind.specs.declared.next.CoapNext.TheVariants.{Nothing, Send}
 use Rattle.coap_bind.specs.declared.server.Server.{Server}
 use Rattle.coap_bind.specs.Server.{settled, admitted}
-use Rattle.coap_bind.specs.Telling.{TellsDone, Tells, HearsAs, SettlesAs}
+use Rattle.coap_bind.specs.Telling.{Tells, HearsAs, SettlesAs}
+use Rattle.coap_bind.specs.Settling.{TellsDone}
 use Rattle.coap_bind.proofs.TellingLaws.{tells_nothing, tells_send}
 use Rattle.coap_bind.proofs.bind.CoapBind.datagram.Goals as goal
 

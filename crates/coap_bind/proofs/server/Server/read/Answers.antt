@@ -5,7 +5,8 @@ use Rattle.coap_opts.specs.declared.fault.AskFault.TheVariants.{BadOption, Proxy
 use Rattle.thing_ops.specs.declared.outcome.Outcome.TheVariants.{Memory}
 use Rattle.coap_bind.specs.declared.head.RequestHead.{RequestHead}
 use Rattle.coap_bind.specs.Writing.{proxy_reply, reply_of}
-use Rattle.coap_bind.specs.Telling.{RefusesOption, RepliesAs}
+use Rattle.coap_bind.specs.Telling.{RepliesAs}
+use Rattle.coap_bind.specs.Settling.{RefusesOption}
 use Rattle.coap_bind.proofs.ReadingLaws.{first_fault, no_fault_here, reads_bad_option, reads_for_proxy, reads_no_memory}
 use Rattle.coap_bind.proofs.server.Server.read.Goals as goal
 
@@ -14,7 +15,7 @@ returns-in-Err-BadOption-clause-ok c =
     let P : RequestHead → Type 0 = λ h.
     RefusesOption (record { head = h; slot = c.args.slot }) c.in-Err-BadOption.number c.refuse_option.result c.args.out.now c.refuse_option.new.out
     c.args.self.now c.refuse_option.new.self in
-    reads_bad_option (message_of c.args.message.now) c.args.slot c.in-Err-BadOption.number _ _ _ _ _ c.requires.request
+    reads_bad_option (message_of c.args.message.now) c.args.slot c.in-Err-BadOption.number _ _ _ _ _
     (first_fault _ c.in-Err-BadOption.field-0 (BadOption c.in-Err-BadOption.number) c.in-Err-BadOption.field-0-is (λ e. cc) c.in-Err-BadOption.ensures.fault)
     (subst P c.of.ensures c.refuse_option.ensures)
 

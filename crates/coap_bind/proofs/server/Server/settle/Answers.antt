@@ -1,35 +1,40 @@
 -- Each way out is a rule.
 use Rattle.std.proofs.Common.{◌≡◌, ◌∙◌, sym, subst, refl, Some}
 use Rattle.coap_msg.specs.MessageOf.{message_of}
+use Rattle.coap_msg.specs.declared.message.RequestType.{RequestType}
 use Rattle.coap_msg.specs.Grammar.{spelling}
+use Rattle.coap_msg.specs.Requests.{request_type}
+use Rattle.coap_msg.specs.Written.{IsWritten}
 use Rattle.coap_exchange.specs.Table.{Table, exchange_in}
 use Rattle.coap_bind.specs.declared.head.RequestHead.{RequestHead}
 use Rattle.coap_bind.specs.declared.server.Server.{Server}
 use Rattle.coap_bind.specs.Writing.{full_reply, coap_reply}
-use Rattle.coap_bind.specs.Server.{again, with_id_used, malformed, no_request, repeated, full}
-use Rattle.coap_bind.specs.Telling.{IsWritten}
+use Rattle.coap_bind.specs.Server.{duplicate_reply, with_id_used, malformed, no_request, duplicate, full}
+use Rattle.coap_bind.specs.Settling.{TellsDone}
+use Rattle.coap_bind.proofs.TellingLaws.{tells_reply}
 use Rattle.coap_bind.proofs.server.Server.settle.Goals as goal
 
 pub returns-in-Err-clause-ok : goal.returns-in-Err-clause-ok
-returns-in-Err-clause-ok c = (_, malformed _ c.in-Err.ensures.fault refl refl, c.reject.ensures)
+returns-in-Err-clause-ok c = (_, malformed _ c.in-Err.ensures.fault refl refl, tells_reply _ _ _ _ c.put_rejection.ensures)
 
 pub returns-then-not-is_request-clause-ok : goal.returns-then-not-is_request-clause-ok
 returns-then-not-is_request-clause-ok c = (
   _,
   no_request (message_of c.in-Ok.message) c.in-Ok.ensures.ok (sym c.is_request.ensures ∙ c.if-not-is_request.true) refl refl,
-  c.answer_unasked.ensures,
+  tells_reply _ _ _ _ c.put_empty_reply.ensures,
 )
 
 pub returns-in-Repeat-clause-ok : goal.returns-in-Repeat-clause-ok
 returns-in-Repeat-clause-ok c =
     let met = c.in-Repeat.ensures.met in
     let there : exchange_in met.0.0.slot c.meet.new.self ≡ Some met.0.0
-    = subst (λ (w : Table). exchange_in met.0.0.slot w ≡ Some met.0.0) (sym met.1) met.0.2 in (
-      again c.in-Ok.message.kind met.0.0.reply,
-      repeated (message_of c.in-Ok.message) c.in-Repeat.kept met.0.0
+    = subst (λ (w : Table). exchange_in met.0.0.slot w ≡ Some met.0.0) (sym met.1) met.0.2 in
+    let R : RequestType → Type 0 = λ kind. TellsDone (duplicate_reply kind met.0.0.reply) c.answer_duplicate.result c.args.out.now c.answer_duplicate.new.out in (
+      duplicate_reply (request_type c.in-Ok.message.kind) met.0.0.reply,
+      duplicate (message_of c.in-Ok.message) c.in-Repeat.kept met.0.0
           (record { spells = c.in-Ok.ensures.ok; request = sym c.is_request.ensures ∙ c.if-not-is_request.false; meets = met; same_id = refl })
           met.0.1 refl,
-      c.repeat.ensures met.0.0 there met.0.3,
+      subst R c.of-kind.ensures (c.answer_duplicate.ensures met.0.0 there met.0.3),
     )
 
 pub returns-in-Full-clause-ok : goal.returns-in-Full-clause-ok

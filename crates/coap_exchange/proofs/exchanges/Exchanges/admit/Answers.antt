@@ -22,7 +22,7 @@ invariant_of-self-2 c =
     let ok : is_ok c.push.result ≡ true = c.push.ensures.succeeds (omega (arith, c.self.invariant.count, c.self.invariant.entries_room, c.self.inside.entries.ok.0)) in
     let pushed : c.push.new.self.items ≡ c.self.inside.entries.items ++ e ∷ []
     = c.push.ensures.items ∙ ap (λ b. if b then c.self.inside.entries.items ++ e ∷ [] else c.self.inside.entries.items) ok in
-    stays_kept_admitting c.self.inside _ e c.self.invariant c.in_ok-slot.ensures.items pushed (lives_at_first (arrival_of e) c.requires)
+    stays_kept_admitting c.self.inside _ e c.self.invariant c.in_ok-slot.ensures.items pushed (lives_at_first (arrival_of e))
     refl refl (length-set c.self.inside.replies.items c.in_ok-slot.slot None) c.push.ensures.capacity c.pop.ensures.capacity
 
 pub returns : goal.returns

@@ -3,7 +3,8 @@ use Rattle.std.specs.Prelude.{Result, Ok, Err, OnErr}
 use Rattle.std.proofs.lemmas.List.{length-take-le}
 use Rattle.coap_msg.specs.Grammar.{CoapOption, option_spelling, options_spelling, largest_number, MayFollow}
 use Rattle.coap_msg.specs.Options.{options_of}
-use Rattle.coap_msg.specs.Opts.{WrittenOptions, AreWritten, last_number}
+use Rattle.coap_msg.specs.Kept.{AreWritten}
+use Rattle.coap_msg.specs.Opts.{WrittenOptions, last_number}
 use Rattle.coap_msg.proofs.OptionLists.{IsPushed, pushed}
 use Rattle.coap_msg.proofs.opts.Opts.push.Goals as goal
 

@@ -1,0 +1,10 @@
+-- How a request is sent (RFC 7252, sections 4.2 and 4.3).
+use Rattle.coap_msg.specs.declared.message.Type4.{Type4}
+use Rattle.coap_msg.specs.declared.message.Type4.TheVariants.{Con}
+use Rattle.coap_msg.specs.declared.message.RequestType.{RequestType}
+use Rattle.coap_msg.specs.declared.message.RequestType.TheVariants.{Confirmable, NonConfirmable}
+
+-- a request is sent in a Confirmable message (section 4.2), and any other in a Non-confirmable one (section 4.3)
+abbrev pub request_type : Type4 → RequestType
+request_type Con = Confirmable
+request_type _ = NonConfirmable

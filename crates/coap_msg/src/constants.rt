@@ -1,0 +1,87 @@
+//! The numbers of CoAP that more than one crate names: sizes, the numbers of options, codes and content formats.
+
+// ---- sizes, in bytes
+
+/// The most bytes of a token (RFC 7252, section 3).
+pub const LONGEST_TOKEN: usize = 8;
+
+/// The most bytes of a segment, the value of Uri-Path or of Location-Path (RFC 7252, section 5.10).
+pub const LONGEST_SEGMENT: usize = 255;
+
+/// The most bytes of a payload where nothing is known of the path to its receiver (RFC 7252, section 4.6).
+pub const LONGEST_PAYLOAD: usize = 1024;
+
+/// The most bytes of a message where nothing is known of the path to its receiver (RFC 7252, section 4.6).
+pub const LONGEST_MESSAGE: usize = 1152;
+
+/// The most bytes of a datagram that is looked at: the least that every link of IPv6 carries whole (RFC 8200, section 5).
+pub const LONGEST_DATAGRAM: usize = 1280;
+
+// ---- the numbers of options (RFC 7252, section 12.2; RFC 7641, section 2)
+
+/// The host that a request is for.
+pub const URI_HOST: u16 = 3;
+
+/// To observe, and the sequence number of a notification.
+pub const OBSERVE: u16 = 6;
+
+/// The port that a request is for.
+pub const URI_PORT: u16 = 7;
+
+/// A segment of the path of what was made.
+pub const LOCATION_PATH: u16 = 8;
+
+/// A segment of the path of a request.
+pub const URI_PATH: u16 = 11;
+
+/// The content format of the payload.
+pub const CONTENT_FORMAT: u16 = 12;
+
+/// A part of the query of a request.
+pub const URI_QUERY: u16 = 15;
+
+/// The content format that a response is to have.
+pub const ACCEPT: u16 = 17;
+
+/// The URI that a proxy is asked for.
+pub const PROXY_URI: u16 = 35;
+
+/// The scheme of the URI that a proxy is asked for.
+pub const PROXY_SCHEME: u16 = 39;
+
+// ---- codes (RFC 7252, section 12.1): the class in the upper three bits, the detail in the lower five
+
+/// 0.00, that of an empty message.
+pub const EMPTY: u8 = 0;
+
+/// 0.01.
+pub const GET: u8 = 1;
+
+/// 0.02.
+pub const POST: u8 = 2;
+
+/// 0.03.
+pub const PUT: u8 = 3;
+
+/// 0.04.
+pub const DELETE: u8 = 4;
+
+/// 4.02.
+pub const BAD_OPTION: u8 = 32 * 4 + 2;
+
+/// 5.00.
+pub const INTERNAL_SERVER_ERROR: u8 = 32 * 5;
+
+/// 5.03.
+pub const SERVICE_UNAVAILABLE: u8 = 32 * 5 + 3;
+
+/// 5.05.
+pub const PROXYING_NOT_SUPPORTED: u8 = 32 * 5 + 5;
+
+// ---- content formats (RFC 7252, section 12.3)
+
+/// `application/json`.
+pub const JSON: u16 = 50;
+
+/// `application/td+json` (TD 1.1, "IANA Considerations").
+pub const TD_JSON: u16 = 432;

@@ -1,0 +1,90 @@
+//! What is found of the options of a request, in one go over them.
+
+ghost use Rattle.std.specs.Prelude.{◌≡◌, ◌++◌, [], ◌∷◌, OnOk, IfErr, Some};
+ghost use Rattle.coap_opts.specs.Reading.{faults_of, values_under, IsRefusal};
+ghost use Rattle.coap_opts.specs.Found.{first_value, kept_first};
+
+use crate::AskFault;
+use crate::known::option_fault;
+use coap_msg::{ACCEPT, CONTENT_FORMAT, OBSERVE, Options, URI_PATH};
+use thing_ops::{NoMemory, Segments};
+
+/// What was found of the options so far: the path, and the first value of each number.
+#[derive(Drop)]
+pub struct Found<'a> {
+    /// The values of Uri-Path.
+    pub path: Segments,
+    /// The first value of Observe.
+    pub observe: Option<&'a [u8]>,
+    /// The first value of Content-Format.
+    pub format: Option<&'a [u8]>,
+    /// The first value of Accept.
+    pub accept: Option<&'a [u8]>,
+}
+
+impl<'a> Found<'a> {
+    ghost use Rattle.std.specs.Prelude.{◌≡◌, ◌++◌, [], ◌∷◌, OnOk};
+    ghost use Rattle.std.specs.Option.{option_or};
+    ghost use Rattle.coap_opts.specs.Reading.{values_under};
+    ghost use Rattle.coap_opts.specs.Found.{first_value, kept_first};
+
+    /// Notes one more option.
+    fn note(&mut self, number: u16, value: &'a [u8]) -> Result<(), NoMemory>
+        ensures path { OnOk result (self.new.path ≡ self.old.path ++ values_under 11 ((number, value.now) ∷ [])) }
+        ensures observe { OnOk result (kept_first self.new.observe ≡
+            option_or (kept_first self.old.observe) (first_value 6 ((number, value.now) ∷ []))) }
+        ensures format { OnOk result (kept_first self.new.format ≡
+            option_or (kept_first self.old.format) (first_value 12 ((number, value.now) ∷ []))) }
+        ensures accept { OnOk result (kept_first self.new.accept ≡
+            option_or (kept_first self.old.accept) (first_value 17 ((number, value.now) ∷ []))) }
+    {
+        match number {
+            URI_PATH => return self.path.push(value),
+            OBSERVE => self.observe = self.observe.or(Some(value)),
+            CONTENT_FORMAT => self.format = self.format.or(Some(value)),
+            ACCEPT => self.accept = self.accept.or(Some(value)),
+            _ => {}
+        }
+        Ok(())
+    }
+}
+
+/// Finds all that counts of some options, where nothing is found yet, or says what is wrong with the first of them that is.
+pub fn note_all<'a>(found: &mut Found<'a>, options: &Options<'a>) -> Result<(), AskFault>
+    requires path { found.old.path ≡ [] }
+    requires observe { kept_first found.old.observe ≡ None }
+    requires format { kept_first found.old.format ≡ None }
+    requires accept { kept_first found.old.accept ≡ None }
+    ensures faultless { OnOk result (faults_of options.now ≡ []) }
+    ensures path { OnOk result (found.new.path ≡ values_under 11 options.now) }
+    ensures observe { OnOk result (kept_first found.new.observe ≡ first_value 6 options.now) }
+    ensures format { OnOk result (kept_first found.new.format ≡ first_value 12 options.now) }
+    ensures accept { OnOk result (kept_first found.new.accept ≡ first_value 17 options.now) }
+    ensures fault { IfErr result (λ e. IsRefusal options.now e) }
+{
+    let mut before = None;
+    for (number, value) in options.iter() {
+        match option_fault(before, number, value) {
+            Some(fault) => return Err(fault),
+            None => match found.note(number, value) {
+                Ok(()) => before = Some(number),
+                Err(_) => return Err(refusal(options)),
+            },
+        }
+    }
+    Ok(())
+}
+
+/// Why a request with these options is refused where memory is out.
+pub fn refusal(options: &Options<'_>) -> AskFault
+    ensures { IsRefusal options.now result }
+{
+    let mut before = None;
+    for (number, value) in options.iter() {
+        match option_fault(before, number, value) {
+            Some(fault) => return fault,
+            None => before = Some(number),
+        }
+    }
+    AskFault::NoMemory
+}

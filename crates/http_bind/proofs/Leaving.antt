@@ -15,7 +15,8 @@ use Rattle.http_bind.specs.declared.looking.Found.TheVariants as seen
 use Rattle.http_bind.specs.declared.next.HttpNext.{HttpNext}
 use Rattle.http_bind.specs.declared.next.HttpNext.TheVariants as next
 use Rattle.http_bind.specs.Streams.{Taken, asks, wants_continue, is_faulty, to_take, found, read_as, bytes_used, expected}
-use Rattle.http_bind.specs.Looking.{Shows, IsWithin, request_in}
+use Rattle.http_wire.specs.Reading.{request_in}
+use Rattle.http_bind.specs.Looking.{Shows, IsWithin}
 use Rattle.http_bind.specs.Shown.{Passes, TakesAt, Lends, after_finding}
 use Rattle.http_bind.specs.Slots.{Held, Slots, held_at, with_held, without_pairs, left_in, left_at}
 use Rattle.http_bind.specs.Given.{LeavesLess}

@@ -34,12 +34,15 @@ mod heads;
 mod laws;
 mod lines;
 mod reply;
+mod request;
 mod scanned;
 mod stream;
 mod target;
 
+pub use heads::skip_pairs;
 pub use laws::{front_is_stable, one_front};
-pub use reply::{Reply, has_reason, put_reply};
+pub use reply::{Reply, has_reason, put_piece, put_reply};
+pub use request::{RequestParts, request_of, verb_of};
 pub use scanned::{Body, Head, Scanned};
 pub use stream::scan;
 pub use target::{TargetFault, segments};

@@ -1,5 +1,6 @@
 pub mod Places
-pub mod FoundValues
+pub mod FieldLines
+pub mod HeadParts
 pub mod Digits
 pub mod ChunkRows
 pub mod Fronts

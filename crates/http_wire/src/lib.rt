@@ -23,8 +23,8 @@
 //! The contract in a sentence: `scan` says of any bytes exactly what `IsFront` of `specs/Stream.antt` does, `segments`
 //! gives exactly `segments_of` and `query_place` of `specs/Targets.antt`, and `put_reply` writes exactly `http_reply` of
 //! `specs/Writing.antt`. The laws: bytes have one front at most, and one that is a whole message or a fault stays the
-//! same whatever comes behind it. What a request head is, the grammar of `httparse` says, and nothing else here rests
-//! on that crate: what a head says is read from its lines. Memory is taken by `segments` alone.
+//! same whatever comes behind it. What a request head is and what its lines are, the grammar of `httparse` says. Memory is
+//! taken for paths alone.
 #![tactic(auto)]
 
 mod chunks;

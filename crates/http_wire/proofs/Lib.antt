@@ -8,3 +8,5 @@ pub mod MoreBytes
 pub mod OneFront
 pub mod MoreOfAStream
 pub mod FewerBytes
+pub mod ChunkLines
+pub mod ChunkBodies

@@ -1,4 +1,6 @@
--- Bodies at the front of bytes, and bodies in chunks (RFC 9112, section 7.1).
+-- Bodies at the front of bytes, and how those in chunks are read from their front, with the places at which their faults
+-- are seen (RFC 9112, section 7.1). What such a body is, Chunked.antt says as a grammar; that what is read is what is spelled
+-- there, is the law `chunked_bodies_are_spelled`.
 use Rattle.std.specs.Prelude.{ℕ, zero, suc, ◌+◌, ◌-◌, ◌==◌, List, [], ◌∷◌, ◌++◌, length, take, drop, ◌&&◌, nat_lt, nat_le, nat_eq, Option, Some, None, if◌then◌else◌}
 use Rattle.std.specs.List.{list_all, starts_with, before_first, after_first}
 use Rattle.std.specs.Char.{is_ascii_hexdigit}

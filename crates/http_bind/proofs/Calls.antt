@@ -1,13 +1,14 @@
 -- What calls lead to, by what they put in place of what was held of one connection.
 use Rattle.std.proofs.Common.{◌≡◌, ℕ, zero, suc, ◌<◌, Bool, true, false, List, [], ◌∷◌, ◌++◌, length, get_or, refl, sym, ap, subst, ◌∙◌, cond}
-use Rattle.std.specs.Prelude.{Option, Some, None, option_map, ◌==◌}
-use Rattle.std.proofs.lemmas.List.{get_or_read}
+use Rattle.std.specs.Prelude.{Option, Some, None, option_map, IsSome, ◌==◌}
+use Rattle.std.proofs.lemmas.List.{get_or_read, append-nil}
+use Rattle.std.proofs.lemmas.Bool.{eqb-true}
 use Rattle.thing_ops.specs.declared.outcome.Outcome.{Outcome}
 use Rattle.thing_ops.specs.Requests.{PlainRequest}
-use Rattle.http_bind.specs.Replying.{reply, reply_head, reply_body, refusal}
+use Rattle.http_bind.specs.Replying.{reply, reply_head, reply_body, fault_word, fault_head, fault_body, fault_reply, continue_reply, status_head}
 use Rattle.thing_ops.specs.Outcomes.{payload_of}
 use Rattle.http_bind.specs.Shown.{Answers}
-use Rattle.http_bind.specs.Streams.{Connection, Streams, connection_at, with_connection, opened_at, lengthened, Opened, Ended, Lengthened, Replies, Refuses, after_reply}
+use Rattle.http_bind.specs.Streams.{Connection, Streams, connection_at, with_connection, opened_at, lengthened, Opened, Ended, Lengthened, Replies, Continues, Refuses, after_reply}
 use Rattle.http_bind.specs.Slots.{Held, Slots, HoldsIfOpen, Leads, held_at, with_held, held_at_opening, longer, IsAskedBy, AwaitsReply, OthersStay}
 use Rattle.http_bind.proofs.Holding.{holds_opening, holds_longer, holds_reply}
 use Rattle.http_bind.proofs.Standing.{leads_at}
@@ -98,16 +99,32 @@ same_held c [] = refl
 same_held zero (x ∷ b) = refl
 same_held (suc c) (x ∷ b) = ap (λ (d : Slots). x ∷ d) (same_held c b)
 
--- a connection goes on, or isn't open any more
-pub refused_leads : (c status : ℕ) (bytes : List ℕ) (b d : Slots) (t : Bool) → (status == 100) ≡ t → d ≡ cond t b (with_held c None b) → bytes ≡ refusal status →
-    Leads (Refuses c status bytes) b d
-refused_leads c status bytes b d true is put said =
-    subst (Leads (Refuses c status bytes) b) (sym put)
-    (λ s stands. (s, stands, (said, sym (ap (λ (t : Bool). cond t s (with_connection c None s)) is))))
-refused_leads c status bytes b d false is put said =
-    subst (Leads (Refuses c status bytes) b) (sym put)
-    (leads_at c b None (Refuses c status bytes) (λ s holds. (None, tt, (said, sym (ap (λ (t : Bool). cond t s (with_connection c None s)) is)))))
+-- the 100 reply
+pub continues_lead : (c status : ℕ) (bytes : List ℕ) (b d : Slots) → d ≡ cond (status == 100) b (with_held c None b) → bytes ≡ status_head status ++ fault_body status →
+    status ≡ 100 → Leads (Continues bytes) b d
+continues_lead c status bytes b d put said is =
+    let same : d ≡ b = put ∙ ap (λ (n : ℕ). cond (n == 100) b (with_held c None b)) is in
+    let written : bytes ≡ continue_reply = said ∙ ap (λ (n : ℕ). status_head n ++ fault_body n) is ∙ append-nil continue_reply in
+    subst (Leads (Continues bytes) b) (sym same) (λ s stands. (s, stands, (written, refl)))
 
+-- a status with a word isn't that of the 100 reply
+isnt_continue : (status : ℕ) (t : Bool) → (status == 100) ≡ t → IsSome (fault_word status) → t ≡ false
+isnt_continue status true is has = absurd (none (subst (λ (n : ℕ). IsSome (fault_word n)) (eqb-true status 100 is) has))
+  where
+    none : IsSome (fault_word 100) → ⊥
+    none has = cc
+isnt_continue status false is has = refl
+
+-- the reply to a fault
+pub refuses_lead : (c status : ℕ) (bytes : List ℕ) (b d : Slots) → d ≡ cond (status == 100) b (with_held c None b) → bytes ≡ status_head status ++ fault_body status →
+    IsSome (fault_word status) → Leads (Refuses c status bytes) b d
+refuses_lead c status bytes b d put said has =
+    let isnt : (status == 100) ≡ false = isnt_continue status (status == 100) refl has in
+    let same : d ≡ with_held c None b = put ∙ ap (λ (t : Bool). cond t b (with_held c None b)) isnt in
+    let written : bytes ≡ fault_reply status = said ∙ ap (λ (t : Bool). cond t continue_reply (fault_head status) ++ fault_body status) isnt in
+    subst (Leads (Refuses c status bytes) b) (sym same) (leads_at c b None (Refuses c status bytes) (λ s holds. (None, tt, (written, refl))))
+
+-- a connection goes on, or isn't open any more
 pub others_stay : (c : ℕ) (b d : Slots) (t : Bool) → d ≡ cond t b (with_held c None b) → OthersStay c b d
 others_stay c b d true put = (held_at c b, put ∙ sym (same_held c b))
 others_stay c b d false put = (None, put)

@@ -1,5 +1,5 @@
 -- Each fault at the front of a stream has a word.
-use Rattle.std.proofs.Common.{◌≡◌, ℕ, zero, suc, ◌+◌, ◌-◌, Bool, true, false, List, [], ◌∷◌, length, take, drop, refl, subst, cond}
+use Rattle.std.proofs.Common.{◌≡◌, ℕ, zero, suc, ◌+◌, ◌-◌, Bool, true, false, List, [], ◌∷◌, length, take, drop, refl, sym, ap, subst, ◌∙◌, cond}
 use Rattle.std.specs.Prelude.{Option, Some, None, Result, Ok, Err, not, nat_le, nat_lt, nat_eq, IsSome, codes}
 use Rattle.std.specs.List.{starts_with}
 use Rattle.std.specs.Str.{str_eq_ignore_ascii_case}
@@ -8,9 +8,10 @@ use Rattle.http_wire.specs.declared.framing.Framing.{Framing}
 use Rattle.http_wire.specs.declared.framing.Framing.TheVariants as framing
 use Rattle.http_wire.specs.declared.chunks.Chunk.{Chunk}
 use Rattle.http_wire.specs.declared.chunks.Chunk.TheVariants as chunk
+use Rattle.httparse.specs.Grammar.{RequestHead}
 use Rattle.http_wire.specs.Heads.{skipped, empty_line, line_end, length_through, is_newer}
-use Rattle.http_wire.specs.Fields.{values_of}
-use Rattle.http_wire.specs.Judging.{IsJudged, too_many_lines, bare_line_end, no_head, one_head, expects, longest_body, is_length, framing_by, has_right_counts}
+use Rattle.http_wire.specs.Fields.{Standing, absent, once, often, Said, said_by, lines_of}
+use Rattle.http_wire.specs.Judging.{FramedHead, with_framing, IsJudged, too_many_lines, bare_line_end, no_head, one_head, expects, longest_body, is_length, framing_by, has_right_counts, fields_judged}
 use Rattle.http_wire.specs.Chunks.{BodyFront, unfinished, faulty, whole, chunks, chunk_at, lined_chunk, sized_chunk, chunk_size, trailers_to, follow, with_chunk}
 use Rattle.http_wire.specs.Stream.{Front, short, fault, IsFront, IsFrontAfter, no_end, one_end, with_body, with_head, longest_head, longest_coded, body_front, within_longest}
 use Rattle.http_bind.specs.Replying.{fault_word}
@@ -50,28 +51,42 @@ coded_said false false a b status r sa sb is err = let same : b ≡ status = cc 
 err_said : (a status : ℕ) (r : Result Framing ℕ) → IsSaid a → r ≡ Err a → r ≡ Err status → IsSaid status
 err_said a status r sa is err = let same : a ≡ status = cc in subst IsSaid same sa
 
-framing_said : (newer : Bool) (ls cs : List (List ℕ)) (status : ℕ) (r : Result Framing ℕ) → r ≡ framing_by newer ls cs → r ≡ Err status → IsSaid status
-framing_said newer [] [] status r is err = absurd cc
-framing_said newer [] (v ∷ []) status r is err =
+framing_said : (newer : Bool) (ls cs : Standing) (status : ℕ) (r : Result Framing ℕ) → r ≡ framing_by newer ls cs → r ≡ Err status → IsSaid status
+framing_said newer absent absent status r is err = absurd cc
+framing_said newer absent (once v) status r is err =
     coded_said (not newer) (str_eq_ignore_ascii_case v (codes "chunked")) 400 501 status r said_400 said_501 is err
-framing_said newer [] (v ∷ w ∷ cs) status r is err = err_said 400 status r said_400 is err
-framing_said newer (v ∷ []) [] status r is err =
+framing_said newer absent often status r is err = err_said 400 status r said_400 is err
+framing_said newer (once v) absent status r is err =
     stated_said (not (is_length v)) (nat_lt longest_body (digits_value 10 v)) 400 413 (digits_value 10 v) status r said_400 said_413 is err
-framing_said newer (v ∷ []) (w ∷ cs) status r is err = err_said 400 status r said_400 is err
-framing_said newer (v ∷ w ∷ ls) [] status r is err = err_said 400 status r said_400 is err
-framing_said newer (v ∷ w ∷ ls) (u ∷ cs) status r is err = err_said 400 status r said_400 is err
+framing_said newer (once v) (once w) status r is err = err_said 400 status r said_400 is err
+framing_said newer (once v) often status r is err = err_said 400 status r said_400 is err
+framing_said newer often absent status r is err = err_said 400 status r said_400 is err
+framing_said newer often (once w) status r is err = err_said 400 status r said_400 is err
+framing_said newer often often status r is err = err_said 400 status r said_400 is err
 
 fields_said : (t : Bool) (status : ℕ) (r s : Result Framing ℕ) → (r ≡ s → IsSaid status) → r ≡ cond t s (Err 400) → r ≡ Err status → IsSaid status
 fields_said true status r s by is err = by is
 fields_said false status r s by is err = err_said 400 status r said_400 is err
 
-judged_said : (head : List ℕ) (status : ℕ) (r : Result Framing ℕ) → IsJudged head r → r ≡ Err status → IsSaid status
-judged_said head status r (too_many_lines many is) err = err_said 431 status r said_431 is err
-judged_said head status r (bare_line_end few bare is) err = err_said 400 status r said_400 is err
-judged_said head status r (no_head few paired none is) err = err_said 400 status r said_400 is err
-judged_said head status r (one_head few paired one is) err =
-    fields_said (has_right_counts head) status r _
-    (λ fields. framing_said (is_newer head) (values_of (codes "content-length") head) (values_of (codes "transfer-encoding") head) status r fields err) is err
+-- the fields of a head
+judged_fields_said : (newer : Bool) (said : Said) (status : ℕ) → fields_judged newer said ≡ Err status → IsSaid status
+judged_fields_said newer said status err =
+    fields_said (has_right_counts newer said) status (fields_judged newer said) _
+    (λ fields. framing_said newer said.content_length said.transfer_encoding status (fields_judged newer said) fields err) refl err
+
+framed_said : (h : RequestHead) (status : ℕ) (r : Result Framing ℕ) → (r ≡ Err status → IsSaid status) → with_framing h r ≡ Err status → IsSaid status
+framed_said h status (Err s) by err = let same : s ≡ status = cc in by (ap Err same)
+framed_said h status (Ok f) by err = absurd cc
+
+head_said : (a status : ℕ) (r : Result FramedHead ℕ) → IsSaid a → r ≡ Err a → r ≡ Err status → IsSaid status
+head_said a status r sa is err = let same : a ≡ status = cc in subst IsSaid same sa
+
+judged_said : (head : List ℕ) (status : ℕ) (r : Result FramedHead ℕ) → IsJudged head r → r ≡ Err status → IsSaid status
+judged_said head status r (too_many_lines many is) err = head_said 431 status r said_431 is err
+judged_said head status r (bare_line_end few bare is) err = head_said 400 status r said_400 is err
+judged_said head status r (no_head few paired none is) err = head_said 400 status r said_400 is err
+judged_said head status r (one_head h few paired one is) err =
+    framed_said h status (fields_judged (is_newer h) (said_by (lines_of h))) (judged_fields_said (is_newer h) (said_by (lines_of h)) status) (sym is ∙ err)
 
 -- ---- chunks
 
@@ -150,17 +165,17 @@ body_said (framing.Stated n) bytes status is = stated_body_said (nat_le n (lengt
 body_said framing.Chunked bytes status is =
     coded_body_said bytes status (chunks 0 0 (take longest_coded bytes)) (chunks_said 0 0 (take longest_coded bytes) status) is
 
-with_body_said : (head : List ℕ) (taken : ℕ) (e : Bool) (b : BodyFront) (status : ℕ) (expect : Bool) → ((s : ℕ) → b ≡ faulty s → IsSaid s) →
-    fault status expect ≡ with_body head taken e b → IsSaid status
-with_body_said head taken e unfinished status expect by is = absurd cc
-with_body_said head taken e (faulty s) status expect by is = let same : s ≡ status = cc in subst IsSaid same (by s refl)
-with_body_said head taken e (whole body used) status expect by is = absurd cc
+with_body_said : (h : RequestHead) (taken : ℕ) (e : Bool) (b : BodyFront) (status : ℕ) (expect : Bool) → ((s : ℕ) → b ≡ faulty s → IsSaid s) →
+    fault status expect ≡ with_body h taken e b → IsSaid status
+with_body_said h taken e unfinished status expect by is = absurd cc
+with_body_said h taken e (faulty s) status expect by is = let same : s ≡ status = cc in subst IsSaid same (by s refl)
+with_body_said h taken e (whole body used) status expect by is = absurd cc
 
-with_head_said : (head : List ℕ) (taken : ℕ) (r : Result Framing ℕ) (bytes : List ℕ) (status : ℕ) (expect : Bool) → IsJudged head r →
-    fault status expect ≡ with_head head taken r bytes → IsSaid status
+with_head_said : (head : List ℕ) (taken : ℕ) (r : Result FramedHead ℕ) (bytes : List ℕ) (status : ℕ) (expect : Bool) → IsJudged head r →
+    fault status expect ≡ with_head taken r bytes → IsSaid status
 with_head_said head taken (Err s) bytes status expect judged is = let same : s ≡ status = cc in subst IsSaid same (judged_said head s (Err s) judged refl)
-with_head_said head taken (Ok f) bytes status expect judged is =
-    with_body_said head taken (expects head f) (body_front f bytes) status expect (λ s. body_said f bytes s) is
+with_head_said head taken (Ok h) bytes status expect judged is =
+    with_body_said h.head taken (expects h.head h.framing) (body_front h.framing bytes) status expect (λ s. body_said h.framing bytes s) is
 
 none_said : (t : Bool) (status : ℕ) (expect : Bool) (f : Front) → f ≡ cond t (fault 431 false) (short false) → f ≡ fault status expect → IsSaid status
 none_said true status expect f is err = let same : 431 ≡ status = cc in subst IsSaid same said_431

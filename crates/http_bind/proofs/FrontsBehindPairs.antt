@@ -2,9 +2,9 @@
 use Rattle.std.proofs.Common.{◌≡◌, ℕ, ◌+◌, ◌-◌, ◌&&◌, Bool, true, false, List, length, take, drop, refl, sym, ap, subst, ◌∙◌, arith, cond}
 use Rattle.std.specs.Prelude.{Some, None, Result, Ok, Err, not, nat_le}
 use Rattle.thing_ops.specs.Requests.{PlainRequest}
-use Rattle.http_wire.specs.declared.framing.Framing.{Framing}
+use Rattle.httparse.specs.Grammar.{RequestHead}
 use Rattle.http_wire.specs.Heads.{skipped}
-use Rattle.http_wire.specs.Judging.{expects}
+use Rattle.http_wire.specs.Judging.{FramedHead, expects}
 use Rattle.http_wire.specs.Chunks.{BodyFront, unfinished, faulty, whole}
 use Rattle.http_wire.specs.Stream.{plain_head_of, Front, short, message, fault, IsFront, IsFrontAfter, no_end, one_end, with_body, with_head, longest_head, body_front}
 use Rattle.http_bind.specs.Streams.{asks, wants_continue, is_faulty, to_take, bytes_used, asks_to_close}
@@ -16,17 +16,17 @@ later d (short expect) = short expect
 later d (message head body used expect) = message head body (d + used) expect
 later d (fault status expect) = fault status expect
 
-body_later : (d : ℕ) (head : List ℕ) (n : ℕ) (expect : Bool) (b : BodyFront) → with_body head (d + n) expect b ≡ later d (with_body head n expect b)
+body_later : (d : ℕ) (h : RequestHead) (n : ℕ) (expect : Bool) (b : BodyFront) → with_body h (d + n) expect b ≡ later d (with_body h n expect b)
 unfolding later
-body_later d head n expect unfinished = refl
-body_later d head n expect (faulty status) = refl
-body_later d head n expect (whole body used) =
-    let sum : d + n + used ≡ d + (n + used) = omega arith in ap (λ (k : ℕ). message (plain_head_of head) body k expect) sum
+body_later d h n expect unfinished = refl
+body_later d h n expect (faulty status) = refl
+body_later d h n expect (whole body used) =
+    let sum : d + n + used ≡ d + (n + used) = omega arith in ap (λ (k : ℕ). message (plain_head_of h) body k expect) sum
 
-head_later : (d : ℕ) (head : List ℕ) (n : ℕ) (r : Result Framing ℕ) (bytes : List ℕ) → with_head head (d + n) r bytes ≡ later d (with_head head n r bytes)
+head_later : (d n : ℕ) (r : Result FramedHead ℕ) (bytes : List ℕ) → with_head (d + n) r bytes ≡ later d (with_head n r bytes)
 unfolding later
-head_later d head n (Err status) bytes = refl
-head_later d head n (Ok f) bytes = body_later d head n (expects head f) (body_front f bytes)
+head_later d n (Err status) bytes = refl
+head_later d n (Ok h) bytes = body_later d h.head n (expects h.head h.framing) (body_front h.framing bytes)
 
 none_by : (d : ℕ) (t : Bool) → cond t (fault 431 false) (short false) ≡ later d (cond t (fault 431 false) (short false))
 unfolding later
@@ -38,7 +38,7 @@ front_later d before bytes f (no_end none is) = no_end none (ap (later d) is ∙
 front_later d before bytes f (one_end n r found judged is) =
     let sum : d + (before + n) ≡ d + before + n = omega arith in
     one_end n r found judged
-    (ap (later d) is ∙ sym (head_later d (take n bytes) (before + n) r (drop n bytes)) ∙ ap (λ (k : ℕ). with_head (take n bytes) k r (drop n bytes)) sum)
+    (ap (later d) is ∙ sym (head_later d (before + n) r (drop n bytes)) ∙ ap (λ (k : ℕ). with_head k r (drop n bytes)) sum)
 
 -- What is at the front without the pairs is at the front of the stream, behind them.
 pub front_of_all : (all : List ℕ) (f : Front) → IsFront (skipped all) f → IsFront all (later (length all - length (skipped all)) f)

@@ -8,7 +8,7 @@ use Rattle.http_wire.specs.Reading.{asked}
 use Rattle.http_bind.specs.declared.looking.Found.{Found}
 use Rattle.http_bind.specs.declared.looking.Found.TheVariants as seen
 use Rattle.http_bind.specs.declared.looking.Step.{Step}
-use Rattle.http_bind.specs.declared.looking.Parts.{Parts}
+use Rattle.http_wire.specs.declared.request.RequestParts.{RequestParts}
 use Rattle.http_bind.specs.declared.next.HttpNext.{HttpNext}
 use Rattle.http_bind.specs.declared.next.HttpNext.TheVariants as next
 use Rattle.http_bind.specs.Streams.{Connection, Streams, connection_at, with_connection, Taken, asks, wants_continue, is_faulty, read_as, to_take, Takes, HasNothing, IsDry}
@@ -79,7 +79,7 @@ open_fault c h f status s None at holds front is = absurd holds
 open_fault c h f status s (Some x) at holds front is =
     (Some x, holds_less h x holds, (x, x, at, lets_fault h x f status holds front is, refl))
 
-open_request : (c : ℕ) (h : Held) (f : Front) (q : PlainRequest) (step : Step) (parts : Option Parts) (s : Streams) (y : Option Connection) → connection_at c s ≡ y →
+open_request : (c : ℕ) (h : Held) (f : Front) (q : PlainRequest) (step : Step) (parts : Option RequestParts) (s : Streams) (y : Option Connection) → connection_at c s ≡ y →
     HoldsIfOpen (Some h) y → IsFront (skipped h.rest) f → to_take h.continued f ≡ Some (asks q) → IsStep f q step → step.used ≤ length (skipped h.rest) →
     (x : Option Connection) × HoldsIfOpen (Some (after_finding (seen.Message step parts) (without_pairs h))) x × Takes c (asks q) s (with_connection c x s)
 open_request c h f q step parts s None at holds front is by within = absurd holds
@@ -109,7 +109,7 @@ open_after : (c : ℕ) (b d : Slots) (h : Option Held) (x : Held) → Puts c b d
 open_after c b d h x p = subst (λ (k : Option Held). IsSome k) (sym (put_is c b d h (Some x) p)) refl
 
 -- a request was taken
-asks_for : (c : ℕ) (b d : Slots) (h : Held) (f : Front) (q : PlainRequest) (step : Step) (parts : Option Parts) → Puts c b d (Some h) (Some (after_finding (seen.Message step parts) (without_pairs h))) →
+asks_for : (c : ℕ) (b d : Slots) (h : Held) (f : Front) (q : PlainRequest) (step : Step) (parts : Option RequestParts) → Puts c b d (Some h) (Some (after_finding (seen.Message step parts) (without_pairs h))) →
     IsFront (skipped h.rest) f → to_take h.continued f ≡ Some (asks q) → IsStep f q step → step.used ≤ length (skipped h.rest) → AsksFor c q b d
 asks_for c b d h f q step parts p front is by within = record {
   takes = put_leads c b d (Some h) _ (Takes c (asks q)) p (λ s holds. open_request c h f q step parts s (connection_at c s) refl holds front is by within);

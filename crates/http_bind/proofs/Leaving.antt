@@ -3,11 +3,11 @@ use Rattle.std.proofs.Common.{◌≡◌, ℕ, zero, suc, ◌<◌, ◌≤◌, ◌
 use Rattle.std.specs.Prelude.{Option, Some, None, Result, Ok, Err, option_map, unwrap_or, not, ◌&&◌, nat_eq, nat_le, if◌then◌else◌, slice_index_or, slice_set}
 use Rattle.std.specs.List.{starts_with}
 use Rattle.std.proofs.lemmas.List.{length-drop}
-use Rattle.http_wire.specs.declared.framing.Framing.{Framing}
+use Rattle.httparse.specs.Grammar.{RequestHead}
 use Rattle.http_wire.specs.Heads.{skipped, length_through, empty_line}
 use Rattle.http_wire.specs.Chunks.{BodyFront, unfinished, faulty, whole}
 use Rattle.http_wire.specs.Stream.{Front, short, message, fault, IsFront, IsFrontAfter, no_end, one_end, with_body, with_head, without_head, body_front, longest_head}
-use Rattle.http_wire.specs.Judging.{expects}
+use Rattle.http_wire.specs.Judging.{FramedHead, expects}
 use Rattle.http_wire.specs.Reading.{asked}
 use Rattle.thing_ops.specs.Requests.{PlainRequest}
 use Rattle.http_bind.specs.declared.looking.Found.{Found}
@@ -15,7 +15,8 @@ use Rattle.http_bind.specs.declared.looking.Found.TheVariants as seen
 use Rattle.http_bind.specs.declared.next.HttpNext.{HttpNext}
 use Rattle.http_bind.specs.declared.next.HttpNext.TheVariants as next
 use Rattle.http_bind.specs.Streams.{Taken, asks, wants_continue, is_faulty, to_take, found, read_as, bytes_used, expected}
-use Rattle.http_bind.specs.Looking.{Shows, IsWithin, request_in}
+use Rattle.http_wire.specs.Reading.{request_in}
+use Rattle.http_bind.specs.Looking.{Shows, IsWithin}
 use Rattle.http_bind.specs.Shown.{Passes, TakesAt, Lends, after_finding}
 use Rattle.http_bind.specs.Slots.{Held, Slots, held_at, with_held, without_pairs, left_in, left_at}
 use Rattle.http_bind.specs.Given.{LeavesLess}
@@ -41,14 +42,14 @@ TakesSome (short expect) = Unit {0}
 TakesSome (message head body used expect) = 0 < used
 TakesSome (fault status expect) = Unit {0}
 
-body_takes : (head : List ℕ) (taken : ℕ) (expect : Bool) (b : BodyFront) → 0 < taken → TakesSome (with_body head taken expect b)
-body_takes head taken expect unfinished some = tt
-body_takes head taken expect (faulty status) some = tt
-body_takes head taken expect (whole body used) some = omega (arith, some)
+body_takes : (h : RequestHead) (taken : ℕ) (expect : Bool) (b : BodyFront) → 0 < taken → TakesSome (with_body h taken expect b)
+body_takes h taken expect unfinished some = tt
+body_takes h taken expect (faulty status) some = tt
+body_takes h taken expect (whole body used) some = omega (arith, some)
 
-head_takes : (head : List ℕ) (taken : ℕ) (r : Result Framing ℕ) (bytes : List ℕ) → 0 < taken → TakesSome (with_head head taken r bytes)
-head_takes head taken (Err status) bytes some = tt
-head_takes head taken (Ok f) bytes some = body_takes head taken (expects head f) (body_front f bytes) some
+head_takes : (taken : ℕ) (r : Result FramedHead ℕ) (bytes : List ℕ) → 0 < taken → TakesSome (with_head taken r bytes)
+head_takes taken (Err status) bytes some = tt
+head_takes taken (Ok h) bytes some = body_takes h.head taken (expects h.head h.framing) (body_front h.framing bytes) some
 
 none_takes : (bytes : List ℕ) → TakesSome (without_head bytes)
 none_takes bytes = either (nat_le longest_head (length bytes))
@@ -60,7 +61,7 @@ none_takes bytes = either (nat_le longest_head (length bytes))
 front_takes : (before : ℕ) (bytes : List ℕ) (f : Front) → IsFrontAfter before bytes f → TakesSome f
 front_takes before bytes f (no_end none is) = subst TakesSome (sym is) (none_takes bytes)
 front_takes before bytes f (one_end n r some judged is) =
-    subst TakesSome (sym is) (head_takes (take n bytes) (before + n) r (drop n bytes) (omega (arith, mark_length empty_line (take longest_head bytes) n some)))
+    subst TakesSome (sym is) (head_takes (before + n) r (drop n bytes) (omega (arith, mark_length empty_line (take longest_head bytes) n some)))
 
 -- what asks is a message
 asks_take : (t : Bool) (f : Front) (q : PlainRequest) → TakesSome f → (if t then Some wants_continue else found f) ≡ Some (asks q) → 0 < bytes_used f

@@ -9,8 +9,9 @@ use Rattle.http_wire.specs.declared.framing.Framing.{Framing}
 use Rattle.http_wire.specs.declared.framing.Framing.TheVariants as framing
 use Rattle.http_wire.specs.declared.chunks.Chunk.{Chunk}
 use Rattle.http_wire.specs.declared.chunks.Chunk.TheVariants as chunk
+use Rattle.httparse.specs.Grammar.{RequestHead}
 use Rattle.http_wire.specs.Heads.{skipped, empty_line, line_end, length_through}
-use Rattle.http_wire.specs.Judging.{expects, longest_body}
+use Rattle.http_wire.specs.Judging.{FramedHead, expects, longest_body}
 use Rattle.http_wire.specs.Chunks.{BodyFront, unfinished, faulty, whole, chunks, chunk_at, lined_chunk, sized_chunk, chunk_size, trailers_to, data_before, follow, with_chunk}
 use Rattle.http_wire.specs.Stream.{Front, short, message, fault, IsFront, IsFrontAfter, no_end, one_end, IsSettled, with_body, with_head, longest_head, longest_coded, body_front, within_longest}
 use Rattle.http_wire.proofs.MoreBytes.{is_through}
@@ -107,16 +108,16 @@ body_within framing.Chunked bytes body used is =
     few : (b : List ℕ) (u : ℕ) → chunks 0 0 (take longest_coded bytes) ≡ whole b u → u ≤ length bytes
     few b u e = let under = chunks_within 0 0 (take longest_coded bytes) b u e in omega (arith, under, length-take longest_coded bytes)
 
-with_body_within : (head : List ℕ) (taken : ℕ) (e : Bool) (b : BodyFront) (f : Front) (limit : ℕ) → ((c : List ℕ) (u : ℕ) → b ≡ whole c u → taken + u ≤ limit) → f ≡ with_body head taken e b → bytes_used f ≤ limit
-with_body_within head taken e unfinished f limit by is = rw is (omega arith)
-with_body_within head taken e (faulty status) f limit by is = rw is (omega arith)
-with_body_within head taken e (whole c u) f limit by is = rw is (by c u refl)
+with_body_within : (h : RequestHead) (taken : ℕ) (e : Bool) (b : BodyFront) (f : Front) (limit : ℕ) → ((c : List ℕ) (u : ℕ) → b ≡ whole c u → taken + u ≤ limit) → f ≡ with_body h taken e b → bytes_used f ≤ limit
+with_body_within h taken e unfinished f limit by is = rw is (omega arith)
+with_body_within h taken e (faulty status) f limit by is = rw is (omega arith)
+with_body_within h taken e (whole c u) f limit by is = rw is (by c u refl)
 
-with_head_within : (head : List ℕ) (taken : ℕ) (r : Result Framing ℕ) (bytes : List ℕ) (f : Front) (limit : ℕ) → taken + length bytes ≤ limit → f ≡ with_head head taken r bytes → bytes_used f ≤ limit
-with_head_within head taken (Err status) bytes f limit fits is = rw is (omega arith)
-with_head_within head taken (Ok g) bytes f limit fits is =
-    with_body_within head taken (expects head g) (body_front g bytes) f limit
-    (λ c u whole_is. let few = body_within g bytes c u whole_is in omega (arith, few, fits)) is
+with_head_within : (taken : ℕ) (r : Result FramedHead ℕ) (bytes : List ℕ) (f : Front) (limit : ℕ) → taken + length bytes ≤ limit → f ≡ with_head taken r bytes → bytes_used f ≤ limit
+with_head_within taken (Err status) bytes f limit fits is = rw is (omega arith)
+with_head_within taken (Ok h) bytes f limit fits is =
+    with_body_within h.head taken (expects h.head h.framing) (body_front h.framing bytes) f limit
+    (λ c u whole_is. let few = body_within h.framing bytes c u whole_is in omega (arith, few, fits)) is
 
 none_within : (t : Bool) (f : Front) (limit : ℕ) → f ≡ cond t (fault 431 false) (short false) → bytes_used f ≤ limit
 none_within true f limit is = rw is (omega arith)
@@ -126,7 +127,7 @@ after_within : (before : ℕ) (bytes : List ℕ) (f : Front) (limit : ℕ) → b
 after_within before bytes f limit fits (no_end none is) = none_within (nat_le longest_head (length bytes)) f limit is
 after_within before bytes f limit fits (one_end n r at judged is) =
     let ends = head_within bytes n at in
-    with_head_within (take n bytes) (before + n) r (drop n bytes) f limit (omega (arith, ends.within, length-drop n bytes, fits)) is
+    with_head_within (before + n) r (drop n bytes) f limit (omega (arith, ends.within, length-drop n bytes, fits)) is
 
 few_skipped : (bytes : List ℕ) → length (skipped bytes) ≤ length bytes
 few_skipped bytes = let end = skipped_is_end bytes in omega (arith, ap length end.is, length-drop end.place bytes)

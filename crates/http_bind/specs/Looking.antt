@@ -1,9 +1,8 @@
 -- What the code finds at the front of the bytes that it holds, in the words of the streams.
-use Rattle.std.specs.Prelude.{◌≡◌, ◌≤◌, ℕ, ◌+◌, Bool, List, drop, take, Some, None, IfSome, IsSome}
+use Rattle.std.specs.Prelude.{◌≡◌, ◌≤◌, ℕ, Bool, List, Some, None, IfSome, IsSome}
 use Rattle.thing_ops.specs.Requests.{PlainRequest}
 use Rattle.http_wire.specs.Stream.{PlainHead, Front, IsFront}
-use Rattle.http_wire.specs.Reading.{asked}
-use Rattle.http_bind.specs.declared.looking.Parts.{Parts}
+use Rattle.http_wire.specs.Reading.{asked, AreParts}
 use Rattle.http_bind.specs.declared.looking.Step.{Step}
 use Rattle.http_bind.specs.declared.looking.Found.{Found}
 use Rattle.http_bind.specs.declared.looking.Found.TheVariants as seen
@@ -13,26 +12,6 @@ use Rattle.http_bind.specs.Streams.{asks, wants_continue, is_faulty, to_take, by
 -- How many bytes a query and a body have at most.
 abbrev pub room_size : ℕ
 room_size = 24576
-
--- the request of these parts, whose query and body are at the beginning of some bytes
-abbrev pub request_in : Parts → List ℕ → PlainRequest
-request_in p room = record {
-  verb = p.verb;
-  path = p.path;
-  query = take p.query_length room;
-  accept = p.accept;
-  format = p.format;
-  body = take p.body_length (drop p.query_length room);
-}
-
--- the parts are those of this request
-pub record AreParts (q : PlainRequest) (room : List ℕ) (p : Parts) : Type 0 where
-  pub request : request_in p room ≡ q
-  pub within : p.query_length + p.body_length ≤ room_size
-
--- the parts are those of the request of this message
-abbrev pub IsRead : PlainHead → List ℕ → List ℕ → Parts → Type 0
-IsRead h body room p = (q : PlainRequest) × (asked h body ≡ Some q) × AreParts q room p
 
 -- a step takes the message at a front, which asks for this
 pub record IsStep (f : Front) (q : PlainRequest) (step : Step) : Type 0 where

@@ -83,27 +83,27 @@ fault_word status =
     else if status == 501 then Some (codes "coding")
     else None
 
+abbrev pub fault_body : ℕ → List ℕ
+fault_body status = unwrap_or (fault_word status) []
+
 -- the reply to a fault, which is the last of its connection; it has its payload also for HEAD, whose verb may not be known
-abbrev pub fault_head : ℕ → List ℕ → List ℕ
-fault_head status said = http_reply (record {
+abbrev pub fault_head : ℕ → List ℕ
+fault_head status = http_reply (record {
   status = status;
   content_type = Some (codes "text/plain;charset=utf-8");
   location = None;
   allow = None;
-  size = Some (length said);
+  size = Some (length (fault_body status));
   close = true;
 })
 
--- the 100 reply (RFC 9110, section 15.2.1)
-abbrev pub continue_head : List ℕ
-continue_head = http_reply (record { status = 100; content_type = None; location = None; allow = None; size = None; close = false })
+abbrev pub fault_reply : ℕ → List ℕ
+fault_reply status = fault_head status ++ fault_body status
 
-abbrev pub refusal_head : ℕ → List ℕ
-refusal_head status = if status == 100 then continue_head else fault_head status (unwrap_or (fault_word status) [])
+-- the 100 reply, which has no payload (RFC 9110, section 15.2.1)
+abbrev pub continue_reply : List ℕ
+continue_reply = http_reply (record { status = 100; content_type = None; location = None; allow = None; size = None; close = false })
 
-abbrev pub refusal_body : ℕ → List ℕ
-refusal_body status = unwrap_or (fault_word status) []
-
--- What is replied to a message that asks for a 100 reply, or to a fault with this status.
-abbrev pub refusal : ℕ → List ℕ
-refusal status = refusal_head status ++ refusal_body status
+-- the head of the 100 reply, or of the reply to a fault with another status
+abbrev pub status_head : ℕ → List ℕ
+status_head status = if status == 100 then continue_reply else fault_head status

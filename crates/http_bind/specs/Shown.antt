@@ -7,7 +7,8 @@ use Rattle.http_bind.specs.declared.looking.Found.TheVariants as seen
 use Rattle.http_bind.specs.declared.next.HttpNext.{HttpNext}
 use Rattle.http_bind.specs.declared.next.HttpNext.TheVariants as next
 use Rattle.thing_ops.specs.Requests.{PlainRequest, plain_request}
-use Rattle.http_bind.specs.Looking.{Shows, IsWithin, request_in}
+use Rattle.http_wire.specs.Reading.{request_in}
+use Rattle.http_bind.specs.Looking.{Shows, IsWithin}
 use Rattle.http_bind.specs.Slots.{Held, Slots, held_at, with_held, without_pairs}
 
 -- what was found at the front of a connection; nothing, where it isn't open

@@ -1,11 +1,11 @@
 -- The connections of an HTTP server, each with its whole stream since its opening, and what is done with them (RFC 9112,
 -- sections 9.3 and 9.6). Bytes come in any pieces; the messages of a stream are taken from its front, one after another.
-use Rattle.std.specs.Prelude.{◌≡◌, ℕ, ◌+◌, ◌-◌, ◌==◌, Bool, true, false, ◌&&◌, not, nat_le, List, [], ◌++◌, drop, replicate, slice_index_or, slice_set, position, Option, Some, None, option_map, if◌then◌else◌}
+use Rattle.std.specs.Prelude.{◌≡◌, ℕ, ◌+◌, ◌-◌, Bool, true, false, ◌&&◌, not, nat_le, List, [], ◌++◌, drop, replicate, slice_index_or, slice_set, position, Option, Some, None, option_map, if◌then◌else◌}
 use Rattle.thing_ops.specs.declared.outcome.Outcome.{Outcome}
 use Rattle.thing_ops.specs.Requests.{PlainRequest}
 use Rattle.http_wire.specs.Stream.{Front, short, message, fault, IsFront}
 use Rattle.http_wire.specs.Reading.{asked}
-use Rattle.http_bind.specs.Replying.{reply, refusal}
+use Rattle.http_bind.specs.Replying.{reply, continue_reply, fault_reply}
 
 -- An open connection: all bytes that came since its opening; how many of them the messages taken so far have, with the CR
 -- LF pairs that were skipped before those; whether the 100 reply to the message behind them was sent; whether the message
@@ -135,9 +135,13 @@ Replies c request outcome now bytes closes s t =
     (x : Connection) × (connection_at c s ≡ Some x) × (closes ≡ x.closes) × (bytes ≡ reply request.verb closes outcome)
     × (t ≡ with_connection c (after_reply closes now x) s)
 
--- the 100 reply leaves a connection as it is; the reply to a fault is the last one
+-- the 100 reply leaves the connections as they are
+abbrev pub Continues : List ℕ → Streams → Streams → Type 0
+Continues bytes s t = (bytes ≡ continue_reply) × (t ≡ s)
+
+-- the reply to a fault is the last one of its connection
 abbrev pub Refuses : ℕ → ℕ → List ℕ → Streams → Streams → Type 0
-Refuses c status bytes s t = (bytes ≡ refusal status) × (t ≡ (if status == 100 then s else with_connection c None s))
+Refuses c status bytes s t = (bytes ≡ fault_reply status) × (t ≡ with_connection c None s)
 
 -- ---- idle connections
 

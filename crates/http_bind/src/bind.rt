@@ -8,7 +8,7 @@ ghost use Rattle.http_bind.specs.Shown.{TakesAt, MayLend, Lends};
 
 use crate::looking::Found;
 use crate::slot::Slot;
-use crate::writing::{fault_word, payload, put_answer, put_refusal};
+use crate::writing::{fault_word, payload, put_answer, put_status_head};
 use crate::{HttpNext, HttpOut};
 use servient_base::put_bytes;
 use std::alloc::Global;
@@ -42,8 +42,8 @@ impl Model for HttpBind {
 }
 
 impl HttpBind {
-    ghost use Rattle.http_bind.specs.Replying.{fault_word as word_of_fault, reply_head, reply_body, refusal_head, refusal_body};
-    ghost use Rattle.http_bind.specs.Streams.{Streams, Opened, Ended, Lengthened, Replies, Refuses, IsIdle, NoneIdle, none_open};
+    ghost use Rattle.http_bind.specs.Replying.{fault_word as word_of_fault, reply_head, reply_body, status_head, fault_body};
+    ghost use Rattle.http_bind.specs.Streams.{Streams, Opened, Ended, Lengthened, Replies, Continues, Refuses, IsIdle, NoneIdle, none_open};
     ghost use Rattle.http_bind.specs.Slots.{StandsFor, Leads, OthersStay, HasRoom, IsBounded, IsOpen, IsAskedBy, longest_piece, left_at};
     ghost use Rattle.http_bind.specs.Given.{Gives, LeavesLess};
 
@@ -141,15 +141,16 @@ impl HttpBind {
     ) -> HttpOut<'a>
         requires connection { c < 64 }
         requires status { (status ≡ 100) ⊎ IsSome (word_of_fault status) }
-        ensures leads { Leads (Refuses c status (result.head.now ++ result.body.now)) self.old self.new }
-        ensures head { result.head.now ≡ refusal_head status }
-        ensures body { result.body.now ≡ refusal_body status }
+        ensures continues { status ≡ 100 → Leads (Continues (result.head.now ++ result.body.now)) self.old self.new }
+        ensures refuses { IsSome (word_of_fault status) → Leads (Refuses c status (result.head.now ++ result.body.now)) self.old self.new }
+        ensures head { result.head.now ≡ status_head status }
+        ensures body { result.body.now ≡ fault_body status }
         ensures close { result.close ≡ not (status == 100) }
         ensures left { left_at c self.new ≤ (if status == 100 then left_at c self.old else 0) }
         ensures others { OthersStay c self.old self.new }
     {
         self.free_unless(c, status == 100);
-        let length = put_refusal(status, out);
+        let length = put_status_head(status, out);
         let end = put_bytes(word, 0, fault_word(status));
         HttpOut {
             head: &out[..length],

@@ -4,8 +4,8 @@ ghost use Rattle.std.specs.Prelude.{◌≡◌, ◌≤◌, ◌<◌, ◌∷◌, []
 ghost use Rattle.wot_json.specs.Writing.{PutsIfRoom};
 ghost use Rattle.http_bind.specs.Places.{encoded, encoded_byte, is_unreserved as is_plain, path_text, segment_text};
 
+use http_wire::put_piece;
 use percent_encoding::percent_encode_byte;
-use servient_base::put_bytes;
 use thing_ops::Segments;
 
 /// Writes the path of these segments to the beginning of `out`, if there is room for it.
@@ -83,15 +83,4 @@ fn is_unreserved(byte: u8) -> bool
     ensures { result ≡ is_plain byte }
 {
     byte.is_ascii_alphanumeric() || b"-._~".contains(&byte)
-}
-
-/// Writes bytes at a place where there is room for them, and returns the place after them.
-fn put_piece(out: &mut [u8], at: usize, bytes: &[u8]) -> Option<usize>
-    requires { at ≤ length out.old }
-    ensures { PutsIfRoom bytes.now at out.old out.new result }
-{
-    if out.len() - at < bytes.len() {
-        return None;
-    }
-    Some(put_bytes(out, at, bytes))
 }

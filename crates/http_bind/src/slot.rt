@@ -2,7 +2,8 @@
 
 ghost use Rattle.std.specs.Prelude.{◌≡◌, ◌≤◌, length, drop, option_map, vec_capacity, IfOk};
 
-use crate::looking::{Found, look, without_pairs};
+use crate::looking::{Found, look};
+use http_wire::skip_pairs;
 use std::alloc::Global;
 use std::marker::Model;
 use thing_ops::NoMemory;
@@ -128,7 +129,7 @@ impl Slot {
     fn skip_pairs(&mut self)
         ensures { self.new ≡ option_map without_pairs self.old }
     {
-        let rest = without_pairs(behind(&self.bytes, self.start)).len();
+        let rest = skip_pairs(behind(&self.bytes, self.start)).len();
         self.start = self.bytes.len() - rest;
     }
 

@@ -5,7 +5,7 @@ ghost use Rattle.thing_ops.specs.Outcomes.{payload_of};
 ghost use Rattle.http_wire.specs.Writing.{http_reply, phrase_of};
 ghost use Rattle.http_wire.specs.Replies.{plain_reply};
 ghost use Rattle.http_bind.specs.Places.{path_text};
-ghost use Rattle.http_bind.specs.Replying.{status_of, media_type_of, location_of, allow_of, head_of, reply_head, longest_reply_head, fault_word as word_of_fault, refusal_head, refusal_body};
+ghost use Rattle.http_bind.specs.Replying.{status_of, media_type_of, location_of, allow_of, head_of, reply_head, longest_reply_head, fault_word as word_of_fault, fault_body, status_head};
 ghost use Rattle.http_bind.specs.Written.{PutsPlaced, IsShortReply};
 
 use crate::place::{put_entry, put_path};
@@ -212,11 +212,11 @@ fn allow<'a>(outcome: &Outcome, room: &'a mut [u8; LONGEST_LINE]) -> Option<&'a 
     }
 }
 
-/// Writes the head of the 100 reply, or of the reply to a fault with this status, and returns its length.
-pub fn put_refusal(status: u16, out: &mut [u8]) -> usize
+/// Writes the head of the 100 reply, or of the reply to a fault with another status, and returns its length.
+pub fn put_status_head(status: u16, out: &mut [u8]) -> usize
     requires status { (status ≡ 100) ⊎ IsSome (word_of_fault status) }
     requires room { length out.old ≡ longest_reply_head }
-    ensures text { take result out.new ≡ refusal_head status }
+    ensures text { take result out.new ≡ status_head status }
     ensures within { result ≤ longest_reply_head }
 {
     let reply = if status == 100 {
@@ -241,9 +241,9 @@ pub fn put_refusal(status: u16, out: &mut [u8]) -> usize
     put_short(&reply, out)
 }
 
-/// The word of a fault.
+/// The word of a fault; other statuses have none.
 pub fn fault_word(status: u16) -> &'static [u8]
-    ensures text { result.now ≡ refusal_body status }
+    ensures text { result.now ≡ fault_body status }
     ensures short { length result.now ≤ 6 }
 {
     match status {

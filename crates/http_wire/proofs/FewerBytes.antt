@@ -21,7 +21,7 @@ found_behind false m n None s later is = absurd cc
 found_behind false m n (Some j) s later is = let next : j + 1 ≡ n = cc in ap (option_map (λ k. k + 1)) (later j next refl) ∙ is
 
 -- a mark that ends within the first bytes is found in them alone
-through_alone : (mark xs ys : List ℕ) (n : ℕ) → 0 < length mark → length_through mark (xs ++ ys) ≡ Some n → n ≤ length xs →
+pub through_alone : (mark xs ys : List ℕ) (n : ℕ) → 0 < length mark → length_through mark (xs ++ ys) ≡ Some n → n ≤ length xs →
     length_through mark xs ≡ Some n
 through_alone mark [] ys n some is within = let bounds = is_through mark ys n is in absurd (omega (arith, bounds.long, within))
 through_alone mark (x ∷ xs) ys n some is within =

@@ -1,10 +1,19 @@
 -- The front of a stream, put together from its head and what is behind that.
 use Rattle.std.proofs.Common.{◌≡◌, ◌≤◌, ℕ, ◌+◌, ◌-◌, arith, List, length, take, drop, sym, ap, subst, ◌∙◌}
-use Rattle.std.specs.Prelude.{Some}
+use Rattle.std.specs.Prelude.{Some, Result, Ok, Err, Bool, false, not, ◌&&◌, ◌||◌}
+use Rattle.thing_ops.specs.declared.request.Accept.{Accept}
+use Rattle.thing_ops.specs.declared.request.Format.{Format}
+use Rattle.httparse.specs.Grammar.{RequestHead}
+use Rattle.http_wire.specs.declared.framing.Framing.{Framing}
+use Rattle.http_wire.specs.declared.framing.Judged.{Judged}
 use Rattle.http_wire.specs.Heads.{skipped, length_through, empty_line}
-use Rattle.http_wire.specs.Judging.{IsJudged}
-use Rattle.http_wire.specs.Stream.{Front, IsFront, IsFrontAfter, one_end, with_head, longest_head}
+use Rattle.http_wire.specs.Judging.{FramedHead, IsJudged, has_body, expects}
+use Rattle.http_wire.specs.Fields.{format_of, accept_of}
+use Rattle.http_wire.specs.Chunks.{BodyFront, unfinished, faulty, whole}
+use Rattle.http_wire.specs.Stream.{Front, short, fault, message, IsFront, IsFrontAfter, one_end, with_head, with_body, body_front, longest_head}
 use Rattle.http_wire.specs.Scanned.{IsHeadFront, TakesBetween}
+use Rattle.http_wire.specs.Found.{standing_of, said_in, AreHeadParts, IsSame, IsJudgedAs}
+use Rattle.http_wire.proofs.HeadParts.{expects_is, closes_is}
 use Rattle.http_wire.specs.declared.scanned.Scanned.{Scanned}
 use Rattle.http_wire.specs.declared.scanned.Scanned.TheVariants as scanned
 
@@ -16,13 +25,60 @@ front_with_head bytes rest window head after n f rest_is window_is end_is head_i
     subst (λ (xs : List ℕ). IsFrontAfter (length bytes - length xs) xs f) rest_is
     (one_end n front.0 (ap (length_through empty_line) (sym window_is) ∙ sym end_is)
     (subst (λ (xs : List ℕ). IsJudged xs front.0) head_is front.1)
-    (front.2
-    ∙ ap (λ (xs : List ℕ). with_head xs (length bytes - length rest + n) front.0 after) head_is
-    ∙ ap (λ (xs : List ℕ). with_head (take n rest) (length bytes - length rest + n) front.0 xs) after_is))
+    (front.2 ∙ ap (with_head (length bytes - length rest + n) front.0) after_is))
+
+-- a head that was judged, with its body
+pub front_of_fault : (head after : List ℕ) (taken status : ℕ) → IsJudgedAs head (Err status) → IsHeadFront head taken after (fault status false)
+front_of_fault head after taken status found = by_case found.0 found.1 found.2
+  where
+    by_case : (r : Result FramedHead ℕ) → IsJudged head r → IsSame r (Err status) → IsHeadFront head taken after (fault status false)
+    by_case (Err s) judged same = (Err s, judged, ap (λ (n : ℕ). fault n false) (sym same))
+    by_case (Ok h) judged same = absurd same
+
+pub front_of_head : (head after : List ℕ) (taken : ℕ) (j : Judged) (f : Front) → IsJudgedAs head (Ok j) →
+    ((h : RequestHead) → AreHeadParts h j.head → f ≡ with_body h taken (expects h j.framing) (body_front j.framing after)) → IsHeadFront head taken after f
+front_of_head head after taken j f found is = by_case found.0 found.1 found.2
+  where
+    by_case : (r : Result FramedHead ℕ) → IsJudged head r → IsSame r (Ok j) → IsHeadFront head taken after f
+    by_case (Err s) judged same = absurd same
+    by_case (Ok h) judged same = (
+      Ok h,
+      judged,
+      is h.head same.0 ∙ ap (λ (x : Framing). with_body h.head taken (expects h.head x) (body_front x after)) (sym same.1),
+    )
+
+-- what is at the front by what was found behind a head
+pub short_with_body : (h : RequestHead) (j : Judged) (taken : ℕ) (e : Bool) (b : BodyFront) → unfinished ≡ b →
+    e ≡ (j.head.newer && has_body j.framing && (said_in j.head.fields).continues) → AreHeadParts h j.head → short e ≡ with_body h taken (expects h j.framing) b
+short_with_body h j taken e b is asks parts =
+    ap short (expects_is h j.head j.framing e parts asks) ∙ ap (with_body h taken (expects h j.framing)) is
+
+pub fault_with_body : (h : RequestHead) (j : Judged) (taken status : ℕ) (e : Bool) (b : BodyFront) → faulty status ≡ b →
+    e ≡ (j.head.newer && has_body j.framing && (said_in j.head.fields).continues) → AreHeadParts h j.head → fault status e ≡ with_body h taken (expects h j.framing) b
+fault_with_body h j taken status e b is asks parts =
+    ap (fault status) (expects_is h j.head j.framing e parts asks) ∙ ap (with_body h taken (expects h j.framing)) is
+
+pub message_with_body : (h : RequestHead) (j : Judged) (taken used : ℕ) (e close : Bool) (format : Format) (accept : Accept) (body : List ℕ) (b : BodyFront) →
+    whole body used ≡ b → e ≡ (j.head.newer && has_body j.framing && (said_in j.head.fields).continues) →
+    close ≡ (not j.head.newer || (said_in j.head.fields).closes) → format ≡ format_of (standing_of j.head.fields.content_type) →
+    accept ≡ accept_of j.head.fields.accept → AreHeadParts h j.head →
+    message (record { method = j.head.method.now; target = j.head.target.now; close = close; format = format; accept = accept }) body (taken + used) e
+    ≡ with_body h taken (expects h j.framing) b
+message_with_body h j taken used e close format accept body b is asks closing of_type of_accept parts =
+    (λ i. message
+    (record {
+      method = parts.method i;
+      target = parts.target i;
+      close = closes_is h j.head close parts closing i;
+      format = (of_type ∙ (λ k. format_of (parts.fields k).content_type)) i;
+      accept = (of_accept ∙ (λ k. accept_of (parts.fields k).accept)) i;
+    })
+    body (taken + used) (expects_is h j.head j.framing e parts asks i))
+    ∙ ap (with_body h taken (expects h j.framing)) is
 
 -- what takes bytes between two numbers does so between wider ones
 pub takes_wider : (low high least most : ℕ) (s : Scanned) → least ≤ low → high ≤ most → TakesBetween low high s → TakesBetween least most s
 takes_wider low high least most (scanned.Short expect) wider higher takes = tt
 takes_wider low high least most (scanned.Whole head body used expect) wider higher takes =
-    (omega (arith, takes.0), omega (arith, takes.1), takes.2)
+    (omega (arith, takes.0), omega (arith, takes.1), takes.2, takes.3)
 takes_wider low high least most (scanned.Fault status expect) wider higher takes = tt

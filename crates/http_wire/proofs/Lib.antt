@@ -1,5 +1,6 @@
 pub mod Places
-pub mod FoundValues
+pub mod FieldLines
+pub mod HeadParts
 pub mod Digits
 pub mod ChunkRows
 pub mod Fronts
@@ -7,3 +8,5 @@ pub mod MoreBytes
 pub mod OneFront
 pub mod MoreOfAStream
 pub mod FewerBytes
+pub mod ChunkLines
+pub mod ChunkBodies

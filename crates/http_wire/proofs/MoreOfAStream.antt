@@ -3,25 +3,25 @@ use Rattle.std.proofs.Common.{◌≡◌, ◌≢◌, ℕ, ◌+◌, ◌-◌, ◌�
 use Rattle.std.specs.Prelude.{Some, None, Result, Ok, Err, nat_le, ◌==◌}
 use Rattle.std.proofs.lemmas.Bool.{leb-true, le-leb}
 use Rattle.std.proofs.lemmas.List.{take-append-le, drop-append-le}
-use Rattle.http_wire.specs.declared.framing.Framing.{Framing}
+use Rattle.httparse.specs.Grammar.{RequestHead}
 use Rattle.http_wire.specs.Heads.{skipped, length_through, empty_line}
-use Rattle.http_wire.specs.Judging.{IsJudged, expects}
+use Rattle.http_wire.specs.Judging.{FramedHead, IsJudged, expects}
 use Rattle.http_wire.specs.Chunks.{BodyFront, unfinished, faulty, whole}
 use Rattle.http_wire.specs.Stream.{Front, IsFront, IsFrontAfter, no_end, one_end, IsSettled, with_body, with_head, without_head, head_length, longest_head, body_front}
 use Rattle.http_wire.proofs.MoreBytes.{body_stays, through_first_stays, through_first_within}
 
 -- a front that is settled has a body that is
-body_is_settled : (head : List ℕ) (taken : ℕ) (expect : Bool) (b : BodyFront) → IsSettled (with_body head taken expect b) → b ≢ unfinished
-body_is_settled head taken expect unfinished settled = absurd settled
-body_is_settled head taken expect (faulty status) settled = λ is. cc
-body_is_settled head taken expect (whole body used) settled = λ is. cc
+body_is_settled : (h : RequestHead) (taken : ℕ) (expect : Bool) (b : BodyFront) → IsSettled (with_body h taken expect b) → b ≢ unfinished
+body_is_settled h taken expect unfinished settled = absurd settled
+body_is_settled h taken expect (faulty status) settled = λ is. cc
+body_is_settled h taken expect (whole body used) settled = λ is. cc
 
-with_head_stays : (head : List ℕ) (taken : ℕ) (r : Result Framing ℕ) (bytes more : List ℕ) → IsSettled (with_head head taken r bytes) →
-    with_head head taken r (bytes ++ more) ≡ with_head head taken r bytes
-with_head_stays head taken (Err status) bytes more settled = refl
-with_head_stays head taken (Ok f) bytes more settled =
-    ap (with_body head taken (expects head f))
-    (body_stays f bytes more (body_is_settled head taken (expects head f) (body_front f bytes) settled))
+with_head_stays : (taken : ℕ) (r : Result FramedHead ℕ) (bytes more : List ℕ) → IsSettled (with_head taken r bytes) →
+    with_head taken r (bytes ++ more) ≡ with_head taken r bytes
+with_head_stays taken (Err status) bytes more settled = refl
+with_head_stays taken (Ok h) bytes more settled =
+    ap (with_body h.head taken (expects h.head h.framing))
+    (body_stays h.framing bytes more (body_is_settled h.head taken (expects h.head h.framing) (body_front h.framing bytes) settled))
 
 -- a head that doesn't end where it should
 without_head_stays : (before : ℕ) (bytes more : List ℕ) (t : Bool) → nat_le longest_head (length bytes) ≡ t → head_length bytes ≡ None →
@@ -36,8 +36,8 @@ without_head_stays before bytes more true many none settled =
     both_without old new of_a of_b = rw (of_a, of_b) refl
 
 -- the same where it ends
-one_head_stays : (before n : ℕ) (r : Result Framing ℕ) (bytes more : List ℕ) (f : Front) → head_length bytes ≡ Some n → IsJudged (take n bytes) r →
-    f ≡ with_head (take n bytes) (before + n) r (drop n bytes) → IsSettled f → IsFrontAfter before (bytes ++ more) f
+one_head_stays : (before n : ℕ) (r : Result FramedHead ℕ) (bytes more : List ℕ) (f : Front) → head_length bytes ≡ Some n → IsJudged (take n bytes) r →
+    f ≡ with_head (before + n) r (drop n bytes) → IsSettled f → IsFrontAfter before (bytes ++ more) f
 one_head_stays before n r bytes more f found judged is settled =
     let bounds = through_first_within empty_line longest_head bytes n found in
     let head : take n (bytes ++ more) ≡ take n bytes = take-append-le n bytes more bounds.within in
@@ -45,9 +45,8 @@ one_head_stays before n r bytes more f found judged is settled =
     one_end n r (through_first_stays empty_line longest_head bytes more n found)
     (subst (λ (xs : List ℕ). IsJudged xs r) (sym head) judged)
     (is
-    ∙ sym (with_head_stays (take n bytes) (before + n) r (drop n bytes) more (subst IsSettled is settled))
-    ∙ ap (λ (xs : List ℕ). with_head (take n bytes) (before + n) r xs) (sym rest)
-    ∙ ap (λ (xs : List ℕ). with_head xs (before + n) r (drop n (bytes ++ more))) (sym head))
+    ∙ sym (with_head_stays (before + n) r (drop n bytes) more (subst IsSettled is settled))
+    ∙ ap (with_head (before + n) r) (sym rest))
 
 front_after_stays : (before : ℕ) (bytes more : List ℕ) (f : Front) → IsFrontAfter before bytes f → IsSettled f → IsFrontAfter before (bytes ++ more) f
 front_after_stays before bytes more f (no_end none is) settled =

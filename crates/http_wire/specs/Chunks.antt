@@ -1,8 +1,11 @@
--- Bodies at the front of bytes, and bodies in chunks (RFC 9112, section 7.1).
+-- Bodies at the front of bytes, and how those in chunks are read from their front, with the places at which their faults
+-- are seen (RFC 9112, section 7.1). What such a body is, Chunked.antt says as a grammar; that what is read is what is spelled
+-- there, is the law `chunked_bodies_are_spelled`.
 use Rattle.std.specs.Prelude.{ℕ, zero, suc, ◌+◌, ◌-◌, ◌==◌, List, [], ◌∷◌, ◌++◌, length, take, drop, ◌&&◌, nat_lt, nat_le, nat_eq, Option, Some, None, if◌then◌else◌}
-use Rattle.std.specs.List.{list_all, starts_with, before_first}
+use Rattle.std.specs.List.{list_all, starts_with, before_first, after_first}
 use Rattle.std.specs.Char.{is_ascii_hexdigit}
 use Rattle.std.specs.Str.Parse.{digits_value}
+use Rattle.httparse.specs.Grammar.{is_extension_byte}
 use Rattle.http_wire.specs.declared.chunks.Chunk.{Chunk}
 use Rattle.http_wire.specs.declared.chunks.Chunk.TheVariants as chunk
 use Rattle.http_wire.specs.Heads.{line_end, empty_line, length_through}
@@ -15,14 +18,16 @@ pub data BodyFront : Type 0 where
   faulty : (status : ℕ) → BodyFront
   whole : (body : List ℕ) (used : ℕ) → BodyFront
 
--- The size that a chunk line says: 1 to 8 hexadecimal digits, and perhaps an extension after `;`, which isn't read.
+-- The size that a chunk line says: 1 to 8 hexadecimal digits, and perhaps an extension after `;`, which isn't read. It has
+-- no CR and no LF: where one stands in it, another reader may see the line end there (section 2.2).
 abbrev pub size_of_digits : List ℕ → Option ℕ
 size_of_digits digits =
     if nat_lt 0 (length digits) && nat_le (length digits) 8 && list_all is_ascii_hexdigit digits
     then Some (digits_value 16 digits) else None
 
 abbrev pub chunk_size : List ℕ → Option ℕ
-chunk_size line = size_of_digits (before_first (λ b. b == 59) line)
+chunk_size line =
+    if list_all is_extension_byte (after_first (λ b. b == 59) line) then size_of_digits (before_first (λ b. b == 59) line) else None
 
 -- after the line of the last chunk come trailer lines, which aren't read, and an empty line
 abbrev pub trailers_to : ℕ → Option ℕ → Chunk

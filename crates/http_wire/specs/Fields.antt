@@ -1,43 +1,53 @@
 -- The header lines of a request head (RFC 9112, section 5): their names in any case, and their values.
-use Rattle.std.specs.Prelude.{ℕ, ◌-◌, ◌==◌, List, [], ◌∷◌, length, map, take, drop, codes, Bool, true, ◌||◌, if◌then◌else◌}
-use Rattle.std.specs.List.{filter, list_any, slice_split, before_first, after_first, prefix_len, suffix_len}
+use Rattle.std.specs.Prelude.{ℕ, ◌-◌, ◌==◌, List, [], ◌∷◌, length, map, take, drop, codes, Bool, true, ◌||◌, Option, Some, None, if◌then◌else◌}
+use Rattle.std.specs.List.{filter, list_any, slice_split, before_first, prefix_len, suffix_len}
 use Rattle.std.specs.Char.{is_ascii_whitespace}
 use Rattle.std.specs.Str.{str_eq_ignore_ascii_case}
+use Rattle.httparse.specs.Grammar.{RequestHead}
+use Rattle.httparse.specs.Spans.{name_and_value}
 use Rattle.thing_ops.specs.declared.request.Accept.{Accept}
 use Rattle.thing_ops.specs.declared.request.Format.{Format}
 use Rattle.thing_ops.specs.declared.request.Format.TheVariants as format
 
--- The bytes without the white space at both ends. In a line of a head that is spaces and tabs (RFC 9110, section 5.6.3),
--- and the CR of the line's end: no other white space stands in one.
+-- a header line: its name, and its value without the white space around it
+abbrev pub Line : Type 0
+Line = List ℕ × List ℕ
+
+-- the header lines of a head
+abbrev pub lines_of : RequestHead → List Line
+lines_of h = map name_and_value h.fields
+
+-- a line has this name
+abbrev pub has_name : List ℕ → Line → Bool
+has_name name line = str_eq_ignore_ascii_case line.0 name
+
+-- the values of the lines with this name, in their order
+abbrev pub values_of : List ℕ → List Line → List (List ℕ)
+values_of name lines = map (λ line. line.1) (filter (has_name name) lines)
+
+-- how often a field stands that may stand once: not at all, once with this value, or more often
+pub data Standing : Type 0 where
+  absent : Standing
+  once : (value : List ℕ) → Standing
+  often : Standing
+
+abbrev pub standing : List (List ℕ) → Standing
+standing [] = absent
+standing (value ∷ []) = once value
+standing (value ∷ next ∷ values) = often
+
+-- ---- lists and types
+
+-- The bytes without the white space at both ends. In a value that is spaces and tabs (RFC 9110, section 5.6.3): no other
+-- white space stands in one.
 abbrev pub trimmed : List ℕ → List ℕ
 trimmed bytes =
     let rest = drop (prefix_len is_ascii_whitespace bytes) bytes in
     take (length rest - suffix_len is_ascii_whitespace rest) rest
 
--- the lines after the start line, cut at each line feed
-abbrev pub lines_of : List ℕ → List (List ℕ)
-lines_of head = slice_split (λ b. b == 10) (after_first (λ b. b == 10) head)
-
--- a line has this name before its colon
-abbrev pub has_name : List ℕ → List ℕ → Bool
-has_name name line = str_eq_ignore_ascii_case (before_first (λ b. b == 58) line) name
-
--- what stands after the colon, trimmed
-abbrev pub value_of : List ℕ → List ℕ
-value_of line = trimmed (after_first (λ b. b == 58) line)
-
--- the values of the lines with this name, in their order
-abbrev pub values_among : List ℕ → List (List ℕ) → List (List ℕ)
-values_among name lines = map value_of (filter (has_name name) lines)
-
-abbrev pub values_of : List ℕ → List ℕ → List (List ℕ)
-values_of name head = values_among name (lines_of head)
-
 -- some item of a list with commas is so (RFC 9110, section 5.6.1)
 abbrev pub has_item : (List ℕ → Bool) → List ℕ → Bool
 has_item is_so value = list_any is_so (slice_split (λ b. b == 44) value)
-
--- ---- what the fields say
 
 -- an item is the connection option `close` (RFC 9110, section 7.6.1)
 abbrev pub is_close : List ℕ → Bool
@@ -59,11 +69,11 @@ format_of_type name =
     else if str_eq_ignore_ascii_case name (codes "application/merge-patch+json") then format.Patch
     else format.Other
 
--- the format by the values of `Content-Type`; a head that has more than one is refused
-abbrev pub format_of : List (List ℕ) → Format
-format_of [] = format.Absent
-format_of (value ∷ []) = format_of_type (media_type value)
-format_of (value ∷ next ∷ values) = format.Other
+-- the format by `Content-Type`; a head that has more than one is refused
+abbrev pub format_of : Standing → Format
+format_of absent = format.Absent
+format_of (once value) = format_of_type (media_type value)
+format_of often = format.Other
 
 -- a media range takes each type of `application` (RFC 9110, section 12.5.1)
 abbrev pub takes_each : List ℕ → Bool
@@ -77,10 +87,37 @@ takes_json item = takes_each (media_type item) || str_eq_ignore_ascii_case (medi
 abbrev pub takes_td : List ℕ → Bool
 takes_td item = takes_each (media_type item) || str_eq_ignore_ascii_case (media_type item) (codes "application/td+json")
 
--- what is taken by the values of `Accept`; where there is none, both types are
-abbrev pub accept_of : List (List ℕ) → Accept
-accept_of [] = record { json = true; td = true }
-accept_of (value ∷ values) = record {
+-- what is taken by the values of `Accept`, if there are any
+abbrev pub types_taken : List (List ℕ) → Option Accept
+types_taken [] = None
+types_taken (value ∷ values) = Some (record {
   json = list_any (has_item takes_json) (value ∷ values);
   td = list_any (has_item takes_td) (value ∷ values);
+})
+
+-- where there are none, both types are
+abbrev pub accept_of : Option Accept → Accept
+accept_of None = record { json = true; td = true }
+accept_of (Some accept) = accept
+
+-- ---- what the header lines of a head say
+
+pub record Said : Type 0 where
+  pub host : Standing
+  pub content_length : Standing
+  pub transfer_encoding : Standing
+  pub content_type : Standing
+  pub continues : Bool
+  pub closes : Bool
+  pub accept : Option Accept
+
+abbrev pub said_by : List Line → Said
+said_by lines = record {
+  host = standing (values_of (codes "host") lines);
+  content_length = standing (values_of (codes "content-length") lines);
+  transfer_encoding = standing (values_of (codes "transfer-encoding") lines);
+  content_type = standing (values_of (codes "content-type") lines);
+  continues = list_any is_continue (values_of (codes "expect") lines);
+  closes = list_any (has_item is_close) (values_of (codes "connection") lines);
+  accept = types_taken (values_of (codes "accept") lines);
 }

@@ -1,19 +1,99 @@
--- What is found among the header lines.
-use Rattle.std.specs.Prelude.{◌≡◌, ◌<◌, List, [], ◌∷◌, ℕ, length, Bool}
+-- What code reads of a head, apart from where it lies in memory.
+use Rattle.std.specs.Prelude.{◌≡◌, ℕ, List, [], ◌∷◌, ◌||◌, Bool, true, false, codes, Option, Some, None, Result, Ok, Err, if◌then◌else◌}
+use Rattle.httparse.specs.Grammar.{RequestHead}
+use Rattle.thing_ops.specs.declared.request.Accept.{Accept}
 use Rattle.http_wire.specs.declared.fields.Found.{Found}
 use Rattle.http_wire.specs.declared.fields.Found.TheVariants as found
-use Rattle.http_wire.specs.declared.fields.Item.{Item}
-use Rattle.http_wire.specs.declared.fields.Item.TheVariants as item
-use Rattle.http_wire.specs.Fields.{is_close, takes_json, takes_td}
+use Rattle.http_wire.specs.declared.fields.Fields.{Fields}
+use Rattle.http_wire.specs.declared.heads.HeadParts.{HeadParts}
+use Rattle.http_wire.specs.declared.framing.Judged.{Judged}
+use Rattle.http_wire.specs.Heads.{IsHead, is_newer}
+use Rattle.http_wire.specs.Fields.{Line, lines_of, has_name, Standing, absent, once, often, Said, said_by, is_continue, has_item, is_close, takes_json, takes_td}
+use Rattle.http_wire.specs.Judging.{FramedHead, IsJudged}
 
--- there is none of these values, or one, or there are more
-abbrev pub IsFound : List (List ℕ) → Found → Type 0
-IsFound values found.Absent = values ≡ []
-IsFound values (found.Once value) = values ≡ value.now ∷ []
-IsFound values found.Often = 1 < length values
+-- how often a field was found
+abbrev pub standing_of : Found → Standing
+standing_of found.Absent = absent
+standing_of (found.Once value) = once value.now
+standing_of found.Often = often
 
--- the item that is looked for
-abbrev pub is_item : Item → List ℕ → Bool
-is_item item.Close = is_close
-is_item item.Json = takes_json
-is_item item.Td = takes_td
+-- what was read of the header lines
+abbrev pub said_in : Fields → Said
+said_in f = record {
+  host = standing_of f.host;
+  content_length = standing_of f.content_length;
+  transfer_encoding = standing_of f.transfer_encoding;
+  content_type = standing_of f.content_type;
+  continues = f.continues;
+  closes = f.closes;
+  accept = f.accept;
+}
+
+-- ---- header lines that are read one after another
+
+-- a field that stands once more
+abbrev pub once_more : List ℕ → Standing → Standing
+once_more value absent = once value
+once_more value (once before) = often
+once_more value often = often
+
+abbrev pub more_if : Bool → List ℕ → Standing → Standing
+more_if named value before = if named then once_more value before else before
+
+-- the types that a value of `Accept` takes
+abbrev pub types_in : List ℕ → Accept
+types_in value = record { json = has_item takes_json value; td = has_item takes_td value }
+
+-- the types that one takes or the other does
+abbrev pub both_taken : Option Accept → Accept → Accept
+both_taken None more = more
+both_taken (Some before) more = record { json = before.json || more.json; td = before.td || more.td }
+
+abbrev pub taken_if : Bool → List ℕ → Option Accept → Option Accept
+taken_if named value before = if named then Some (both_taken before (types_in value)) else before
+
+-- a test that a value passes where the line has the name
+abbrev pub or_if : Bool → (List ℕ → Bool) → List ℕ → Bool → Bool
+or_if named test value before = before || (if named then test value else false)
+
+-- what is said with one line more
+abbrev pub with_line : Line → Said → Said
+with_line line said = record {
+  host = more_if (has_name (codes "host") line) line.1 said.host;
+  content_length = more_if (has_name (codes "content-length") line) line.1 said.content_length;
+  transfer_encoding = more_if (has_name (codes "transfer-encoding") line) line.1 said.transfer_encoding;
+  content_type = more_if (has_name (codes "content-type") line) line.1 said.content_type;
+  continues = or_if (has_name (codes "expect") line) is_continue line.1 said.continues;
+  closes = or_if (has_name (codes "connection") line) (has_item is_close) line.1 said.closes;
+  accept = taken_if (has_name (codes "accept") line) line.1 said.accept;
+}
+
+-- and with these lines, one after another
+abbrev pub with_lines : Said → List Line → Said
+with_lines said [] = said
+with_lines said (line ∷ lines) = with_lines (with_line line said) lines
+
+-- ---- heads
+
+-- the parts are those of this head
+pub record AreHeadParts (h : RequestHead) (p : HeadParts) : Type 0 where
+  pub method : p.method.now ≡ h.method
+  pub target : p.target.now ≡ h.target
+  pub newer : p.newer ≡ is_newer h
+  pub fields : said_in p.fields ≡ said_by (lines_of h)
+
+-- the bytes are the head with these parts; or they are none
+abbrev pub IsReadAs : List ℕ → Option HeadParts → Type 0
+IsReadAs bytes None = (h : RequestHead) → ¬ (IsHead bytes h)
+IsReadAs bytes (Some p) = (h : RequestHead) × IsHead bytes h × AreHeadParts h p
+
+-- what was found is what was judged
+abbrev pub IsSame : Result FramedHead ℕ → Result Judged ℕ → Type 0
+IsSame (Err status) (Err found) = status ≡ found
+IsSame (Err status) (Ok j) = ⊥
+IsSame (Ok h) (Err found) = ⊥
+IsSame (Ok h) (Ok j) = AreHeadParts h.head j.head × (h.framing ≡ j.framing)
+
+-- the bytes are judged so
+abbrev pub IsJudgedAs : List ℕ → Result Judged ℕ → Type 0
+IsJudgedAs bytes found = (r : Result FramedHead ℕ) × IsJudged bytes r × IsSame r found

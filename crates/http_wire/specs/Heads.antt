@@ -1,6 +1,6 @@
--- Where a request head begins and ends, and its start line (RFC 9112, sections 2.1, 2.2 and 3).
-use Rattle.std.specs.Prelude.{◌≤◌, ℕ, ◌+◌, ◌==◌, List, [], ◌∷◌, ◌++◌, length, codes, Bool, ◌&&◌, not, Option, Some, None, option_map, if◌then◌else◌}
-use Rattle.std.specs.List.{starts_with, before_first, after_first}
+-- Where a request head begins and ends, and what it is (RFC 9112, sections 2.1, 2.2 and 3).
+use Rattle.std.specs.Prelude.{◌≤◌, ℕ, ◌+◌, ◌==◌, List, [], ◌∷◌, ◌++◌, length, Bool, ◌&&◌, not, Option, Some, None, option_map, if◌then◌else◌}
+use Rattle.std.specs.List.{starts_with}
 use Rattle.std.specs.Prelude.{nat_eq}
 use Rattle.httparse.specs.Grammar.{ReadsRequest, RequestHead}
 
@@ -39,18 +39,10 @@ abbrev pub are_paired : ℕ → List ℕ → Bool
 are_paired before [] = not (before == 13)
 are_paired before (b ∷ bytes) = may_follow before b && are_paired b bytes
 
--- The bytes are exactly one request head of at most 64 header lines, by the grammar of `httparse` in its default settings.
-abbrev pub IsOneHead : List ℕ → Type 0
-IsOneHead bytes = (h : RequestHead) × ReadsRequest bytes h [] × (length h.fields ≤ 64)
-
--- ---- the start line: method, target and version, with one space after each of the first two (section 3)
-
-abbrev pub method_of : List ℕ → List ℕ
-method_of head = before_first (λ b. b == 32) head
-
-abbrev pub target_of : List ℕ → List ℕ
-target_of head = before_first (λ b. b == 32) (after_first (λ b. b == 32) head)
+-- The bytes are exactly this request head, of at most 64 header lines, by the grammar of `httparse` in its default settings.
+abbrev pub IsHead : List ℕ → RequestHead → Type 0
+IsHead bytes h = ReadsRequest bytes h [] × (length h.fields ≤ 64)
 
 -- the version is HTTP/1.1; else it is HTTP/1.0
-abbrev pub is_newer : List ℕ → Bool
-is_newer head = starts_with nat_eq (after_first (λ b. b == 32) (after_first (λ b. b == 32) head)) (codes "HTTP/1.1")
+abbrev pub is_newer : RequestHead → Bool
+is_newer h = h.minor == 1

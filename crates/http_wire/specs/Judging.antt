@@ -1,13 +1,14 @@
 -- How a request head is judged, and how the body after it is framed (RFC 9112, sections 3.2 and 6).
-use Rattle.std.specs.Prelude.{◌≡◌, ◌<◌, ◌≤◌, ℕ, ◌==◌, List, [], ◌∷◌, length, codes, Bool, true, false, ◌&&◌, ◌||◌, not, nat_lt, Result, Ok, Err, if◌then◌else◌}
-use Rattle.std.specs.List.{list_all, list_any}
+use Rattle.std.specs.Prelude.{◌≡◌, ◌<◌, ◌≤◌, ℕ, List, length, codes, Bool, true, false, ◌&&◌, ◌||◌, not, nat_lt, Result, Ok, Err, if◌then◌else◌}
+use Rattle.std.specs.List.{list_all}
 use Rattle.std.specs.Char.{is_ascii_digit}
 use Rattle.std.specs.Str.{str_eq_ignore_ascii_case}
 use Rattle.std.specs.Str.Parse.{digits_value}
 use Rattle.http_wire.specs.declared.framing.Framing.{Framing}
 use Rattle.http_wire.specs.declared.framing.Framing.TheVariants as framing
-use Rattle.http_wire.specs.Heads.{line_feeds, are_paired, IsOneHead, is_newer}
-use Rattle.http_wire.specs.Fields.{values_of, has_item, is_close, is_continue}
+use Rattle.httparse.specs.Grammar.{RequestHead}
+use Rattle.http_wire.specs.Heads.{line_feeds, are_paired, IsHead, is_newer}
+use Rattle.http_wire.specs.Fields.{Standing, absent, once, often, Said, said_by, lines_of}
 
 -- The most bytes that a body has when it is decoded.
 abbrev pub longest_body : ℕ
@@ -31,34 +32,53 @@ coded_framing newer value =
     else if str_eq_ignore_ascii_case value (codes "chunked") then Ok framing.Chunked
     else Err 501
 
--- The framing by the values of `Content-Length` and of `Transfer-Encoding`: both together, and more than one of either,
--- are refused (RFC 9112, section 6.3).
-abbrev pub framing_by : Bool → List (List ℕ) → List (List ℕ) → Result Framing ℕ
-framing_by newer [] [] = Ok (framing.Stated 0)
-framing_by newer (value ∷ []) [] = stated_framing value
-framing_by newer [] (value ∷ []) = coded_framing newer value
+-- The framing by `Content-Length` and `Transfer-Encoding`: both together, and more than one of either, are refused
+-- (RFC 9112, section 6.3).
+abbrev pub framing_by : Bool → Standing → Standing → Result Framing ℕ
+framing_by newer absent absent = Ok (framing.Stated 0)
+framing_by newer (once value) absent = stated_framing value
+framing_by newer absent (once value) = coded_framing newer value
 framing_by newer lengths codings = Err 400
 
+-- a field stands just once
+abbrev pub is_once : Standing → Bool
+is_once absent = false
+is_once (once value) = true
+is_once often = false
+
+-- a field stands more than once
+abbrev pub is_often : Standing → Bool
+is_often absent = false
+is_often (once value) = false
+is_often often = true
+
 -- HTTP/1.1 asks for exactly one `Host` (RFC 9112, section 3.2), and a body has at most one type (RFC 9110, section 8.3).
-abbrev pub has_right_counts : List ℕ → Bool
-has_right_counts head =
-    (not (is_newer head) || (length (values_of (codes "host") head) == 1))
-    && not (nat_lt 1 (length (values_of (codes "content-type") head)))
+abbrev pub has_right_counts : Bool → Said → Bool
+has_right_counts newer said = (not newer || is_once said.host) && not (is_often said.content_type)
 
--- the framing by the fields of a head
-abbrev pub fields_judged : List ℕ → Result Framing ℕ
-fields_judged head =
-    if has_right_counts head
-    then framing_by (is_newer head) (values_of (codes "content-length") head) (values_of (codes "transfer-encoding") head)
-    else Err 400
+-- the framing by what the header lines say
+abbrev pub fields_judged : Bool → Said → Result Framing ℕ
+fields_judged newer said =
+    if has_right_counts newer said then framing_by newer said.content_length said.transfer_encoding else Err 400
 
--- How a head is judged, rule by rule: too many header lines are 431, where a head has as many as line feeds but two; a
--- CR or LF that isn't part of CR LF is 400, and so is what isn't one head by the grammar; then its fields are judged.
-pub data IsJudged (head : List ℕ) (r : Result Framing ℕ) : Type 0 where
-  too_many_lines : 66 < line_feeds head → r ≡ Err 431 → IsJudged head r
-  bare_line_end : line_feeds head ≤ 66 → are_paired 0 head ≡ false → r ≡ Err 400 → IsJudged head r
-  no_head : line_feeds head ≤ 66 → are_paired 0 head ≡ true → ¬ (IsOneHead head) → r ≡ Err 400 → IsJudged head r
-  one_head : line_feeds head ≤ 66 → are_paired 0 head ≡ true → IsOneHead head → r ≡ fields_judged head → IsJudged head r
+-- a head, and how the body after it is framed
+pub record FramedHead : Type 0 where
+  pub head : RequestHead
+  pub framing : Framing
+
+abbrev pub with_framing : RequestHead → Result Framing ℕ → Result FramedHead ℕ
+with_framing h (Err status) = Err status
+with_framing h (Ok f) = Ok (record { head = h; framing = f })
+
+-- How bytes are judged that end as a head does, rule by rule: too many header lines are 431, where a head has as many as
+-- line feeds but two; a CR or LF that isn't part of CR LF is 400, and so is what isn't one head by the grammar; then the
+-- fields of the head are judged.
+pub data IsJudged (bytes : List ℕ) (r : Result FramedHead ℕ) : Type 0 where
+  too_many_lines : 66 < line_feeds bytes → r ≡ Err 431 → IsJudged bytes r
+  bare_line_end : line_feeds bytes ≤ 66 → are_paired 0 bytes ≡ false → r ≡ Err 400 → IsJudged bytes r
+  no_head : line_feeds bytes ≤ 66 → are_paired 0 bytes ≡ true → ((h : RequestHead) → ¬ (IsHead bytes h)) → r ≡ Err 400 → IsJudged bytes r
+  one_head : (h : RequestHead) → line_feeds bytes ≤ 66 → are_paired 0 bytes ≡ true → IsHead bytes h →
+      r ≡ with_framing h (fields_judged (is_newer h) (said_by (lines_of h))) → IsJudged bytes r
 
 -- a stated length is no longer than a body may be
 abbrev pub IsBounded : Framing → Type 0
@@ -71,9 +91,9 @@ has_body (framing.Stated n) = nat_lt 0 n
 has_body framing.Chunked = true
 
 -- A head without fault asks for a 100 reply before its body is sent (RFC 9110, section 10.1.1).
-abbrev pub expects : List ℕ → Framing → Bool
-expects head f = is_newer head && has_body f && list_any is_continue (values_of (codes "expect") head)
+abbrev pub expects : RequestHead → Framing → Bool
+expects h f = is_newer h && has_body f && (said_by (lines_of h)).continues
 
 -- A head asks that its connection be closed after the reply (RFC 9112, section 9.6); HTTP/1.0 always does.
-abbrev pub closes : List ℕ → Bool
-closes head = not (is_newer head) || list_any (has_item is_close) (values_of (codes "connection") head)
+abbrev pub closes : RequestHead → Bool
+closes h = not (is_newer h) || (said_by (lines_of h)).closes

@@ -2,6 +2,7 @@ pub mod Heads
 pub mod Fields
 pub mod Judging
 pub mod Chunks
+pub mod Chunked
 pub mod Bodies
 pub mod Stream
 pub mod Scanned

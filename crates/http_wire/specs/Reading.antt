@@ -1,10 +1,12 @@
 -- What the message of a request asks for (RFC 9110, sections 7.1 and 9; RFC 9112, section 3).
-use Rattle.std.specs.Prelude.{ℕ, List, drop, codes, Option, option_map, if◌then◌else◌}
+use Rattle.std.specs.Prelude.{◌≡◌, ◌≤◌, ℕ, ◌+◌, List, take, drop, codes, Option, Some, option_map, if◌then◌else◌}
 use Rattle.std.specs.Str.{bytes_eq}
 use Rattle.thing_ops.specs.declared.verb.Verb.{Verb}
 use Rattle.thing_ops.specs.declared.verb.Verb.TheVariants as verb
 use Rattle.thing_ops.specs.Requests.{PlainRequest}
-use Rattle.http_wire.specs.Stream.{PlainHead}
+use Rattle.http_wire.specs.declared.request.RequestParts.{RequestParts}
+use Rattle.http_wire.specs.Judging.{longest_body}
+use Rattle.http_wire.specs.Stream.{PlainHead, longest_head}
 use Rattle.http_wire.specs.Targets.{segments_of, query_place}
 
 -- the verb of a method, whose name is taken in the case in which it came (RFC 9110, section 9.1)
@@ -36,3 +38,25 @@ request_at h body path = record {
 -- The request of a message with this head and this decoded body; there is none where its target isn't taken.
 abbrev pub asked : PlainHead → List ℕ → Option PlainRequest
 asked h body = option_map (request_at h body) (segments_of h.target)
+
+-- ---- a request whose query and body were written to the beginning of a buffer
+
+-- the request of these parts
+abbrev pub request_in : RequestParts → List ℕ → PlainRequest
+request_in p room = record {
+  verb = p.verb;
+  path = p.path;
+  query = take p.query_length room;
+  accept = p.accept;
+  format = p.format;
+  body = take p.body_length (drop p.query_length room);
+}
+
+-- the parts are those of this request, whose query is no longer than a head, and its body no longer than a body may be
+pub record AreParts (q : PlainRequest) (room : List ℕ) (p : RequestParts) : Type 0 where
+  pub request : request_in p room ≡ q
+  pub within : p.query_length + p.body_length ≤ longest_head + longest_body
+
+-- the parts are those of the request of this message
+abbrev pub IsRead : PlainHead → List ℕ → List ℕ → RequestParts → Type 0
+IsRead h body room p = (q : PlainRequest) × (asked h body ≡ Some q) × AreParts q room p

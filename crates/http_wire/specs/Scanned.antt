@@ -3,9 +3,8 @@ use Rattle.std.specs.Prelude.{◌≡◌, ◌≤◌, ℕ, List, length, Result}
 use Rattle.http_wire.specs.declared.scanned.Head.{Head}
 use Rattle.http_wire.specs.declared.scanned.Scanned.{Scanned}
 use Rattle.http_wire.specs.declared.scanned.Scanned.TheVariants as scanned
-use Rattle.http_wire.specs.Stream.{PlainHead, Front, short, message, fault, with_head}
-use Rattle.http_wire.specs.Judging.{IsJudged, longest_body}
-use Rattle.http_wire.specs.declared.framing.Framing.{Framing}
+use Rattle.http_wire.specs.Stream.{PlainHead, Front, short, message, fault, with_head, longest_head}
+use Rattle.http_wire.specs.Judging.{FramedHead, IsJudged, longest_body}
 
 -- what a head says
 abbrev pub plain_head : Head → PlainHead
@@ -19,10 +18,12 @@ front_of (scanned.Fault status expect) = fault status expect
 
 -- what is at the front where this head ends after so many bytes
 abbrev pub IsHeadFront : List ℕ → ℕ → List ℕ → Front → Type 0
-IsHeadFront head taken after f = (r : Result Framing ℕ) × IsJudged head r × (f ≡ with_head head taken r after)
+IsHeadFront head taken after f = (r : Result FramedHead ℕ) × IsJudged head r × (f ≡ with_head taken r after)
 
--- a whole message takes from low to high bytes, and its body has no more than a body may have
+-- a whole message takes from low to high bytes, its target is no longer than a head may be, and its body no longer than a
+-- body may be
 abbrev pub TakesBetween : ℕ → ℕ → Scanned → Type 0
 TakesBetween low high (scanned.Short expect) = Unit {0}
-TakesBetween low high (scanned.Whole head body used expect) = (low ≤ used) × (used ≤ high) × (length body ≤ longest_body)
+TakesBetween low high (scanned.Whole head body used expect) =
+    (low ≤ used) × (used ≤ high) × (length head.target.now ≤ longest_head) × (length body ≤ longest_body)
 TakesBetween low high (scanned.Fault status expect) = Unit {0}

@@ -1,13 +1,14 @@
 -- The front of a stream of requests (RFC 9112, sections 2, 6 and 7): whatever pieces a stream comes in, this speaks of the
 -- bytes that have come. Each fault has a place, the number of bytes after which it is seen, and the least place counts.
-use Rattle.std.specs.Prelude.{◌≡◌, ℕ, ◌+◌, ◌-◌, List, length, take, drop, codes, Bool, false, nat_le, Option, Some, None, Result, Ok, Err, if◌then◌else◌}
+use Rattle.std.specs.Prelude.{◌≡◌, ℕ, ◌+◌, ◌-◌, List, length, take, drop, Bool, false, nat_le, Option, Some, None, Result, Ok, Err, if◌then◌else◌}
 use Rattle.thing_ops.specs.declared.request.Accept.{Accept}
 use Rattle.thing_ops.specs.declared.request.Format.{Format}
 use Rattle.http_wire.specs.declared.framing.Framing.{Framing}
 use Rattle.http_wire.specs.declared.framing.Framing.TheVariants as framing
-use Rattle.http_wire.specs.Heads.{skipped, length_through, empty_line, method_of, target_of}
-use Rattle.http_wire.specs.Fields.{values_of, format_of, accept_of}
-use Rattle.http_wire.specs.Judging.{IsJudged, expects, closes}
+use Rattle.httparse.specs.Grammar.{RequestHead}
+use Rattle.http_wire.specs.Heads.{skipped, length_through, empty_line}
+use Rattle.http_wire.specs.Fields.{said_by, lines_of, format_of, accept_of}
+use Rattle.http_wire.specs.Judging.{FramedHead, IsJudged, expects, closes}
 use Rattle.http_wire.specs.Chunks.{BodyFront, unfinished, faulty, whole, chunks}
 
 -- The most bytes of a head, counted from the first that is no skipped CR LF pair.
@@ -27,13 +28,13 @@ pub record PlainHead : Type 0 where
   pub accept : Accept
 
 -- what a head says
-abbrev pub plain_head_of : List ℕ → PlainHead
-plain_head_of head = record {
-  method = method_of head;
-  target = target_of head;
-  close = closes head;
-  format = format_of (values_of (codes "content-type") head);
-  accept = accept_of (values_of (codes "accept") head);
+abbrev pub plain_head_of : RequestHead → PlainHead
+plain_head_of h = record {
+  method = h.method;
+  target = h.target;
+  close = closes h;
+  format = format_of (said_by (lines_of h)).content_type;
+  accept = accept_of (said_by (lines_of h)).accept;
 }
 
 -- What stands at the front of a stream: a message that isn't whole yet, a whole one with its decoded body and how many
@@ -59,15 +60,15 @@ body_front (framing.Stated n) bytes = stated_body n bytes
 body_front framing.Chunked bytes = within_longest bytes (chunks 0 0 (take longest_coded bytes))
 
 -- a head and the body after it, where the head takes so many bytes of the stream
-abbrev pub with_body : List ℕ → ℕ → Bool → BodyFront → Front
-with_body head taken expect unfinished = short expect
-with_body head taken expect (faulty status) = fault status expect
-with_body head taken expect (whole body used) = message (plain_head_of head) body (taken + used) expect
+abbrev pub with_body : RequestHead → ℕ → Bool → BodyFront → Front
+with_body h taken expect unfinished = short expect
+with_body h taken expect (faulty status) = fault status expect
+with_body h taken expect (whole body used) = message (plain_head_of h) body (taken + used) expect
 
 -- a head that was judged, and the bytes after it
-abbrev pub with_head : List ℕ → ℕ → Result Framing ℕ → List ℕ → Front
-with_head head taken (Err status) bytes = fault status false
-with_head head taken (Ok f) bytes = with_body head taken (expects head f) (body_front f bytes)
+abbrev pub with_head : ℕ → Result FramedHead ℕ → List ℕ → Front
+with_head taken (Err status) bytes = fault status false
+with_head taken (Ok h) bytes = with_body h.head taken (expects h.head h.framing) (body_front h.framing bytes)
 
 -- where a head doesn't end within the bytes that it may have
 abbrev pub without_head : List ℕ → Front
@@ -80,8 +81,8 @@ head_length bytes = length_through empty_line (take longest_head bytes)
 -- what stands at the front of bytes behind `before` skipped ones
 pub data IsFrontAfter (before : ℕ) (bytes : List ℕ) (f : Front) : Type 0 where
   no_end : head_length bytes ≡ None → f ≡ without_head bytes → IsFrontAfter before bytes f
-  one_end : (n : ℕ) (r : Result Framing ℕ) → head_length bytes ≡ Some n → IsJudged (take n bytes) r →
-      f ≡ with_head (take n bytes) (before + n) r (drop n bytes) → IsFrontAfter before bytes f
+  one_end : (n : ℕ) (r : Result FramedHead ℕ) → head_length bytes ≡ Some n → IsJudged (take n bytes) r →
+      f ≡ with_head (before + n) r (drop n bytes) → IsFrontAfter before bytes f
 
 -- The front of a stream.
 abbrev pub IsFront : List ℕ → Front → Type 0

@@ -4,6 +4,7 @@ ghost use Rattle.std.specs.Prelude.{◌≡◌, ◌≤◌, ◌<◌, ◌+◌, ◌-
 ghost use Rattle.std.specs.List.{list_all};
 ghost use Rattle.std.specs.Char.{is_ascii_hexdigit, digit_value};
 ghost use Rattle.std.specs.Str.Parse.{digits_value};
+ghost use Rattle.httparse.specs.Grammar.{is_extension_byte};
 ghost use Rattle.http_wire.specs.Heads.{empty_line, length_through};
 ghost use Rattle.http_wire.specs.Judging.{longest_body, IsBounded};
 ghost use Rattle.http_wire.specs.Chunks.{size_of_digits, chunk_size, trailers_to, data_before, sized_chunk, chunk_at as chunk_of, chunks};
@@ -198,12 +199,22 @@ fn data_at(place: usize, size: usize, bytes: &[u8]) -> Chunk
 fn size_of(line: &[u8]) -> Option<usize>
     ensures { result ≡ chunk_size line.now }
 {
-    let (digits, _) = cut(b';', line);
+    let (digits, extension) = cut(b';', line);
+    if !is_extension(extension) {
+        return None;
+    }
     if !digits.is_empty() && digits.len() <= 8 && are_digits(digits) {
         Some(hexadecimal(digits))
     } else {
         None
     }
+}
+
+/// Whether no byte is a CR or an LF.
+fn is_extension(bytes: &[u8]) -> bool
+    ensures { result ≡ list_all is_extension_byte bytes.now }
+{
+    bytes.iter().all(|byte| !(*byte == b'\r' || *byte == b'\n'))
 }
 
 /// Whether all bytes are hexadecimal digits.

@@ -1,17 +1,18 @@
-//! What the header lines of a head say.
+//! What the header lines of a head say, read in one pass over them.
 
-ghost use Rattle.std.specs.Prelude.{◌≡◌, codes};
-ghost use Rattle.std.specs.List.{list_any};
+ghost use Rattle.std.specs.Prelude.{◌≡◌, ◌∷◌, ◌||◌, [], map, length, true, false, None};
+ghost use Rattle.std.specs.List.{All};
 ghost use Rattle.std.specs.Str.{str_eq_ignore_ascii_case};
-ghost use Rattle.http_wire.specs.Pieces.{pieces_left};
-ghost use Rattle.http_wire.specs.Fields.{trimmed, lines_of, has_name, value_of, values_of, has_item, media_type, format_of_type, is_continue, takes_each, format_of, accept_of};
-ghost use Rattle.http_wire.specs.Found.{IsFound, is_item};
+ghost use Rattle.httparse.specs.Spans.{IsHeaderWithin, header_bytes};
+ghost use Rattle.http_wire.specs.Fields.{trimmed, has_item, media_type, format_of_type, is_close, is_continue, takes_each, takes_json as is_json, takes_td as is_td, format_of, accept_of, said_by};
+ghost use Rattle.http_wire.specs.Found.{standing_of, said_in, more_if, types_in, both_taken, taken_if, or_if, with_line, with_lines};
 
-use crate::lines::{Pieces, cut, cut_at_each};
+use crate::lines::{cut, cut_at_each};
+use httparse::spans::HeaderSpan;
 use thing_ops::{Accept, Format};
 
-/// The values of the lines with some name.
-#[derive(Drop)]
+/// How often a field stands that may stand once, with its value.
+#[derive(Clone, Copy, Drop)]
 pub enum Found<'a> {
     /// There is no such line.
     Absent,
@@ -21,15 +22,120 @@ pub enum Found<'a> {
     Often,
 }
 
-/// An item that is looked for in a list with commas.
+/// What the header lines say.
 #[derive(Clone, Copy, Drop)]
-pub enum Item {
-    /// The connection option `close`.
-    Close,
-    /// A media range that takes `application/json`.
-    Json,
-    /// A media range that takes `application/td+json`.
-    Td,
+pub struct Fields<'a> {
+    /// `Host`.
+    pub host: Found<'a>,
+    /// `Content-Length`.
+    pub content_length: Found<'a>,
+    /// `Transfer-Encoding`.
+    pub transfer_encoding: Found<'a>,
+    /// `Content-Type`.
+    pub content_type: Found<'a>,
+    /// An `Expect` is `100-continue`.
+    pub continues: bool,
+    /// A `Connection` has the option `close`.
+    pub closes: bool,
+    /// What the lines with `Accept` take, if there are any.
+    pub accept: Option<Accept>,
+}
+
+/// What no lines say.
+const NOTHING: Fields<'static> = Fields {
+    host: Found::Absent,
+    content_length: Found::Absent,
+    transfer_encoding: Found::Absent,
+    content_type: Found::Absent,
+    continues: false,
+    closes: false,
+    accept: None,
+};
+
+/// What the header lines of a head say that are there.
+pub fn fields_in<'a>(head: &'a [u8], headers: &[HeaderSpan]) -> Fields<'a>
+    requires { All (IsHeaderWithin (length head.now)) headers.now }
+    ensures { said_in result ≡ with_lines (said_by []) (map (header_bytes head.now) headers.now) }
+{
+    let mut fields: Fields<'a> = NOTHING;
+    for header in headers {
+        fields = with_field(fields, header.name.of(head), header.value.of(head));
+    }
+    fields
+}
+
+/// What is said with one line more.
+fn with_field<'a>(fields: Fields<'a>, name: &[u8], value: &'a [u8]) -> Fields<'a>
+    ensures { said_in result ≡ with_line (name.now, value.now) (said_in fields.entry) }
+{
+    Fields {
+        host: more(fields.host, is_alike(name, b"host"), value),
+        content_length: more(
+            fields.content_length,
+            is_alike(name, b"content-length"),
+            value,
+        ),
+        transfer_encoding: more(
+            fields.transfer_encoding,
+            is_alike(name, b"transfer-encoding"),
+            value,
+        ),
+        content_type: more(fields.content_type, is_alike(name, b"content-type"), value),
+        continues: fields.continues || is_continue_line(is_alike(name, b"expect"), value),
+        closes: fields.closes || is_close_line(is_alike(name, b"connection"), value),
+        accept: more_taken(fields.accept, is_alike(name, b"accept"), value),
+    }
+}
+
+/// How often a field stands, where a further line has its name or hasn't.
+fn more<'a>(before: Found<'a>, is_named: bool, value: &'a [u8]) -> Found<'a>
+    ensures { standing_of result ≡ more_if is_named value.now (standing_of before.entry) }
+{
+    if !is_named {
+        return before;
+    }
+    match before {
+        Found::Absent => Found::Once(value),
+        Found::Once(_) | Found::Often => Found::Often,
+    }
+}
+
+/// Whether a line is `Expect`, with this value, and is `100-continue`.
+fn is_continue_line(is_named: bool, value: &[u8]) -> bool
+    ensures { result ≡ or_if is_named is_continue value.now false }
+{
+    is_named && is_alike(value, b"100-continue")
+}
+
+/// Whether a line is `Connection`, with this value, and has the option `close`.
+fn is_close_line(is_named: bool, value: &[u8]) -> bool
+    ensures { result ≡ or_if is_named (has_item is_close) value.now false }
+{
+    is_named && lists_close(value)
+}
+
+/// What is taken, where a further line is `Accept` or isn't.
+fn more_taken(before: Option<Accept>, is_named: bool, value: &[u8]) -> Option<Accept>
+    ensures { result ≡ taken_if is_named value.now before }
+{
+    if is_named {
+        Some(taken_with(before, types_of(value)))
+    } else {
+        before
+    }
+}
+
+/// What one takes or the other.
+fn taken_with(before: Option<Accept>, more: Accept) -> Accept
+    ensures { result ≡ both_taken before more }
+{
+    match before {
+        None => more,
+        Some(before) => Accept {
+            json: before.json || more.json,
+            td: before.td || more.td,
+        },
+    }
 }
 
 /// Whether two names differ in nothing but the case of their letters.
@@ -46,64 +152,45 @@ fn trim(bytes: &[u8]) -> &[u8]
     bytes.trim_ascii()
 }
 
-/// The lines after the start line.
-fn lines(head: &[u8]) -> Pieces<'_>
-    ensures { pieces_left result ≡ lines_of head.now }
+/// Whether a list with commas has the connection option `close`.
+fn lists_close(value: &[u8]) -> bool
+    ensures { result ≡ has_item is_close value.now }
 {
-    let (_, rest) = cut(b'\n', head);
-    cut_at_each(b'\n', rest)
-}
-
-/// Whether a line has this name.
-fn is_named(name: &[u8], line: &[u8]) -> bool
-    ensures { result ≡ has_name name.now line.now }
-{
-    let (found, _) = cut(b':', line);
-    is_alike(found, name)
-}
-
-/// The value of a line.
-fn value(line: &[u8]) -> &[u8]
-    ensures { result.now ≡ value_of line.now }
-{
-    let (_, after) = cut(b':', line);
-    trim(after)
-}
-
-/// The value of the line with this name.
-pub fn find<'a>(name: &[u8], head: &'a [u8]) -> Found<'a>
-    ensures { IsFound (values_of name.now head.now) result }
-{
-    let mut found: Option<&[u8]> = None;
-    for line in lines(head) {
-        if is_named(name, line) {
-            if found.is_some() {
-                return Found::Often;
-            }
-            found = Some(value(line));
+    for item in cut_at_each(b',', value) {
+        if is_alike(trim(item), b"close") {
+            return true;
         }
     }
-    match found {
-        Some(value) => Found::Once(value),
-        None => Found::Absent,
-    }
+    false
 }
 
-/// Whether an item of a list is the one that is looked for.
-fn is_such(kind: Item, item: &[u8]) -> bool
-    ensures { result ≡ is_item kind item.now }
+/// The types that the media ranges of a list with commas take.
+fn types_of(value: &[u8]) -> Accept
+    ensures { result ≡ types_in value.now }
 {
-    match kind {
-        Item::Close => is_alike(trim(item), b"close"),
-        Item::Json => {
-            let range = type_of(item);
-            takes_all(range) || is_alike(range, b"application/json")
-        }
-        Item::Td => {
-            let range = type_of(item);
-            takes_all(range) || is_alike(range, b"application/td+json")
-        }
+    let mut json = false;
+    let mut td = false;
+    for item in cut_at_each(b',', value) {
+        json = json || takes_json(item);
+        td = td || takes_td(item);
     }
+    Accept { json, td }
+}
+
+/// Whether a media range takes `application/json`.
+fn takes_json(item: &[u8]) -> bool
+    ensures { result ≡ is_json item.now }
+{
+    let range = type_of(item);
+    takes_all(range) || is_alike(range, b"application/json")
+}
+
+/// Whether a media range takes `application/td+json`.
+fn takes_td(item: &[u8]) -> bool
+    ensures { result ≡ is_td item.now }
+{
+    let range = type_of(item);
+    takes_all(range) || is_alike(range, b"application/td+json")
 }
 
 /// Whether a media range takes each type of `application`.
@@ -121,47 +208,11 @@ fn type_of(value: &[u8]) -> &[u8]
     trim(name)
 }
 
-/// Whether a list with commas has such an item.
-fn lists(kind: Item, value: &[u8]) -> bool
-    ensures { result ≡ has_item (is_item kind) value.now }
-{
-    for item in cut_at_each(b',', value) {
-        if is_such(kind, item) {
-            return true;
-        }
-    }
-    false
-}
-
-/// Whether the lists of a field have such an item.
-pub fn names(name: &[u8], kind: Item, head: &[u8]) -> bool
-    ensures { result ≡ list_any (has_item (is_item kind)) (values_of name.now head.now) }
-{
-    for line in lines(head) {
-        if is_named(name, line) && lists(kind, value(line)) {
-            return true;
-        }
-    }
-    false
-}
-
-/// Whether a 100 reply is expected.
-pub fn expects_continue(head: &[u8]) -> bool
-    ensures { result ≡ list_any is_continue (values_of (codes "expect") head.now) }
-{
-    for line in lines(head) {
-        if is_named(b"expect", line) && is_alike(value(line), b"100-continue") {
-            return true;
-        }
-    }
-    false
-}
-
 /// The format of the body.
-pub fn format(head: &[u8]) -> Format
-    ensures { result ≡ format_of (values_of (codes "content-type") head.now) }
+pub fn format(content_type: Found<'_>) -> Format
+    ensures { result ≡ format_of (standing_of content_type.entry) }
 {
-    match find(b"content-type", head) {
+    match content_type {
         Found::Absent => Format::Absent,
         Found::Once(value) => format_of_name(type_of(value)),
         Found::Often => Format::Other,
@@ -184,17 +235,14 @@ fn format_of_name(name: &[u8]) -> Format
 }
 
 /// What is taken in the reply.
-pub fn accept(head: &[u8]) -> Accept
-    ensures { result ≡ accept_of (values_of (codes "accept") head.now) }
+pub fn accept(taken: Option<Accept>) -> Accept
+    ensures { result ≡ accept_of taken }
 {
-    match find(b"accept", head) {
-        Found::Absent => Accept {
+    match taken {
+        None => Accept {
             json: true,
             td: true,
         },
-        Found::Once(_) | Found::Often => Accept {
-            json: names(b"accept", Item::Json, head),
-            td: names(b"accept", Item::Td, head),
-        },
+        Some(accept) => accept,
     }
 }

@@ -1,15 +1,14 @@
 //! How a head is judged, and how the end of the body after it is found.
 
-ghost use Rattle.std.specs.Prelude.{◌≡◌, ◌≤◌, ◌<◌, ◌+◌, ◌*◌, ◌||◌, ◌==◌, not, true, nat_lt, min, length, codes, IfOk};
+ghost use Rattle.std.specs.Prelude.{◌≡◌, ◌≤◌, ◌<◌, ◌+◌, ◌*◌, ◌||◌, not, true, min, length, Ok, Err, IfOk, IfErr};
 ghost use Rattle.std.specs.List.{list_all};
 ghost use Rattle.std.specs.Char.{is_ascii_digit, digit_value};
 ghost use Rattle.std.specs.Str.Parse.{digits_value};
-ghost use Rattle.http_wire.specs.Fields.{values_of};
-ghost use Rattle.http_wire.specs.Heads.{is_newer};
-ghost use Rattle.http_wire.specs.Judging.{longest_body, IsBounded, is_length, framing_by, stated_framing, coded_framing, has_right_counts, fields_judged, IsJudged, has_body as brings_body, expects, closes};
+ghost use Rattle.http_wire.specs.Judging.{longest_body, IsBounded, is_length, framing_by, stated_framing, coded_framing, is_once, is_often, has_right_counts, fields_judged, has_body as brings_body};
+ghost use Rattle.http_wire.specs.Found.{standing_of, said_in, IsJudgedAs};
 
-use crate::fields::{Found, Item, expects_continue, find, is_alike, names};
-use crate::heads::{count_line_feeds, has_pairs_alone, is_one_head, start_line};
+use crate::fields::{Fields, Found, is_alike};
+use crate::heads::{HeadParts, count_line_feeds, has_pairs_alone, read_head};
 
 /// The most bytes that a body has when it is decoded.
 pub const LONGEST_BODY: usize = 16384;
@@ -26,10 +25,21 @@ pub enum Framing {
     Chunked,
 }
 
-/// The framing of the body after a head, or the status of what is wrong with the head.
-pub fn judge(head: &[u8]) -> Result<Framing, u16>
-    ensures ok { IsJudged head.now result }
-    ensures bound { IfOk result IsBounded }
+/// A head without fault.
+#[derive(Clone, Copy, Drop)]
+pub struct Judged<'a> {
+    /// What it says.
+    pub head: HeadParts<'a>,
+    /// How long the body after it is.
+    pub framing: Framing,
+}
+
+/// The head that bytes are, with the framing of the body after it, or the status of what is wrong with them.
+#[tactic(auto, using(crate::proofs::HeadParts::judged_many, crate::proofs::HeadParts::judged_bare, crate::proofs::HeadParts::judged_none, crate::proofs::HeadParts::judged_head))]
+pub fn judge(head: &[u8]) -> Result<Judged<'_>, u16>
+    ensures ok { IsJudgedAs head.now result }
+    ensures bound { IfOk result (λ j. IsBounded j.framing) }
+    ensures target { IfOk result (λ j. length j.head.target.now ≤ length head.now) }
 {
     if count_line_feeds(head) > MOST_LINE_FEEDS {
         return Err(431);
@@ -37,59 +47,67 @@ pub fn judge(head: &[u8]) -> Result<Framing, u16>
     if !has_pairs_alone(head) {
         return Err(400);
     }
-    if !is_one_head(head) {
-        return Err(400);
+    match read_head(head) {
+        Some(parts) => judge_parts(parts),
+        None => Err(400),
     }
-    judge_fields(head)
+}
+
+/// A head with its framing.
+fn judge_parts(head: HeadParts<'_>) -> Result<Judged<'_>, u16>
+    ensures ok { IfOk result (λ j. (j.head ≡ head.entry) × (fields_judged head.entry.newer (said_in head.entry.fields) ≡ Ok j.framing)) }
+    ensures fault { IfErr result (λ status. fields_judged head.entry.newer (said_in head.entry.fields) ≡ Err status) }
+    ensures bound { IfOk result (λ j. IsBounded j.framing) }
+{
+    let framing = judge_fields(head.newer, &head.fields)?;
+    Ok(Judged { head, framing })
 }
 
 /// The framing by the fields of a head.
-fn judge_fields(head: &[u8]) -> Result<Framing, u16>
-    ensures ok { result ≡ fields_judged head.now }
+fn judge_fields(newer: bool, fields: &Fields<'_>) -> Result<Framing, u16>
+    ensures ok { result ≡ fields_judged newer (said_in fields.now) }
     ensures bound { IfOk result IsBounded }
 {
-    let (_, _, newer) = start_line(head);
-    if has_counts(newer, head) {
-        read_framing(newer, head)
+    if has_counts(newer, fields) {
+        read_framing(newer, fields.content_length, fields.transfer_encoding)
     } else {
         Err(400)
     }
 }
 
 /// Whether `Host` and `Content-Type` stand as often as they may.
-fn has_counts(newer: bool, head: &[u8]) -> bool
-    requires { newer ≡ is_newer head.now }
-    ensures { result ≡ has_right_counts head.now }
+fn has_counts(newer: bool, fields: &Fields<'_>) -> bool
+    ensures { result ≡ has_right_counts newer (said_in fields.now) }
 {
-    has_host(newer, head) && !stands_often(b"content-type", head)
+    (!newer || stands_once(fields.host)) && !stands_often(fields.content_type)
 }
 
-/// Whether a head has the `Host` that its version asks for.
-fn has_host(newer: bool, head: &[u8]) -> bool
-    ensures { result ≡ (not newer || (length (values_of (codes "host") head.now) == 1)) }
+/// Whether a field stands just once.
+fn stands_once(found: Found<'_>) -> bool
+    ensures { result ≡ is_once (standing_of found.entry) }
 {
-    !newer || matches!(find(b"host", head), Found::Once(_))
+    matches!(found, Found::Once(_))
 }
 
-/// Whether more than one line has this name.
-fn stands_often(name: &[u8], head: &[u8]) -> bool
-    ensures { result ≡ nat_lt 1 (length (values_of name.now head.now)) }
+/// Whether a field stands more than once.
+fn stands_often(found: Found<'_>) -> bool
+    ensures { result ≡ is_often (standing_of found.entry) }
 {
-    matches!(find(name, head), Found::Often)
+    matches!(found, Found::Often)
 }
 
 /// The framing by `Content-Length` and `Transfer-Encoding`.
-fn read_framing(newer: bool, head: &[u8]) -> Result<Framing, u16>
-    ensures ok { result ≡ framing_by newer (values_of (codes "content-length") head.now) (values_of (codes "transfer-encoding") head.now) }
+fn read_framing(newer: bool, length: Found<'_>, coding: Found<'_>) -> Result<Framing, u16>
+    ensures ok { result ≡ framing_by newer (standing_of length.entry) (standing_of coding.entry) }
     ensures bound { IfOk result IsBounded }
 {
-    match find(b"content-length", head) {
-        Found::Absent => match find(b"transfer-encoding", head) {
+    match length {
+        Found::Absent => match coding {
             Found::Absent => Ok(Framing::Stated(0)),
             Found::Once(value) => coded(newer, value),
             Found::Often => Err(400),
         },
-        Found::Once(value) => match find(b"transfer-encoding", head) {
+        Found::Once(value) => match coding {
             Found::Absent => stated(value),
             Found::Once(_) => Err(400),
             Found::Often => Err(400),
@@ -187,18 +205,20 @@ fn has_body(framing: Framing) -> bool
     }
 }
 
-/// Whether a head without fault asks for a 100 reply before its body is sent.
-pub fn asks_to_go_on(newer: bool, framing: Framing, head: &[u8]) -> bool
-    requires { newer ≡ is_newer head.now }
-    ensures { result ≡ expects head.now framing }
-{
-    newer && has_body(framing) && expects_continue(head)
-}
+impl Judged<'_> {
+    ghost use Rattle.std.specs.Prelude.{◌&&◌};
 
-/// Whether a head asks that its connection be closed.
-pub fn asks_to_close(newer: bool, head: &[u8]) -> bool
-    requires { newer ≡ is_newer head.now }
-    ensures { result ≡ closes head.now }
-{
-    !newer || names(b"connection", Item::Close, head)
+    /// Whether it asks for a 100 reply before the body is sent.
+    pub fn asks_to_go_on(&self) -> bool
+        ensures { result ≡ (self.now.head.newer && brings_body self.now.framing && (said_in self.now.head.fields).continues) }
+    {
+        self.head.newer && has_body(self.framing) && self.head.fields.continues
+    }
+
+    /// Whether it asks that the connection be closed.
+    pub fn asks_to_close(&self) -> bool
+        ensures { result ≡ (not self.now.head.newer || (said_in self.now.head.fields).closes) }
+    {
+        !self.head.newer || self.head.fields.closes
+    }
 }

@@ -1,12 +1,19 @@
 //! Where a head ends, and whether it is one.
 
-ghost use Rattle.std.specs.Prelude.{◌≡◌, ◌≤◌, ◌<◌, ◌↔◌, ◌+◌, length, take, drop, IsTrue, IfSome, Some};
-ghost use Rattle.http_wire.specs.Heads.{skipped, length_through, empty_line, line_feeds, may_follow, are_paired, IsOneHead, method_of, target_of, is_newer};
+ghost use Rattle.std.specs.Prelude.{◌≡◌, ◌≤◌, ◌<◌, ◌+◌, ◌==◌, [], map, length, take, drop, IfSome, Some};
+ghost use Rattle.std.specs.List.{All};
+ghost use Rattle.httparse.specs.Spans.{IsWithin, IsHeaderWithin, span_bytes, header_bytes};
+ghost use Rattle.http_wire.specs.Heads.{skipped, length_through, empty_line, line_feeds, may_follow, are_paired};
+ghost use Rattle.http_wire.specs.Fields.{said_by};
+ghost use Rattle.http_wire.specs.Found.{said_in, with_lines, IsReadAs};
 
-use crate::lines::cut;
+use crate::fields::{Fields, fields_in};
 use httparse::Status;
-use httparse::spans::{EMPTY_HEADER_SPAN, parse_request};
+use httparse::spans::{EMPTY_HEADER_SPAN, HeaderSpan, RequestSpans, parse_request};
 use memchr::memmem;
+
+/// The most header lines of a head.
+const MOST_LINES: usize = 64;
 
 /// The bytes after the CR LF pairs in front.
 pub fn skip_pairs(bytes: &[u8]) -> &[u8]
@@ -24,6 +31,7 @@ pub fn skip_pairs(bytes: &[u8]) -> &[u8]
 pub fn front(bytes: &[u8], most: usize) -> &[u8]
     ensures ok { result.now ≡ take most bytes.now }
     ensures bound { length result.now ≤ length bytes.now }
+    ensures most { length result.now ≤ most }
 {
     if most < bytes.len() {
         &bytes[..most]
@@ -70,45 +78,67 @@ pub fn count_line_feeds(bytes: &[u8]) -> usize
 fn follows(before: u8, byte: u8) -> bool
     ensures { result ≡ may_follow before byte }
 {
-    if before == b'\r' {
-        byte == b'\n'
-    } else {
-        byte != b'\n'
-    }
+    (before == b'\r') == (byte == b'\n')
 }
 
 /// Whether each carriage return and each line feed is part of a CR LF.
 pub fn has_pairs_alone(bytes: &[u8]) -> bool
     ensures { result ≡ are_paired 0 bytes.now }
 {
+    let mut paired = true;
     let mut before = 0;
     for byte in bytes {
-        if !follows(before, *byte) {
-            return false;
-        }
+        paired &= follows(before, *byte);
         before = *byte;
     }
-    before != b'\r'
+    paired && before != b'\r'
 }
 
-/// Whether the bytes are exactly one request head of at most 64 header lines.
-pub fn is_one_head(head: &[u8]) -> bool
-    ensures { IsTrue result ↔ IsOneHead head.now }
+/// What a head says.
+#[derive(Clone, Copy, Drop)]
+pub struct HeadParts<'a> {
+    /// The method.
+    pub method: &'a [u8],
+    /// The request target.
+    pub target: &'a [u8],
+    /// The version is HTTP/1.1.
+    pub newer: bool,
+    /// The header lines.
+    pub fields: Fields<'a>,
+}
+
+/// The parts of a head, where the bytes are exactly one of at most 64 header lines.
+pub fn read_head(head: &[u8]) -> Option<HeadParts<'_>>
+    ensures ok { IsReadAs head.now result }
+    ensures target { IfSome result (λ p. length p.target.now ≤ length head.now) }
 {
-    let mut headers = [EMPTY_HEADER_SPAN; 64];
+    let mut headers = [EMPTY_HEADER_SPAN; MOST_LINES];
     match parse_request(head, &mut headers) {
-        Ok(Status::Complete(found)) => found.len == head.len(),
-        _ => false,
+        Ok(Status::Complete(found)) => {
+            if found.len == head.len() {
+                Some(parts_at(head, &found, &headers[..found.headers]))
+            } else {
+                None
+            }
+        }
+        _ => None,
     }
 }
 
-/// The method, the target, and whether the version is HTTP/1.1.
-pub fn start_line(head: &[u8]) -> (&[u8], &[u8], bool)
-    ensures method { result.0.now ≡ method_of head.now }
-    ensures target { result.1.now ≡ target_of head.now }
-    ensures newer { result.2 ≡ is_newer head.now }
+/// The parts of a head that stand there.
+fn parts_at<'a>(head: &'a [u8], found: &RequestSpans, headers: &[HeaderSpan]) -> HeadParts<'a>
+    requires method { IsWithin (length head.now) found.now.method }
+    requires path { IsWithin (length head.now) found.now.path }
+    requires headers { All (IsHeaderWithin (length head.now)) headers.now }
+    ensures method { result.method.now ≡ span_bytes head.now found.now.method }
+    ensures target { result.target.now ≡ span_bytes head.now found.now.path }
+    ensures newer { result.newer ≡ (found.now.version == 1) }
+    ensures fields { said_in result.fields ≡ with_lines (said_by []) (map (header_bytes head.now) headers.now) }
 {
-    let (method, rest) = cut(b' ', head);
-    let (target, version) = cut(b' ', rest);
-    (method, target, version.starts_with(b"HTTP/1.1"))
+    HeadParts {
+        method: found.method.of(head),
+        target: found.path.of(head),
+        newer: found.version == 1,
+        fields: fields_in(head, headers),
+    }
 }

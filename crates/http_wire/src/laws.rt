@@ -2,6 +2,7 @@
 
 ghost use Rattle.std.specs.Prelude.{◌≡◌, ◌++◌, ℕ, List};
 ghost use Rattle.http_wire.specs.Stream.{Front, IsFront, IsSettled};
+ghost use Rattle.http_wire.specs.Chunked.{EachWholeIsSpelled, EachSpelledIsRead};
 
 /// A stream has one front at most.
 pub fn one_front()
@@ -12,4 +13,11 @@ pub fn one_front()
 /// stream comes decide only when a message is there.
 pub fn front_is_stable()
     ensures { (bytes more : List ℕ) (f : Front) → IsFront bytes f → IsSettled f → IsFront (bytes ++ more) f }
+{}
+
+/// A whole body in chunks is read exactly where one is spelled (RFC 9112, section 7.1): what is read as one is the print of
+/// chunks, a last one and trailers, and each such print is read, with the data of its chunks.
+pub fn chunked_bodies_are_spelled()
+    ensures whole { EachWholeIsSpelled }
+    ensures spelled { EachSpelledIsRead }
 {}

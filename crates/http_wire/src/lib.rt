@@ -21,10 +21,11 @@
 //! ```
 //!
 //! The contract in a sentence: `scan` says of any bytes exactly what `IsFront` of `specs/Stream.antt` does, `segments`
-//! gives exactly `segments_of` and `query_place` of `specs/Targets.antt`, and `put_reply` writes exactly `http_reply` of
-//! `specs/Writing.antt`. The laws: bytes have one front at most, and one that is a whole message or a fault stays the
-//! same whatever comes behind it. What a request head is, the grammar of `httparse` says, and nothing else here rests
-//! on that crate: what a head says is read from its lines. Memory is taken by `segments` alone.
+//! gives exactly `segments_of` and `query_place` of `specs/Targets.antt`, `request_of` the request that `asked` of
+//! `specs/Reading.antt` is, and `put_reply` writes exactly `http_reply` of `specs/Writing.antt`. The laws: bytes have one
+//! front at most, and one that is a whole message or a fault stays the same whatever comes behind it; a body in chunks is
+//! read exactly where one is spelled by the grammar of `specs/Chunked.antt`. What a request head is and what its lines are,
+//! the grammar of `httparse` says. Memory is taken for paths alone.
 #![tactic(auto)]
 
 mod chunks;
@@ -34,12 +35,15 @@ mod heads;
 mod laws;
 mod lines;
 mod reply;
+mod request;
 mod scanned;
 mod stream;
 mod target;
 
-pub use laws::{front_is_stable, one_front};
-pub use reply::{Reply, has_reason, put_reply};
+pub use heads::skip_pairs;
+pub use laws::{chunked_bodies_are_spelled, front_is_stable, one_front};
+pub use reply::{Reply, has_reason, put_piece, put_reply};
+pub use request::{RequestParts, request_of, verb_of};
 pub use scanned::{Body, Head, Scanned};
 pub use stream::scan;
 pub use target::{TargetFault, segments};

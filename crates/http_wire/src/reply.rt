@@ -123,7 +123,7 @@ fn put_line(name: &[u8], value: &[u8], out: &mut [u8], at: usize) -> Option<usiz
 }
 
 /// Writes bytes at a place where there is room for them, and returns the place after them.
-fn put_piece(out: &mut [u8], at: usize, bytes: &[u8]) -> Option<usize>
+pub fn put_piece(out: &mut [u8], at: usize, bytes: &[u8]) -> Option<usize>
     requires { at ≤ length out.old }
     ensures { PutsIfRoom bytes.now at out.old out.new result }
 {

@@ -1,14 +1,16 @@
 //! The front of a stream.
 
-ghost use Rattle.std.specs.Prelude.{◌≡◌, ◌<◌, ◌+◌, ◌^◌, length};
+ghost use Rattle.std.specs.Prelude.{◌≡◌, ◌≤◌, ◌<◌, ◌+◌, ◌^◌, length};
+ghost use Rattle.httparse.specs.Grammar.{RequestHead};
 ghost use Rattle.http_wire.specs.Judging.{IsBounded, expects};
-ghost use Rattle.http_wire.specs.Stream.{IsFront, without_head as front_without, with_body, body_front};
+ghost use Rattle.http_wire.specs.Stream.{IsFront, without_head as front_without, with_body, body_front, longest_head};
 ghost use Rattle.http_wire.specs.Scanned.{front_of, IsHeadFront, TakesBetween};
+ghost use Rattle.http_wire.specs.Found.{AreHeadParts};
 
 use crate::chunks::{BodyScan, body_at_front};
 use crate::fields::{accept, format};
-use crate::framing::{Framing, asks_to_close, asks_to_go_on, judge};
-use crate::heads::{front, length_through_mark, skip_pairs, start_line};
+use crate::framing::{Judged, judge};
+use crate::heads::{front, length_through_mark, skip_pairs};
 use crate::{Head, Scanned};
 
 /// The most bytes of a head.
@@ -48,8 +50,10 @@ fn without_head<'a>(bytes: &[u8]) -> Scanned<'a>
 }
 
 /// What is at the front where this head ends after so many bytes.
+#[tactic(auto, using(crate::proofs::Fronts::front_of_fault, crate::proofs::Fronts::front_of_head))]
 fn scan_head<'a>(head: &'a [u8], taken: usize, after: &'a [u8]) -> Scanned<'a>
-    requires { taken + length after.now < 2 ^ 64 }
+    requires fits { taken + length after.now < 2 ^ 64 }
+    requires short { length head.now ≤ longest_head }
     ensures ok { IsHeadFront head.now taken after.now (front_of result) }
     ensures within { TakesBetween taken (taken + length after.now) result }
 {
@@ -58,37 +62,35 @@ fn scan_head<'a>(head: &'a [u8], taken: usize, after: &'a [u8]) -> Scanned<'a>
             status,
             expect: false,
         },
-        Ok(framing) => scan_body(head, taken, framing, after),
+        Ok(judged) => scan_body(&judged, taken, after),
     }
 }
 
-/// What is at the front where a head without fault is followed by a body of this framing.
-fn scan_body<'a>(head: &'a [u8], taken: usize, framing: Framing, after: &'a [u8]) -> Scanned<'a>
-    requires bound { IsBounded framing }
+/// What is at the front where a head without fault is followed by its body.
+#[tactic(auto, using(crate::proofs::Fronts::short_with_body, crate::proofs::Fronts::fault_with_body, crate::proofs::Fronts::message_with_body))]
+fn scan_body<'a>(judged: &Judged<'a>, taken: usize, after: &'a [u8]) -> Scanned<'a>
+    requires bound { IsBounded judged.now.framing }
+    requires short { length judged.now.head.target.now ≤ longest_head }
     requires fits { taken + length after.now < 2 ^ 64 }
-    ensures ok { front_of result ≡ with_body head.now taken (expects head.now framing) (body_front framing after.now) }
+    ensures ok { (h : RequestHead) → AreHeadParts h judged.now.head →
+        front_of result ≡ with_body h taken (expects h judged.now.framing) (body_front judged.now.framing after.now) }
     ensures within { TakesBetween taken (taken + length after.now) result }
 {
-    let (method, target, newer) = start_line(head);
-    let expect = asks_to_go_on(newer, framing, head);
-    match body_at_front(framing, after) {
+    let expect = judged.asks_to_go_on();
+    match body_at_front(judged.framing, after) {
         BodyScan::Unfinished => Scanned::Short { expect },
         BodyScan::Faulty(status) => Scanned::Fault { status, expect },
-        BodyScan::Whole { body, used } => {
-            let head = Head {
-                method,
-                target,
-                close: asks_to_close(newer, head),
-                format: format(head),
-                accept: accept(head),
-            };
-            let used = taken + used;
-            Scanned::Whole {
-                head,
-                body,
-                used,
-                expect,
-            }
-        }
+        BodyScan::Whole { body, used } => Scanned::Whole {
+            head: Head {
+                method: judged.head.method,
+                target: judged.head.target,
+                close: judged.asks_to_close(),
+                format: format(judged.head.fields.content_type),
+                accept: accept(judged.head.fields.accept),
+            },
+            body,
+            used: taken + used,
+            expect,
+        },
     }
 }

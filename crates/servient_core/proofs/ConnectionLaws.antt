@@ -14,7 +14,7 @@ use Rattle.thing_core.specs.Site.{Site}
 use Rattle.thing_core.specs.Thing.{Done, only, Acts, has_no_memory}
 use Rattle.thing_core.specs.Kept.{Kept}
 use Rattle.http_bind.specs.Replying.{fault_word}
-use Rattle.http_bind.specs.Streams.{Streams, asks, wants_continue, is_faulty, Takes, IsDry, Replies, Refuses, Ended, Closes, IsIdle, NoneIdle}
+use Rattle.http_bind.specs.Streams.{Streams, asks, wants_continue, is_faulty, Takes, IsDry, Replies, Continues, Refuses, Ended, Closes, IsIdle, NoneIdle}
 use Rattle.http_bind.specs.Slots.{Held, Slots, Leads, StandsFor as ConnectionsStandFor, OthersStay, IsOpen, with_held, HasRoomFor, longest_piece}
 use Rattle.coap_bind.specs.declared.server.Server.{Server}
 use Rattle.std.specs.List.{AllByRecursion}
@@ -24,9 +24,9 @@ use Rattle.servient_outside.specs.declared.net.Act.TheVariants as act
 use Rattle.servient_outside.specs.Network.{Happening, NetSeen, NetShows, did}
 use Rattle.servient_outside.proofs.NetLaws.{net_shows_then}
 use Rattle.servient_core.specs.Trace.{at_network, happened_in, calls_in, Outside, outside, Shows}
-use Rattle.servient_core.specs.Machine.{State, OnHttp, Does, Performs, acts_of_reply, Sends, Handles, TakesAndHandles, TakesMessages, ClosesIdle, ClosesAllIdle}
+use Rattle.servient_core.specs.Machine.{State, OnHttp, Does, Performs, acts_of_reply, Sends, AnswersTaken, TakesNextMessage, TakesEveryMessage, ClosesIdle, ClosesAllIdle}
 use Rattle.servient_core.specs.Serving.{StandsFor, IsReady}
-use Rattle.servient_core.specs.Connections.{IsOn, SendsReply, SendsRefusal, StaysDry}
+use Rattle.servient_core.specs.Connections.{IsOn, SendsReply, SendsContinue, SendsRefusal, StaysDry}
 use Rattle.servient_core.specs.declared.parts.Parts.{Parts}
 use Rattle.servient_core.proofs.TraceLaws.{shows_in_order}
 use Rattle.servient_core.proofs.PartLaws.{refines_http, refines_thing, refines_act, passing_moves, others_same, others_then}
@@ -73,14 +73,14 @@ shows_kept c bytes close n m stays sent = subst (λ (b : Bool). NetShows n m (ma
 -- a request is taken, done and replied
 pub takes_request : (site : Site) (c : ℕ) (q : PlainRequest) (done : Done) (o : Outcome) (k : Parts) (b d : Slots) (e : Kept) (n m : NetSeen) (before after : List Seen)
     → Leads (Takes c (asks q)) k.http b → Makes RackShows (Acts site q done) k.exposed.state e.state before after → done.outcome ≡ o → SendsReply c q o k.moment b d n m
-    → Refines StandsFor Shows (TakesAndHandles site c) k (record k { http = d; exposed = e }) (outside n before) (outside m after)
+    → Refines StandsFor Shows (TakesNextMessage site c) k (record k { http = d; exposed = e }) (outside n before) (outside m after)
 takes_request site c q done o k b d e n m before after leads made comes sends =
     let one : Parts = record k { http = b } in
     let two : Parts = record k { http = b; exposed = e } in
     let three : Parts = record k { http = d; exposed = e } in
     let reply = sends.reply in
     let replies = subst (λ (x : Outcome). Leads (Replies c q x k.moment reply.0 reply.1) b d) (sym comes) sends.leads in
-    passing_moves (λ taken. OnHttp (λ now. Takes c taken)) (Handles site c) (asks q) k one three (outside n before) (outside n before) (outside m after)
+    passing_moves (λ taken. OnHttp (λ now. Takes c taken)) (AnswersTaken site c) (asks q) k one three (outside n before) (outside n before) (outside m after)
     (refines_http (λ now. Takes c (asks q)) k b (outside n before) leads)
     (passing_moves (Performs site q) (λ x. Passing (λ (r : List ℕ × Bool). OnHttp (λ now. Replies c q x.outcome now r.0 r.1)) (Sends c)) done
     one two three (outside n before) (outside n after) (outside m after)
@@ -92,30 +92,30 @@ takes_request site c q done o k b d e n m before after leads made comes sends =
 -- there is no memory to read it
 pub takes_unread : (site : Site) (c : ℕ) (q : PlainRequest) (k : Parts) (b d : Slots) (n m : NetSeen) (slots : List Seen)
     → Leads (Takes c (asks q)) k.http b → SendsReply c q outcome.Memory k.moment b d n m
-    → Refines StandsFor Shows (TakesAndHandles site c) k (record k { http = d }) (outside n slots) (outside m slots)
+    → Refines StandsFor Shows (TakesNextMessage site c) k (record k { http = d }) (outside n slots) (outside m slots)
 takes_unread site c q k b d n m slots leads sends =
     takes_request site c q (only outcome.Memory) outcome.Memory k b d k.exposed n m slots slots leads
     (record { seen = []; move = has_no_memory (refl, record { next = refl; saw = refl }); shows = rack_shows_none slots }) refl sends
 
 -- the 100 reply is sent
 pub takes_continue : (site : Site) (c : ℕ) (k : Parts) (b d : Slots) (n m : NetSeen) (slots : List Seen)
-    → Leads (Takes c wants_continue) k.http b → SendsRefusal c 100 b d n m
-    → Refines StandsFor Shows (TakesAndHandles site c) k (record k { http = d }) (outside n slots) (outside m slots)
+    → Leads (Takes c wants_continue) k.http b → SendsContinue c b d n m
+    → Refines StandsFor Shows (TakesNextMessage site c) k (record k { http = d }) (outside n slots) (outside m slots)
 takes_continue site c k b d n m slots leads sends =
     let one : Parts = record k { http = b } in
     let two : Parts = record k { http = d } in
     let w = outside n slots in
-    passing_moves (λ taken. OnHttp (λ now. Takes c taken)) (Handles site c) wants_continue k one two w w (outside m slots)
+    passing_moves (λ taken. OnHttp (λ now. Takes c taken)) (AnswersTaken site c) wants_continue k one two w w (outside m slots)
     (refines_http (λ now. Takes c wants_continue) k b w leads)
-    (passing_moves (λ bytes. OnHttp (λ now. Refuses c 100 bytes)) (λ bytes. Sends c (bytes, false)) sends.bytes one two two w w (outside m slots)
-    (refines_http (λ now. Refuses c 100 sends.bytes) one d w sends.leads)
+    (passing_moves (λ bytes. OnHttp (λ now. Continues bytes)) (λ bytes. Sends c (bytes, false)) sends.bytes one two two w w (outside m slots)
+    (refines_http (λ now. Continues sends.bytes) one d w sends.leads)
     (refines_acts two n m slots (acts_of_reply c (sends.bytes, false)) sends.shows))
 
 -- a status with a word isn't 100
-pub not_100 : (status : ℕ) → IsSome (fault_word status) → not (status == 100) ≡ true
-not_100 status word = either (status == 100) (eqb-true status 100)
+pub isnt_100 : (status : ℕ) → IsSome (fault_word status) → (status == 100) ≡ false
+isnt_100 status word = either (status == 100) (eqb-true status 100)
   where
-    either : (t : Bool) → (t ≡ true → status ≡ 100) → not t ≡ true
+    either : (t : Bool) → (t ≡ true → status ≡ 100) → t ≡ false
     either false is = refl
     either true is = absurd (none (subst (λ (x : ℕ). IsSome (fault_word x)) (is refl) word))
       where
@@ -124,18 +124,17 @@ not_100 status word = either (status == 100) (eqb-true status 100)
 
 -- a fault is refused
 pub takes_fault : (site : Site) (c status : ℕ) (k : Parts) (b d : Slots) (n m : NetSeen) (slots : List Seen)
-    → Leads (Takes c (is_faulty status)) k.http b → IsSome (fault_word status) → SendsRefusal c status b d n m
-    → Refines StandsFor Shows (TakesAndHandles site c) k (record k { http = d }) (outside n slots) (outside m slots)
-takes_fault site c status k b d n m slots leads word sends =
+    → Leads (Takes c (is_faulty status)) k.http b → SendsRefusal c status b d n m
+    → Refines StandsFor Shows (TakesNextMessage site c) k (record k { http = d }) (outside n slots) (outside m slots)
+takes_fault site c status k b d n m slots leads sends =
     let one : Parts = record k { http = b } in
     let two : Parts = record k { http = d } in
     let w = outside n slots in
-    passing_moves (λ taken. OnHttp (λ now. Takes c taken)) (Handles site c) (is_faulty status) k one two w w (outside m slots)
+    passing_moves (λ taken. OnHttp (λ now. Takes c taken)) (AnswersTaken site c) (is_faulty status) k one two w w (outside m slots)
     (refines_http (λ now. Takes c (is_faulty status)) k b w leads)
     (passing_moves (λ bytes. OnHttp (λ now. Refuses c status bytes)) (λ bytes. Sends c (bytes, true)) sends.bytes one two two w w (outside m slots)
     (refines_http (λ now. Refuses c status sends.bytes) one d w sends.leads)
-    (refines_acts two n m slots (acts_of_reply c (sends.bytes, true))
-    (subst (λ (t : Bool). NetShows n m (map did (acts_of_reply c (sends.bytes, t)))) (not_100 status word) sends.shows)))
+    (refines_acts two n m slots (acts_of_reply c (sends.bytes, true)) sends.shows))
 
 -- nothing is to be taken
 pub takes_nothing : (c : ℕ) (k : Parts) (d : Slots) (w : Outside) → Leads (StreamStaysDry c) k.http d → Refines StandsFor Shows (StaysDry c) k (record k { http = d }) w w
@@ -150,8 +149,8 @@ takes_nothing c k d w leads = λ s stands.
 
 -- what holds while messages are taken: whatever is taken from here on, was taken since the first
 pub record Taking (c : ℕ) (first k : Parts) (w v : Outside) : Type 0 where
-  pub onward : (e : Parts) (x : Outside) → Refines StandsFor Shows (TakesMessages first.exposed.site c) k e v x
-      → Refines StandsFor Shows (TakesMessages first.exposed.site c) first e w x
+  pub onward : (e : Parts) (x : Outside) → Refines StandsFor Shows (TakesEveryMessage first.exposed.site c) k e v x
+      → Refines StandsFor Shows (TakesEveryMessage first.exposed.site c) first e w x
   pub on : IsOn c k v.slots
   pub others : OthersStay c first.http k.http
   pub site : k.exposed.site ≡ first.exposed.site
@@ -159,19 +158,19 @@ pub record Taking (c : ℕ) (first k : Parts) (w v : Outside) : Type 0 where
 pub taking_begins : (c : ℕ) (k : Parts) (w : Outside) → IsOn c k w.slots → Taking c k k w w
 taking_begins c k w on = record { onward = λ e x rest. rest; on = on; others = others_same c k.http; site = refl }
 
-pub taking_more : (c : ℕ) (first k l : Parts) (w v u : Outside) → Taking c first k w v → Refines StandsFor Shows (TakesAndHandles k.exposed.site c) k l v u
+pub taking_more : (c : ℕ) (first k l : Parts) (w v u : Outside) → Taking c first k w v → Refines StandsFor Shows (TakesNextMessage k.exposed.site c) k l v u
     → IsOn c l u.slots → OthersStay c k.http l.http → l.exposed.site ≡ k.exposed.site → Taking c first l w u
 taking_more c first k l w v u t step on others same = record {
   onward = λ e x rest. t.onward e x
-      (refines_goes_on StandsFor Shows shows_in_order (TakesAndHandles first.exposed.site c) (λ (s : State). IsDry c s.http) k l e v u x
-      (subst (λ (site : Site). Refines StandsFor Shows (TakesAndHandles site c) k l v u) t.site step) rest);
+      (refines_goes_on StandsFor Shows shows_in_order (TakesNextMessage first.exposed.site c) (λ (s : State). IsDry c s.http) k l e v u x
+      (subst (λ (site : Site). Refines StandsFor Shows (TakesNextMessage site c) k l v u) t.site step) rest);
   on = on;
   others = others_then c first.http k.http l.http t.others others;
   site = same ∙ t.site;
 }
 
 pub taking_ends : (c : ℕ) (first k l : Parts) (w v u : Outside) → Taking c first k w v → Refines StandsFor Shows (StaysDry c) k l v u
-    → Refines StandsFor Shows (TakesMessages first.exposed.site c) first l w u
+    → Refines StandsFor Shows (TakesEveryMessage first.exposed.site c) first l w u
 taking_ends c first k l w v u t step = t.onward l u (λ s stands.
     let a = step s stands in
     (a.0, a.1, record { seen = a.2.seen; move = is_done s a.2.seen a.0 a.2.move.0 a.2.move.1; shows = a.2.shows }))

@@ -20,8 +20,8 @@ use Rattle.servient_outside.proofs.NetLaws.{break_count-append}
 use Rattle.servient_core.specs.declared.serving.Served.{Served}
 use Rattle.servient_core.specs.declared.serving.Served.TheVariants as served
 use Rattle.servient_core.specs.Trace.{Sighting, at_network, at_handler, happened_in, calls_in, happening_in}
-use Rattle.servient_core.specs.Machine.{Site, State, Move, OnHttp, OnCoap, OnThing, Does, Responds, Receives, acts_of_reply, Handles, TakesAndHandles, ClosesIdle, Follows, Step, Run}
-use Rattle.http_bind.specs.Streams.{Streams, Taken, asks, wants_continue, is_faulty, Opened, Ended, Lengthened, Takes, IsDry, Replies, Refuses, Closes, IsIdle, NoneIdle}
+use Rattle.servient_core.specs.Machine.{Site, State, Move, OnHttp, OnCoap, OnThing, Does, AnswersDatagram, HearsDatagram, acts_of_reply, AnswersTaken, TakesNextMessage, ClosesIdle, Follows, Step, Run}
+use Rattle.http_bind.specs.Streams.{Streams, Taken, asks, wants_continue, is_faulty, Opened, Ended, Lengthened, Takes, IsDry, Replies, Continues, Refuses, Closes, IsIdle, NoneIdle}
 use Rattle.servient_core.specs.Serving.{Serves, BreaksAtEnd}
 use Rattle.servient_core.proofs.PartLaws.{nothing_happened, the_calls}
 use Rattle.servient_core.proofs.NumberLaws.{Counts, acts_count, polls_count}
@@ -80,7 +80,7 @@ thing_keeps M s seen t counts on =
 
 -- ---- events
 
-responds_keeps : (site : Site) (from : Endpoint) (h : Heard) (s : State) (seen : List Sighting) (t : State) → Responds site from h s seen t → Keeps [] s seen t
+responds_keeps : (site : Site) (from : Endpoint) (h : Heard) (s : State) (seen : List Sighting) (t : State) → AnswersDatagram site from h s seen t → Keeps [] s seen t
 responds_keeps site from ignored s seen t stays = stays_keeps s t seen stays.next stays.saw
 responds_keeps site from (answered_at_once bytes) s seen t does = does_keeps (act.Datagram from bytes ∷ []) s seen t does
 responds_keeps site from (asked ask request) s seen t is =
@@ -91,7 +91,7 @@ responds_keeps site from (asked ask request) s seen t is =
     (then_keeps [] [] one.mid two.mid t two.first two.second one.second (coap_keeps (λ now. Answers request is.0.outcome one.other.0) one.mid two.first two.mid two.one) (does_keeps (act.Datagram from one.other.0 ∷ []) two.mid two.second t two.other) two.whole)
     one.whole
 
-receives_keeps : (site : Site) (from : Endpoint) (bytes : List ℕ) (s : State) (seen : List Sighting) (t : State) → Receives site from bytes s seen t → Keeps [] s seen t
+receives_keeps : (site : Site) (from : Endpoint) (bytes : List ℕ) (s : State) (seen : List Sighting) (t : State) → HearsDatagram site from bytes s seen t → Keeps [] s seen t
 receives_keeps site from bytes s seen t (inl long) = stays_keeps s t seen long.1.next long.1.saw
 receives_keeps site from bytes s seen t (inr heard) =
     let both = heard.1.1 in
@@ -102,7 +102,7 @@ http_keeps : (Change : ℕ → Streams → Streams → Type 0) (s : State) (seen
 http_keeps Change s seen t on =
     becomes_keeps [] s (record s { http = on.0 }) t [] seen on.2.next on.2.saw (record { hears = refl; unbroken = refl; count = omega arith; numbered = tt })
 
-handles_keeps : (site : Site) (c : ℕ) (taken : Taken) (s : State) (seen : List Sighting) (t : State) → Handles site c taken s seen t → Keeps [] s seen t
+handles_keeps : (site : Site) (c : ℕ) (taken : Taken) (s : State) (seen : List Sighting) (t : State) → AnswersTaken site c taken s seen t → Keeps [] s seen t
 handles_keeps site c (asks q) s seen t is =
     let one = is.1 in
     let two = one.other.1 in
@@ -114,14 +114,14 @@ handles_keeps site c (asks q) s seen t is =
     one.whole
 handles_keeps site c wants_continue s seen t is =
     let both = is.1 in
-    then_keeps [] [] s both.mid t both.first both.second seen (http_keeps (λ now. Refuses c 100 is.0) s both.first both.mid both.one)
+    then_keeps [] [] s both.mid t both.first both.second seen (http_keeps (λ now. Continues is.0) s both.first both.mid both.one)
     (does_keeps (acts_of_reply c (is.0, false)) both.mid both.second t both.other) both.whole
 handles_keeps site c (is_faulty status) s seen t is =
     let both = is.1 in
     then_keeps [] [] s both.mid t both.first both.second seen (http_keeps (λ now. Refuses c status is.0) s both.first both.mid both.one)
     (does_keeps (acts_of_reply c (is.0, true)) both.mid both.second t both.other) both.whole
 
-takes_keeps : (site : Site) (c : ℕ) (s : State) (seen : List Sighting) (t : State) → TakesAndHandles site c s seen t → Keeps [] s seen t
+takes_keeps : (site : Site) (c : ℕ) (s : State) (seen : List Sighting) (t : State) → TakesNextMessage site c s seen t → Keeps [] s seen t
 takes_keeps site c s seen t is =
     let both = is.1 in
     then_keeps [] [] s both.mid t both.first both.second seen (http_keeps (λ now. Takes c is.0) s both.first both.mid both.one)
@@ -144,7 +144,7 @@ follows_keeps : (site : Site) (w : What) (bytes : List ℕ) (s : State) (seen : 
 follows_keeps site (what.Opened c) bytes s seen t on = http_keeps (Opened c) s seen t on
 follows_keeps site (what.Bytes c size) bytes s seen t both =
     then_keeps [] [] s both.mid t both.first both.second seen (http_keeps (Lengthened c bytes) s both.first both.mid both.one)
-    (until_keeps (TakesAndHandles site c) (λ (x : State). IsDry c x.http) (λ x calls y m. takes_keeps site c x calls y m) both.mid both.second t both.other) both.whole
+    (until_keeps (TakesNextMessage site c) (λ (x : State). IsDry c x.http) (λ x calls y m. takes_keeps site c x calls y m) both.mid both.second t both.other) both.whole
 follows_keeps site (what.Ended c) bytes s seen t on = http_keeps (λ now. Ended c) s seen t on
 follows_keeps site (what.Datagram from size) bytes s seen t receives = receives_keeps site from bytes s seen t receives
 follows_keeps site what.Tick bytes s seen t polls = thing_keeps (Polls site polls.0) s seen t (λ x calls y m. polls_count site polls.0 x calls y m) polls.1

@@ -26,7 +26,7 @@ use Rattle.servient_outside.specs.declared.net.EventWithBytes.{EventWithBytes}
 use Rattle.servient_outside.specs.Network.{Happening, NetSeen, NetShows, did}
 use Rattle.servient_outside.proofs.NetLaws.{net_shows_none}
 use Rattle.servient_core.specs.Trace.{at_network, at_handler, happened_in, calls_in, Outside, outside, Shows}
-use Rattle.servient_core.specs.Machine.{State, Move, OnHttp, OnCoap, OnThing, Does, Performs, Responds, Receives, Follows, Step, ClosesAllIdle, longest_datagram}
+use Rattle.servient_core.specs.Machine.{State, Move, OnHttp, OnCoap, OnThing, Does, Performs, AnswersDatagram, HearsDatagram, Follows, Step, ClosesAllIdle, longest_datagram}
 use Rattle.servient_core.specs.Serving.{StandsFor}
 use Rattle.servient_core.specs.Keeping.{IsPerformed}
 use Rattle.servient_core.specs.declared.parts.Parts.{Parts}
@@ -120,42 +120,42 @@ passing_moves P Q a k l m w v u p q = refines_passing StandsFor Shows shows_in_o
 
 -- one that is too long
 pub receives_long : (site : Site) (from : Endpoint) (bytes : List ℕ) (k : Parts) (w : Outside) → longest_datagram < length bytes
-    → Refines StandsFor Shows (Receives site from bytes) k k w w
+    → Refines StandsFor Shows (HearsDatagram site from bytes) k k w w
 receives_long site from bytes k w long =
-    refines_as StandsFor Shows (λ (s : State). Stays s) (Receives site from bytes) k k w w (λ s seen t stays. inl (long, stays)) (refines_nothing k w)
+    refines_as StandsFor Shows (λ (s : State). Stays s) (HearsDatagram site from bytes) k k w w (λ s seen t stays. inl (long, stays)) (refines_nothing k w)
 
 -- one that is heard
 pub receives_heard : (site : Site) (from : Endpoint) (bytes : List ℕ) (k l : Parts) (c : Server) (w v : Outside) (h : Heard)
     → length bytes ≤ longest_datagram → Hears from bytes k.moment h k.coap c
-    → Refines StandsFor Shows (Responds site from h) (record k { coap = c }) l w v
-    → Refines StandsFor Shows (Receives site from bytes) k l w v
+    → Refines StandsFor Shows (AnswersDatagram site from h) (record k { coap = c }) l w v
+    → Refines StandsFor Shows (HearsDatagram site from bytes) k l w v
 receives_heard site from bytes k l c w v h short hears responds =
-    refines_as StandsFor Shows (Passing (λ (x : Heard). OnCoap (λ now. Hears from bytes now x)) (Responds site from)) (Receives site from bytes) k l w v
+    refines_as StandsFor Shows (Passing (λ (x : Heard). OnCoap (λ now. Hears from bytes now x)) (AnswersDatagram site from)) (HearsDatagram site from bytes) k l w v
     (λ s seen t both. inr (short, both))
-    (passing_moves (λ (x : Heard). OnCoap (λ now. Hears from bytes now x)) (Responds site from) h k (record k { coap = c }) l w w v
+    (passing_moves (λ (x : Heard). OnCoap (λ now. Hears from bytes now x)) (AnswersDatagram site from) h k (record k { coap = c }) l w w v
     (refines_coap (λ now. Hears from bytes now h) k c w hears) responds)
 
 -- nothing is done
 pub heard_nothing : (site : Site) (from : Endpoint) (bytes : List ℕ) (k : Parts) (c : Server) (w : Outside) (h : Heard) → length bytes ≤ longest_datagram
-    → Hears from bytes k.moment h k.coap c → h ≡ ignored → Refines StandsFor Shows (Receives site from bytes) k (record k { coap = c }) w w
+    → Hears from bytes k.moment h k.coap c → h ≡ ignored → Refines StandsFor Shows (HearsDatagram site from bytes) k (record k { coap = c }) w w
 heard_nothing site from bytes k c w h short hears is =
     receives_heard site from bytes k (record k { coap = c }) c w w h short hears
-    (subst (λ (x : Heard). Refines StandsFor Shows (Responds site from x) (record k { coap = c }) (record k { coap = c }) w w) (sym is) (refines_nothing (record k { coap = c }) w))
+    (subst (λ (x : Heard). Refines StandsFor Shows (AnswersDatagram site from x) (record k { coap = c }) (record k { coap = c }) w w) (sym is) (refines_nothing (record k { coap = c }) w))
 
 -- bytes are sent back at once
 pub heard_at_once : (site : Site) (from : Endpoint) (bytes sent : List ℕ) (k : Parts) (c : Server) (n m : NetSeen) (slots : List Seen) (h : Heard) → length bytes ≤ longest_datagram
     → Hears from bytes k.moment h k.coap c → h ≡ answered_at_once sent → NetShows n m (did (act.Datagram from sent) ∷ [])
-    → Refines StandsFor Shows (Receives site from bytes) k (record k { coap = c }) (outside n slots) (outside m slots)
+    → Refines StandsFor Shows (HearsDatagram site from bytes) k (record k { coap = c }) (outside n slots) (outside m slots)
 heard_at_once site from bytes sent k c n m slots h short hears is shows =
     receives_heard site from bytes k (record k { coap = c }) c (outside n slots) (outside m slots) h short hears
-    (subst (λ (x : Heard). Refines StandsFor Shows (Responds site from x) (record k { coap = c }) (record k { coap = c }) (outside n slots) (outside m slots)) (sym is)
+    (subst (λ (x : Heard). Refines StandsFor Shows (AnswersDatagram site from x) (record k { coap = c }) (record k { coap = c }) (outside n slots) (outside m slots)) (sym is)
     (refines_act (record k { coap = c }) n m slots (act.Datagram from sent) shows))
 
 -- what is asked is done and answered
 responds_asked : (site : Site) (from : Endpoint) (ask : PlainAsk) (request : OpenRequest) (sent : List ℕ) (k : Parts) (e : Kept) (c : Server) (done : Done) (n m : NetSeen) (before after : List Seen)
     → Makes RackShows (Acts site ask.request done) k.exposed.state e.state before after → Answers request done.outcome sent k.coap c
     → NetShows n m (did (act.Datagram from sent) ∷ [])
-    → Refines StandsFor Shows (Responds site from (asked ask request)) k (record k { exposed = e; coap = c }) (outside n before) (outside m after)
+    → Refines StandsFor Shows (AnswersDatagram site from (asked ask request)) k (record k { exposed = e; coap = c }) (outside n before) (outside m after)
 responds_asked site from ask request sent k e c done n m before after made answers shows =
     passing_moves (Performs site ask.request)
     (λ d. Passing (λ bytes. OnCoap (λ now. Answers request d.outcome bytes)) (λ bytes. Does (act.Datagram from bytes ∷ []))) done
@@ -169,10 +169,10 @@ responds_asked site from ask request sent k e c done n m before after made answe
 pub heard_asked : (site : Site) (from : Endpoint) (bytes sent : List ℕ) (ask : PlainAsk) (request : OpenRequest) (o : Outcome) (k : Parts) (e : Kept) (b c : Server)
     (n m : NetSeen) (before after : List Seen) (h : Heard) → length bytes ≤ longest_datagram → Hears from bytes k.moment h k.coap b → h ≡ asked ask request
     → k.exposed.site ≡ site → IsPerformed k.exposed e ask.request o before after → Answers request o sent b c → NetShows n m (did (act.Datagram from sent) ∷ [])
-    → Refines StandsFor Shows (Receives site from bytes) k (record k { exposed = e; coap = c }) (outside n before) (outside m after)
+    → Refines StandsFor Shows (HearsDatagram site from bytes) k (record k { exposed = e; coap = c }) (outside n before) (outside m after)
 heard_asked site from bytes sent ask request o k e b c n m before after h short hears is same performed answers shows =
     receives_heard site from bytes k (record k { exposed = e; coap = c }) b (outside n before) (outside m after) h short hears
-    (subst (λ (x : Heard). Refines StandsFor Shows (Responds site from x) (record k { coap = b }) (record k { exposed = e; coap = c }) (outside n before) (outside m after)) (sym is)
+    (subst (λ (x : Heard). Refines StandsFor Shows (AnswersDatagram site from x) (record k { coap = b }) (record k { exposed = e; coap = c }) (outside n before) (outside m after)) (sym is)
     (responds_asked site from ask request sent (record k { coap = b }) e c performed.done n m before after
     (subst (λ (x : Site). Makes RackShows (Acts x ask.request performed.done) k.exposed.state e.state before after) same performed.made)
     (subst (λ (x : Outcome). Answers request x sent b c) (sym performed.outcome) answers) shows))

@@ -18,7 +18,7 @@ use Rattle.coap_bind.proofs.HistoryLaws.{duplicates_ask_nothing}
 use Rattle.servient_outside.specs.declared.net.Act.TheVariants as act
 use Rattle.servient_outside.specs.Network.{did}
 use Rattle.servient_core.specs.Trace.{Sighting, at_network, calls_in}
-use Rattle.servient_core.specs.Machine.{Site, State, Responds}
+use Rattle.servient_core.specs.Machine.{Site, State, AnswersDatagram}
 use Rattle.servient_core.specs.Promises.{ActsOnNothing, DuplicatesActOnNothing, FullTableActsOnNothing}
 
 pub acts_as : (s u t : State) (shown seen : List Sighting) → Becomes u shown seen t → u.thing ≡ s.thing → calls_in shown ≡ [] → ActsOnNothing s seen t
@@ -26,7 +26,7 @@ acts_as s u t shown seen b same none = record { calls = ap calls_in b.saw ∙ no
 
 -- what asks for nothing acts on nothing
 unasked_acts : (site : Site) (from : Endpoint) (h : Heard) (s m t : State) (first seen second : List Sighting) → m.thing ≡ s.thing → first ≡ [] → seen ≡ first ++ second
-    → ((ask : PlainAsk) (request : OpenRequest) → ¬ (h ≡ asked ask request)) → Responds site from h m second t → ActsOnNothing s seen t
+    → ((ask : PlainAsk) (request : OpenRequest) → ¬ (h ≡ asked ask request)) → AnswersDatagram site from h m second t → ActsOnNothing s seen t
 unasked_acts site from ignored s m t first seen second same none whole never stays =
     let all : seen ≡ second = whole ∙ ap (λ (x : List Sighting). x ++ second) none in
     record { calls = ap calls_in (all ∙ stays.saw); thing = ap (λ (x : State). x.thing) stays.next ∙ same }
@@ -81,9 +81,9 @@ turned_away from bytes now h s t m spells request none many (settled (full n u m
 turned_away from bytes now h s t m spells request none many (admitted n slot u met reads) = absurd (omega (arith, many, met.meets.1.0))
 
 answered_once : (site : Site) (from : Endpoint) (h : Heard) (reply : List ℕ) (s m t : State) (first seen second : List Sighting) → h ≡ answered_at_once reply → first ≡ [] → seen ≡ first ++ second
-    → Responds site from h m second t → (seen ≡ at_network (did (act.Datagram from reply)) ∷ []) × (t ≡ m)
+    → AnswersDatagram site from h m second t → (seen ≡ at_network (did (act.Datagram from reply)) ∷ []) × (t ≡ m)
 answered_once site from h reply s m t first seen second is none whole responds =
-    let does = subst (λ (x : Heard). Responds site from x m second t) is responds in
+    let does = subst (λ (x : Heard). AnswersDatagram site from x m second t) is responds in
     (whole ∙ ap (λ (x : List Sighting). x ++ second) none ∙ does.saw, does.next)
 
 pub full_table_acts_on_nothing : FullTableActsOnNothing

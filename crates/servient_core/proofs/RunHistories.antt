@@ -27,7 +27,7 @@ use Rattle.servient_outside.specs.declared.net.EventWithBytes.{EventWithBytes}
 use Rattle.servient_core.specs.declared.serving.Served.{Served}
 use Rattle.servient_core.specs.declared.serving.Served.TheVariants as served
 use Rattle.servient_core.specs.Trace.{Sighting, at_handler}
-use Rattle.servient_core.specs.Machine.{Site, State, start, Move, OnCoap, Responds, Receives, Handles, TakesAndHandles, ClosesIdle, Follows, Step, Run}
+use Rattle.servient_core.specs.Machine.{Site, State, start, Move, OnCoap, AnswersDatagram, HearsDatagram, AnswersTaken, TakesNextMessage, ClosesIdle, Follows, Step, Run}
 use Rattle.servient_core.specs.Serving.{Ends}
 use Rattle.servient_core.specs.Runs.{AreRequestsOf, AreRequestsFrom, HasHistory, EachRunHasAHistory, ServingHasAHistory}
 
@@ -118,7 +118,7 @@ answers_holds k history now request o bytes s t seen on h =
       at = h.at;
     })
 
-responds_holds : (k : ℕ) (history : List Arrival) (now : ℕ) (site : Site) (from : Endpoint) (heard : Heard) (s t : State) (seen : List Sighting) → Responds site from heard s seen t
+responds_holds : (k : ℕ) (history : List Arrival) (now : ℕ) (site : Site) (from : Endpoint) (heard : Heard) (s t : State) (seen : List Sighting) → AnswersDatagram site from heard s seen t
     → Holds k history now s → Holds k history now t
 responds_holds k history now site from ignored s t seen stays h = becomes k history now s t stays.next h
 responds_holds k history now site from (answered_at_once bytes) s t seen does h = becomes k history now s t does.next h
@@ -129,7 +129,7 @@ responds_holds k history now site from (asked ask request) s t seen is h =
     (answers_holds k history now request is.0.outcome one.other.0 one.mid two.mid two.first two.one
     (thing_stays k history now s one.mid one.one.0 (map at_handler one.one.1) one.first one.one.3 h))
 
-handles_holds : (k : ℕ) (history : List Arrival) (now : ℕ) (site : Site) (c : ℕ) (taken : Taken) (s t : State) (seen : List Sighting) → Handles site c taken s seen t
+handles_holds : (k : ℕ) (history : List Arrival) (now : ℕ) (site : Site) (c : ℕ) (taken : Taken) (s t : State) (seen : List Sighting) → AnswersTaken site c taken s seen t
     → Holds k history now s → Holds k history now t
 handles_holds k history now site c (asks q) s t seen is h =
     let one = is.1 in
@@ -141,7 +141,7 @@ handles_holds k history now site c wants_continue s t seen is h =
 handles_holds k history now site c (is_faulty status) s t seen is h =
     becomes k history now is.1.mid t is.1.other.next (http_stays k history now s is.1.mid is.1.one.0 is.1.first is.1.one.2 h)
 
-takes_holds : (k : ℕ) (history : List Arrival) (now : ℕ) (site : Site) (c : ℕ) (s t : State) (seen : List Sighting) → TakesAndHandles site c s seen t
+takes_holds : (k : ℕ) (history : List Arrival) (now : ℕ) (site : Site) (c : ℕ) (s t : State) (seen : List Sighting) → TakesNextMessage site c s seen t
     → Holds k history now s → Holds k history now t
 takes_holds k history now site c s t seen is h =
     handles_holds k history now site c is.0 is.1.mid t is.1.second is.1.other (http_stays k history now s is.1.mid is.1.one.0 is.1.first is.1.one.2 h)
@@ -170,7 +170,7 @@ nothing_new : (k : ℕ) (history : List Arrival) (now : ℕ) (t : State) → Hol
 nothing_new k history now t h = subst (λ (x : List Arrival). Holds k x now t) (sym (append-nil history)) h
 
 receives_goes_on : (k : ℕ) (history : List Arrival) (now : ℕ) (site : Site) (from : Endpoint) (size : ℕ) (bytes : List ℕ) (s t : State) (seen : List Sighting)
-    → Receives site from bytes s seen t → Holds k history now s → GoesOn k history now (what.Datagram from size) bytes t
+    → HearsDatagram site from bytes s seen t → Holds k history now s → GoesOn k history now (what.Datagram from size) bytes t
 receives_goes_on k history now site from size bytes s t seen (inl long) h =
     record { new = []; requests = inl (long.0, refl); holds = becomes k (history ++ []) now s t long.1.next (nothing_new k history now s h) }
 receives_goes_on k history now site from size bytes s t seen (inr heard) h =
@@ -197,7 +197,7 @@ follows_goes_on k history now site (what.Bytes c size) bytes s t seen both h = r
   new = [];
   requests = refl;
   holds = nothing_new k history now t
-      (until_holds k history now (TakesAndHandles site c) (λ (x : State). IsDry c x.http) (λ x y calls move. takes_holds k history now site c x y calls move) both.mid t both.second both.other
+      (until_holds k history now (TakesNextMessage site c) (λ (x : State). IsDry c x.http) (λ x y calls move. takes_holds k history now site c x y calls move) both.mid t both.second both.other
       (http_stays k history now s both.mid both.one.0 both.first both.one.2 h));
 }
 follows_goes_on k history now site (what.Ended c) bytes s t seen on h =

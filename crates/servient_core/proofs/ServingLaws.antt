@@ -11,7 +11,7 @@ use Rattle.servient_outside.specs.Network.{byte_count, in_buffer, Happening, Net
 use Rattle.servient_core.specs.declared.serving.Served.{Served}
 use Rattle.servient_core.specs.declared.serving.Served.TheVariants as served
 use Rattle.servient_core.specs.Trace.{at_network, Outside, outside, Shows}
-use Rattle.servient_core.specs.Machine.{Site, State, Comes, Step, TakesEvent, Run}
+use Rattle.servient_core.specs.Machine.{Site, State, Comes, Step, EventAndStep, Run}
 use Rattle.servient_core.specs.declared.parts.Parts.{Parts}
 use Rattle.servient_core.specs.Serving.{StandsFor, HasNoStop, AreTaken, Ends, Serves}
 use Rattle.servient_core.proofs.TraceLaws.{shows_in_order, shows_at_network}
@@ -42,7 +42,7 @@ progress_none c w within = record { took = []; run = refines_stays StandsFor Sho
 -- an event came and its step was made
 took_more : (c d f : Parts) (w : Outside) (n m : NetSeen) (slots : List Seen) (u : Outside) (count : ℕ) (e : EventWithBytes) (p : Progress c d w (outside n slots) count) → NetShows n m (heard e ∷ []) → Refines StandsFor Shows (Step d.exposed.site e) d f (outside m slots) u → Refines StandsFor Shows (Run c.exposed.site (p.took ++ e ∷ [])) c f w u
 took_more c d f w n m slots u count e p comes step =
-    refines_each_more StandsFor Shows shows_in_order (TakesEvent c.exposed.site) p.took e c d f w (outside n slots) u p.run
+    refines_each_more StandsFor Shows shows_in_order (EventAndStep c.exposed.site) p.took e c d f w (outside n slots) u p.run
     (refines_then StandsFor Shows shows_in_order (Comes e) (Step c.exposed.site e) d d f (outside n slots) (outside m slots) u (refines_net d n m slots (heard e) comes)
     (subst (λ (x : Site). Refines StandsFor Shows (Step x e) d f (outside m slots) u) p.site step))
 

@@ -1,15 +1,15 @@
 -- What the functions of connections say of one another.
-use Rattle.std.specs.Prelude.{◌≡◌, ◌≤◌, ◌<◌, ◌==◌, ℕ, not, List, [], map, Bool, true, false}
+use Rattle.std.specs.Prelude.{◌≡◌, ◌≤◌, ◌<◌, ℕ, List, [], map, Bool, true, false}
 use Rattle.servient_base.specs.Moves.{Stays}
 use Rattle.thing_ops.specs.declared.outcome.Outcome.{Outcome}
 use Rattle.thing_ops.specs.Requests.{PlainRequest}
 use Rattle.thing_handler.specs.Handler.{Seen}
 use Rattle.thing_core.specs.Site.{Site}
 use Rattle.thing_core.specs.Kept.{Fits}
-use Rattle.http_bind.specs.Streams.{Replies, Refuses, IsDry}
+use Rattle.http_bind.specs.Streams.{Replies, Continues, Refuses, IsDry}
 use Rattle.http_bind.specs.Slots.{Slots, Leads}
 use Rattle.servient_outside.specs.Network.{NetSeen, NetShows, did}
-use Rattle.servient_core.specs.Machine.{Move, TakesAndHandles, acts_of_reply}
+use Rattle.servient_core.specs.Machine.{Move, TakesNextMessage, acts_of_reply}
 use Rattle.servient_core.specs.declared.parts.Parts.{Parts}
 
 -- While the messages of a connection are taken: no emission waits to be handed out, the exchanges are at no later moment,
@@ -26,11 +26,17 @@ pub record SendsReply (c : ℕ) (request : PlainRequest) (o : Outcome) (moment :
   pub leads : Leads (Replies c request o moment reply.0 reply.1) b d
   pub shows : NetShows n m (map did (acts_of_reply c reply))
 
--- the 100 reply is sent, or that to a fault
+-- the 100 reply is sent
+pub record SendsContinue (c : ℕ) (b d : Slots) (n m : NetSeen) : Type 0 where
+  pub bytes : List ℕ
+  pub leads : Leads (Continues bytes) b d
+  pub shows : NetShows n m (map did (acts_of_reply c (bytes, false)))
+
+-- the reply to a fault is sent
 pub record SendsRefusal (c status : ℕ) (b d : Slots) (n m : NetSeen) : Type 0 where
   pub bytes : List ℕ
   pub leads : Leads (Refuses c status bytes) b d
-  pub shows : NetShows n m (map did (acts_of_reply c (bytes, not (status == 100))))
+  pub shows : NetShows n m (map did (acts_of_reply c (bytes, true)))
 
 -- nothing is to be taken from it
 abbrev pub StaysDry : ℕ → Move
@@ -38,5 +44,5 @@ StaysDry c s seen t = IsDry c s.http × Stays s seen t
 
 -- one of both
 abbrev pub TakesOne : Bool → Site → ℕ → Move
-TakesOne true site c = TakesAndHandles site c
+TakesOne true site c = TakesNextMessage site c
 TakesOne false site c = StaysDry c

@@ -2,7 +2,13 @@
 -- by event. It knows no byte of a message, no exchange and no affordance: what these mean is said by the layers that it names.
 --
 -- A move relates the state before it, the list of what is seen of it in order, and the state after it. `Becomes`,
--- `Stays`, `Then`, `Passing`, `Each` and `Until` put moves together (servient_base/specs/Moves.antt).
+-- `Stays`, `Then`, `Passing`, `Each` and `Until` put moves together (servient_base/specs/Moves.antt). A run is the last
+-- definition of this page: one event after another comes and is followed by its step.
+--
+-- A reader may go on behind the imports, which only say where each word of a layer stands.
+
+-- ---- imports
+
 use Rattle.std.specs.Prelude.{ℕ, ◌<◌, ◌≤◌, ◌⊎◌, max, List, [], ◌∷◌, map, length, Bool, true, false, if◌then◌else◌}
 use Rattle.servient_base.specs.Moves.{Becomes, Stays, Then, Passing, Each, Until}
 use Rattle.coap_msg.specs.declared.endpoint.Endpoint.{Endpoint}
@@ -13,7 +19,7 @@ use Rattle.thing_core.specs.State.{State as ThingState, Emission, start as no_re
 use Rattle.thing_core.specs.Thing.{Move as ThingMove, Done, Acts, Polls}
 use Rattle.coap_bind.specs.declared.server.Server.{Server}
 use Rattle.coap_bind.specs.Server.{start as nothing_came, Heard, ignored, answered_at_once, asked, Hears, Answers}
-use Rattle.http_bind.specs.Streams.{Streams, none_open, Taken, asks, wants_continue, is_faulty, Opened, Ended, Lengthened, Takes, IsDry, Replies, Refuses, Closes, IsIdle, NoneIdle}
+use Rattle.http_bind.specs.Streams.{Streams, none_open, Taken, asks, wants_continue, is_faulty, Opened, Ended, Lengthened, Takes, IsDry, Replies, Continues, Refuses, Closes, IsIdle, NoneIdle}
 use Rattle.servient_outside.specs.declared.net.What.{What}
 use Rattle.servient_outside.specs.declared.net.What.TheVariants as what
 use Rattle.servient_outside.specs.declared.net.EventWithBytes.{EventWithBytes}
@@ -21,6 +27,8 @@ use Rattle.servient_outside.specs.declared.net.Act.{Act}
 use Rattle.servient_outside.specs.declared.net.Act.TheVariants as act
 use Rattle.servient_outside.specs.Network.{heard, did}
 use Rattle.servient_core.specs.Trace.{Sighting, at_network, at_handler}
+
+-- ---- the state
 
 -- what is constant in a run: the Things, each affordance with the slot of its handler
 abbrev pub Site : Type 0
@@ -45,16 +53,16 @@ Move = State → List Sighting → State → Type 0
 
 -- the connections change, at the machine's moment
 abbrev pub OnHttp : (ℕ → Streams → Streams → Type 0) → Move
-OnHttp Does s seen t = (h : Streams) × Does s.moment s.http h × Becomes (record s { http = h }) [] seen t
+OnHttp Change s seen t = (h : Streams) × Change s.moment s.http h × Becomes (record s { http = h }) [] seen t
 
 -- the CoAP server changes, at the machine's moment
 abbrev pub OnCoap : (ℕ → Server → Server → Type 0) → Move
-OnCoap Does s seen t = (c : Server) × Does s.moment s.coap c × Becomes (record s { coap = c }) [] seen t
+OnCoap Change s seen t = (c : Server) × Change s.moment s.coap c × Becomes (record s { coap = c }) [] seen t
 
 -- a move of the Thing machine, of which calls of handlers are seen
 abbrev pub OnThing : ThingMove → Move
-OnThing Does s seen t =
-    (x : ThingState) × (calls : List HandlerCall) × Does s.thing calls x
+OnThing move s seen t =
+    (x : ThingState) × (calls : List HandlerCall) × move s.thing calls x
     × Becomes (record s { thing = x }) (map at_handler calls) seen t
 
 -- this is done to the network
@@ -74,18 +82,18 @@ abbrev pub longest_datagram : ℕ
 longest_datagram = 1280
 
 -- what follows on a datagram from this endpoint
-abbrev pub Responds : Site → Endpoint → Heard → Move
-Responds site from ignored s seen t = Stays s seen t
-Responds site from (answered_at_once bytes) s seen t = Does (act.Datagram from bytes ∷ []) s seen t
-Responds site from (asked ask request) s seen t =
+abbrev pub AnswersDatagram : Site → Endpoint → Heard → Move
+AnswersDatagram site from ignored s seen t = Stays s seen t
+AnswersDatagram site from (answered_at_once bytes) s seen t = Does (act.Datagram from bytes ∷ []) s seen t
+AnswersDatagram site from (asked ask request) s seen t =
     Passing (Performs site ask.request)
     (λ done. Passing (λ bytes. OnCoap (λ now. Answers request done.outcome bytes)) (λ bytes. Does (act.Datagram from bytes ∷ []))) s seen t
 
 -- it is too long and nothing is done, or it is heard
-abbrev pub Receives : Site → Endpoint → List ℕ → Move
-Receives site from bytes s seen t =
+abbrev pub HearsDatagram : Site → Endpoint → List ℕ → Move
+HearsDatagram site from bytes s seen t =
     (longest_datagram < length bytes × Stays s seen t)
-    ⊎ (length bytes ≤ longest_datagram × Passing (λ h. OnCoap (λ now. Hears from bytes now h)) (Responds site from) s seen t)
+    ⊎ (length bytes ≤ longest_datagram × Passing (λ h. OnCoap (λ now. Hears from bytes now h)) (AnswersDatagram site from) s seen t)
 
 -- ---- HTTP (RFC 9112): the messages of a stream that weren't taken yet, one after another
 
@@ -97,26 +105,26 @@ abbrev pub Sends : ℕ → List ℕ × Bool → Move
 Sends c reply = Does (acts_of_reply c reply)
 
 -- what follows on what was taken from a connection
-abbrev pub Handles : Site → ℕ → Taken → Move
-Handles site c (asks q) s seen t =
+abbrev pub AnswersTaken : Site → ℕ → Taken → Move
+AnswersTaken site c (asks q) s seen t =
     Passing (Performs site q)
     (λ done. Passing (λ (reply : List ℕ × Bool). OnHttp (λ now. Replies c q done.outcome now reply.0 reply.1)) (Sends c)) s seen t
-Handles site c wants_continue s seen t =
-    Passing (λ bytes. OnHttp (λ now. Refuses c 100 bytes)) (λ bytes. Sends c (bytes, false)) s seen t
-Handles site c (is_faulty status) s seen t =
+AnswersTaken site c wants_continue s seen t =
+    Passing (λ bytes. OnHttp (λ now. Continues bytes)) (λ bytes. Sends c (bytes, false)) s seen t
+AnswersTaken site c (is_faulty status) s seen t =
     Passing (λ bytes. OnHttp (λ now. Refuses c status bytes)) (λ bytes. Sends c (bytes, true)) s seen t
 
--- something is taken from a connection, and handled
-abbrev pub TakesAndHandles : Site → ℕ → Move
-TakesAndHandles site c = Passing (λ taken. OnHttp (λ now. Takes c taken)) (Handles site c)
+-- something is taken from a connection, and answered
+abbrev pub TakesNextMessage : Site → ℕ → Move
+TakesNextMessage site c = Passing (λ taken. OnHttp (λ now. Takes c taken)) (AnswersTaken site c)
 
 -- one after another is, until nothing is left to take
-abbrev pub TakesMessages : Site → ℕ → Move
-TakesMessages site c = Until (TakesAndHandles site c) (λ s. IsDry c s.http)
+abbrev pub TakesEveryMessage : Site → ℕ → Move
+TakesEveryMessage site c = Until (TakesNextMessage site c) (λ s. IsDry c s.http)
 
 -- bytes come, and the messages that are whole now are taken
-abbrev pub ReceivesPiece : Site → ℕ → List ℕ → Move
-ReceivesPiece site c bytes = Then (OnHttp (Lengthened c bytes)) (TakesMessages site c)
+abbrev pub HearsPiece : Site → ℕ → List ℕ → Move
+HearsPiece site c bytes = Then (OnHttp (Lengthened c bytes)) (TakesEveryMessage site c)
 
 -- an idle connection is closed
 abbrev pub ClosesIdle : Move
@@ -131,9 +139,9 @@ ClosesAllIdle = Until ClosesIdle (λ s. NoneIdle s.moment s.http)
 -- what follows when this comes, at the machine's moment
 abbrev pub Follows : Site → What → List ℕ → Move
 Follows site (what.Opened c) bytes s seen t = OnHttp (Opened c) s seen t
-Follows site (what.Bytes c size) bytes s seen t = ReceivesPiece site c bytes s seen t
+Follows site (what.Bytes c size) bytes s seen t = HearsPiece site c bytes s seen t
 Follows site (what.Ended c) bytes s seen t = OnHttp (λ now. Ended c) s seen t
-Follows site (what.Datagram from size) bytes s seen t = Receives site from bytes s seen t
+Follows site (what.Datagram from size) bytes s seen t = HearsDatagram site from bytes s seen t
 -- all events are polled, and what is emitted goes nowhere yet
 Follows site what.Tick bytes s seen t = (emissions : List Emission) × OnThing (Polls site emissions) s seen t
 -- the end of the run does nothing more
@@ -148,10 +156,10 @@ Step site e s = Then (Follows site e.event.what e.bytes) ClosesAllIdle (record s
 abbrev pub Comes : EventWithBytes → Move
 Comes e s = Becomes s (at_network (heard e) ∷ [])
 
--- an event comes, and then the step on it is made, before another comes
-abbrev pub TakesEvent : Site → EventWithBytes → Move
-TakesEvent site e = Then (Comes e) (Step site e)
+-- an event comes, and then the step on it is made, before another event comes
+abbrev pub EventAndStep : Site → EventWithBytes → Move
+EventAndStep site e = Then (Comes e) (Step site e)
 
 -- A run: one event after another is taken.
 abbrev pub Run : Site → List EventWithBytes → Move
-Run site = Each (TakesEvent site)
+Run site = Each (EventAndStep site)

@@ -12,7 +12,7 @@ use Rattle.coap_bind.specs.Server.{asked, Answers}
 use Rattle.http_bind.specs.Streams.{asks, Replies}
 use Rattle.servient_outside.specs.declared.net.Act.TheVariants as act
 use Rattle.servient_core.specs.Trace.{Sighting, calls_in}
-use Rattle.servient_core.specs.Machine.{Site, State, Move, OnHttp, OnCoap, Does, Performs, Responds, Sends, Handles}
+use Rattle.servient_core.specs.Machine.{Site, State, Move, OnHttp, OnCoap, Does, Performs, AnswersDatagram, Sends, AnswersTaken}
 
 -- A message that was read as a request: by CoAP from an endpoint, where it asks for this and is to be answered, or by HTTP on a
 -- connection.
@@ -27,8 +27,8 @@ request_of (by_http c q) = q
 
 -- what the machine does with it
 abbrev pub Handled : Site → Message → Move
-Handled site (by_coap from ask request) = Responds site from (asked ask request)
-Handled site (by_http c q) = Handles site c (asks q)
+Handled site (by_coap from ask request) = AnswersDatagram site from (asked ask request)
+Handled site (by_http c q) = AnswersTaken site c (asks q)
 
 -- what it came to is written as its binding writes that, and sent
 abbrev pub Writes : Message → Done → Move

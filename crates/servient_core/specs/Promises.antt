@@ -9,7 +9,7 @@ use Rattle.coap_bind.specs.Laws.{Did}
 use Rattle.servient_outside.specs.declared.net.Act.TheVariants as act
 use Rattle.servient_outside.specs.Network.{did}
 use Rattle.servient_core.specs.Trace.{Sighting, at_network, calls_in}
-use Rattle.servient_core.specs.Machine.{Site, State, Receives, longest_datagram}
+use Rattle.servient_core.specs.Machine.{Site, State, HearsDatagram, longest_datagram}
 
 -- no handler was called, and nothing of the Things changed
 pub record ActsOnNothing (s : State) (seen : List Sighting) (t : State) : Type 0 where
@@ -20,7 +20,7 @@ pub record ActsOnNothing (s : State) (seen : List Sighting) (t : State) : Type 0
 abbrev pub DuplicatesActOnNothing : Type 0
 DuplicatesActOnNothing =
     (site : Site) (from : Endpoint) (bytes : List ℕ) (s : State) (seen : List Sighting) (t : State) (m : CoapMessage) (capacity : ℕ) (history : List Arrival) (earlier : Arrival)
-    → Receives site from bytes s seen t → Did capacity history s.coap → s.coap.exchanges.moment ≤ s.moment → Spells m bytes
+    → HearsDatagram site from bytes s seen t → Did capacity history s.coap → s.coap.exchanges.moment ≤ s.moment → Spells m bytes
     → Contains (admitted_among capacity history) earlier → is_duplicate_of (arrival from s.moment m) earlier ≡ true → ActsOnNothing s seen t
 
 -- a request that is no duplicate, where as many exchanges live as may
@@ -33,6 +33,6 @@ pub record IsOverfull (from : Endpoint) (m : CoapMessage) (s : State) : Type 0 w
 abbrev pub FullTableActsOnNothing : Type 0
 FullTableActsOnNothing =
     (site : Site) (from : Endpoint) (bytes : List ℕ) (s : State) (seen : List Sighting) (t : State) (m : CoapMessage)
-    → Receives site from bytes s seen t → length bytes ≤ longest_datagram → Spells m bytes → IsOverfull from m s
+    → HearsDatagram site from bytes s seen t → length bytes ≤ longest_datagram → Spells m bytes → IsOverfull from m s
     → ActsOnNothing s seen t × (t.coap.exchanges ≡ at_moment s.moment s.coap.exchanges)
     × (reply : List ℕ) × (seen ≡ at_network (did (act.Datagram from reply)) ∷ [])

@@ -4,13 +4,13 @@ ghost use Rattle.std.specs.Prelude.{◌≡◌, ◌≤◌, [], length};
 ghost use Rattle.std.specs.List.{All};
 ghost use Rattle.thing_core.specs.Kept.{Fits};
 ghost use Rattle.thing_ops.specs.Requests.{plain_request};
-ghost use Rattle.servient_core.specs.Machine.{Follows, Receives};
+ghost use Rattle.servient_core.specs.Machine.{Follows, HearsDatagram};
 ghost use Rattle.servient_outside.specs.Network.{byte_count, IsEvent};
-ghost use Rattle.http_bind.specs.Looking.{room_size};
 ghost use Rattle.servient_core.specs.Serving.{IsReady};
 ghost use Rattle.servient_core.specs.Keeping.{IsSendable, DoesMove, IsPerformed, ArePolled};
 ghost use Rattle.servient_core.specs.Trace.{outside};
 
+use crate::connections::Rooms;
 use crate::{Event, Net, What};
 use coap_bind::{CoapBind, CoapNext};
 use coap_msg::{Endpoint, LONGEST_DATAGRAM, LONGEST_MESSAGE};
@@ -40,19 +40,18 @@ impl Parts {
         rack: &mut R,
         event: &Event,
         bytes: &[u8],
-        room: &mut [u8],
+        rooms: &mut Rooms,
     )
         requires ready { IsReady self.old }
         requires fits { Fits self.old.exposed.site (R.slots rack.old) }
         requires event { IsEvent event.now }
         requires bytes { length bytes.now ≡ byte_count event.now.what }
-        requires room { room_size ≤ length room.old }
         ensures { DoesMove (Follows self.old.exposed.site event.now.what bytes.now) self.old self.new
             (outside (N.seen net.old) (R.slots rack.old)) (outside (N.seen net.new) (R.slots rack.new)) }
     {
         match event.what {
             What::Opened(c) => self.http.opened(c, self.moment),
-            What::Bytes(c, _) => self.piece(net, rack, c, bytes, room),
+            What::Bytes(c, _) => self.piece(net, rack, c, bytes, rooms),
             What::Ended(c) => self.http.ended(c),
             What::Datagram(from, _) => self.datagram(net, rack, from, bytes),
             What::Tick => poll(&mut self.exposed, rack),
@@ -70,7 +69,7 @@ impl Parts {
     )
         requires ready { IsReady self.old }
         requires fits { Fits self.old.exposed.site (R.slots rack.old) }
-        ensures { DoesMove (Receives self.old.exposed.site from bytes.now) self.old self.new
+        ensures { DoesMove (HearsDatagram self.old.exposed.site from bytes.now) self.old self.new
             (outside (N.seen net.old) (R.slots rack.old)) (outside (N.seen net.new) (R.slots rack.new)) }
     {
         if bytes.len() > LONGEST_DATAGRAM {

@@ -12,10 +12,11 @@ ghost use Rattle.servient_core.specs.Trace.{Shows, outside};
 ghost use Rattle.servient_core.specs.Machine.{start, Step};
 ghost use Rattle.servient_core.specs.Serving.{StandsFor, IsOpenFault};
 
+use crate::connections::Rooms;
 use crate::parts::Parts;
 use crate::{Event, Net, Plan};
 use coap_bind::CoapBind;
-use http_bind::{HttpBind, new_room};
+use http_bind::HttpBind;
 use std::alloc::{AllocError, Global};
 use std::marker::Model;
 use thing_core::{ExposeFault, Exposed};
@@ -28,16 +29,14 @@ use wot_terms::Things;
 #[derive(Drop)]
 pub struct Servient {
     parts: Parts,
-    /// Room for the query and the body of a message.
-    room: Vec<u8>,
+    /// Room for messages of HTTP and their replies.
+    rooms: Box<Rooms>,
 }
 
 impl Model for Servient {
     ghost use Rattle.std.specs.Coded.{codes};
     ghost use Rattle.thing_core.specs.Kept.{kept_code};
     ghost use Rattle.servient_core.specs.declared.parts.Parts.{Parts};
-    ghost use Rattle.std.specs.Prelude.{◌≡◌, length};
-    ghost use Rattle.http_bind.specs.Looking.{room_size};
     ghost use Rattle.servient_core.specs.Serving.{IsReady};
 
     ghost Value = { Parts };
@@ -46,7 +45,7 @@ impl Model for Servient {
 
     ghost view = { λ s. s.parts };
 
-    ghost invariant = { λ s. IsReady s.parts × (length s.room.items ≡ room_size) };
+    ghost invariant = { λ s. IsReady s.parts };
 }
 
 /// Why a servient can't be made.
@@ -95,7 +94,7 @@ impl Servient {
         };
         let coap = CoapBind::new(alloc, plan.exchanges)?;
         let http = HttpBind::new(alloc)?;
-        let room = new_room(alloc)?;
+        let rooms = Rooms::new(alloc)?;
         Ok(Servient {
             parts: Parts {
                 moment: 0,
@@ -103,7 +102,7 @@ impl Servient {
                 coap,
                 http,
             },
-            room,
+            rooms,
         })
     }
 
@@ -125,8 +124,7 @@ impl Servient {
         ensures fits { Fits self.new.exposed.site (R.slots rack.new) }
     {
         self.parts.moment = self.parts.moment.max(event.moment);
-        let room = self.room.as_mut_slice();
-        self.parts.follow(net, rack, event, bytes, room);
+        self.parts.follow(net, rack, event, bytes, &mut self.rooms);
         self.parts.close_idle(net);
     }
 }

@@ -5,7 +5,6 @@ use Rattle.http_wire.specs.Stream.{IsFront}
 use Rattle.http_wire.specs.Scanned.{front_of, plain_head}
 use Rattle.http_bind.specs.Streams.{found, to_take}
 use Rattle.http_bind.proofs.FaultWords.{fault_said}
-use Rattle.http_bind.proofs.ShortFronts.{target_within}
 use Rattle.http_bind.proofs.Messages.{takes_continue, takes_found, shows_message}
 use Rattle.http_bind.proofs.looking.look.Goals as goal
 
@@ -45,8 +44,3 @@ returns-in-Whole-clause-shows c =
           (subst (λ (s : Scanned). to_take c.args.continued (front_of s) ≡ found (front_of s)) c.in-Whole.is is)
           c.look_at_message.ensures,
     )
-
-pub look_at_message-requires-clause-target : goal.look_at_message-requires-clause-target
-look_at_message-requires-clause-target c =
-    target_within c.args.bytes.now (plain_head c.in-Whole.head) c.in-Whole.body c.in-Whole.used c.in-Whole.expect
-    (subst (λ (s : Scanned). IsFront c.args.bytes.now (front_of s)) c.in-Whole.is c.scan-scanned.ensures.ok)

@@ -1,7 +1,34 @@
-use Rattle.std.proofs.Common.{◌≡◌, ◌++◌, ap, sym, ◌∙◌, arith, length, ◌≤◌, ◌+◌, take, drop, List, ℕ}
-use Rattle.http_wire.specs.Chunks.{chunk_at}
-use Rattle.http_wire.proofs.ChunkRows.{IsRead, read_more, data_at, length-data_at, length-drop_from}
+use Rattle.std.proofs.Common.{◌≡◌, ◌++◌, ap, sym, ◌∙◌, arith, length, ◌≤◌, ◌+◌, take, drop, List, ℕ, length-append}
+use Rattle.http_wire.specs.Chunks.{chunk_at, chunks}
+use Rattle.http_wire.proofs.ChunkRows.{IsRead, read_more, whole_behind, data_at, length-data_at, length-drop_from}
 use Rattle.http_wire.proofs.chunks.copy_chunks.Goals as goal
+
+pub put_bytes-sum-requires : goal.put_bytes-sum-requires
+put_bytes-sum-requires c =
+    let inv = c.loop-after.invariant in
+    let coded = c.args.coded.now in
+    let place = c.loop-after.place in
+    let after = c.in-More.after in
+    let size = c.in-More.size in
+    let within : after + size + 2 ≤ length (drop place coded) =
+    omega (arith, c.in-More.ensures.within.0, ap length c.rest_from.ensures) in
+    let part : c.part.result.now ≡ data_at coded place after size =
+    c.part.ensures ∙ ap (λ (xs : List ℕ). take size (drop after xs)) c.rest_from-in-More.ensures in
+    let read : IsRead coded (inv.0 ++ data_at coded place after size) (place + (after + size + 2)) (c.loop-after.sum + size) =
+    read_more coded inv.0 place c.loop-after.sum after size inv.1
+    (sym (c.in-More.ensures.ok ∙ ap (chunk_at c.loop-after.sum) c.rest_from.ensures)) within in
+    let behind = whole_behind (inv.0 ++ data_at coded place after size) (place + (after + size + 2))
+    (chunks 0 (c.loop-after.sum + size) (drop (place + (after + size + 2)) coded)) c.requires.0 (length coded) (sym read.rest_is ∙ c.requires.1) in
+    omega (
+      arith,
+      ap length part,
+      length-data_at coded place after size within,
+      ap length behind.body_is,
+      length-append (inv.0 ++ data_at coded place after size) behind.others,
+      read.sum_is,
+      c.requires.2,
+      inv.3,
+    )
 
 pub loop-after-preserved : goal.loop-after-preserved
 loop-after-preserved c =

@@ -1,6 +1,6 @@
 use Rattle.http_bind.specs.Streams.{Lengthened}
 use Rattle.servient_core.specs.Trace.{outside}
-use Rattle.servient_core.specs.Machine.{OnHttp, TakesMessages}
+use Rattle.servient_core.specs.Machine.{OnHttp, TakesEveryMessage}
 use Rattle.servient_core.proofs.PartLaws.{then_moves, refines_http, room_after, others_then}
 use Rattle.servient_core.proofs.parts.Parts.piece.Goals as goal
 
@@ -11,7 +11,7 @@ returns g c =
     let w = outside (g.N.Net.seen c.args.net.now) (g.R.Handlers.slots c.args.rack.now) in
     let v = outside (g.N.Net.seen c.take_all.new.net) (g.R.Handlers.slots c.take_all.new.rack) in
     record {
-      refines = then_moves (OnHttp (Lengthened c.args.c c.args.piece.now)) (TakesMessages k.exposed.site c.args.c) k (record k { http = c.bytes.new.self }) c.take_all.new.self w w v
+      refines = then_moves (OnHttp (Lengthened c.args.c c.args.piece.now)) (TakesEveryMessage k.exposed.site c.args.c) k (record k { http = c.bytes.new.self }) c.take_all.new.self w w v
           (refines_http (Lengthened c.args.c c.args.piece.now) k c.bytes.new.self w c.bytes.ensures.leads) all.taken;
       ready = record {
         pending = all.on.pending;

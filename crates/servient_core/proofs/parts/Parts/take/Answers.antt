@@ -10,20 +10,20 @@ returns-in-Idle-clause-takes g c =
 
 pub returns-in-Continue-clause-takes : goal.returns-in-Continue-clause-takes
 returns-in-Continue-clause-takes g c =
-    takes_continue c.args.self.now.exposed.site c.args.c c.args.self.now c.next.new.self c.refuse.new.http (g.N.Net.seen c.args.net.now) (g.N.Net.seen c.refuse.new.net)
-    (g.R.Handlers.slots c.args.rack.now) c.in-Continue.ensures.gives.0 c.refuse.ensures.refused
+    takes_continue c.args.self.now.exposed.site c.args.c c.args.self.now c.next.new.self c.go_on.new.http (g.N.Net.seen c.args.net.now) (g.N.Net.seen c.go_on.new.net)
+    (g.R.Handlers.slots c.args.rack.now) c.in-Continue.ensures.gives.0 c.go_on.ensures.continued
 
 pub returns-in-Continue-clause-others : goal.returns-in-Continue-clause-others
-returns-in-Continue-clause-others g c = others_then c.args.c c.args.self.now.http c.next.new.self c.refuse.new.http c.in-Continue.ensures.others c.refuse.ensures.others
+returns-in-Continue-clause-others g c = others_then c.args.c c.args.self.now.http c.next.new.self c.go_on.new.http c.in-Continue.ensures.others c.go_on.ensures.others
 
 pub returns-in-Refuse-clause-takes : goal.returns-in-Refuse-clause-takes
 returns-in-Refuse-clause-takes g c =
-    takes_fault c.args.self.now.exposed.site c.args.c c.in-Refuse.status c.args.self.now c.next.new.self c.refuse-in-Refuse.new.http (g.N.Net.seen c.args.net.now)
-    (g.N.Net.seen c.refuse-in-Refuse.new.net) (g.R.Handlers.slots c.args.rack.now) c.in-Refuse.ensures.gives.0 c.in-Refuse.ensures.gives.2 c.refuse-in-Refuse.ensures.refused
+    takes_fault c.args.self.now.exposed.site c.args.c c.in-Refuse.status c.args.self.now c.next.new.self c.refuse.new.http (g.N.Net.seen c.args.net.now)
+    (g.N.Net.seen c.refuse.new.net) (g.R.Handlers.slots c.args.rack.now) c.in-Refuse.ensures.gives.0 c.refuse.ensures.refused
 
 pub returns-in-Refuse-clause-others : goal.returns-in-Refuse-clause-others
 returns-in-Refuse-clause-others g c =
-    others_then c.args.c c.args.self.now.http c.next.new.self c.refuse-in-Refuse.new.http c.in-Refuse.ensures.others c.refuse-in-Refuse.ensures.others
+    others_then c.args.c c.args.self.now.http c.next.new.self c.refuse.new.http c.in-Refuse.ensures.others c.refuse.ensures.others
 
 pub returns-in-Memory-clause-takes : goal.returns-in-Memory-clause-takes
 returns-in-Memory-clause-takes g c =

@@ -1,5 +1,5 @@
 use Rattle.std.proofs.Common.{◌++◌}
-use Rattle.servient_core.proofs.connections.reply.Goals as goal
+use Rattle.servient_core.proofs.connections.ReplyRoom.reply.Goals as goal
 
 pub returns-clause-replied : goal.returns-clause-replied
 returns-clause-replied g c = λ q asked.

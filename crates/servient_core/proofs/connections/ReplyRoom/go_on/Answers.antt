@@ -1,14 +1,14 @@
-use Rattle.std.proofs.Common.{◌++◌, ℕ, List, Bool, map, subst}
+use Rattle.std.proofs.Common.{◌++◌, ℕ, List, Bool, map, subst, refl}
 use Rattle.servient_outside.specs.Network.{NetShows, did}
 use Rattle.servient_core.specs.Machine.{acts_of_reply}
-use Rattle.servient_core.proofs.connections.refuse.Goals as goal
+use Rattle.servient_core.proofs.connections.ReplyRoom.go_on.Goals as goal
 
-pub returns-clause-refused : goal.returns-clause-refused
-returns-clause-refused g c =
+pub returns-clause-continued : goal.returns-clause-continued
+returns-clause-continued g c =
     let out = c.refused-out.result in
     let bytes : List ℕ = out.head.now ++ out.body.now in
     record {
       bytes = bytes;
-      leads = c.refused-out.ensures.leads;
+      leads = c.refused-out.ensures.continues refl;
       shows = subst (λ (t : Bool). NetShows (g.N.Net.seen c.args.net.now) (g.N.Net.seen c.send.new.net) (map did (acts_of_reply c.args.c (bytes, t)))) c.refused-out.ensures.close c.send.ensures;
     }

@@ -1,0 +1,126 @@
+//! What the message of a request asks for (RFC 9110, sections 7.1 and 9; RFC 9112, section 3).
+
+ghost use Rattle.std.specs.Prelude.{◌≡◌, ◌≤◌, ◌+◌, ◌⊎◌, length, take, drop, None, IfOk, IfErr, IsSome};
+ghost use Rattle.std.specs.Str.{bytes_eq};
+ghost use Rattle.http_wire.specs.Judging.{longest_body};
+ghost use Rattle.http_wire.specs.Stream.{longest_head};
+ghost use Rattle.http_wire.specs.Reading.{verb_of as verb_named, asked, request_in, IsRead};
+ghost use Rattle.http_wire.specs.Scanned.{plain_head};
+ghost use Rattle.http_wire.specs.declared.target.TargetFault.TheVariants.{BadTarget, NoMemory as no_memory};
+
+use crate::target::segments;
+use crate::{Body, Head, TargetFault};
+use std::alloc::Global;
+use thing_ops::{Accept, Format, Request, Segments, Verb};
+
+/// The parts of a request, but for its query and its body, which lie in a buffer, one after the other.
+#[derive(Drop)]
+pub struct RequestParts {
+    /// Its verb.
+    pub verb: Verb,
+    /// Its path.
+    pub path: Segments,
+    /// What its sender takes.
+    pub accept: Accept,
+    /// The format of its body.
+    pub format: Format,
+    /// How many bytes its query has.
+    pub query_length: usize,
+    /// How many bytes its body has.
+    pub body_length: usize,
+}
+
+/// The request of a message. Its query and its body are written to the beginning of `room`, one after the other.
+pub fn request_of(
+    alloc: Global,
+    head: &Head<'_>,
+    body: &Body<'_>,
+    room: &mut [u8],
+) -> Result<RequestParts, TargetFault>
+    requires room { longest_head + longest_body ≤ length room.old }
+    requires target { length head.now.target.now ≤ longest_head }
+    requires body { length body.now ≤ longest_body }
+    ensures ok { IfOk result (λ p. IsRead (plain_head head.now) body.now room.new p) }
+    ensures fault { IfErr result (λ e. ((e ≡ BadTarget) × (asked (plain_head head.now) body.now ≡ None))
+        ⊎ ((e ≡ no_memory) × IsSome (asked (plain_head head.now) body.now))) }
+{
+    let (path, place) = segments(alloc, head.target)?;
+    let (query_length, body_length) = lay_out(&head.target[place..], body, room);
+    Ok(RequestParts {
+        verb: verb_of(head.method),
+        path,
+        accept: head.accept,
+        format: head.format,
+        query_length,
+        body_length,
+    })
+}
+
+/// Writes a query and the body after it to the beginning of `room`, and returns their lengths.
+fn lay_out(query: &[u8], body: &Body<'_>, room: &mut [u8]) -> (usize, usize)
+    requires room { length query.now + length body.now ≤ length room.old }
+    ensures query { take result.0 room.new ≡ query.now }
+    ensures body { take result.1 (drop result.0 room.new) ≡ body.now }
+    ensures lengths { (result.0 ≡ length query.now) × (result.1 ≡ length body.now) }
+{
+    let place = query.len();
+    room[..place].copy_from_slice(query);
+    body.copy_to(&mut room[place..place + body.length()]);
+    (place, body.length())
+}
+
+/// The verb of a method, whose name is taken in the case in which it came (RFC 9110, section 9.1).
+pub fn verb_of(method: &[u8]) -> Verb
+    ensures { result ≡ verb_named method.now }
+{
+    if is(method, b"GET") {
+        Verb::Get
+    } else if is(method, b"HEAD") {
+        Verb::Head
+    } else if is(method, b"PUT") {
+        Verb::Put
+    } else if is(method, b"POST") {
+        Verb::Post
+    } else if is(method, b"PATCH") {
+        Verb::Patch
+    } else if is(method, b"DELETE") {
+        Verb::Delete
+    } else {
+        Verb::Other
+    }
+}
+
+/// Whether a method has this name.
+fn is(method: &[u8], name: &[u8]) -> bool
+    ensures { result ≡ bytes_eq method.now name.now }
+{
+    method == name
+}
+
+impl RequestParts {
+    ghost use Rattle.thing_ops.specs.Requests.{plain_request};
+
+    /// The request with its query and body, which lie at the beginning of `room`.
+    pub fn request_in(self, room: &[u8]) -> Request<'_>
+        requires { self.query_length + self.body_length ≤ length room.now }
+        ensures { plain_request result ≡ request_in self room.now }
+    {
+        let RequestParts {
+            verb,
+            path,
+            accept,
+            format,
+            query_length,
+            body_length,
+        } = self;
+        let (query, behind) = room.split_at(query_length);
+        Request {
+            verb,
+            path,
+            query,
+            accept,
+            format,
+            body: &behind[..body_length],
+        }
+    }
+}

@@ -6,8 +6,8 @@ ghost use Rattle.servient_edge.specs.declared.net.EventWithBytes.{EventWithBytes
 ghost use Rattle.servient_edge.specs.Network.{Happening, NetSeen, acts_in};
 ghost use Rattle.servient_edge.specs.NetMemory.{left_events, told_history};
 ghost use Rattle.servient_core.specs.Trace.{Outside, outside};
-ghost use Rattle.thing_core.specs.Exposing.{kinds_of};
-ghost use Rattle.thing_core.specs.Kept.{Fits};
+ghost use Rattle.thing_site.specs.Exposing.{kinds_of};
+ghost use Rattle.thing_site.specs.Fits.{Fits};
 ghost use Rattle.servient_core.specs.Plan.{HasFewExchanges};
 ghost use Rattle.servient_core.specs.Machine.{start};
 ghost use Rattle.servient_core.specs.Serving.{StandsFor};

@@ -9,13 +9,14 @@ use Rattle.thing_ops.specs.declared.outcome.Outcome.TheVariants as outcome
 use Rattle.thing_handler.specs.declared.handler.CallKind.TheVariants as call
 use Rattle.thing_handler.specs.Handler.{Seen}
 use Rattle.thing_handler.specs.Turns.{RackShows}
-use Rattle.thing_core.specs.declared.input.Input.{Input as InputInCode}
-use Rattle.thing_core.specs.Site.{Placed}
+use Rattle.thing_site.specs.declared.input.Input.{Input as InputInCode}
+use Rattle.thing_site.specs.Site.{Placed}
 use Rattle.thing_core.specs.State.{Status, running, completed, Invocation, State, invocation_named, is_running, without_invocation, status_text}
 use Rattle.thing_core.specs.Course.{Course}
 use Rattle.thing_core.specs.Thing.{Called, gives, only, place_of_invocation, IsHandedIn, IsInvoked, Invokes, IsQueried, Queries, IsCancelled, Cancels, OnInvocation, with_invocations}
 use Rattle.thing_handler.specs.declared.handler.Answer.{Answer}
-use Rattle.thing_core.specs.Performing.{MakesCall, MakesDone, HandsIn, SettlesInvocation, input_of}
+use Rattle.thing_site.specs.HandedIn.{input_of}
+use Rattle.thing_core.specs.Performing.{MakesCall, MakesDone, HandsIn, SettlesInvocation}
 use Rattle.thing_core.proofs.MoveLaws.{call_ends, done_alone, made_unseen}
 
 -- what inputs hand in

@@ -13,7 +13,7 @@ use Rattle.thing_handler.specs.declared.handler.Answer.{Answer}
 use Rattle.thing_handler.specs.Handler.{Seen, CallsHandler}
 use Rattle.thing_handler.specs.Turns.{HandlerCall, answered, missed, RackShows}
 use Rattle.thing_handler.proofs.RackLaws.{rack_shows_in_order, rack_shows_answer, rack_shows_miss}
-use Rattle.thing_core.specs.Site.{Placed}
+use Rattle.thing_site.specs.Site.{Placed}
 use Rattle.thing_core.specs.State.{State}
 use Rattle.thing_core.specs.Course.{Course}
 use Rattle.thing_core.specs.Thing.{Move, Done, Called, no_number, no_memory, gives, only, most_turns, Calls, GivesValue, ReadsValue}

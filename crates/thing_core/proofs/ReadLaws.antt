@@ -14,7 +14,7 @@ use Rattle.thing_handler.specs.declared.handler.CallKind.TheVariants as call
 use Rattle.thing_handler.specs.declared.handler.Answer.TheVariants as answer
 use Rattle.thing_handler.specs.Handler.{Seen}
 use Rattle.thing_handler.specs.Turns.{RackShows}
-use Rattle.thing_core.specs.Site.{Placed}
+use Rattle.thing_site.specs.Site.{Placed}
 use Rattle.thing_core.specs.Course.{Course}
 use Rattle.thing_core.specs.Thing.{Move, Done, Called, gives, only, IsTaken, GivesValue, content_of, Reads, ReadsEach}
 use Rattle.thing_core.specs.Performing.{MakesCall, MakesDone, OrMemory, Leads, open_object, with_member}

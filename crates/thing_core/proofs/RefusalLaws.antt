@@ -1,46 +1,45 @@
 -- Refusals of acts, and of requests that ask for them.
-use Rattle.std.proofs.Common.{◌≡◌, List, map, true, false, refl, sym, ap, subst, inl, inr}
-use Rattle.std.specs.Prelude.{Option, Some, None, option_and_then}
+use Rattle.std.proofs.Common.{◌≡◌, List, [], ◌∷◌, ◌++◌, refl, sym, ap, subst, inl, inr, ◌∙◌}
+use Rattle.std.specs.Prelude.{◌⊎◌, Option, Some, None, option_and_then}
 use Rattle.thing_ops.specs.declared.outcome.Outcome.{Outcome}
 use Rattle.thing_ops.specs.declared.outcome.Outcome.TheVariants as outcome
 use Rattle.thing_ops.specs.Requests.{PlainRequest}
-use Rattle.thing_core.specs.declared.input.Input.{Input as InputInCode}
-use Rattle.thing_core.specs.State.{State}
-use Rattle.thing_core.specs.Places.{Act, act_at}
-use Rattle.thing_core.specs.Refusals.{Asked, Input, act_asked, place_asked, inputs_of, is_acceptable, is_taken_format, refusals, refusals_of_acts, Holding, HasNoInvocationLeft, IsEmptyBody, IsLong, IsAnswer, IsFirst, IsNone, IsRefusedBy, IsRefusedBySchema, NoneStands, SomeInput, StandsAgainst}
-use Rattle.thing_core.specs.Performing.{input_of, IsActRefused, IsFree}
+use Rattle.thing_site.specs.declared.input.Input.{Input as InputInCode}
+use Rattle.thing_site.specs.Site.{Site}
+use Rattle.thing_site.specs.Places.{Place, Act, act_at}
+use Rattle.thing_site.specs.Refusals.{Refusal, refusals_by_request, Holding, StandsByRequest, IsAnswer, IsFirst, IsNone}
+use Rattle.thing_site.specs.HandedIn.{IsRefusedByRequest, IsUnrefused}
+use Rattle.thing_core.specs.State.{State, Invocation}
+use Rattle.thing_core.specs.Places.{place_of}
+use Rattle.thing_core.specs.Refusals.{Asked, act_asked, place_asked, refusals, refusals_of_acts, HasNoInvocationLeft, IsRefusedBy, NoneStands, StandsAgainst}
+use Rattle.thing_core.specs.Performing.{IsActRefused, IsFree}
 
--- what holds of inputs that are handed in
-given_hold : (P : List Input → Type 0) (o : Option (List Input)) (is : List Input) → o ≡ Some is → Holding P o → P is
-given_hold P o is e h = subst (λ (x : Option (List Input)). Holding P x) e h
+-- ---- from the request alone to the state
 
--- none stands against an act but perhaps that no further invocation may run
-pub act_is_free : (act : Act) (s : State) (q : PlainRequest) (inputs : List InputInCode) → is_acceptable act q.accept ≡ true → ¬ ((¬ (IsEmptyBody q.body)) × (is_taken_format act q.format ≡ false))
-    → inputs_of act q.body ≡ Some (map input_of inputs) → ¬ (SomeInput IsLong (map input_of inputs)) → ¬ (SomeInput IsRefusedBySchema (map input_of inputs)) → ¬ (HasNoInvocationLeft s act)
-    → IsFree act s q inputs
-act_is_free act s q inputs accepted formatted given short taken free = (
-  given,
-  (
-    λ bad. absurd cc,
-    (
-      formatted,
-      (
-        λ none. absurd (let some : inputs_of act q.body ≡ Some (map input_of inputs) = given in cc),
-        (λ h. short (given_hold (SomeInput IsLong) (inputs_of act q.body) (map input_of inputs) given h), (λ h. taken (given_hold (SomeInput IsRefusedBySchema) (inputs_of act q.body) (map input_of inputs) given h), (free, tt))),
-      ),
-    ),
-  ),
-)
+-- none stands against an act that needs no state
+pub act_is_free : (act : Act) (s : State) (q : PlainRequest) (inputs : List InputInCode) → IsUnrefused act q inputs → ¬ (HasNoInvocationLeft s act) → IsFree act s q inputs
+act_is_free act s q inputs given free = (given.0, (given.1.0, (given.1.1.0, (given.1.1.1.0, (given.1.1.1.1.0, (given.1.1.1.1.1.0, (free, tt)))))))
 
-pub act_is_full : (act : Act) (s : State) (q : PlainRequest) (inputs : List InputInCode) → is_acceptable act q.accept ≡ true → ¬ ((¬ (IsEmptyBody q.body)) × (is_taken_format act q.format ≡ false))
-    → inputs_of act q.body ≡ Some (map input_of inputs) → ¬ (SomeInput IsLong (map input_of inputs)) → ¬ (SomeInput IsRefusedBySchema (map input_of inputs)) → HasNoInvocationLeft s act
-    → IsActRefused act s q outcome.InvocationsFull
-act_is_full act s q inputs accepted formatted given short taken full =
-    let unread : ¬ (inputs_of act q.body ≡ None) = λ none. absurd (let some : inputs_of act q.body ≡ Some (map input_of inputs) = given in cc) in
-    let long : ¬ (Holding (SomeInput IsLong) (inputs_of act q.body)) = λ h. short (given_hold (SomeInput IsLong) (inputs_of act q.body) (map input_of inputs) given h) in
-    let refused : ¬ (Holding (SomeInput IsRefusedBySchema) (inputs_of act q.body)) = λ h. taken (given_hold (SomeInput IsRefusedBySchema) (inputs_of act q.body) (map input_of inputs) given h) in
-    let unaccepted : ¬ (is_acceptable act q.accept ≡ false) = λ bad. absurd cc in
-    inr (inr (unaccepted, inr (formatted, inr (unread, inr (long, inr (refused, inl (full, refl)))))))
+pub act_is_full : (act : Act) (s : State) (q : PlainRequest) (inputs : List InputInCode) → IsUnrefused act q inputs → HasNoInvocationLeft s act → IsActRefused act s q outcome.InvocationsFull
+act_is_full act s q inputs given full =
+    inr (inr (given.1.0, inr (given.1.1.0, inr (given.1.1.1.0, inr (given.1.1.1.1.0, inr (given.1.1.1.1.1.0, inl (full, refl)))))))
+
+-- two conditions are the same of these
+abbrev Alike : (Refusal → Type 0) → (Refusal → Type 0) → List Refusal → Type 0
+Alike S T [] = Unit {0}
+Alike S T (r ∷ rs) = ((S r → T r) × (T r → S r)) × Alike S T rs
+
+-- the first of some is the first of those and others after them
+first_of_more : (S T : Refusal → Type 0) (rs more : List Refusal) (o : Outcome) → Alike S T rs → IsFirst S IsAnswer rs o → IsFirst T IsAnswer (rs ++ more) o
+first_of_more S T [] more o alike first = absurd first
+first_of_more S T (r ∷ rs) more o alike (inl here) = inl (alike.0.0 here.0, here.1)
+first_of_more S T (r ∷ rs) more o alike (inr further) = inr (λ stands. further.0 (alike.0.1 stands), first_of_more S T rs more o alike.1 further.1)
+
+pub act_is_refused : (act : Act) (s : State) (q : PlainRequest) (o : Outcome) → IsRefusedByRequest act q o → IsActRefused act s q o
+act_is_refused act s q o (inl out) = inl out
+act_is_refused act s q o (inr first) =
+    inr (first_of_more (λ r. StandsByRequest r act q) (λ r. StandsAgainst r act s q) refusals_by_request _ o
+    ((λ h. h, λ h. h), ((λ h. h, λ h. h), ((λ h. h, λ h. h), ((λ h. h, λ h. h), ((λ h. h, λ h. h), tt))))) first)
 
 -- ---- a request that asks for an act
 
@@ -70,3 +69,10 @@ none_stands a act e none = (
     subst (λ (x : Option Act). IsNone (λ r. Holding (λ y. StandsAgainst r y a.state a.request) x) refusals_of_acts) (sym e) none,
   ),
 )
+
+-- the act that the code found is the one that is asked for
+pub is_asked : (site : Site) (s : State) (q : PlainRequest) (invocations : List Invocation) (place : Place) (act : Act) → s.invocations ≡ invocations
+    → Some place ≡ place_of q.path site invocations → Some act ≡ act_at place q.verb → act_asked (record { site = site; state = s; request = q }) ≡ Some act
+is_asked site s q invocations place act same found asked =
+    ap (λ (i : List Invocation). option_and_then (λ p. act_at p q.verb) (place_of q.path site i)) same
+    ∙ ap (option_and_then (λ p. act_at p q.verb)) (sym found) ∙ sym asked

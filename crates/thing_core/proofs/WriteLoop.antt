@@ -13,7 +13,7 @@ use Rattle.thing_handler.specs.Handler.{Seen}
 use Rattle.thing_handler.specs.Turns.{HandlerCall, RackShows}
 use Rattle.thing_core.specs.State.{State, Emission, last_after}
 use Rattle.thing_core.specs.Course.{Course}
-use Rattle.thing_core.specs.Refusals.{Input}
+use Rattle.thing_site.specs.Refusals.{Input}
 use Rattle.thing_core.specs.Thing.{Move, Done, Called, gives, failure_of, Emits, emissions_of_write, IfDone, Stops, WritesEach}
 use Rattle.thing_core.specs.Performing.{Leads, MakesCall, MakesDone, WritesOne, is_done}
 use Rattle.thing_core.proofs.MoveLaws.{leads_none, leads_then, leads_end, made_unseen}

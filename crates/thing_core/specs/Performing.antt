@@ -16,31 +16,22 @@ use Rattle.thing_handler.specs.Handler.{Seen}
 use Rattle.thing_handler.specs.Turns.{HandlerCall, RackShows}
 use Rattle.thing_core.specs.declared.calling.Called.{Called as CalledInCode}
 use Rattle.thing_core.specs.declared.calling.Called.TheVariants as code
-use Rattle.thing_core.specs.declared.input.Input.{Input as InputInCode}
+use Rattle.thing_site.specs.declared.input.Input.{Input as InputInCode}
 use Rattle.thing_core.specs.declared.field.Field.{Field}
 use Rattle.thing_core.specs.declared.admitting.Task.{Task}
-use Rattle.thing_core.specs.Site.{Placed}
+use Rattle.thing_site.specs.Site.{Placed}
 use Rattle.thing_core.specs.State.{State, Emission, Invocation, completed, running, status_text, invocation_named, running_count, most_invocations}
 use Rattle.thing_core.specs.Course.{Course}
-use Rattle.thing_core.specs.Places.{Act, describes, reads_all, writes_many, reads, writes, invokes, queries, cancels, reads_event, waits}
-use Rattle.thing_core.specs.Refusals.{Asked, Input, longest_value, act_asked, inputs_of, refusals, refusals_of_acts, StandsAgainst, IsAnswer, IsFirst, IsNone, IsRefusedBy, NoneStands}
+use Rattle.thing_site.specs.Places.{Act, describes, reads_all, writes_many, reads, writes, invokes, queries, cancels, reads_event, waits}
+use Rattle.thing_site.specs.Refusals.{Input, longest_value, inputs_of, IsAnswer, IsFirst, IsNone}
+use Rattle.thing_core.specs.Refusals.{Asked, act_asked, refusals, refusals_of_acts, StandsAgainst, IsRefusedBy, NoneStands}
 use Rattle.thing_core.specs.Thing.{Move, Done, only, Called, no_number, no_memory, gives, Calls, Decides, IsTaken, GivesValue, Answers, WritesEach, ReadsEach, PollsEach, Polls, emissions_of_write, place_of_invocation, IsInvoked, IsQueried, IsCancelled, Acts}
-use Rattle.thing_core.specs.Exposing.{placed_spot}
-use Rattle.thing_core.specs.Found.{found_act}
+use Rattle.thing_site.specs.Exposing.{placed_spot}
+use Rattle.thing_site.specs.HandedIn.{input_of}
+use Rattle.thing_site.specs.Found.{found_act}
 use Rattle.thing_core.specs.Kept.{Kept}
 
 -- ---- judging a request
-
-abbrev pub input_of : InputInCode → Input
-input_of i = record { affordance = placed_spot i.spot; value = json_of i.value }
-
--- a body isn't as wanted, or memory is out
-abbrev pub HasNoInputs : Option (List Input) → Outcome → Type 0
-HasNoInputs expected o = (o ≡ outcome.Memory) ⊎ ((expected ≡ None) × (o ≡ outcome.BadValue))
-
--- this stands, and comes to this
-abbrev pub Comes : Type 0 → Outcome → Outcome → Type 0
-Comes P refusal o = P × (o ≡ refusal)
 
 -- nothing stands against an act, and this is handed in
 abbrev pub IsFree : Act → State → PlainRequest → List InputInCode → Type 0

@@ -5,19 +5,20 @@ ghost use Rattle.wot_json.specs.Json.{json_text};
 ghost use Rattle.thing_ops.specs.Requests.{plain_request};
 ghost use Rattle.thing_core.specs.State.{last_of};
 ghost use Rattle.thing_core.specs.Thing.{event_outcome, Performs};
-ghost use Rattle.thing_core.specs.Found.{found_act};
-ghost use Rattle.thing_core.specs.Performing.{affordances_of_act, input_of, AllStand, InputsFit, IsOrMemory, MakesDone, MayBeDone, OrMemory};
+ghost use Rattle.thing_site.specs.Found.{found_act};
+ghost use Rattle.thing_site.specs.HandedIn.{input_of};
+ghost use Rattle.thing_core.specs.Performing.{affordances_of_act, AllStand, InputsFit, IsOrMemory, MakesDone, MayBeDone, OrMemory};
 
 use crate::admitting::Task;
 use crate::invoking::{cancel, invoke, prepare, query};
 use crate::machine::Machine;
-use crate::place::Act;
 use crate::reading::{read, read_all};
 use crate::state::Latest;
 use crate::writing::write_each;
 use std::alloc::Global;
 use thing_handler::Handlers;
 use thing_ops::{Outcome, Request};
+use thing_site::Act;
 use wot_json::{Bytes, Tree, text_of};
 
 /// Does an act.

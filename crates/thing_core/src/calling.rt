@@ -1,9 +1,8 @@
 //! Calls of handlers, and what comes of them.
 
-ghost use Rattle.std.specs.Prelude.{◌≡◌, ◌<◌, ◌↔◌, length, true, false, IsTrue, MatchOption};
+ghost use Rattle.std.specs.Prelude.{◌≡◌, ◌<◌, length, true, false, MatchOption};
 ghost use Rattle.wot_json.specs.Json.{json_text};
 ghost use Rattle.wot_json.specs.Meaning.{json_of};
-ghost use Rattle.thing_core.specs.Refusals.{IsAccepted};
 ghost use Rattle.thing_core.specs.Thing.{failure_of, IsTaken};
 ghost use Rattle.thing_core.specs.Performing.{found_called, is_done, IsFired, IsValueOf, MakesCall};
 
@@ -11,11 +10,9 @@ use crate::machine::Machine;
 use crate::state::MOST_TURNS;
 use thing_handler::{Answer, CallKind, Handlers};
 use thing_ops::Outcome;
+use thing_site::{LONGEST_VALUE, is_accepted};
 use wot_json::{Tree, write};
 use wot_schema::Schema;
-
-/// How long the text of a value may be, in bytes.
-pub const LONGEST_VALUE: usize = 1024;
 
 /// What comes of a call of a handler.
 #[derive(Drop)]
@@ -126,15 +123,5 @@ pub fn taken_text<'a>(
     match write(value, out) {
         Some(count) => Some(&out[..count]),
         None => None,
-    }
-}
-
-/// The schema accepts the value, or there is none.
-pub fn is_accepted(schema: &Option<Schema>, value: &Tree) -> bool
-    ensures { IsTrue result ↔ IsAccepted schema.now (json_of value.now) }
-{
-    match schema {
-        Some(schema) => schema.accepts(value),
-        None => true,
     }
 }

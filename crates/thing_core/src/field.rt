@@ -3,7 +3,7 @@
 ghost use Rattle.std.specs.Prelude.{◌≡◌};
 ghost use Rattle.wot_json.specs.Json.{json_string};
 
-use crate::site::Spot;
+use thing_site::Spot;
 use wot_json::Bytes;
 
 /// A property that is to be read, and its name as a JSON text.

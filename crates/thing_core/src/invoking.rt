@@ -4,22 +4,22 @@ ghost use Rattle.std.specs.Prelude.{◌≡◌, ◌≤◌, ◌<◌, ℕ, List, []
 ghost use Rattle.thing_core.specs.Ids.{IdsRise};
 ghost use Rattle.thing_core.specs.State.{invocation_named, is_running as is_running_one, most_invocations, running, running_count, status_text};
 ghost use Rattle.thing_core.specs.Thing.{place_of_invocation, Cancels, Invokes, OnInvocation, Queries};
-ghost use Rattle.thing_core.specs.Exposing.{placed_spot};
-ghost use Rattle.thing_core.specs.Performing.{input_of, HandsIn, IsTold, MakesDone, OrMemory, OutputComesTo, SettlesCancel, SettlesInvocation, SettlesQuery};
+ghost use Rattle.thing_site.specs.Exposing.{placed_spot};
+ghost use Rattle.thing_site.specs.HandedIn.{input_of};
+ghost use Rattle.thing_core.specs.Performing.{HandsIn, IsTold, MakesDone, OrMemory, OutputComesTo, SettlesCancel, SettlesInvocation, SettlesQuery};
 
 use crate::NoMemory;
-use crate::calling::{Called, LONGEST_VALUE, call, taken_text};
-use crate::input::Input;
+use crate::calling::{Called, call, taken_text};
 use crate::machine::Machine;
-use crate::place::invocation_in;
 use crate::room::Room;
-use crate::site::Spot;
+use crate::standing::invocation_in;
 use crate::state::{Invocation, MOST_TURNS};
 use crate::status::{put_completed, put_running};
 use itoa::Buffer;
 use std::alloc::Global;
 use thing_handler::{Answer, CallKind, Handlers};
 use thing_ops::{Outcome, Segments};
+use thing_site::{Input, LONGEST_VALUE, Spot};
 use wot_json::{Bytes, Tree};
 use wot_schema::Schema;
 

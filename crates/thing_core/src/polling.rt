@@ -2,15 +2,14 @@
 
 ghost use Rattle.std.specs.Prelude.{◌≡◌, ◌≤◌, ◌<◌, ◌+◌, ◌∷◌, [], length};
 ghost use Rattle.std.specs.List.{filter};
-ghost use Rattle.thing_core.specs.Site.{events_of, of_kind};
-ghost use Rattle.thing_core.specs.Exposing.{held_site, placed_all, placed_spot};
+ghost use Rattle.thing_site.specs.Site.{events_of, of_kind};
+ghost use Rattle.thing_site.specs.Exposing.{held_site, placed_all, placed_spot};
 ghost use Rattle.thing_core.specs.Performing.{AllStand, PollsSome};
 
-use crate::calling::{LONGEST_VALUE, call, fired, taken_text};
-use crate::held::HeldThing;
+use crate::calling::{call, fired, taken_text};
 use crate::machine::Machine;
-use crate::site::{Spot, is_kind, slot_at};
 use thing_handler::{CallKind, Handlers};
+use thing_site::{HeldThing, LONGEST_VALUE, Spot, is_kind, slot_at};
 use wot_terms::{Affordance, Kind};
 
 /// Polls each event, in the order of Things and affordances.

@@ -2,20 +2,19 @@
 
 ghost use Rattle.std.specs.Prelude.{◌≡◌, ◌≤◌, ◌<◌, ◌+◌, ◌++◌, ◌∷◌, [], length, vec_len, vec_capacity, IfOk, IfSome, OnOk};
 ghost use Rattle.std.specs.List.{filter};
-ghost use Rattle.thing_core.specs.Site.{of_kind};
+ghost use Rattle.thing_site.specs.Site.{of_kind};
 ghost use Rattle.thing_core.specs.Thing.{is_readable, readable, Reads, ReadsEach};
-ghost use Rattle.thing_core.specs.Exposing.{held_thing, placed_all, placed_spot};
+ghost use Rattle.thing_site.specs.Exposing.{held_thing, placed_all, placed_spot};
 ghost use Rattle.thing_core.specs.Performing.{with_member, room_of_fields, spots_of, AllStand, MakesDone, OrMemory, ReadsOne};
 
 use crate::NoMemory;
-use crate::calling::{LONGEST_VALUE, call, taken_text, value_of};
+use crate::calling::{call, taken_text, value_of};
 use crate::field::Field;
-use crate::held::HeldThing;
 use crate::machine::Machine;
-use crate::site::{Spot, slot_at};
 use std::alloc::Global;
 use thing_handler::{CallKind, Handlers};
 use thing_ops::Outcome;
+use thing_site::{HeldThing, LONGEST_VALUE, Spot, slot_at};
 use wot_json::{Bytes, quoted};
 use wot_terms::{Affordance, Kind};
 

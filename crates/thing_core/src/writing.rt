@@ -2,17 +2,17 @@
 
 ghost use Rattle.std.specs.Prelude.{◌≡◌, ◌≤◌, ◌<◌, ◌+◌, ◌++◌, [], length, map};
 ghost use Rattle.thing_core.specs.State.{last_after};
-ghost use Rattle.thing_core.specs.Refusals.{longest_value};
+ghost use Rattle.thing_site.specs.Refusals.{longest_value};
 ghost use Rattle.thing_core.specs.Thing.{WritesEach};
-ghost use Rattle.thing_core.specs.Exposing.{placed_spot};
-ghost use Rattle.thing_core.specs.Performing.{emissions_of_text, input_of, InputsFit, MakesDone, OrMemory, WritesOne};
+ghost use Rattle.thing_site.specs.Exposing.{placed_spot};
+ghost use Rattle.thing_site.specs.HandedIn.{input_of};
+ghost use Rattle.thing_core.specs.Performing.{emissions_of_text, InputsFit, MakesDone, OrMemory, WritesOne};
 
 use crate::calling::{call, write_failure};
-use crate::input::Input;
 use crate::machine::Machine;
-use crate::site::Spot;
 use thing_handler::{CallKind, Handlers};
 use thing_ops::Outcome;
+use thing_site::{Input, Spot};
 
 /// Writes values to properties, one after another, until one isn't done. Room for the emissions is taken before the first
 /// call.

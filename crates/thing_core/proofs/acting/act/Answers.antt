@@ -2,11 +2,11 @@ use Rattle.std.proofs.Common.{List, [], map, refl, sym, ap, subst, inl}
 use Rattle.wot_json.specs.Json.{json_text}
 use Rattle.thing_ops.specs.declared.outcome.Outcome.TheVariants as outcome
 use Rattle.thing_ops.specs.Requests.{plain_request}
-use Rattle.thing_core.specs.declared.place.Act.{Act as FoundAct}
+use Rattle.thing_site.specs.declared.place.Act.{Act as FoundAct}
 use Rattle.thing_core.specs.State.{Latest, last_of}
 use Rattle.thing_core.specs.Thing.{only, event_outcome, Performs}
-use Rattle.thing_core.specs.Found.{found_act}
-use Rattle.thing_core.specs.Performing.{input_of}
+use Rattle.thing_site.specs.Found.{found_act}
+use Rattle.thing_site.specs.HandedIn.{input_of}
 use Rattle.thing_core.proofs.MoveLaws.{answers_done, memory_out}
 use Rattle.thing_core.proofs.acting.act.Goals as goal
 

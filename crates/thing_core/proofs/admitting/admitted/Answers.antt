@@ -2,9 +2,8 @@ use Rattle.std.proofs.Common.{◌≡◌, sym, inl, inr}
 use Rattle.std.specs.Prelude.{Some}
 use Rattle.thing_ops.specs.Requests.{plain_request}
 use Rattle.thing_core.specs.Refusals.{Asked, act_asked}
-use Rattle.thing_core.specs.Found.{found_act, found_place}
-use Rattle.thing_core.proofs.PlaceLaws.{is_asked}
-use Rattle.thing_core.proofs.RefusalLaws.{act_decides, none_stands}
+use Rattle.thing_site.specs.Found.{found_act, found_place}
+use Rattle.thing_core.proofs.RefusalLaws.{act_decides, is_asked, none_stands}
 use Rattle.thing_core.proofs.admitting.admitted.Goals as goal
 
 pub returns-in-Ok : goal.returns-in-Ok

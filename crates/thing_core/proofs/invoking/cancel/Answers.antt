@@ -3,7 +3,7 @@ use Rattle.std.specs.Prelude.{IfSome}
 use Rattle.thing_ops.specs.declared.outcome.Outcome.TheVariants as outcome
 use Rattle.thing_core.specs.State.{Invocation, invocation_named, is_running}
 use Rattle.thing_core.specs.Thing.{no_number, no_memory, gives}
-use Rattle.thing_core.specs.Exposing.{placed_spot}
+use Rattle.thing_site.specs.Exposing.{placed_spot}
 use Rattle.thing_core.proofs.InvokeLaws.{found_running, removed_done, cancel_done}
 use Rattle.thing_core.proofs.invoking.cancel.Goals as goal
 

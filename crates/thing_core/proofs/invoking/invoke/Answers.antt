@@ -2,7 +2,7 @@ use Rattle.std.proofs.Common.{◌∙◌, ℕ, refl, sym, subst}
 use Rattle.thing_ops.specs.declared.outcome.Outcome.TheVariants as outcome
 use Rattle.thing_handler.specs.declared.handler.CallKind.TheVariants as call
 use Rattle.thing_core.specs.Thing.{no_number, no_memory, gives}
-use Rattle.thing_core.specs.Exposing.{placed_spot}
+use Rattle.thing_site.specs.Exposing.{placed_spot}
 use Rattle.thing_core.specs.Performing.{MakesCall}
 use Rattle.thing_core.proofs.MoveLaws.{call_full}
 use Rattle.thing_core.proofs.InvokeLaws.{some_handed, invoke_done, invoked_after}

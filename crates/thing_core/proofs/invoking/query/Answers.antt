@@ -3,7 +3,7 @@ use Rattle.std.specs.Prelude.{Ok, Err}
 use Rattle.thing_ops.specs.declared.outcome.Outcome.TheVariants as outcome
 use Rattle.thing_core.specs.State.{Invocation, invocation_named}
 use Rattle.thing_core.specs.Thing.{no_number, no_memory, gives, OnInvocation, Queries}
-use Rattle.thing_core.specs.Exposing.{placed_spot}
+use Rattle.thing_site.specs.Exposing.{placed_spot}
 use Rattle.thing_core.specs.Performing.{IsTold}
 use Rattle.thing_core.proofs.MoveLaws.{memory_out, or_memory}
 use Rattle.thing_core.proofs.InvokeLaws.{running_one, told_done, query_done}

@@ -2,7 +2,7 @@ use Rattle.std.proofs.Common.{◌∙◌, List, ℕ, [], ◌∷◌, refl, sym, ap
 use Rattle.std.proofs.lemmas.List.{append-nil}
 use Rattle.wot_json.specs.Meaning.{json_of}
 use Rattle.thing_core.specs.State.{last_after}
-use Rattle.thing_core.specs.Exposing.{placed_spot}
+use Rattle.thing_site.specs.Exposing.{placed_spot}
 use Rattle.thing_core.specs.Thing.{emission}
 use Rattle.thing_core.specs.Performing.{found_called}
 use Rattle.thing_core.proofs.PollLaws.{one_polled, not_fired, fired_taken, fired_refused}

@@ -1,5 +1,5 @@
 use Rattle.std.proofs.Common.{[], ◌∷◌, Bool, cond, subst}
-use Rattle.thing_core.specs.Exposing.{placed_spot}
+use Rattle.thing_site.specs.Exposing.{placed_spot}
 use Rattle.thing_core.specs.Performing.{PollsSome}
 use Rattle.thing_core.proofs.PollLaws.{none_polled}
 use Rattle.thing_core.proofs.polling.poll_if_event.Goals as goal

@@ -2,8 +2,8 @@ use Rattle.std.proofs.Common.{◌≡◌, ◌+◌, ◌∙◌, ℕ, List, [], ◌�
 use Rattle.std.specs.Prelude.{slice_get, Some}
 use Rattle.wot_terms.specs.declared.affordance.Affordance.{Affordance}
 use Rattle.std.proofs.lemmas.List.{append-nil, at_drop_all}
-use Rattle.thing_core.specs.Site.{Placed}
-use Rattle.thing_core.specs.Exposing.{placed_all}
+use Rattle.thing_site.specs.Site.{Placed}
+use Rattle.thing_site.specs.Exposing.{placed_all}
 use Rattle.thing_core.specs.Performing.{AllStand, PollsSome}
 use Rattle.thing_core.proofs.PlacedLists.{placed_more, placed_end, events_among, events_more, stands_first, stands_rest}
 use Rattle.thing_core.proofs.PollLaws.{none_polled, polled_then}

@@ -3,7 +3,7 @@ use Rattle.std.specs.Prelude.{Ok, Err}
 use Rattle.wot_json.specs.Meaning.{json_of}
 use Rattle.thing_ops.specs.declared.outcome.Outcome.TheVariants as outcome
 use Rattle.thing_core.specs.Thing.{Reads}
-use Rattle.thing_core.specs.Exposing.{placed_spot}
+use Rattle.thing_site.specs.Exposing.{placed_spot}
 use Rattle.thing_core.specs.Performing.{found_called}
 use Rattle.thing_core.proofs.MoveLaws.{memory_out}
 use Rattle.thing_core.proofs.ReadLaws.{read_done, value_taken, value_refused}

@@ -1,7 +1,7 @@
 use Rattle.std.proofs.Common.{◌≡◌, ◌∙◌, ◌<◌, ◌+◌, ℕ, List, [], ◌∷◌, ◌++◌, drop, length, get_or, sym, ap, subst, arith}
 use Rattle.std.proofs.lemmas.List.{at_drop_more, at_drop_all}
 use Rattle.thing_core.specs.declared.field.Field.{Field}
-use Rattle.thing_core.specs.Exposing.{placed_spot}
+use Rattle.thing_site.specs.Exposing.{placed_spot}
 use Rattle.thing_core.specs.Performing.{AllStand, room_of_fields, spots_of}
 use Rattle.thing_core.proofs.ReadLoop.{ReadSoFar, none_read, one_read, one_fails, all_read, two_or_more}
 use Rattle.thing_core.proofs.reading.read_fields.Goals as goal

@@ -1,8 +1,8 @@
 use Rattle.std.proofs.Common.{◌∙◌, ℕ, List, sym, ap}
 use Rattle.wot_json.specs.Meaning.{json_of}
 use Rattle.thing_ops.specs.declared.outcome.Outcome.TheVariants as outcome
-use Rattle.thing_core.specs.Site.{Placed}
-use Rattle.thing_core.specs.Exposing.{placed_spot}
+use Rattle.thing_site.specs.Site.{Placed}
+use Rattle.thing_site.specs.Exposing.{placed_spot}
 use Rattle.thing_core.specs.Performing.{found_called, open_object, with_member}
 use Rattle.thing_core.proofs.ReadLaws.{read_goes_on, read_stops, value_taken, value_refused, open_more}
 use Rattle.thing_core.proofs.reading.read_one.Goals as goal

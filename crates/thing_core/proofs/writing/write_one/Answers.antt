@@ -1,8 +1,9 @@
 use Rattle.std.proofs.Common.{◌≡◌, ◌∙◌, List, ◌++◌, map, refl, ap}
 use Rattle.thing_core.specs.State.{Emission, last_after}
-use Rattle.thing_core.specs.Exposing.{placed_spot}
+use Rattle.thing_site.specs.Exposing.{placed_spot}
 use Rattle.thing_core.specs.Thing.{emissions_of_write}
-use Rattle.thing_core.specs.Performing.{emissions_of_text, found_called, input_of}
+use Rattle.thing_site.specs.HandedIn.{input_of}
+use Rattle.thing_core.specs.Performing.{emissions_of_text, found_called}
 use Rattle.thing_core.proofs.WriteLoop.{write_goes_on, write_stops}
 use Rattle.thing_core.proofs.writing.write_one.Goals as goal
 

@@ -3,10 +3,13 @@ use Rattle.std.proofs.Common.{◌≡◌, List, [], ◌∷◌, ◌++◌, refl, sy
 use Rattle.std.specs.Prelude.{◌⊎◌, Option, Some, None, option_and_then}
 use Rattle.thing_ops.specs.declared.outcome.Outcome.{Outcome}
 use Rattle.thing_ops.specs.declared.outcome.Outcome.TheVariants as outcome
+use Rattle.thing_ops.specs.declared.allow.Allow.{Allow}
+use Rattle.thing_ops.specs.declared.routing.RouteKind.{RouteKind}
 use Rattle.thing_ops.specs.Requests.{PlainRequest}
+use Rattle.thing_ops.specs.Routes.{route_of}
+use Rattle.thing_ops.specs.Verbs.{verbs_in, verbs_of}
 use Rattle.thing_site.specs.declared.input.Input.{Input as InputInCode}
-use Rattle.thing_site.specs.Site.{Site}
-use Rattle.thing_site.specs.Places.{Place, Act, act_at}
+use Rattle.thing_site.specs.Places.{Place, Act, act_at, flags_of}
 use Rattle.thing_site.specs.Refusals.{Refusal, refusals_by_request, Holding, StandsByRequest, IsAnswer, IsFirst, IsNone}
 use Rattle.thing_site.specs.HandedIn.{IsRefusedByRequest, IsUnrefused}
 use Rattle.thing_core.specs.State.{State, Invocation}
@@ -45,7 +48,7 @@ act_is_refused act s q o (inr first) =
 
 there_is_a_place : (a : Asked) (act : Act) → act_asked a ≡ Some act → ¬ (place_asked a ≡ None)
 there_is_a_place a act e none =
-    let nothing : act_asked a ≡ None = ap (option_and_then (λ place. act_at place a.request.verb)) none in absurd cc
+    let nothing : act_asked a ≡ None = ap (option_and_then (λ place. act_at (route_of a.request.path) place a.request.verb)) none in absurd cc
 
 there_is_an_act : (a : Asked) (act : Act) → act_asked a ≡ Some act → ¬ (act_asked a ≡ None)
 there_is_an_act a act e none = absurd cc
@@ -70,9 +73,29 @@ none_stands a act e none = (
   ),
 )
 
--- the act that the code found is the one that is asked for
-pub is_asked : (site : Site) (s : State) (q : PlainRequest) (invocations : List Invocation) (place : Place) (act : Act) → s.invocations ≡ invocations
-    → Some place ≡ place_of q.path site invocations → Some act ≡ act_at place q.verb → act_asked (record { site = site; state = s; request = q }) ≡ Some act
-is_asked site s q invocations place act same found asked =
-    ap (λ (i : List Invocation). option_and_then (λ p. act_at p q.verb) (place_of q.path site i)) same
-    ∙ ap (option_and_then (λ p. act_at p q.verb)) (sym found) ∙ sym asked
+-- what the code found at the path is what is there
+pub is_there : (a : Asked) (invocations : List Invocation) (place : Place) → a.state.invocations ≡ invocations → Some place ≡ place_of a.request.path a.site invocations → place_asked a ≡ Some place
+is_there a invocations place same found = ap (λ (i : List Invocation). place_of a.request.path a.site i) same ∙ sym found
+
+-- the act that it found is the one that is asked for
+pub is_asked : (a : Asked) (form : RouteKind) (place : Place) (act : Act) → place_asked a ≡ Some place → form ≡ route_of a.request.path → act_at form place a.request.verb ≡ Some act → act_asked a ≡ Some act
+is_asked a form place act there of asked =
+    ap (option_and_then (λ p. act_at (route_of a.request.path) p a.request.verb)) there
+    ∙ ap (λ (f : RouteKind). act_at f place a.request.verb) (sym of) ∙ asked
+
+-- the verb isn't taken there
+pub verb_decides : (a : Asked) (form : RouteKind) (place : Place) (allow : Allow) → place_asked a ≡ Some place → form ≡ route_of a.request.path → act_at form place a.request.verb ≡ None
+    → verbs_in allow ≡ verbs_of form (flags_of place) → IsRefusedBy refusals a (outcome.NotAllowed allow)
+verb_decides a form place allow there of none lists =
+    inr (
+      λ nothing. absurd (let some : None ≡ Some place = sym nothing ∙ there in cc),
+      inl (
+        ap (option_and_then (λ p. act_at (route_of a.request.path) p a.request.verb)) there ∙ ap (λ (f : RouteKind). act_at f place a.request.verb) (sym of) ∙ none,
+        (
+          allow,
+          subst (λ (o : Option Place). Holding (λ p. verbs_in allow ≡ verbs_of (route_of a.request.path) (flags_of p)) o) (sym there)
+              (subst (λ (f : RouteKind). verbs_in allow ≡ verbs_of f (flags_of place)) of lists),
+          refl,
+        ),
+      ),
+    )

@@ -9,6 +9,7 @@ use Rattle.wot_json.specs.Meaning.{json_of}
 use Rattle.wot_terms.specs.declared.kind.Kind.{Kind}
 use Rattle.wot_terms.specs.declared.kind.Kind.TheVariants as kind
 use Rattle.thing_ops.specs.Routes.{route_of}
+use Rattle.thing_ops.specs.Verbs.{verbs_of}
 use Rattle.thing_ops.specs.declared.routing.RouteKind.{RouteKind}
 use Rattle.thing_ops.specs.declared.routing.RouteKind.TheVariants as route
 use Rattle.thing_ops.specs.declared.verb.Verb.{Verb}
@@ -17,7 +18,7 @@ use Rattle.thing_handler.specs.Handler.{Seen}
 use Rattle.thing_site.specs.declared.input.Input.{Input as InputInCode}
 use Rattle.thing_site.specs.Site.{Placed, ExposedThing, Site, affordance_named, thing_named, events_of, those_of}
 use Rattle.thing_core.specs.State.{State, Invocation, invocation_named, running_count, most_invocations}
-use Rattle.thing_site.specs.Places.{Place, description, all_properties, property, observed, action, invocation, event, subscribed, thing_in, affordance_in, place_at, where_observable, Act, describes, reads_all, writes_many, reads, writes, invokes, queries, cancels, reads_event, waits, act_at, unless}
+use Rattle.thing_site.specs.Places.{Place, description, all_properties, property, observed, action, invocation, event, subscribed, thing_in, affordance_in, place_at, where_observable, Act, invokes, queries, cancels, act_at, act_of, flags_of, is_listed}
 use Rattle.thing_core.specs.Places.{where_stands}
 use Rattle.thing_site.specs.Refusals.{Input, inputs_of, longest_value, IsLong, SomeInput, Holding}
 use Rattle.thing_core.specs.Refusals.{Asked, act_asked, place_asked, refusals, HasNoInvocationLeft, NoneStands}
@@ -152,37 +153,46 @@ ActStands count s (queries p id) = AllStand count (p ∷ []) × IsSome (invocati
 ActStands count s (cancels p id) = AllStand count (p ∷ []) × IsSome (invocation_named p.slot id s.invocations)
 ActStands count s act = AllStand count (affordances_of_act act)
 
-unless_stands : (count : ℕ) (s : State) (b : Bool) (one act : Act) → ActStands count s one → unless b one ≡ Some act → ActStands count s act
-unless_stands count s true one act stands e = absurd cc
-unless_stands count s false one act stands e = subst (λ (x : Act). ActStands count s x) (same_Some one act e) stands
+of_stands : (count : ℕ) (s : State) (place : Place) (v : Verb) → PlaceStands count s place → ActStands count s (act_of place v)
+of_stands count s (description t) v stands = tt
+of_stands count s (all_properties t) verb.Get stands = stands
+of_stands count s (all_properties t) verb.Head stands = stands
+of_stands count s (all_properties t) verb.Put stands = stands
+of_stands count s (all_properties t) verb.Post stands = stands
+of_stands count s (all_properties t) verb.Patch stands = stands
+of_stands count s (all_properties t) verb.Delete stands = stands
+of_stands count s (all_properties t) verb.Other stands = stands
+of_stands count s (property p) verb.Get stands = (stands, tt)
+of_stands count s (property p) verb.Head stands = (stands, tt)
+of_stands count s (property p) verb.Put stands = (stands, tt)
+of_stands count s (property p) verb.Post stands = (stands, tt)
+of_stands count s (property p) verb.Patch stands = (stands, tt)
+of_stands count s (property p) verb.Delete stands = (stands, tt)
+of_stands count s (property p) verb.Other stands = (stands, tt)
+of_stands count s (observed p) v stands = tt
+of_stands count s (action p) v stands = (stands, tt)
+of_stands count s (invocation p id) verb.Get stands = ((stands.0, tt), stands.1)
+of_stands count s (invocation p id) verb.Head stands = ((stands.0, tt), stands.1)
+of_stands count s (invocation p id) verb.Put stands = ((stands.0, tt), stands.1)
+of_stands count s (invocation p id) verb.Post stands = ((stands.0, tt), stands.1)
+of_stands count s (invocation p id) verb.Patch stands = ((stands.0, tt), stands.1)
+of_stands count s (invocation p id) verb.Delete stands = ((stands.0, tt), stands.1)
+of_stands count s (invocation p id) verb.Other stands = ((stands.0, tt), stands.1)
+of_stands count s (event p) v stands = tt
+of_stands count s (subscribed p) v stands = tt
 
-is_that : (count : ℕ) (s : State) (one act : Act) → ActStands count s one → Some one ≡ Some act → ActStands count s act
-is_that count s one act stands e = subst (λ (x : Act). ActStands count s x) (same_Some one act e) stands
-
-act_stands : (count : ℕ) (s : State) (place : Place) (v : Verb) (act : Act) → PlaceStands count s place → act_at place v ≡ Some act → ActStands count s act
-act_stands count s (description t) verb.Get act stands e = is_that count s (describes t) act tt e
-act_stands count s (description t) verb.Head act stands e = is_that count s (describes t) act tt e
-act_stands count s (all_properties t) verb.Get act stands e = is_that count s (reads_all t) act stands e
-act_stands count s (all_properties t) verb.Head act stands e = is_that count s (reads_all t) act stands e
-act_stands count s (all_properties t) verb.Put act stands e = is_that count s (writes_many t) act stands e
-act_stands count s (property p) verb.Get act stands e = unless_stands count s p.affordance.write_only (reads p) act (stands, tt) e
-act_stands count s (property p) verb.Head act stands e = unless_stands count s p.affordance.write_only (reads p) act (stands, tt) e
-act_stands count s (property p) verb.Put act stands e = unless_stands count s p.affordance.read_only (writes p) act (stands, tt) e
-act_stands count s (observed p) verb.Get act stands e = is_that count s (waits p) act tt e
-act_stands count s (subscribed p) verb.Get act stands e = is_that count s (waits p) act tt e
-act_stands count s (action p) verb.Post act stands e = is_that count s (invokes p) act (stands, tt) e
-act_stands count s (invocation p id) verb.Get act stands e = is_that count s (queries p id) act ((stands.0, tt), stands.1) e
-act_stands count s (invocation p id) verb.Head act stands e = is_that count s (queries p id) act ((stands.0, tt), stands.1) e
-act_stands count s (invocation p id) verb.Delete act stands e = is_that count s (cancels p id) act ((stands.0, tt), stands.1) e
-act_stands count s (event p) verb.Get act stands e = is_that count s (reads_event p) act tt e
-act_stands count s (event p) verb.Head act stands e = is_that count s (reads_event p) act tt e
-act_stands count s place v act stands e = absurd cc
+act_stands : (count : ℕ) (s : State) (form : RouteKind) (place : Place) (v : Verb) (act : Act) → PlaceStands count s place → act_at form place v ≡ Some act → ActStands count s act
+act_stands count s form place v act stands e = by_test (is_listed v (verbs_of form (flags_of place))) e
+  where
+    by_test : (b : Bool) → cond b (Some (act_of place v)) None ≡ Some act → ActStands count s act
+    by_test true is = subst (λ (x : Act). ActStands count s x) (same_Some (act_of place v) act is) (of_stands count s place v stands)
+    by_test false is = absurd cc
 
 asked_stands : (count : ℕ) (a : Asked) (act : Act) → SiteStands count a.site → act_asked a ≡ Some act → ActStands count a.state act
 asked_stands count a act all e =
-    let of = came_of (λ (place : Place). act_at place a.request.verb) (place_asked a) act e in
+    let of = came_of (λ (place : Place). act_at (route_of a.request.path) place a.request.verb) (place_asked a) act e in
     let there = came_of (where_stands a.state.invocations) (place_at (route_of a.request.path) a.request.path a.site) of.0 of.1 in
-    act_stands count a.state of.0 a.request.verb act
+    act_stands count a.state (route_of a.request.path) of.0 a.request.verb act
     (place_stands count a.state there.0 of.0 (place_has count (route_of a.request.path) a.request.path a.site there.0 all there.1) there.2) of.2
 
 slots_of : (count : ℕ) (s : State) (act : Act) → ActStands count s act → AllStand count (affordances_of_act act)

@@ -14,8 +14,6 @@ use Rattle.thing_handler.specs.declared.handler.Answer.{Answer}
 use Rattle.thing_handler.specs.declared.handler.Answer.TheVariants as answer
 use Rattle.thing_handler.specs.Handler.{Seen}
 use Rattle.thing_handler.specs.Turns.{HandlerCall, RackShows}
-use Rattle.thing_core.specs.declared.calling.Called.{Called as CalledInCode}
-use Rattle.thing_core.specs.declared.calling.Called.TheVariants as code
 use Rattle.thing_site.specs.declared.input.Input.{Input as InputInCode}
 use Rattle.thing_core.specs.declared.field.Field.{Field}
 use Rattle.thing_core.specs.declared.admitting.Task.{Task}
@@ -74,13 +72,28 @@ InputsFit count inputs = AllByRecursion (λ i. (i.spot.slot < count) × (length 
 
 -- ---- acting
 
-abbrev pub found_called : CalledInCode → Called
-found_called code.NoNumber = no_number
-found_called code.NoMemory = no_memory
-found_called (code.Gives answer) = gives answer
-
 -- a handler was called, and nothing else changed but the number of turns
 pub record MakesCall (slot : ℕ) (what : CallKind) (called : Called) (old new : Course) (before after : List Seen) : Type 0 where
+  pub made : Makes RackShows (Calls slot what called) old.state new.state before after
+  pub pending : new.pending ≡ old.pending
+  pub room : new.room ≡ old.room
+  pub slots : length after ≡ length before
+
+-- there was no answer, and this is what the request comes to
+abbrev pub IsUnanswered : Called → Outcome → Type 0
+IsUnanswered no_number o = o ≡ outcome.CallsUsed
+IsUnanswered no_memory o = o ≡ outcome.Memory
+IsUnanswered (gives answer) o = ⊥
+
+-- an answer, or what the request comes to where there was none
+abbrev pub ComesAs : Called → Result Answer Outcome → Type 0
+ComesAs called (Ok answer) = called ≡ gives answer
+ComesAs called (Err o) = IsUnanswered called o
+
+-- the same where this holds of what came of the call
+pub record CallsFor (P : Called → Type 0) (slot : ℕ) (what : CallKind) (old new : Course) (before after : List Seen) : Type 0 where
+  pub called : Called
+  pub comes : P called
   pub made : Makes RackShows (Calls slot what called) old.state new.state before after
   pub pending : new.pending ≡ old.pending
   pub room : new.room ≡ old.room

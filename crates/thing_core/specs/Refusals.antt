@@ -29,7 +29,7 @@ abbrev pub place_asked : Asked → Option Place
 place_asked a = place_of a.request.path a.site a.state.invocations
 
 abbrev pub act_asked : Asked → Option Act
-act_asked a = option_and_then (λ place. act_at place a.request.verb) (place_asked a)
+act_asked a = option_and_then (λ place. act_at (route_of a.request.path) place a.request.verb) (place_asked a)
 
 -- those against an act that is there
 abbrev pub refusals_of_acts : List Refusal

@@ -11,8 +11,8 @@ use crate::machine::Machine;
 use crate::standing::place_of;
 use crate::state::{Invocation, MOST_INVOCATIONS};
 use std::alloc::Global;
-use thing_ops::{Outcome, Request, allowed, route};
-use thing_site::{Act, IndexedThings, Input, act_at, flags_of, judge};
+use thing_ops::{Outcome, Request, route};
+use thing_site::{Act, IndexedThings, Input, act_at, judge};
 
 /// An act that is to be done, with what is handed in to it.
 #[derive(Drop)]
@@ -34,11 +34,9 @@ pub fn admitted<'a>(
         Some(place) => place,
         None => return Err(Outcome::NotFound),
     };
-    let act = match act_at(place, request.verb) {
-        Some(act) => act,
-        None => {
-            return Err(Outcome::NotAllowed(allowed(route(&request.path), flags_of(place))));
-        }
+    let act = match act_at(route(&request.path), place, request.verb) {
+        Ok(act) => act,
+        Err(allow) => return Err(Outcome::NotAllowed(allow)),
     };
     match inputs_for(alloc, act, machine, request) {
         Ok(inputs) => Ok(Task { act, inputs }),

@@ -98,6 +98,7 @@ impl Exposed {
         requires pending { self.old.pending ≡ [] }
         ensures { MakesPolls self.old self.new (R.slots rack.old) (R.slots rack.new) }
     {
+        // For the proof: there is room for as many emissions as there are emitters.
         let _room = self.machine.emitters();
         poll_all(self.things.as_slice(), &mut self.machine, rack);
     }

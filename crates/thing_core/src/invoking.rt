@@ -9,7 +9,7 @@ ghost use Rattle.thing_site.specs.HandedIn.{input_of};
 ghost use Rattle.thing_core.specs.Performing.{HandsIn, IsTold, MakesDone, OrMemory, OutputComesTo, SettlesCancel, SettlesInvocation, SettlesQuery};
 
 use crate::NoMemory;
-use crate::calling::{Called, call, taken_text};
+use crate::calling::{call, failure, taken_text};
 use crate::machine::Machine;
 use crate::room::Room;
 use crate::standing::invocation_in;
@@ -82,16 +82,14 @@ pub fn invoke<R: Handlers>(
         return Outcome::CallsUsed;
     }
     let id = machine.next_invocation() as u32;
-    let called = call(
+    match call(
         machine,
         rack,
         spot.slot,
         &CallKind::Invoke(id, handed_in(inputs)),
-    );
-    match called {
-        Called::NoNumber => Outcome::CallsUsed,
-        Called::NoMemory => Outcome::Memory,
-        Called::Gives(answer) => settle(spot, prepared, answer, machine),
+    ) {
+        Ok(answer) => settle(spot, prepared, answer, machine),
+        Err(outcome) => outcome,
     }
 }
 
@@ -122,22 +120,16 @@ fn settle(spot: Spot<'_>, prepared: Prepared, answer: Answer, machine: &mut Mach
             machine.use_id();
             finished(prepared.output, &spot.affordance.output, output)
         }
-        Answer::Refused(number) => {
-            machine.use_id();
-            Outcome::Refused(number)
-        }
-        Answer::DeviceFault(number) => {
-            machine.use_id();
-            Outcome::DeviceFault(number)
-        }
         Answer::Value(_)
         | Answer::Done
         | Answer::Running
         | Answer::Cancelled
         | Answer::Quiet
-        | Answer::Fired(_) => {
+        | Answer::Fired(_)
+        | Answer::Refused(_)
+        | Answer::DeviceFault(_) => {
             machine.use_id();
-            Outcome::BadAnswer
+            failure(&answer)
         }
     }
 }
@@ -181,11 +173,9 @@ pub fn query<R: Handlers>(
         Ok(outcome) => return outcome,
         Err(room) => room,
     };
-    let called = call(machine, rack, spot.slot, &CallKind::Query(id));
-    match called {
-        Called::NoNumber => Outcome::CallsUsed,
-        Called::NoMemory => Outcome::Memory,
-        Called::Gives(answer) => queried(spot, id, room, answer, machine),
+    match call(machine, rack, spot.slot, &CallKind::Query(id)) {
+        Ok(answer) => queried(spot, id, room, answer, machine),
+        Err(outcome) => outcome,
     }
 }
 
@@ -239,14 +229,14 @@ fn queried(
                 None => Outcome::BadAnswer,
             }
         }
-        Answer::Refused(number) => Outcome::Refused(number),
-        Answer::DeviceFault(number) => Outcome::DeviceFault(number),
         Answer::Value(_)
         | Answer::Done
         | Answer::Started
         | Answer::Cancelled
         | Answer::Quiet
-        | Answer::Fired(_) => Outcome::BadAnswer,
+        | Answer::Fired(_)
+        | Answer::Refused(_)
+        | Answer::DeviceFault(_) => failure(&answer),
     }
 }
 
@@ -260,32 +250,30 @@ pub fn cancel<R: Handlers>(spot: Spot<'_>, id: u32, machine: &mut Machine, rack:
         machine.remove(id);
         return Outcome::Deleted;
     }
-    let called = call(machine, rack, spot.slot, &CallKind::Cancel(id));
-    match called {
-        Called::NoNumber => Outcome::CallsUsed,
-        Called::NoMemory => Outcome::Memory,
-        Called::Gives(answer) => cancelled(id, answer, machine),
+    match call(machine, rack, spot.slot, &CallKind::Cancel(id)) {
+        Ok(answer) => cancelled(id, &answer, machine),
+        Err(outcome) => outcome,
     }
 }
 
 /// What the answer to a cancellation brings about.
-fn cancelled(id: u32, answer: Answer, machine: &mut Machine) -> Outcome
-    ensures { SettlesCancel id answer result machine.old machine.new }
+fn cancelled(id: u32, answer: &Answer, machine: &mut Machine) -> Outcome
+    ensures { SettlesCancel id answer.now result machine.old machine.new }
 {
     match answer {
         Answer::Cancelled => {
             machine.remove(id);
             Outcome::Deleted
         }
-        Answer::Refused(number) => Outcome::Refused(number),
-        Answer::DeviceFault(number) => Outcome::DeviceFault(number),
         Answer::Value(_)
         | Answer::Done
         | Answer::Started
         | Answer::Running
         | Answer::Finished(_)
         | Answer::Quiet
-        | Answer::Fired(_) => Outcome::BadAnswer,
+        | Answer::Fired(_)
+        | Answer::Refused(_)
+        | Answer::DeviceFault(_) => failure(answer),
     }
 }
 

@@ -71,8 +71,11 @@ fn poll<R: Handlers>(spot: Spot<'_>, machine: &mut Machine, rack: &mut R)
     ensures room { machine.old.room ≤ machine.new.room + 1 }
     ensures slots { length (R.slots rack.new) ≡ length (R.slots rack.old) }
 {
-    let called = call(machine, rack, spot.slot, &CallKind::Poll);
-    let value = match fired(called) {
+    let answer = match call(machine, rack, spot.slot, &CallKind::Poll) {
+        Ok(answer) => answer,
+        Err(_) => return,
+    };
+    let value = match fired(answer) {
         Some(value) => value,
         None => return,
     };

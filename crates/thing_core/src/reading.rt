@@ -5,7 +5,7 @@ ghost use Rattle.std.specs.List.{filter};
 ghost use Rattle.thing_site.specs.Site.{of_kind};
 ghost use Rattle.thing_core.specs.Thing.{is_readable, readable, Reads, ReadsEach};
 ghost use Rattle.thing_site.specs.Exposing.{held_thing, placed_all, placed_spot};
-ghost use Rattle.thing_core.specs.Performing.{with_member, room_of_fields, spots_of, AllStand, MakesDone, OrMemory, ReadsOne};
+ghost use Rattle.thing_core.specs.Performing.{with_member, room_of_fields, spots_of, AllStand, CallsFor, IsValueOf, MakesDone, OrMemory, ReadsOne};
 
 use crate::NoMemory;
 use crate::calling::{call, taken_text, value_of};
@@ -15,7 +15,7 @@ use std::alloc::Global;
 use thing_handler::{CallKind, Handlers};
 use thing_ops::Outcome;
 use thing_site::{HeldThing, LONGEST_VALUE, Spot, slot_at};
-use wot_json::{Bytes, quoted};
+use wot_json::{Bytes, Tree, quoted};
 use wot_terms::{Affordance, Kind};
 
 /// Reads a property. The room for its text is taken before the call.
@@ -32,8 +32,7 @@ pub fn read<R: Handlers>(
         Ok(room) => room,
         Err(_) => return Outcome::Memory,
     };
-    let called = call(machine, rack, spot.slot, &CallKind::Read);
-    let value = match value_of(called) {
+    let value = match read_value(spot, machine, rack) {
         Ok(value) => value,
         Err(outcome) => return outcome,
     };
@@ -41,6 +40,21 @@ pub fn read<R: Handlers>(
     match taken_text(&spot.affordance.output, &value, &mut buffer) {
         Some(text) => Outcome::Content(filled(room, text)),
         None => Outcome::BadAnswer,
+    }
+}
+
+/// The value that a property's device gives, or what the request comes to where it gives none.
+fn read_value<R: Handlers>(
+    spot: Spot<'_>,
+    machine: &mut Machine,
+    rack: &mut R,
+) -> Result<Tree, Outcome>
+    requires { spot.slot < length (R.slots rack.old) }
+    ensures { CallsFor (λ called. IsValueOf called result) spot.slot CallKind.Read machine.old machine.new (R.slots rack.old) (R.slots rack.new) }
+{
+    match call(machine, rack, spot.slot, &CallKind::Read) {
+        Ok(answer) => value_of(answer),
+        Err(outcome) => Err(outcome),
     }
 }
 
@@ -117,8 +131,7 @@ fn read_one<R: Handlers>(
     ensures len { vec_len text.new ≤ vec_len text.old + length field.now.name + LONGEST_VALUE + 2 }
     ensures places { vec_capacity text.old ≤ vec_capacity text.new }
 {
-    let called = call(machine, rack, field.spot.slot, &CallKind::Read);
-    let value = match value_of(called) {
+    let value = match read_value(field.spot, machine, rack) {
         Ok(value) => value,
         Err(outcome) => return Some(outcome),
     };

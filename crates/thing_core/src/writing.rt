@@ -55,8 +55,11 @@ fn write_one<R: Handlers>(input: Input<'_>, machine: &mut Machine, rack: &mut R)
     ensures slots { length (R.slots rack.new) ≡ length (R.slots rack.old) }
 {
     let spot = input.spot;
-    let called = call(machine, rack, spot.slot, &CallKind::Write(input.value));
-    match write_failure(called) {
+    let answer = match call(machine, rack, spot.slot, &CallKind::Write(input.value)) {
+        Ok(answer) => answer,
+        Err(outcome) => return Some(outcome),
+    };
+    match write_failure(&answer) {
         None => {
             emit_written(spot, input.text.as_slice(), machine);
             None

@@ -1,5 +1,5 @@
 -- What a path leads to among Things, and which act a verb asks for there.
-use Rattle.std.specs.Prelude.{ℕ, List, slice_get, Bool, true, false, Option, Some, None, option_map, option_and_then, if◌then◌else◌}
+use Rattle.std.specs.Prelude.{ℕ, List, [], ◌∷◌, slice_get, Bool, true, false, Option, Some, None, option_map, option_and_then, if◌then◌else◌}
 use Rattle.wot_terms.specs.declared.kind.Kind.TheVariants as kind
 use Rattle.wot_terms.specs.declared.kind.Kind.{Kind}
 use Rattle.thing_ops.specs.declared.verb.Verb.{Verb}
@@ -7,6 +7,7 @@ use Rattle.thing_ops.specs.declared.verb.Verb.TheVariants as verb
 use Rattle.thing_ops.specs.declared.routing.RouteKind.{RouteKind}
 use Rattle.thing_ops.specs.declared.routing.RouteKind.TheVariants as route
 use Rattle.thing_ops.specs.declared.allow.Flags.{Flags}
+use Rattle.thing_ops.specs.Verbs.{verbs_of}
 use Rattle.thing_site.specs.Site.{Placed, ExposedThing, Site, thing_named, affordance_named}
 
 -- ---- places
@@ -70,34 +71,43 @@ pub data Act : Type 0 where
   reads_event : Placed → Act
   waits : Placed → Act
 
-abbrev pub unless : Bool → Act → Option Act
-unless true act = None
-unless false act = Some act
-
--- the act of a verb at a place, where the verb is taken there (TD 1.1, section 8.3, and RFC 9110, section 9.3)
-abbrev pub act_at : Place → Verb → Option Act
-act_at (description thing) verb.Get = Some (describes thing)
-act_at (description thing) verb.Head = Some (describes thing)
-act_at (all_properties thing) verb.Get = Some (reads_all thing)
-act_at (all_properties thing) verb.Head = Some (reads_all thing)
-act_at (all_properties thing) verb.Put = Some (writes_many thing)
-act_at (property p) verb.Get = unless p.affordance.write_only (reads p)
-act_at (property p) verb.Head = unless p.affordance.write_only (reads p)
-act_at (property p) verb.Put = unless p.affordance.read_only (writes p)
-act_at (observed p) verb.Get = Some (waits p)
-act_at (subscribed p) verb.Get = Some (waits p)
-act_at (action p) verb.Post = Some (invokes p)
-act_at (invocation p id) verb.Get = Some (queries p id)
-act_at (invocation p id) verb.Head = Some (queries p id)
-act_at (invocation p id) verb.Delete = Some (cancels p id)
-act_at (event p) verb.Get = Some (reads_event p)
-act_at (event p) verb.Head = Some (reads_event p)
-act_at place v = None
-
 -- the flags of the property that a place is; false for any other place
 abbrev pub flags_of : Place → Flags
 flags_of (property p) = record { read_only = p.affordance.read_only; write_only = p.affordance.write_only }
 flags_of place = record { read_only = false; write_only = false }
+
+-- what a verb asks to be done at a place where it is taken (TD 1.1, section 8.3, and RFC 9110, section 9.3)
+abbrev pub act_of : Place → Verb → Act
+act_of (description thing) v = describes thing
+act_of (all_properties thing) verb.Put = writes_many thing
+act_of (all_properties thing) v = reads_all thing
+act_of (property p) verb.Put = writes p
+act_of (property p) v = reads p
+act_of (observed p) v = waits p
+act_of (subscribed p) v = waits p
+act_of (action p) v = invokes p
+act_of (invocation p id) verb.Delete = cancels p id
+act_of (invocation p id) v = queries p id
+act_of (event p) v = reads_event p
+
+-- a verb is among these
+abbrev pub is_verb : Verb → Verb → Bool
+is_verb verb.Get verb.Get = true
+is_verb verb.Head verb.Head = true
+is_verb verb.Put verb.Put = true
+is_verb verb.Post verb.Post = true
+is_verb verb.Patch verb.Patch = true
+is_verb verb.Delete verb.Delete = true
+is_verb verb.Other verb.Other = true
+is_verb v w = false
+
+abbrev pub is_listed : Verb → List Verb → Bool
+is_listed v [] = false
+is_listed v (w ∷ ws) = if is_verb v w then true else is_listed v ws
+
+-- the act of a verb at a place to which a path of this form leads, where the table of verbs has it there
+abbrev pub act_at : RouteKind → Place → Verb → Option Act
+act_at form place v = if is_listed v (verbs_of form (flags_of place)) then Some (act_of place v) else None
 
 -- ---- targets
 

@@ -24,7 +24,7 @@ pub use fault::ExposeFault;
 pub use held::HeldThing;
 pub use indexed::IndexedThings;
 pub use input::Input;
-pub use place::{Act, Place, act_at, flags_of, place_at, target_at};
+pub use place::{Act, Place, act_at, place_at, target_at};
 pub use refusing::{LONGEST_VALUE, is_accepted, judge};
 pub use servient_base::NoMemory;
 pub use site::{Spot, is_emitter, is_kind, slot_at};

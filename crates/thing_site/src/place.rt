@@ -1,13 +1,14 @@
 //! What the path of a request leads to among Things, and which act its verb asks for there.
 
-ghost use Rattle.std.specs.Prelude.{◌≡◌, option_and_then, option_map, slice_get};
+ghost use Rattle.std.specs.Prelude.{◌≡◌, Some, None, MatchResult, option_and_then, option_map, slice_get};
 ghost use Rattle.thing_ops.specs.Routes.{route_of};
+ghost use Rattle.thing_ops.specs.Verbs.{verbs_in, verbs_of};
 ghost use Rattle.thing_site.specs.Places as spec;
 ghost use Rattle.thing_site.specs.Exposing.{held_site, held_thing, placed_spot};
 ghost use Rattle.thing_site.specs.Found.{found_act, found_place, kind_by, place_by, spot_by, thing_by};
 
 use crate::{HeldThing, IndexedThings, Spot};
-use thing_ops::{Flags, RouteKind, Segments, Verb, route};
+use thing_ops::{Allow, Flags, RouteKind, Segments, Verb, allowed, route};
 use wot_terms::Kind;
 
 /// What a path leads to.
@@ -234,36 +235,40 @@ fn invocation<'a>(action: Option<Spot<'a>>, id: u32) -> Option<Place<'a>>
     }
 }
 
-/// The act of a verb at a place, where the verb is taken there.
-pub fn act_at<'a>(place: Place<'a>, verb: Verb) -> Option<Act<'a>>
-    ensures { option_map found_act result ≡ spec.act_at (found_place place.entry) verb }
+/// The act of a verb at a place to which a path of this form leads; else the verbs that are taken there.
+pub fn act_at<'a>(route: RouteKind, place: Place<'a>, verb: Verb) -> Result<Act<'a>, Allow>
+    ensures { MatchResult result
+        (λ act. spec.act_at route (found_place place.entry) verb ≡ Some (found_act act))
+        (λ allow. (spec.act_at route (found_place place.entry) verb ≡ None) × (verbs_in allow ≡ verbs_of route (spec.flags_of (found_place place.entry)))) }
 {
-    match (place, verb) {
-        (Place::Description(thing), Verb::Get | Verb::Head) => Some(Act::Describes(thing)),
-        (Place::AllProperties(thing), Verb::Get | Verb::Head) => Some(Act::ReadsAll(thing)),
-        (Place::AllProperties(thing), Verb::Put) => Some(Act::WritesMany(thing)),
-        (Place::Property(spot), Verb::Get | Verb::Head) => {
-            unless(spot.affordance.write_only, Act::Reads(spot))
-        }
-        (Place::Property(spot), Verb::Put) => unless(spot.affordance.read_only, Act::Writes(spot)),
-        (Place::Observed(spot) | Place::Subscribed(spot), Verb::Get) => Some(Act::Waits(spot)),
-        (Place::Action(spot), Verb::Post) => Some(Act::Invokes(spot)),
-        (Place::Invocation(spot, id), Verb::Get | Verb::Head) => Some(Act::Queries(spot, id)),
-        (Place::Invocation(spot, id), Verb::Delete) => Some(Act::Cancels(spot, id)),
-        (Place::Event(spot), Verb::Get | Verb::Head) => Some(Act::ReadsEvent(spot)),
-        _ => None,
+    let allow = allowed(route, flags_of(place));
+    if allow.takes(verb) {
+        Ok(act_of(place, verb))
+    } else {
+        Err(allow)
     }
 }
 
-/// The act, unless this holds.
-fn unless<'a>(holds: bool, act: Act<'a>) -> Option<Act<'a>>
-    ensures { option_map found_act result ≡ spec.unless holds (found_act act.entry) }
+/// What a verb asks to be done at a place where it is taken.
+fn act_of<'a>(place: Place<'a>, verb: Verb) -> Act<'a>
+    ensures { found_act result ≡ spec.act_of (found_place place.entry) verb }
 {
-    if holds { None } else { Some(act) }
+    match (place, verb) {
+        (Place::Description(thing), _) => Act::Describes(thing),
+        (Place::AllProperties(thing), Verb::Put) => Act::WritesMany(thing),
+        (Place::AllProperties(thing), _) => Act::ReadsAll(thing),
+        (Place::Property(spot), Verb::Put) => Act::Writes(spot),
+        (Place::Property(spot), _) => Act::Reads(spot),
+        (Place::Observed(spot) | Place::Subscribed(spot), _) => Act::Waits(spot),
+        (Place::Action(spot), _) => Act::Invokes(spot),
+        (Place::Invocation(spot, id), Verb::Delete) => Act::Cancels(spot, id),
+        (Place::Invocation(spot, id), _) => Act::Queries(spot, id),
+        (Place::Event(spot), _) => Act::ReadsEvent(spot),
+    }
 }
 
 /// The flags of the property that a place is; false for any other place.
-pub fn flags_of(place: Place<'_>) -> Flags
+fn flags_of(place: Place<'_>) -> Flags
     ensures { result ≡ spec.flags_of (found_place place.entry) }
 {
     match place {

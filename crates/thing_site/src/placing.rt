@@ -56,6 +56,7 @@ fn place<R: Handlers>(
     ensures { IsPlaced (kinds_of (R.slots rack.now)) slots.now (kept_thing thing.now) earlier.old.items earlier.new.items result }
 {
     let affordances = Description::of(alloc, &thing.tree)?;
+    // For the proof: the names of its members rise, and so its affordances do.
     tree_is_well_formed(&thing.tree);
     let wanted = wanted_all(
         alloc,

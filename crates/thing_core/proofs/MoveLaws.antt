@@ -63,12 +63,13 @@ call_answered c d before after slot what a room made is = record {
 pub calls_for : (P : Called → Type 0) (slot : ℕ) (what : CallKind) (called : Called) (c d : Course) (a b : List Seen) → P called → MakesCall slot what called c d a b → CallsFor P slot what c d a b
 calls_for P slot what called c d a b comes k = record { called = called; comes = comes; made = k.made; pending = k.pending; room = k.room; slots = k.slots }
 
-pub makes_call : (P : Called → Type 0) (slot : ℕ) (what : CallKind) (c d : Course) (a b : List Seen) → (k : CallsFor P slot what c d a b) → MakesCall slot what k.called c d a b
-makes_call P slot what c d a b k = record { made = k.made; pending = k.pending; room = k.room; slots = k.slots }
+pub makes_call : (P : Called → Type 0) (n slot : ℕ) (what : CallKind) (c d : Course) (a b : List Seen) → n ≡ slot → (k : CallsFor P n what c d a b) → MakesCall slot what k.called c d a b
+makes_call P n slot what c d a b same k =
+    subst (λ (i : ℕ). MakesCall i what k.called c d a b) same (record { made = k.made; pending = k.pending; room = k.room; slots = k.slots })
 
-pub makes_answered : (slot : ℕ) (what : CallKind) (x : Answer) (c d : Course) (a b : List Seen) → CallsFor (λ called. ComesAs called (Ok x)) slot what c d a b → MakesCall slot what (gives x) c d a b
-makes_answered slot what x c d a b k =
-    subst (λ (y : Called). MakesCall slot what y c d a b) k.comes (makes_call (λ called. ComesAs called (Ok x)) slot what c d a b k)
+pub makes_answered : (n slot : ℕ) (what : CallKind) (x : Answer) (c d : Course) (a b : List Seen) → n ≡ slot → CallsFor (λ called. ComesAs called (Ok x)) n what c d a b → MakesCall slot what (gives x) c d a b
+makes_answered n slot what x c d a b same k =
+    subst (λ (y : Called). MakesCall slot what y c d a b) k.comes (makes_call (λ called. ComesAs called (Ok x)) n slot what c d a b same k)
 
 -- ---- parts of a move
 

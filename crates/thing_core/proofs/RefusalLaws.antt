@@ -10,7 +10,7 @@ use Rattle.thing_ops.specs.Routes.{route_of}
 use Rattle.thing_ops.specs.Verbs.{verbs_in, verbs_of}
 use Rattle.thing_site.specs.declared.input.Input.{Input as InputInCode}
 use Rattle.thing_site.specs.Places.{Place, Act, act_at, flags_of}
-use Rattle.thing_site.specs.Refusals.{Refusal, refusals_by_request, Holding, StandsByRequest, IsAnswer, IsFirst, IsNone}
+use Rattle.thing_site.specs.Refusals.{Refusal, no_invocation_left, refusals_by_request, Holding, StandsByRequest, IsAnswer, IsFirst, IsNone}
 use Rattle.thing_site.specs.HandedIn.{IsRefusedByRequest, IsUnrefused}
 use Rattle.thing_core.specs.State.{State, Invocation}
 use Rattle.thing_core.specs.Places.{place_of}
@@ -41,7 +41,7 @@ first_of_more S T (r ∷ rs) more o alike (inr further) = inr (λ stands. furthe
 pub act_is_refused : (act : Act) (s : State) (q : PlainRequest) (o : Outcome) → IsRefusedByRequest act q o → IsActRefused act s q o
 act_is_refused act s q o (inl out) = inl out
 act_is_refused act s q o (inr first) =
-    inr (first_of_more (λ r. StandsByRequest r act q) (λ r. StandsAgainst r act s q) refusals_by_request _ o
+    inr (first_of_more (λ r. StandsByRequest r act q) (λ r. StandsAgainst r act s q) refusals_by_request (no_invocation_left ∷ []) o
     ((λ h. h, λ h. h), ((λ h. h, λ h. h), ((λ h. h, λ h. h), ((λ h. h, λ h. h), ((λ h. h, λ h. h), tt))))) first)
 
 -- ---- a request that asks for an act

@@ -24,7 +24,6 @@ use Rattle.thing_site.specs.Places.{Act, describes, reads_all, writes_many, read
 use Rattle.thing_site.specs.Refusals.{Input, longest_value, inputs_of, IsAnswer, IsFirst, IsNone}
 use Rattle.thing_core.specs.Refusals.{Asked, act_asked, refusals, refusals_of_acts, StandsAgainst, IsRefusedBy, NoneStands}
 use Rattle.thing_core.specs.Thing.{Move, Done, only, Called, no_number, no_memory, gives, Calls, Decides, IsTaken, GivesValue, Answers, WritesEach, ReadsEach, PollsEach, Polls, emissions_of_write, place_of_invocation, IsInvoked, IsQueried, IsCancelled, Acts}
-use Rattle.thing_site.specs.Exposing.{placed_spot}
 use Rattle.thing_site.specs.HandedIn.{input_of}
 use Rattle.thing_site.specs.Found.{found_act}
 use Rattle.thing_core.specs.Kept.{Kept}
@@ -137,7 +136,7 @@ with_member text name value = text ++ (if nat_lt 1 (length text) then codes "," 
 
 -- properties that are to be read, and how many bytes an object has room in that has them with the longest values
 abbrev pub spots_of : List Field → List Placed
-spots_of fields = map (λ f. placed_spot f.spot) fields
+spots_of fields = map (λ f. f.spot) fields
 
 abbrev pub room_of_fields : List Field → ℕ
 room_of_fields [] = 2

@@ -1,11 +1,11 @@
 //! Why a request is refused before any handler is called.
 
-ghost use Rattle.std.specs.Prelude.{◌≡◌, ◌↔◌, IfOk, IfErr, IsTrue, count_by};
+ghost use Rattle.std.specs.Prelude.{◌≡◌, ◌↔◌, IsTrue, count_by};
 ghost use Rattle.thing_ops.specs.Requests.{plain_request};
 ghost use Rattle.thing_site.specs.Found.{found_act};
 ghost use Rattle.thing_core.specs.State as state;
 ghost use Rattle.thing_core.specs.Refusals as refusal;
-ghost use Rattle.thing_core.specs.Performing.{IsActRefused, IsAdmitted, IsFree};
+ghost use Rattle.thing_core.specs.Performing.{IsAdmitted};
 
 use crate::machine::Machine;
 use crate::standing::place_of;
@@ -38,33 +38,19 @@ pub fn admitted<'a>(
         Ok(act) => act,
         Err(allow) => return Err(Outcome::NotAllowed(allow)),
     };
-    match inputs_for(alloc, act, machine, request) {
-        Ok(inputs) => Ok(Task { act, inputs }),
-        Err(outcome) => Err(outcome),
-    }
-}
-
-/// What is handed in to an act, where nothing stands against it; else what the request comes to.
-#[tactic(auto, using(crate::proofs::RefusalLaws::act_is_refused))]
-fn inputs_for<'a>(
-    alloc: Global,
-    act: Act<'a>,
-    machine: &Machine,
-    request: &Request<'_>,
-) -> Result<Vec<Input<'a>>, Outcome>
-    ensures ok { IfOk result (λ inputs. IsFree (found_act act.entry) machine.now.state (plain_request request.now) inputs.items) }
-    ensures fault { IfErr result (λ o. IsActRefused (found_act act.entry) machine.now.state (plain_request request.now) o) }
-{
-    let inputs = judge(alloc, act, request)?;
-    if has_none_left(act, machine.invocations()) {
+    let inputs = match judge(alloc, &act, request) {
+        Ok(inputs) => inputs,
+        Err(outcome) => return Err(outcome),
+    };
+    if has_none_left(&act, machine.invocations()) {
         return Err(Outcome::InvocationsFull);
     }
-    Ok(inputs)
+    Ok(Task { act, inputs })
 }
 
 /// An action is to be invoked, and no further invocation may run.
-fn has_none_left(act: Act<'_>, invocations: &[Invocation]) -> bool
-    ensures { (s : state.State) → s.invocations ≡ invocations.now → IsTrue result ↔ refusal.HasNoInvocationLeft s (found_act act.entry) }
+fn has_none_left(act: &Act<'_>, invocations: &[Invocation]) -> bool
+    ensures { (s : state.State) → s.invocations ≡ invocations.now → IsTrue result ↔ refusal.HasNoInvocationLeft s (found_act act.now) }
 {
     match act {
         Act::Invokes(_) => MOST_INVOCATIONS <= running_count(invocations),

@@ -61,7 +61,10 @@ pub fn failure(answer: &Answer) -> Outcome
 pub fn value_of(answer: Answer) -> Result<Tree, Outcome>
     ensures { IsValueOf (gives answer) result }
 {
-    match answer {
+    let failed = failure(&answer);
+    // For the proof: what was lent is moved before it is taken apart.
+    let given = answer;
+    match given {
         Answer::Value(value) => Ok(value),
         Answer::Done
         | Answer::Started
@@ -71,7 +74,7 @@ pub fn value_of(answer: Answer) -> Result<Tree, Outcome>
         | Answer::Quiet
         | Answer::Fired(_)
         | Answer::Refused(_)
-        | Answer::DeviceFault(_) => Err(failure(&answer)),
+        | Answer::DeviceFault(_) => Err(failed),
     }
 }
 

@@ -11,5 +11,5 @@ use wot_json::Bytes;
 pub struct Field<'a> {
     pub spot: Spot<'a>,
     pub name: Bytes,
-    ghost quoted: { name ≡ json_string spot.affordance.now.name },
+    ghost quoted: { name ≡ json_string spot.affordance.name },
 }

@@ -4,7 +4,6 @@ ghost use Rattle.std.specs.Prelude.{◌≡◌, ◌≤◌, ◌<◌, ℕ, List, []
 ghost use Rattle.thing_core.specs.Ids.{IdsRise};
 ghost use Rattle.thing_core.specs.State.{invocation_named, is_running as is_running_one, most_invocations, running, running_count, status_text};
 ghost use Rattle.thing_core.specs.Thing.{place_of_invocation, Cancels, Invokes, OnInvocation, Queries};
-ghost use Rattle.thing_site.specs.Exposing.{placed_spot};
 ghost use Rattle.thing_site.specs.HandedIn.{input_of};
 ghost use Rattle.thing_core.specs.Performing.{HandsIn, IsTold, MakesDone, OrMemory, OutputComesTo, SettlesCancel, SettlesInvocation, SettlesQuery};
 
@@ -76,7 +75,7 @@ pub fn invoke<R: Handlers>(
     requires status { prepared.status ≡ status_text machine.old.state.next_invocation running }
     requires output { prepared.output ≡ [] }
     ensures { (path : List (List ℕ)) → prepared.place ≡ place_of_invocation path machine.old.state.next_invocation
-        → MakesDone (Invokes (placed_spot spot.entry) path (map input_of inputs.entry.items)) result machine.old machine.new (R.slots rack.old) (R.slots rack.new) }
+        → MakesDone (Invokes spot.entry path (map input_of inputs.entry.items)) result machine.old machine.new (R.slots rack.old) (R.slots rack.new) }
 {
     if machine.turns() == MOST_TURNS {
         return Outcome::CallsUsed;
@@ -85,7 +84,7 @@ pub fn invoke<R: Handlers>(
     match call(
         machine,
         rack,
-        spot.slot,
+        spot.slot(),
         &CallKind::Invoke(id, handed_in(inputs)),
     ) {
         Ok(answer) => settle(spot, prepared, answer, machine),
@@ -109,16 +108,19 @@ fn settle(spot: Spot<'_>, prepared: Prepared, answer: Answer, machine: &mut Mach
     requires running { running_count machine.old.state.invocations < most_invocations }
     requires status { prepared.status ≡ status_text machine.old.state.next_invocation running }
     requires output { prepared.output ≡ [] }
-    ensures { SettlesInvocation (placed_spot spot.entry) prepared.place answer result machine.old machine.new }
+    ensures { SettlesInvocation spot.entry prepared.place answer result machine.old machine.new }
 {
-    match answer {
+    let failed = failure(&answer);
+    // For the proof: what was lent is moved before it is taken apart.
+    let given = answer;
+    match given {
         Answer::Started => {
-            machine.start(spot.slot);
+            machine.start(spot.slot());
             Outcome::Started(prepared.place, prepared.status)
         }
         Answer::Finished(output) => {
             machine.use_id();
-            finished(prepared.output, &spot.affordance.output, output)
+            finished(prepared.output, &spot.affordance().output, output)
         }
         Answer::Value(_)
         | Answer::Done
@@ -129,7 +131,7 @@ fn settle(spot: Spot<'_>, prepared: Prepared, answer: Answer, machine: &mut Mach
         | Answer::Refused(_)
         | Answer::DeviceFault(_) => {
             machine.use_id();
-            failure(&answer)
+            failed
         }
     }
 }
@@ -163,17 +165,17 @@ pub fn query<R: Handlers>(
 ) -> Outcome
     requires slot { spot.slot < length (R.slots rack.old) }
     requires stands { IsSome (invocation_named spot.slot id machine.old.state.invocations) }
-    ensures { MakesDone (OrMemory (OnInvocation (placed_spot spot.entry) id (Queries (placed_spot spot.entry) id))) result machine.old machine.new (R.slots rack.old) (R.slots rack.new) }
+    ensures { MakesDone (OrMemory (OnInvocation spot.entry id (Queries spot.entry id))) result machine.old machine.new (R.slots rack.old) (R.slots rack.new) }
 {
     let room = match Room::new(alloc) {
         Ok(room) => room,
         Err(_) => return Outcome::Memory,
     };
-    let room = match told(machine.invocations(), spot.slot, id, room) {
+    let room = match told(machine.invocations(), spot.slot(), id, room) {
         Ok(outcome) => return outcome,
         Err(room) => room,
     };
-    match call(machine, rack, spot.slot, &CallKind::Query(id)) {
+    match call(machine, rack, spot.slot(), &CallKind::Query(id)) {
         Ok(answer) => queried(spot, id, room, answer, machine),
         Err(outcome) => outcome,
     }
@@ -206,9 +208,12 @@ fn queried(
     machine: &mut Machine,
 ) -> Outcome
     requires { room ≡ [] }
-    ensures { SettlesQuery (placed_spot spot.entry) id answer result machine.old machine.new }
+    ensures { SettlesQuery spot.entry id answer result machine.old machine.new }
 {
-    match answer {
+    let failed = failure(&answer);
+    // For the proof: what was lent is moved before it is taken apart.
+    let given = answer;
+    match given {
         Answer::Running => {
             put_running(&mut room, u64::from(id));
             Outcome::Content(room.into_bytes())
@@ -220,7 +225,7 @@ fn queried(
         }
         Answer::Finished(Some(value)) => {
             let mut buffer = [0; LONGEST_VALUE];
-            match taken_text(&spot.affordance.output, &value, &mut buffer) {
+            match taken_text(&spot.affordance().output, &value, &mut buffer) {
                 Some(text) => {
                     machine.complete(id, Some(text));
                     put_completed(&mut room, u64::from(id), Some(text));
@@ -236,7 +241,7 @@ fn queried(
         | Answer::Quiet
         | Answer::Fired(_)
         | Answer::Refused(_)
-        | Answer::DeviceFault(_) => failure(&answer),
+        | Answer::DeviceFault(_) => failed,
     }
 }
 
@@ -244,13 +249,13 @@ fn queried(
 pub fn cancel<R: Handlers>(spot: Spot<'_>, id: u32, machine: &mut Machine, rack: &mut R) -> Outcome
     requires slot { spot.slot < length (R.slots rack.old) }
     requires stands { IsSome (invocation_named spot.slot id machine.old.state.invocations) }
-    ensures { MakesDone (OnInvocation (placed_spot spot.entry) id (Cancels (placed_spot spot.entry) id)) result machine.old machine.new (R.slots rack.old) (R.slots rack.new) }
+    ensures { MakesDone (OnInvocation spot.entry id (Cancels spot.entry id)) result machine.old machine.new (R.slots rack.old) (R.slots rack.new) }
 {
-    if !is_running(machine.invocations(), spot.slot, id) {
+    if !is_running(machine.invocations(), spot.slot(), id) {
         machine.remove(id);
         return Outcome::Deleted;
     }
-    match call(machine, rack, spot.slot, &CallKind::Cancel(id)) {
+    match call(machine, rack, spot.slot(), &CallKind::Cancel(id)) {
         Ok(answer) => cancelled(id, &answer, machine),
         Err(outcome) => outcome,
     }

@@ -31,7 +31,7 @@ fn where_stands<'a>(place: Place<'a>, invocations: &[Invocation]) -> Option<Plac
     ensures { option_map found_place result ≡ spec.where_stands invocations.now (found_place place.entry) }
 {
     match place {
-        Place::Invocation(spot, id) => match invocation_in(invocations, spot.slot, id) {
+        Place::Invocation(spot, id) => match invocation_in(invocations, spot.slot(), id) {
             Some(_) => Some(Place::Invocation(spot, id)),
             None => None,
         },

@@ -21,24 +21,24 @@ same_verb v w e = absurd cc
 -- a verb that passes is among those that pass where it is among all
 passes : (p : Verb → Bool) (v : Verb) (ws : List Verb) → p v ≡ true → is_listed v (filter p ws) ≡ is_listed v ws
 passes p v [] e = refl
-passes p v (w ∷ ws) e = by_test (is_verb v w) refl (p w) refl
+passes p v (w ∷ ws) e = by_test (passes p v ws e) (is_verb v w) refl (p w) refl
   where
-    by_test : (b : Bool) → is_verb v w ≡ b → (c : Bool) → p w ≡ c → is_listed v (filter p (w ∷ ws)) ≡ is_listed v (w ∷ ws)
-    by_test true same true t = rw (t, same) refl
-    by_test true same false t = absurd (let u : p w ≡ true = ap p (sym (same_verb v w same)) ∙ e in cc)
-    by_test false same true t = rw (t, same) (passes p v ws e)
-    by_test false same false t = rw (t, same) (passes p v ws e)
+    by_test : is_listed v (filter p ws) ≡ is_listed v ws → (b : Bool) → is_verb v w ≡ b → (c : Bool) → p w ≡ c → is_listed v (filter p (w ∷ ws)) ≡ is_listed v (w ∷ ws)
+    by_test rest true same true t = rw (t, same) refl
+    by_test rest true same false t = absurd (let u : p w ≡ true = ap p (sym (same_verb v w same)) ∙ e in cc)
+    by_test rest false same true t = rw (t, same) rest
+    by_test rest false same false t = rw (t, same) rest
 
 -- one that doesn't isn't
 fails : (p : Verb → Bool) (v : Verb) (ws : List Verb) → p v ≡ false → is_listed v (filter p ws) ≡ false
 fails p v [] e = refl
-fails p v (w ∷ ws) e = by_test (is_verb v w) refl (p w) refl
+fails p v (w ∷ ws) e = by_test (fails p v ws e) (is_verb v w) refl (p w) refl
   where
-    by_test : (b : Bool) → is_verb v w ≡ b → (c : Bool) → p w ≡ c → is_listed v (filter p (w ∷ ws)) ≡ false
-    by_test true same true t = absurd (let u : p w ≡ false = ap p (sym (same_verb v w same)) ∙ e in cc)
-    by_test true same false t = rw t (fails p v ws e)
-    by_test false same true t = rw (t, same) (fails p v ws e)
-    by_test false same false t = rw t (fails p v ws e)
+    by_test : is_listed v (filter p ws) ≡ false → (b : Bool) → is_verb v w ≡ b → (c : Bool) → p w ≡ c → is_listed v (filter p (w ∷ ws)) ≡ false
+    by_test rest true same true t = absurd (let u : p w ≡ false = ap p (sym (same_verb v w same)) ∙ e in cc)
+    by_test rest true same false t = rw t rest
+    by_test rest false same true t = rw (t, same) rest
+    by_test rest false same false t = rw t rest
 
 in_the_order : (v : Verb) (allow : Allow) → takes allow v ≡ true → is_listed v in_order ≡ true
 in_the_order verb.Get allow e = refl

@@ -9,7 +9,6 @@ use Rattle.thing_site.specs.declared.fault.ExposeFault.{ExposeFault}
 use Rattle.thing_site.specs.declared.fault.ExposeFault.TheVariants.{NoSlot, KindDiffers, SlotTwice, NoMemory}
 use Rattle.thing_site.specs.declared.wanted.Wanted.{Wanted}
 use Rattle.thing_site.specs.declared.held.HeldThing.{HeldThing}
-use Rattle.thing_site.specs.declared.site.Spot.{Spot}
 use Rattle.thing_site.specs.Site.{Placed, ExposedThing, Site, Slots, exposed, site_of, wanted_of_thing, fault_of, faults_from, expose_faults}
 
 -- the kinds of the handlers of a rack
@@ -23,10 +22,6 @@ abbrev pub placed_all : List Affordance → List ℕ → List Placed
 placed_all [] slots = []
 placed_all (a ∷ more) [] = []
 placed_all (a ∷ more) (slot ∷ slots) = record { affordance = a; slot = slot } ∷ placed_all more slots
-
--- an affordance with its slot, as the code hands it on
-abbrev pub placed_spot : Spot → Placed
-placed_spot spot = record { affordance = spot.affordance.now; slot = spot.slot }
 
 abbrev pub held_thing : HeldThing → ExposedThing
 held_thing h =

@@ -10,29 +10,29 @@ use Rattle.thing_site.specs.declared.place.Place.TheVariants as found
 use Rattle.thing_site.specs.declared.place.Act.{Act as FoundAct}
 use Rattle.thing_site.specs.declared.place.Act.TheVariants as act
 use Rattle.thing_site.specs.Places.{Place, description, all_properties, property, observed, action, invocation, event, subscribed, thing_in, affordance_in, where_observable, Act, describes, reads_all, writes_many, reads, writes, invokes, queries, cancels, reads_event, waits}
-use Rattle.thing_site.specs.Exposing.{held_thing, placed_spot}
+use Rattle.thing_site.specs.Exposing.{held_thing}
 
 abbrev pub found_place : FoundPlace → Place
 found_place (found.Description thing) = description (held_thing thing.now)
 found_place (found.AllProperties thing) = all_properties (held_thing thing.now)
-found_place (found.Property spot) = property (placed_spot spot)
-found_place (found.Observed spot) = observed (placed_spot spot)
-found_place (found.Action spot) = action (placed_spot spot)
-found_place (found.Invocation spot id) = invocation (placed_spot spot) id
-found_place (found.Event spot) = event (placed_spot spot)
-found_place (found.Subscribed spot) = subscribed (placed_spot spot)
+found_place (found.Property spot) = property spot
+found_place (found.Observed spot) = observed spot
+found_place (found.Action spot) = action spot
+found_place (found.Invocation spot id) = invocation spot id
+found_place (found.Event spot) = event spot
+found_place (found.Subscribed spot) = subscribed spot
 
 abbrev pub found_act : FoundAct → Act
 found_act (act.Describes thing) = describes (held_thing thing.now)
 found_act (act.ReadsAll thing) = reads_all (held_thing thing.now)
 found_act (act.WritesMany thing) = writes_many (held_thing thing.now)
-found_act (act.Reads spot) = reads (placed_spot spot)
-found_act (act.Writes spot) = writes (placed_spot spot)
-found_act (act.Invokes spot) = invokes (placed_spot spot)
-found_act (act.Queries spot id) = queries (placed_spot spot) id
-found_act (act.Cancels spot id) = cancels (placed_spot spot) id
-found_act (act.ReadsEvent spot) = reads_event (placed_spot spot)
-found_act (act.Waits spot) = waits (placed_spot spot)
+found_act (act.Reads spot) = reads spot
+found_act (act.Writes spot) = writes spot
+found_act (act.Invokes spot) = invokes spot
+found_act (act.Queries spot id) = queries spot id
+found_act (act.Cancels spot id) = cancels spot id
+found_act (act.ReadsEvent spot) = reads_event spot
+found_act (act.Waits spot) = waits spot
 
 -- ---- a place by its parts
 

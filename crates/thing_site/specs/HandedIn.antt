@@ -7,10 +7,9 @@ use Rattle.thing_ops.specs.Requests.{PlainRequest}
 use Rattle.thing_site.specs.declared.input.Input.{Input as InputInCode}
 use Rattle.thing_site.specs.Places.{Act}
 use Rattle.thing_site.specs.Refusals.{Input, inputs_of, refusals_by_request, StandsByRequest, IsAnswer, IsFirst, IsNone}
-use Rattle.thing_site.specs.Exposing.{placed_spot}
 
 abbrev pub input_of : InputInCode → Input
-input_of i = record { affordance = placed_spot i.spot; value = json_of i.value }
+input_of i = record { affordance = i.spot; value = json_of i.value }
 
 -- a body isn't as wanted, or memory is out
 abbrev pub HasNoInputs : Option (List Input) → Outcome → Type 0

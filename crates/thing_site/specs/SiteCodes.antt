@@ -7,7 +7,7 @@ use Rattle.wot_terms.specs.AffordanceCodes.{affordance_code}
 use Rattle.wot_terms.specs.declared.affordance.Affordance.{Affordance}
 use Rattle.thing_site.specs.Site.{Placed, ExposedThing, Site}
 
-abbrev placed_code : Coded Placed
+abbrev pub placed_code : Coded Placed
 placed_code = code_by (Affordance × ℕ) (coded× affordance_code coded_ℕ) (λ p. (p.affordance, p.slot)) (λ q. record { affordance = q.0; slot = q.1 }) (λ _. refl)
 
 abbrev ThingParts : Type 0

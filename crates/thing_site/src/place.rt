@@ -4,7 +4,7 @@ ghost use Rattle.std.specs.Prelude.{◌≡◌, Some, None, MatchResult, option_a
 ghost use Rattle.thing_ops.specs.Routes.{route_of};
 ghost use Rattle.thing_ops.specs.Verbs.{verbs_in, verbs_of};
 ghost use Rattle.thing_site.specs.Places as spec;
-ghost use Rattle.thing_site.specs.Exposing.{held_site, held_thing, placed_spot};
+ghost use Rattle.thing_site.specs.Exposing.{held_site, held_thing};
 ghost use Rattle.thing_site.specs.Found.{found_act, found_place, kind_by, place_by, spot_by, thing_by};
 
 use crate::{HeldThing, IndexedThings, Spot};
@@ -12,7 +12,7 @@ use thing_ops::{Allow, Flags, RouteKind, Segments, Verb, allowed, route};
 use wot_terms::Kind;
 
 /// What a path leads to.
-#[derive(Clone, Copy)]
+#[derive(Drop)]
 pub enum Place<'a> {
     Description(&'a HeldThing),
     AllProperties(&'a HeldThing),
@@ -28,7 +28,7 @@ pub enum Place<'a> {
 }
 
 /// What a request asks to be done.
-#[derive(Clone, Copy)]
+#[derive(Drop)]
 pub enum Act<'a> {
     Describes(&'a HeldThing),
     ReadsAll(&'a HeldThing),
@@ -59,7 +59,7 @@ fn place_from<'a>(
     thing: Option<&'a HeldThing>,
     spot: Option<Spot<'a>>,
 ) -> Option<Place<'a>>
-    ensures { option_map found_place result ≡ place_by route (option_map (λ t. held_thing t.now) thing.entry) (option_map placed_spot spot.entry) }
+    ensures { option_map found_place result ≡ place_by route (option_map (λ t. held_thing t.now) thing.entry) spot.entry }
 {
     match route {
         RouteKind::Root | RouteKind::Thing => description(thing),
@@ -91,7 +91,7 @@ fn thing_at<'a>(
 
 /// The affordance that a path of this form is about.
 fn spot_at<'a>(things: &'a IndexedThings, path: &Segments, route: RouteKind) -> Option<Spot<'a>>
-    ensures { option_map placed_spot result ≡ spot_by route path.now things.now }
+    ensures { result ≡ spot_by route path.now things.now }
 {
     match kind_at(route) {
         Some(kind) => affordance_in(things, path, kind),
@@ -138,7 +138,7 @@ fn thing_in<'a>(things: &'a IndexedThings, path: &Segments) -> Option<&'a HeldTh
 
 /// Its affordance of this kind that the third segment names.
 fn affordance_in<'a>(things: &'a IndexedThings, path: &Segments, kind: Kind) -> Option<Spot<'a>>
-    ensures { option_map placed_spot result ≡ spec.affordance_in kind path.now things.now }
+    ensures { result ≡ spec.affordance_in kind path.now things.now }
 {
     match thing_in(things, path) {
         Some(thing) => match path.get(2) {
@@ -171,7 +171,7 @@ fn all_properties<'a>(thing: Option<&'a HeldThing>) -> Option<Place<'a>>
 
 /// A property.
 fn property<'a>(spot: Option<Spot<'a>>) -> Option<Place<'a>>
-    ensures { option_map found_place result ≡ option_map spec.property (option_map placed_spot spot.entry) }
+    ensures { option_map found_place result ≡ option_map spec.property spot.entry }
 {
     match spot {
         Some(there) => Some(Place::Property(there)),
@@ -181,7 +181,7 @@ fn property<'a>(spot: Option<Spot<'a>>) -> Option<Place<'a>>
 
 /// Where an event is subscribed to.
 fn subscribed<'a>(spot: Option<Spot<'a>>) -> Option<Place<'a>>
-    ensures { option_map found_place result ≡ option_map spec.subscribed (option_map placed_spot spot.entry) }
+    ensures { option_map found_place result ≡ option_map spec.subscribed spot.entry }
 {
     match spot {
         Some(there) => Some(Place::Subscribed(there)),
@@ -191,7 +191,7 @@ fn subscribed<'a>(spot: Option<Spot<'a>>) -> Option<Place<'a>>
 
 /// An action.
 fn action<'a>(spot: Option<Spot<'a>>) -> Option<Place<'a>>
-    ensures { option_map found_place result ≡ option_map spec.action (option_map placed_spot spot.entry) }
+    ensures { option_map found_place result ≡ option_map spec.action spot.entry }
 {
     match spot {
         Some(there) => Some(Place::Action(there)),
@@ -201,7 +201,7 @@ fn action<'a>(spot: Option<Spot<'a>>) -> Option<Place<'a>>
 
 /// An event.
 fn event<'a>(spot: Option<Spot<'a>>) -> Option<Place<'a>>
-    ensures { option_map found_place result ≡ option_map spec.event (option_map placed_spot spot.entry) }
+    ensures { option_map found_place result ≡ option_map spec.event spot.entry }
 {
     match spot {
         Some(there) => Some(Place::Event(there)),
@@ -211,11 +211,11 @@ fn event<'a>(spot: Option<Spot<'a>>) -> Option<Place<'a>>
 
 /// Where a property is observed, if it is observable.
 fn observed<'a>(property: Option<Spot<'a>>) -> Option<Place<'a>>
-    ensures { option_map found_place result ≡ option_and_then spec.where_observable (option_map placed_spot property.entry) }
+    ensures { option_map found_place result ≡ option_and_then spec.where_observable property.entry }
 {
     match property {
         Some(spot) => {
-            if spot.affordance.observable {
+            if spot.affordance().observable {
                 Some(Place::Observed(spot))
             } else {
                 None
@@ -227,7 +227,7 @@ fn observed<'a>(property: Option<Spot<'a>>) -> Option<Place<'a>>
 
 /// An invocation of an action.
 fn invocation<'a>(action: Option<Spot<'a>>, id: u32) -> Option<Place<'a>>
-    ensures { option_map found_place result ≡ option_map (λ p. spec.invocation p id) (option_map placed_spot action.entry) }
+    ensures { option_map found_place result ≡ option_map (λ p. spec.invocation p id) action.entry }
 {
     match action {
         Some(there) => Some(Place::Invocation(there, id)),
@@ -241,7 +241,7 @@ pub fn act_at<'a>(route: RouteKind, place: Place<'a>, verb: Verb) -> Result<Act<
         (λ act. spec.act_at route (found_place place.entry) verb ≡ Some (found_act act))
         (λ allow. (spec.act_at route (found_place place.entry) verb ≡ None) × (verbs_in allow ≡ verbs_of route (spec.flags_of (found_place place.entry)))) }
 {
-    let allow = allowed(route, flags_of(place));
+    let allow = allowed(route, flags_of(&place));
     if allow.takes(verb) {
         Ok(act_of(place, verb))
     } else {
@@ -268,13 +268,13 @@ fn act_of<'a>(place: Place<'a>, verb: Verb) -> Act<'a>
 }
 
 /// The flags of the property that a place is; false for any other place.
-fn flags_of(place: Place<'_>) -> Flags
-    ensures { result ≡ spec.flags_of (found_place place.entry) }
+fn flags_of(place: &Place<'_>) -> Flags
+    ensures { result ≡ spec.flags_of (found_place place.now) }
 {
     match place {
         Place::Property(spot) => Flags {
-            read_only: spot.affordance.read_only,
-            write_only: spot.affordance.write_only,
+            read_only: spot.affordance().read_only,
+            write_only: spot.affordance().write_only,
         },
         _ => Flags {
             read_only: false,
@@ -289,13 +289,13 @@ pub fn target_at(place: Option<Place<'_>>) -> Option<u32>
 {
     match place {
         Some(Place::Property(spot)) => {
-            if spot.affordance.observable {
-                Some(spot.slot)
+            if spot.affordance().observable {
+                Some(spot.slot())
             } else {
                 None
             }
         }
-        Some(Place::Event(spot)) => Some(spot.slot),
+        Some(Place::Event(spot)) => Some(spot.slot()),
         _ => None,
     }
 }

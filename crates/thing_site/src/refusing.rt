@@ -6,7 +6,7 @@ ghost use Rattle.wot_json.specs.Tree.{members_of};
 ghost use Rattle.wot_json.specs.Meaning.{json_of};
 ghost use Rattle.thing_ops.specs.Requests.{plain_request};
 ghost use Rattle.thing_site.specs.Refusals as refusal;
-ghost use Rattle.thing_site.specs.Exposing.{held_thing, placed_spot};
+ghost use Rattle.thing_site.specs.Exposing.{held_thing};
 ghost use Rattle.thing_site.specs.Found.{found_act};
 ghost use Rattle.thing_site.specs.HandedIn.{input_of, HasNoInputs, IsRefusedByRequest, IsUnrefused};
 
@@ -25,11 +25,11 @@ pub const LONGEST_VALUE: usize = 1024;
 /// memory is out.
 pub fn judge<'a>(
     alloc: Global,
-    act: Act<'a>,
+    act: &Act<'a>,
     request: &Request<'_>,
 ) -> Result<Vec<Input<'a>>, Outcome>
-    ensures ok { IfOk result (λ inputs. IsUnrefused (found_act act.entry) (plain_request request.now) inputs.items) }
-    ensures fault { IfErr result (λ o. IsRefusedByRequest (found_act act.entry) (plain_request request.now) o) }
+    ensures ok { IfOk result (λ inputs. IsUnrefused (found_act act.now) (plain_request request.now) inputs.items) }
+    ensures fault { IfErr result (λ o. IsRefusedByRequest (found_act act.now) (plain_request request.now) o) }
 {
     if !is_acceptable(act, request.accept) {
         return Err(Outcome::NotAcceptable);
@@ -48,8 +48,8 @@ pub fn judge<'a>(
 }
 
 /// The sender takes what the answer of the act can be sent as.
-fn is_acceptable(act: Act<'_>, accept: Accept) -> bool
-    ensures { result ≡ refusal.is_acceptable (found_act act.entry) accept }
+fn is_acceptable(act: &Act<'_>, accept: Accept) -> bool
+    ensures { result ≡ refusal.is_acceptable (found_act act.now) accept }
 {
     match act {
         Act::Describes(_) => accept.json || accept.td,
@@ -64,8 +64,8 @@ fn is_acceptable(act: Act<'_>, accept: Accept) -> bool
 }
 
 /// The request has a body in a format that isn't taken.
-fn has_other_format(act: Act<'_>, request: &Request<'_>) -> bool
-    ensures { IsTrue result ↔ ((¬ (refusal.IsEmptyBody (plain_request request.now).body)) × (refusal.is_taken_format (found_act act.entry) request.now.format ≡ false)) }
+fn has_other_format(act: &Act<'_>, request: &Request<'_>) -> bool
+    ensures { IsTrue result ↔ ((¬ (refusal.IsEmptyBody (plain_request request.now).body)) × (refusal.is_taken_format (found_act act.now) request.now.format ≡ false)) }
 {
     if request.body.is_empty() {
         return false;
@@ -74,8 +74,8 @@ fn has_other_format(act: Act<'_>, request: &Request<'_>) -> bool
 }
 
 /// The act takes a body of this format.
-fn is_taken_format(act: Act<'_>, format: Format) -> bool
-    ensures { result ≡ refusal.is_taken_format (found_act act.entry) format }
+fn is_taken_format(act: &Act<'_>, format: Format) -> bool
+    ensures { result ≡ refusal.is_taken_format (found_act act.now) format }
 {
     match format {
         Format::Absent | Format::Json => true,
@@ -85,8 +85,8 @@ fn is_taken_format(act: Act<'_>, format: Format) -> bool
 }
 
 /// The act describes a Thing.
-fn is_description(act: Act<'_>) -> bool
-    ensures { result ≡ refusal.is_description (found_act act.entry) }
+fn is_description(act: &Act<'_>) -> bool
+    ensures { result ≡ refusal.is_description (found_act act.now) }
 {
     match act {
         Act::Describes(_) => true,
@@ -95,14 +95,14 @@ fn is_description(act: Act<'_>) -> bool
 }
 
 /// What a body hands in to an act.
-fn inputs_of<'a>(alloc: Global, act: Act<'a>, body: &[u8]) -> Result<Vec<Input<'a>>, Outcome>
-    ensures ok { IfOk result (λ inputs. refusal.inputs_of (found_act act.entry) body.now ≡ Some (map input_of inputs.items)) }
-    ensures fault { IfErr result (λ o. HasNoInputs (refusal.inputs_of (found_act act.entry) body.now) o) }
+fn inputs_of<'a>(alloc: Global, act: &Act<'a>, body: &[u8]) -> Result<Vec<Input<'a>>, Outcome>
+    ensures ok { IfOk result (λ inputs. refusal.inputs_of (found_act act.now) body.now ≡ Some (map input_of inputs.items)) }
+    ensures fault { IfErr result (λ o. HasNoInputs (refusal.inputs_of (found_act act.now) body.now) o) }
 {
     match act {
         Act::WritesMany(thing) => object_inputs(alloc, thing, body),
-        Act::Writes(spot) => one_input(alloc, spot, body),
-        Act::Invokes(spot) => invoke_inputs(alloc, spot, body),
+        Act::Writes(spot) => one_input(alloc, spot.again(), body),
+        Act::Invokes(spot) => invoke_inputs(alloc, spot.again(), body),
         Act::Describes(_)
         | Act::ReadsAll(_)
         | Act::Reads(_)
@@ -127,10 +127,10 @@ fn no_inputs<'a>(alloc: Global, body: &[u8]) -> Result<Vec<Input<'a>>, Outcome>
 
 /// What is handed in to an action, which takes a body exactly where it has an input schema.
 fn invoke_inputs<'a>(alloc: Global, spot: Spot<'a>, body: &[u8]) -> Result<Vec<Input<'a>>, Outcome>
-    ensures ok { IfOk result (λ inputs. refusal.invoke_inputs (placed_spot spot.entry) (placed_spot spot.entry).affordance.input body.now ≡ Some (map input_of inputs.items)) }
-    ensures fault { IfErr result (λ o. HasNoInputs (refusal.invoke_inputs (placed_spot spot.entry) (placed_spot spot.entry).affordance.input body.now) o) }
+    ensures ok { IfOk result (λ inputs. refusal.invoke_inputs spot.entry spot.entry.affordance.input body.now ≡ Some (map input_of inputs.items)) }
+    ensures fault { IfErr result (λ o. HasNoInputs (refusal.invoke_inputs spot.entry spot.entry.affordance.input body.now) o) }
 {
-    match &spot.affordance.input {
+    match &spot.affordance().input {
         Some(_) => one_input(alloc, spot, body),
         None => no_inputs(alloc, body),
     }
@@ -138,8 +138,8 @@ fn invoke_inputs<'a>(alloc: Global, spot: Spot<'a>, body: &[u8]) -> Result<Vec<I
 
 /// The body is one value.
 fn one_input<'a>(alloc: Global, spot: Spot<'a>, body: &[u8]) -> Result<Vec<Input<'a>>, Outcome>
-    ensures ok { IfOk result (λ inputs. option_map (refusal.only_input (placed_spot spot.entry)) (tree_of body.now) ≡ Some (map input_of inputs.items)) }
-    ensures fault { IfErr result (λ o. HasNoInputs (option_map (refusal.only_input (placed_spot spot.entry)) (tree_of body.now)) o) }
+    ensures ok { IfOk result (λ inputs. option_map (refusal.only_input spot.entry) (tree_of body.now) ≡ Some (map input_of inputs.items)) }
+    ensures fault { IfErr result (λ o. HasNoInputs (option_map (refusal.only_input spot.entry) (tree_of body.now)) o) }
 {
     let value = value_in(alloc, body)?;
     let mut inputs = Vec::new(alloc);
@@ -168,7 +168,7 @@ fn push_input<'a>(
     spot: Spot<'a>,
     value: Tree,
 ) -> Result<(), Outcome>
-    ensures ok { OnOk result (map input_of inputs.new.items ≡ map input_of inputs.old.items ++ refusal.only_input (placed_spot spot.entry) (json_of value)) }
+    ensures ok { OnOk result (map input_of inputs.new.items ≡ map input_of inputs.old.items ++ refusal.only_input spot.entry (json_of value)) }
     ensures fault { IfErr result (λ o. o ≡ Outcome.Memory) }
 {
     let text = match text_of(alloc, &value) {
@@ -221,11 +221,11 @@ fn member_inputs<'a>(
 
 /// The property of this name that may be written.
 fn writable<'a>(thing: &'a HeldThing, name: &[u8]) -> Option<Spot<'a>>
-    ensures { option_map placed_spot result ≡ refusal.written_property (held_thing thing.now) name.now }
+    ensures { result ≡ refusal.written_property (held_thing thing.now) name.now }
 {
     match thing.affordance(Kind::Property, name) {
         Some(spot) => {
-            if spot.affordance.read_only {
+            if spot.affordance().read_only {
                 None
             } else {
                 Some(spot)
@@ -252,7 +252,7 @@ fn is_any_refused(inputs: &[Input<'_>]) -> bool
     ensures { IsTrue result ↔ refusal.SomeInput refusal.IsRefusedBySchema (map input_of inputs.now) }
 {
     for input in inputs {
-        if !is_accepted(&input.spot.affordance.input, &input.value) {
+        if !is_accepted(&input.spot.affordance().input, &input.value) {
             return true;
         }
     }

@@ -5,23 +5,67 @@ ghost use Rattle.thing_site.specs.Site.{affordance_named, is_emitter as is_emitt
 ghost use Rattle.std.specs.Cmp.Lexicographic.{slice_cmp};
 ghost use Rattle.std.specs.Ordering.{nat_cmp};
 ghost use Rattle.thing_site.specs.Order.{key, key_of, rank as rank_of, are_rising};
-ghost use Rattle.thing_site.specs.Exposing.{held_thing, placed_all, placed_spot};
+ghost use Rattle.thing_site.specs.Exposing.{held_thing, placed_all};
 
 use crate::HeldThing;
 use std::cmp::Ordering;
+use std::marker::Model;
 use wot_terms::{Affordance, Kind};
 
-/// An affordance, and the slot of its handler.
-#[derive(Clone, Copy)]
+/// An affordance, and the slot of its handler. Contracts see both.
+#[derive(Drop)]
 pub struct Spot<'a> {
-    pub affordance: &'a Affordance,
-    pub slot: u32,
+    affordance: &'a Affordance,
+    slot: u32,
+}
+
+impl<'a> Model for Spot<'a> {
+    ghost use Rattle.thing_site.specs.Site.{Placed};
+    ghost use Rattle.thing_site.specs.SiteCodes.{placed_code};
+
+    ghost Value = { Placed };
+
+    ghost coded = { placed_code };
+
+    ghost view = { λ s. record { affordance = s.affordance.now; slot = s.slot } };
+}
+
+impl<'a> Spot<'a> {
+    /// An affordance with its slot.
+    pub fn of(affordance: &'a Affordance, slot: u32) -> Spot<'a>
+        ensures { result ≡ record { affordance = affordance.now; slot = slot } }
+    {
+        Spot { affordance, slot }
+    }
+
+    pub fn affordance(&self) -> &'a Affordance
+        ensures { result.now ≡ self.now.affordance }
+    {
+        self.affordance
+    }
+
+    /// The slot of its handler.
+    pub fn slot(&self) -> u32
+        ensures { result ≡ self.now.slot }
+    {
+        self.slot
+    }
+
+    /// The same again.
+    pub fn again(&self) -> Spot<'a>
+        ensures { result ≡ self.now }
+    {
+        Spot {
+            affordance: self.affordance,
+            slot: self.slot,
+        }
+    }
 }
 
 impl HeldThing {
     /// The affordance of this kind and name, found by halving.
     pub fn affordance(&self, kind: Kind, name: &[u8]) -> Option<Spot<'_>>
-        ensures { option_map placed_spot result ≡ affordance_named kind name.now (held_thing self.now).affordances }
+        ensures { result ≡ affordance_named kind name.now (held_thing self.now).affordances }
     {
         spot_named(
             self.affordances.affordances(),
@@ -40,7 +84,7 @@ fn spot_named<'a>(
     name: &[u8],
 ) -> Option<Spot<'a>>
     requires { are_rising affordances.now ≡ true }
-    ensures { option_map placed_spot result ≡ affordance_named kind name.now (placed_all affordances.now slots.now) }
+    ensures { result ≡ affordance_named kind name.now (placed_all affordances.now slots.now) }
 {
     let order = |affordance: &Affordance| -> Ordering
         ensures { result ≡ slice_cmp nat_cmp (key_of affordance.now) (key kind name.entry.now) }
@@ -53,10 +97,10 @@ fn spot_named<'a>(
 
 /// An affordance with its slot, where it has one.
 fn spot_of(affordance: &Affordance, slot: Option<u32>) -> Option<Spot<'_>>
-    ensures { option_map placed_spot result ≡ option_map (λ s. record { affordance = affordance.now; slot = s }) slot }
+    ensures { result ≡ option_map (λ s. record { affordance = affordance.now; slot = s }) slot }
 {
     match slot {
-        Some(slot) => Some(Spot { affordance, slot }),
+        Some(slot) => Some(Spot::of(affordance, slot)),
         None => None,
     }
 }

@@ -16,7 +16,8 @@ pub loop-index-preserved : goal.loop-index-preserved
 loop-index-preserved c =
     let p : Placed = record { affordance = c.index-affordances-index.result; slot = c.in-Some.slot } in
     let rest : List Placed = placed_all (drop (c.loop-index.index + 1) c.args.affordances.now) (drop (c.loop-index.index + 1) c.args.slots.now) in
-    ap (λ (l : List Placed). l ++ readable_of rest) c.in_ok-push_if_readable.ensures
+    ap (λ (l : List Placed). l ++ readable_of rest)
+    (c.in_ok-push_if_readable.ensures ∙ ap (λ (q : Placed). spots_of c.loop-index.fields.items ++ readable_of (q ∷ [])) c.of.ensures)
     ∙ append_assoc (spots_of c.loop-index.fields.items) (readable_of (p ∷ [])) (readable_of rest)
     ∙ ap (λ (l : List Placed). spots_of c.loop-index.fields.items ++ l)
     (sym (readable_more p rest)

@@ -8,12 +8,12 @@ use Rattle.thing_core.proofs.reading.read_value.Goals as goal
 
 pub returns-in-Ok : goal.returns-in-Ok
 returns-in-Ok g c =
-    calls_for (λ called. IsValueOf called c.value_of.result) c.args.spot.slot call.Read (gives c.in-Ok.answer) c.args.machine.now c.call.new.machine
+    calls_for (λ called. IsValueOf called c.value_of.result) c.args.spot.now.slot call.Read (gives c.in-Ok.answer) c.args.machine.now c.call.new.machine
     (g.R.Handlers.slots c.args.rack.now) (g.R.Handlers.slots c.call.new.rack) c.value_of.ensures
-    (makes_answered c.args.spot.slot call.Read c.in-Ok.answer c.args.machine.now c.call.new.machine (g.R.Handlers.slots c.args.rack.now) (g.R.Handlers.slots c.call.new.rack) c.in-Ok.ensures)
+    (makes_answered c.slot.result c.args.spot.now.slot call.Read c.in-Ok.answer c.args.machine.now c.call.new.machine (g.R.Handlers.slots c.args.rack.now) (g.R.Handlers.slots c.call.new.rack) c.slot.ensures c.in-Ok.ensures)
 
 pub returns-in-Err : goal.returns-in-Err
 returns-in-Err g c =
-    calls_for (λ called. IsValueOf called (Err c.in-Err.outcome)) c.args.spot.slot call.Read c.in-Err.ensures.called c.args.machine.now c.call.new.machine
+    calls_for (λ called. IsValueOf called (Err c.in-Err.outcome)) c.args.spot.now.slot call.Read c.in-Err.ensures.called c.args.machine.now c.call.new.machine
     (g.R.Handlers.slots c.args.rack.now) (g.R.Handlers.slots c.call.new.rack) (unanswered_value c.in-Err.ensures.called c.in-Err.outcome c.in-Err.ensures.comes)
-    (makes_call (λ called. ComesAs called (Err c.in-Err.outcome)) c.args.spot.slot call.Read c.args.machine.now c.call.new.machine (g.R.Handlers.slots c.args.rack.now) (g.R.Handlers.slots c.call.new.rack) c.in-Err.ensures)
+    (makes_call (λ called. ComesAs called (Err c.in-Err.outcome)) c.slot.result c.args.spot.now.slot call.Read c.args.machine.now c.call.new.machine (g.R.Handlers.slots c.args.rack.now) (g.R.Handlers.slots c.call.new.rack) c.slot.ensures c.in-Err.ensures)

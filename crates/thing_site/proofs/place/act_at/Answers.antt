@@ -14,8 +14,8 @@ returns-then-takes c =
     ∙ listed_if_taken c.allowed-allow.result c.args.verb (sym c.if-takes.ensures) in
     ap (λ (b : Bool). cond b (Some (act_of (found_place c.args.place) c.args.verb)) None) listed ∙ ap (λ (a : Act). Some a) (sym c.act_of.ensures)
 
-pub returns : goal.returns
-returns c =
+pub returns-else-takes : goal.returns-else-takes
+returns-else-takes c =
     let of_table = c.allowed-allow.ensures ∙ ap (verbs_of c.args.route) c.flags_of.ensures in
     let unlisted : is_listed c.args.verb (verbs_of c.args.route (flags_of (found_place c.args.place))) ≡ false =
     ap (is_listed c.args.verb) (sym of_table) ∙ unlisted_if_not_taken c.allowed-allow.result c.args.verb (sym c.if-takes.ensures) in

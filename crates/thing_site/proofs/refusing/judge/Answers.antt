@@ -12,7 +12,7 @@ untrue e = absurd cc
 
 pub returns-clause-ok : goal.returns-clause-ok
 returns-clause-ok c =
-    none_refused (found_act c.args.act) (plain_request c.args.request.now) c.in_ok-inputs.inputs.items (sym c.if-not-is_acceptable.ensures)
+    none_refused (found_act c.args.act.now) (plain_request c.args.request.now) c.in_ok-inputs.inputs.items (sym c.if-not-is_acceptable.ensures)
     (λ h. untrue (c.if-has_other_format.ensures.1 h)) c.in_ok-inputs.ensures.ok
     (λ h. untrue (c.if-is_any_long.ensures.1 (subst (λ (is : List InputInCode). SomeInput IsLong (map input_of is)) (sym c.as_slice.ensures.value) h)))
     (λ h. untrue (c.if-is_any_refused.ensures.1 (subst (λ (is : List InputInCode). SomeInput IsRefusedBySchema (map input_of is)) (sym c.as_slice-2.ensures.value) h)))

@@ -7,8 +7,8 @@ use Rattle.wot_terms.specs.Faults.{faults_of}
 use Rattle.servient_outside.specs.declared.files.HeldFile.{HeldFile}
 use Rattle.servient_outside.specs.Network.{break_count}
 use Rattle.wot_terms.specs.declared.kind.Kind.{Kind}
-use Rattle.thing_core.specs.Site.{expose_faults}
-use Rattle.thing_core.specs.Exposing.{kinds_of}
+use Rattle.thing_site.specs.Site.{expose_faults}
+use Rattle.thing_site.specs.Exposing.{kinds_of}
 use Rattle.servient_core.specs.Trace.{happened_in}
 use Rattle.servient_cli.specs.declared.replay.Inputs.{Inputs}
 use Rattle.command_words.specs.Grammar.{meaning_of}

@@ -17,10 +17,10 @@ use Rattle.servient_outside.specs.declared.net.EventWithBytes.{EventWithBytes}
 use Rattle.servient_outside.specs.Files.{content_of}
 use Rattle.servient_outside.specs.Network.{heard, did, broke, break_count}
 use Rattle.wot_terms.specs.declared.kind.Kind.{Kind}
-use Rattle.thing_core.specs.Site.{Slots, site_of, expose_faults}
-use Rattle.thing_core.specs.Exposing.{IsFirst}
-use Rattle.thing_core.specs.declared.fault.ExposeFault.{ExposeFault}
-use Rattle.thing_core.specs.declared.fault.ExposeFault.TheVariants as misfit
+use Rattle.thing_site.specs.Site.{Slots, site_of, expose_faults}
+use Rattle.thing_site.specs.Exposing.{IsFirst}
+use Rattle.thing_site.specs.declared.fault.ExposeFault.{ExposeFault}
+use Rattle.thing_site.specs.declared.fault.ExposeFault.TheVariants as misfit
 use Rattle.servient_core.specs.Trace.{at_network, at_handler, happened_in}
 use Rattle.servient_core.specs.Machine.{Site}
 use Rattle.servient_cli.specs.declared.derivation.Planned.{Planned}

@@ -11,10 +11,10 @@ use Rattle.tm_derive.specs.declared.fault.DeriveFault.{DeriveFault}
 use Rattle.tm_derive.specs.declared.fault.DeriveFault.TheVariants.{NoMemory}
 use Rattle.servient_plan.specs.declared.plan.Plan.{Plan}
 use Rattle.wot_terms.specs.declared.kind.Kind.{Kind}
-use Rattle.thing_core.specs.Site.{Slots, expose_faults}
-use Rattle.thing_core.specs.Exposing.{IsFirst}
-use Rattle.thing_core.specs.declared.fault.ExposeFault.{ExposeFault}
-use Rattle.thing_core.specs.declared.fault.ExposeFault.TheVariants as misfit
+use Rattle.thing_site.specs.Site.{Slots, expose_faults}
+use Rattle.thing_site.specs.Exposing.{IsFirst}
+use Rattle.thing_site.specs.declared.fault.ExposeFault.{ExposeFault}
+use Rattle.thing_site.specs.declared.fault.ExposeFault.TheVariants as misfit
 use Rattle.servient_outside.specs.declared.net.EventWithBytes.{EventWithBytes}
 use Rattle.servient_core.specs.Trace.{Outside}
 use Rattle.servient_core.specs.Machine.{Site}

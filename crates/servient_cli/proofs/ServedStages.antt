@@ -4,7 +4,7 @@ use Rattle.servient_outside.specs.declared.files.HeldFile.{HeldFile}
 use Rattle.servient_outside.specs.declared.place.Place.{Place}
 use Rattle.servient_outside.specs.Network.{broke, next_event}
 use Rattle.wot_terms.specs.declared.kind.Kind.{Kind}
-use Rattle.thing_core.specs.Site.{expose_faults}
+use Rattle.thing_site.specs.Site.{expose_faults}
 use Rattle.servient_core.specs.declared.serving.Served.TheVariants as served
 use Rattle.servient_plan.specs.Plan.{place_of}
 use Rattle.servient_core.specs.Trace.{Sighting, at_network}

@@ -6,8 +6,8 @@ use Rattle.wot_json.specs.declared.tree.Tree.{Tree}
 use Rattle.tm_parts.specs.Library.{Models}
 use Rattle.wot_json.specs.Tree.{Json}
 use Rattle.wot_terms.specs.declared.kind.Kind.{Kind}
-use Rattle.thing_core.specs.Site.{Slots}
-use Rattle.thing_core.specs.Exposing.{kinds_of}
+use Rattle.thing_site.specs.Site.{Slots}
+use Rattle.thing_site.specs.Exposing.{kinds_of}
 use Rattle.servient_outside.specs.declared.place.Place.{Place}
 use Rattle.servient_core.specs.declared.serving.Served.TheVariants as served
 use Rattle.servient_plan.specs.Plan.{place_of}

@@ -9,8 +9,8 @@ use Rattle.std.specs.Prelude.{◌≡◌, ◌≤◌, ◌⊎◌, ℕ, Bool, true, 
 use Rattle.servient_base.specs.Count.{Rose}
 use Rattle.wot_json.specs.Tree.{Json}
 use Rattle.wot_terms.specs.declared.kind.Kind.{Kind}
-use Rattle.thing_core.specs.Site.{expose_faults}
-use Rattle.thing_core.specs.Exposing.{kinds_of}
+use Rattle.thing_site.specs.Site.{expose_faults}
+use Rattle.thing_site.specs.Exposing.{kinds_of}
 use Rattle.command_words.specs.Grammar.{meaning_of}
 use Rattle.command_words.specs.declared.command.Command.{Command}
 use Rattle.command_words.specs.declared.command.Command.TheVariants.{Replay, Serve, Check, Derive}

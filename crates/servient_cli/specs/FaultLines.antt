@@ -7,8 +7,8 @@ use Rattle.tm_resolve.specs.declared.fault.ResolveKind.TheVariants as kind
 use Rattle.tm_resolve.specs.declared.fault.ResolveFault.TheVariants as resolve
 use Rattle.tm_derive.specs.declared.fault.DeriveFault.{DeriveFault}
 use Rattle.tm_derive.specs.declared.fault.DeriveFault.TheVariants as fault
-use Rattle.thing_core.specs.declared.fault.ExposeFault.{ExposeFault}
-use Rattle.thing_core.specs.declared.fault.ExposeFault.TheVariants as misfit
+use Rattle.thing_site.specs.declared.fault.ExposeFault.{ExposeFault}
+use Rattle.thing_site.specs.declared.fault.ExposeFault.TheVariants as misfit
 use Rattle.servient_cli.specs.Lines.{memory_line}
 
 -- a kind of faults of a model's value, in a word

@@ -2,10 +2,10 @@
 use Rattle.std.specs.Prelude.{◌≡◌, ℕ, List, [], Result, Ok, Err}
 use Rattle.wot_json.specs.Tree.{Json}
 use Rattle.wot_terms.specs.declared.kind.Kind.{Kind}
-use Rattle.thing_core.specs.Site.{Slots, site_of, expose_faults}
-use Rattle.thing_core.specs.Exposing.{IsFirst}
-use Rattle.thing_core.specs.declared.fault.ExposeFault.{ExposeFault}
-use Rattle.thing_core.specs.declared.fault.ExposeFault.TheVariants.{NoMemory}
+use Rattle.thing_site.specs.Site.{Slots, site_of, expose_faults}
+use Rattle.thing_site.specs.Exposing.{IsFirst}
+use Rattle.thing_site.specs.declared.fault.ExposeFault.{ExposeFault}
+use Rattle.thing_site.specs.declared.fault.ExposeFault.TheVariants.{NoMemory}
 use Rattle.servient_core.specs.Machine.{Site}
 use Rattle.servient_core.specs.declared.parts.Parts.{Parts}
 use Rattle.servient_cli.specs.declared.derivation.Planned.{Planned}

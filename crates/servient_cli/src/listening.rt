@@ -1,8 +1,8 @@
 //! `serve PLAN`: the Things of a plan are served at the plan's place, over the network.
 
 ghost use Rattle.std.specs.Prelude.{ℕ, List, ◌*◌};
-ghost use Rattle.thing_core.specs.Exposing.{kinds_of};
-ghost use Rattle.thing_core.specs.Kept.{Fits};
+ghost use Rattle.thing_site.specs.Exposing.{kinds_of};
+ghost use Rattle.thing_site.specs.Fits.{Fits};
 ghost use Rattle.thing_handler.specs.Handler.{Seen};
 ghost use Rattle.servient_core.specs.Trace.{outside};
 ghost use Rattle.servient_plan.specs.Plan.{HasFewExchanges, place_of};

@@ -1,7 +1,7 @@
 //! The top call: from the words of the command line to the exit status.
 
 ghost use Rattle.std.specs.Prelude.{◌≡◌, ◌⊎◌, false};
-ghost use Rattle.thing_core.specs.Exposing.{kinds_of};
+ghost use Rattle.thing_site.specs.Exposing.{kinds_of};
 ghost use Rattle.servient_cli.specs.Stages.{around};
 ghost use Rattle.command_words.specs.Grammar.{meaning_of};
 ghost use Rattle.servient_core.specs.Trace.{outside};

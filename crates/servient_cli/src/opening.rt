@@ -3,8 +3,8 @@
 ghost use Rattle.std.specs.Prelude.{IfOk};
 ghost use Rattle.std.specs.List.{AllByRecursion};
 ghost use Rattle.wot_terms.specs.Faults.{IsValid};
-ghost use Rattle.thing_core.specs.Exposing.{kinds_of};
-ghost use Rattle.thing_core.specs.Kept.{Fits};
+ghost use Rattle.thing_site.specs.Exposing.{kinds_of};
+ghost use Rattle.thing_site.specs.Fits.{Fits};
 ghost use Rattle.servient_plan.specs.Plan.{HasFewExchanges};
 ghost use Rattle.servient_core.specs.Machine.{start};
 ghost use Rattle.servient_core.specs.Serving.{StandsFor};

@@ -6,8 +6,8 @@ ghost use Rattle.servient_outside.specs.declared.net.EventWithBytes.{EventWithBy
 ghost use Rattle.servient_outside.specs.Network.{Happening, NetSeen, acts_in};
 ghost use Rattle.servient_outside.specs.NetMemory.{left_events, told_history};
 ghost use Rattle.servient_core.specs.Trace.{Outside, outside};
-ghost use Rattle.thing_core.specs.Exposing.{kinds_of};
-ghost use Rattle.thing_core.specs.Kept.{Fits};
+ghost use Rattle.thing_site.specs.Exposing.{kinds_of};
+ghost use Rattle.thing_site.specs.Fits.{Fits};
 ghost use Rattle.servient_plan.specs.Plan.{HasFewExchanges};
 ghost use Rattle.servient_core.specs.Machine.{start};
 ghost use Rattle.servient_core.specs.Serving.{StandsFor};

@@ -9,10 +9,12 @@ use Rattle.thing_ops.specs.declared.routing.RouteKind.TheVariants as route
 use Rattle.thing_ops.specs.declared.verb.Verb.{Verb}
 use Rattle.thing_ops.specs.declared.verb.Verb.TheVariants as verb
 use Rattle.thing_ops.specs.Requests.{PlainRequest}
+use Rattle.thing_ops.specs.Verbs.{verbs_of}
 use Rattle.thing_ops.specs.Routes.{route_of, has_form, the, any, entry_id, invocation_id, invocation_in}
-use Rattle.thing_core.specs.Site.{Placed, Site}
-use Rattle.thing_core.specs.State.{State, invocation_named}
-use Rattle.thing_core.specs.Places.{Place, description, all_properties, property, observed, action, invocation, event, subscribed, place_of, place_at, thing_in, affordance_in, where_observable, where_invoked, unless, Act, act_at, reads, writes, invokes}
+use Rattle.thing_site.specs.Site.{Placed, Site}
+use Rattle.thing_core.specs.State.{State, Invocation, invocation_named}
+use Rattle.thing_site.specs.Places.{Place, description, all_properties, property, observed, action, invocation, event, subscribed, place_at, thing_in, affordance_in, where_observable, Act, act_at, act_of, flags_of, is_listed, invokes}
+use Rattle.thing_core.specs.Places.{place_of, where_stands}
 use Rattle.thing_core.specs.Refusals.{act_asked}
 
 -- a short path: of at most three segments of at most 255 bytes
@@ -75,67 +77,40 @@ abbrev ShortIfAsked : Option Act → List (List ℕ) → Type 0
 ShortIfAsked None path = Unit {0}
 ShortIfAsked (Some act) path = ShortIfInvoked act path
 
-short_unless : (b : Bool) (act : Act) (path : List (List ℕ)) → ShortIfInvoked act path → ShortIfAsked (unless b act) path
-short_unless true act path short = tt
-short_unless false act path short = short
+of_short : (place : Place) (v : Verb) (path : List (List ℕ)) → ShortIfPlace place path → ShortIfInvoked (act_of place v) path
+of_short (description thing) v path short = tt
+of_short (all_properties thing) verb.Get path short = tt
+of_short (all_properties thing) verb.Head path short = tt
+of_short (all_properties thing) verb.Put path short = tt
+of_short (all_properties thing) verb.Post path short = tt
+of_short (all_properties thing) verb.Patch path short = tt
+of_short (all_properties thing) verb.Delete path short = tt
+of_short (all_properties thing) verb.Other path short = tt
+of_short (property p) verb.Get path short = tt
+of_short (property p) verb.Head path short = tt
+of_short (property p) verb.Put path short = tt
+of_short (property p) verb.Post path short = tt
+of_short (property p) verb.Patch path short = tt
+of_short (property p) verb.Delete path short = tt
+of_short (property p) verb.Other path short = tt
+of_short (observed p) v path short = tt
+of_short (action p) v path short = short
+of_short (invocation p id) verb.Get path short = tt
+of_short (invocation p id) verb.Head path short = tt
+of_short (invocation p id) verb.Put path short = tt
+of_short (invocation p id) verb.Post path short = tt
+of_short (invocation p id) verb.Patch path short = tt
+of_short (invocation p id) verb.Delete path short = tt
+of_short (invocation p id) verb.Other path short = tt
+of_short (event p) v path short = tt
+of_short (subscribed p) v path short = tt
 
-short_at : (place : Place) (v : Verb) (path : List (List ℕ)) → ShortIfPlace place path → ShortIfAsked (act_at place v) path
-short_at (description thing) verb.Get path short = tt
-short_at (description thing) verb.Head path short = tt
-short_at (description thing) verb.Put path short = tt
-short_at (description thing) verb.Post path short = tt
-short_at (description thing) verb.Patch path short = tt
-short_at (description thing) verb.Delete path short = tt
-short_at (description thing) verb.Other path short = tt
-short_at (all_properties thing) verb.Get path short = tt
-short_at (all_properties thing) verb.Head path short = tt
-short_at (all_properties thing) verb.Put path short = tt
-short_at (all_properties thing) verb.Post path short = tt
-short_at (all_properties thing) verb.Patch path short = tt
-short_at (all_properties thing) verb.Delete path short = tt
-short_at (all_properties thing) verb.Other path short = tt
-short_at (property p) verb.Get path short = short_unless p.affordance.write_only (reads p) path tt
-short_at (property p) verb.Head path short = short_unless p.affordance.write_only (reads p) path tt
-short_at (property p) verb.Put path short = short_unless p.affordance.read_only (writes p) path tt
-short_at (property p) verb.Post path short = tt
-short_at (property p) verb.Patch path short = tt
-short_at (property p) verb.Delete path short = tt
-short_at (property p) verb.Other path short = tt
-short_at (observed p) verb.Get path short = tt
-short_at (observed p) verb.Head path short = tt
-short_at (observed p) verb.Put path short = tt
-short_at (observed p) verb.Post path short = tt
-short_at (observed p) verb.Patch path short = tt
-short_at (observed p) verb.Delete path short = tt
-short_at (observed p) verb.Other path short = tt
-short_at (action p) verb.Get path short = tt
-short_at (action p) verb.Head path short = tt
-short_at (action p) verb.Put path short = tt
-short_at (action p) verb.Post path short = short
-short_at (action p) verb.Patch path short = tt
-short_at (action p) verb.Delete path short = tt
-short_at (action p) verb.Other path short = tt
-short_at (invocation p id) verb.Get path short = tt
-short_at (invocation p id) verb.Head path short = tt
-short_at (invocation p id) verb.Put path short = tt
-short_at (invocation p id) verb.Post path short = tt
-short_at (invocation p id) verb.Patch path short = tt
-short_at (invocation p id) verb.Delete path short = tt
-short_at (invocation p id) verb.Other path short = tt
-short_at (event p) verb.Get path short = tt
-short_at (event p) verb.Head path short = tt
-short_at (event p) verb.Put path short = tt
-short_at (event p) verb.Post path short = tt
-short_at (event p) verb.Patch path short = tt
-short_at (event p) verb.Delete path short = tt
-short_at (event p) verb.Other path short = tt
-short_at (subscribed p) verb.Get path short = tt
-short_at (subscribed p) verb.Head path short = tt
-short_at (subscribed p) verb.Put path short = tt
-short_at (subscribed p) verb.Post path short = tt
-short_at (subscribed p) verb.Patch path short = tt
-short_at (subscribed p) verb.Delete path short = tt
-short_at (subscribed p) verb.Other path short = tt
+short_at : (form : RouteKind) (place : Place) (v : Verb) (path : List (List ℕ)) → ShortIfPlace place path → ShortIfAsked (act_at form place v) path
+short_at form place v path short = by_test (is_listed v (verbs_of form (flags_of place)))
+  where
+    by_test : (b : Bool) → ShortIfAsked (if b then Some (act_of place v) else None) path
+    by_test true = of_short place v path short
+    by_test false = tt
 
 abbrev ShortIfFound : Option Place → List (List ℕ) → Type 0
 ShortIfFound None path = Unit {0}
@@ -153,31 +128,42 @@ observed_short (Some p) path = if_observed p.affordance.observable
     if_observed true = tt
     if_observed false = tt
 
-invoked_short : (id : ℕ) (s : State) (found : Option Placed) (path : List (List ℕ)) → ShortIfFound (option_and_then (where_invoked id s) found) path
-invoked_short id s None path = tt
-invoked_short id s (Some p) path = mapped (λ _. invocation p id) (invocation_named p.slot id s.invocations) path (λ _. tt)
+place_short : (form : RouteKind) (path : List (List ℕ)) (site : Site) → All (λ segment. length segment ≤ 255) path → ThreeIfAction form path
+    → ShortIfFound (place_at form path site) path
+place_short route.Root path site short three = mapped description (slice_get site 0) path (λ _. tt)
+place_short route.Thing path site short three = mapped description (thing_in path site) path (λ _. tt)
+place_short route.All path site short three = mapped all_properties (thing_in path site) path (λ _. tt)
+place_short route.Property path site short three = mapped property (affordance_in kind.Property path site) path (λ _. tt)
+place_short route.Observe path site short three = observed_short (affordance_in kind.Property path site) path
+place_short route.Subscribe path site short three = mapped subscribed (affordance_in kind.Event path site) path (λ _. tt)
+place_short route.Action path site short three = mapped action (affordance_in kind.Action path site) path (λ _. record { count = three; each = short })
+place_short (route.Invocation id) path site short three = mapped (λ p. invocation p id) (affordance_in kind.Action path site) path (λ _. tt)
+place_short route.Event path site short three = mapped event (affordance_in kind.Event path site) path (λ _. tt)
+place_short route.Things path site short three = tt
+place_short route.Entry path site short three = tt
+place_short route.Nowhere path site short three = tt
 
-place_short : (form : RouteKind) (path : List (List ℕ)) (site : Site) (s : State) → All (λ segment. length segment ≤ 255) path → ThreeIfAction form path
-    → ShortIfFound (place_at form path site s) path
-place_short route.Root path site s short three = mapped description (slice_get site 0) path (λ _. tt)
-place_short route.Thing path site s short three = mapped description (thing_in path site) path (λ _. tt)
-place_short route.All path site s short three = mapped all_properties (thing_in path site) path (λ _. tt)
-place_short route.Property path site s short three = mapped property (affordance_in kind.Property path site) path (λ _. tt)
-place_short route.Observe path site s short three = observed_short (affordance_in kind.Property path site) path
-place_short route.Subscribe path site s short three = mapped subscribed (affordance_in kind.Event path site) path (λ _. tt)
-place_short route.Action path site s short three = mapped action (affordance_in kind.Action path site) path (λ _. record { count = three; each = short })
-place_short (route.Invocation id) path site s short three = invoked_short id s (affordance_in kind.Action path site) path
-place_short route.Event path site s short three = mapped event (affordance_in kind.Event path site) path (λ _. tt)
-place_short route.Things path site s short three = tt
-place_short route.Entry path site s short three = tt
-place_short route.Nowhere path site s short three = tt
+stands_short : (invocations : List Invocation) (place : Place) (path : List (List ℕ)) → ShortIfPlace place path → ShortIfFound (where_stands invocations place) path
+stands_short invocations (description thing) path short = short
+stands_short invocations (all_properties thing) path short = short
+stands_short invocations (property p) path short = short
+stands_short invocations (observed p) path short = short
+stands_short invocations (action p) path short = short
+stands_short invocations (invocation p id) path short = mapped (λ _. invocation p id) (invocation_named p.slot id invocations) path (λ _. tt)
+stands_short invocations (event p) path short = short
+stands_short invocations (subscribed p) path short = short
 
-asked_short : (found : Option Place) (v : Verb) (path : List (List ℕ)) → ShortIfFound found path → ShortIfAsked (option_and_then (λ place. act_at place v) found) path
-asked_short None v path short = tt
-asked_short (Some place) v path short = short_at place v path short
+there_short : (invocations : List Invocation) (found : Option Place) (path : List (List ℕ)) → ShortIfFound found path → ShortIfFound (option_and_then (where_stands invocations) found) path
+there_short invocations None path short = tt
+there_short invocations (Some place) path short = stands_short invocations place path short
+
+asked_short : (form : RouteKind) (found : Option Place) (v : Verb) (path : List (List ℕ)) → ShortIfFound found path → ShortIfAsked (option_and_then (λ place. act_at form place v) found) path
+asked_short form None v path short = tt
+asked_short form (Some place) v path short = short_at form place v path short
 
 pub short_if_invoked : (site : Site) (q : PlainRequest) (s : State) (act : Act) → All (λ segment. length segment ≤ 255) q.path
     → act_asked (record { site = site; state = s; request = q }) ≡ Some act → ShortIfInvoked act q.path
 short_if_invoked site q s act short asked =
     subst (λ (o : Option Act). ShortIfAsked o q.path) asked
-    (asked_short (place_of q.path site s) q.verb q.path (place_short (route_of q.path) q.path site s short (three_if_action q.path)))
+    (asked_short (route_of q.path) (place_of q.path site s.invocations) q.verb q.path
+    (there_short s.invocations (place_at (route_of q.path) q.path site) q.path (place_short (route_of q.path) q.path site short (three_if_action q.path))))

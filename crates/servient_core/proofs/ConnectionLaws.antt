@@ -10,7 +10,7 @@ use Rattle.thing_ops.specs.Requests.{PlainRequest}
 use Rattle.thing_handler.specs.Handler.{Seen}
 use Rattle.thing_handler.specs.Turns.{HandlerCall, RackShows}
 use Rattle.thing_handler.proofs.RackLaws.{rack_shows_none}
-use Rattle.thing_core.specs.Site.{Site}
+use Rattle.thing_site.specs.Site.{Site}
 use Rattle.thing_core.specs.Thing.{Done, only, Acts, has_no_memory}
 use Rattle.thing_core.specs.Kept.{Kept}
 use Rattle.http_bind.specs.Replying.{fault_word}

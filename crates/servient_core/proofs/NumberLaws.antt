@@ -11,10 +11,10 @@ use Rattle.thing_handler.specs.declared.handler.CallKind.TheVariants as call
 use Rattle.thing_handler.specs.declared.handler.Answer.TheVariants as answer
 use Rattle.thing_handler.specs.Turns.{RunTurn, HandlerCall, turns_in, AreNumberedFrom, turn_in}
 use Rattle.thing_handler.proofs.TurnLaws.{numbered_then}
-use Rattle.thing_core.specs.Site.{Placed, Site, events_of}
+use Rattle.thing_site.specs.Site.{Placed, Site, events_of}
 use Rattle.thing_core.specs.State.{State, Status, running, completed, Emission}
-use Rattle.thing_core.specs.Places.{Act, describes, reads_all, writes_many, reads, writes, invokes, queries, cancels, reads_event, waits}
-use Rattle.thing_core.specs.Refusals.{Input}
+use Rattle.thing_site.specs.Places.{Act, describes, reads_all, writes_many, reads, writes, invokes, queries, cancels, reads_event, waits}
+use Rattle.thing_site.specs.Refusals.{Input}
 use Rattle.thing_core.specs.Thing.{Done, Called, no_number, no_memory, gives, failure_of, ReadsValue, ReadsEach, WritesEach, IfDone, Emits, emissions_of_write, Stops, Calls, IsInvoked, IsQueried, Queries, IsCancelled, Cancels, PollsEvent, PollsEach, Polls, Performs, Acts, refuses, has_no_memory, performs, readable}
 use Rattle.thing_core.proofs.ReadLaws.{AfterValue}
 

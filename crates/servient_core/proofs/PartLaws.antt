@@ -7,10 +7,11 @@ use Rattle.servient_base.proofs.MovesLaws.{refines_then, refines_passing, refine
 use Rattle.coap_msg.specs.declared.endpoint.Endpoint.{Endpoint}
 use Rattle.thing_handler.specs.Handler.{Seen}
 use Rattle.thing_handler.specs.Turns.{HandlerCall, RackShows, turns_in}
-use Rattle.thing_core.specs.Site.{Site}
+use Rattle.thing_site.specs.Site.{Site}
 use Rattle.thing_core.specs.State.{State as ThingState}
 use Rattle.thing_core.specs.Thing.{Move as ThingMove, Done, Acts}
-use Rattle.thing_core.specs.Kept.{Kept, Fits}
+use Rattle.thing_site.specs.Fits.{Fits}
+use Rattle.thing_core.specs.Kept.{Kept}
 use Rattle.thing_core.proofs.ThingLaws.{site_stays}
 use Rattle.thing_ops.specs.declared.outcome.Outcome.{Outcome}
 use Rattle.thing_ops.specs.Requests.{PlainRequest}

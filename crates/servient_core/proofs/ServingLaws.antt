@@ -3,7 +3,7 @@ use Rattle.std.proofs.Common.{◌≡◌, ◌≢◌, ℕ, ◌+◌, ◌<◌, List,
 use Rattle.servient_base.specs.Moves.{Then, Becomes, Refines}
 use Rattle.servient_base.proofs.MovesLaws.{refines_then, refines_as, refines_each_more, refines_stays}
 use Rattle.thing_handler.specs.Handler.{Seen}
-use Rattle.thing_core.specs.Kept.{Fits}
+use Rattle.thing_site.specs.Fits.{Fits}
 use Rattle.servient_outside.specs.declared.net.What.TheVariants as what
 use Rattle.servient_outside.specs.declared.net.Event.{Event}
 use Rattle.servient_outside.specs.declared.net.EventWithBytes.{EventWithBytes}

@@ -4,8 +4,8 @@ use Rattle.servient_base.specs.Moves.{Stays}
 use Rattle.thing_ops.specs.declared.outcome.Outcome.{Outcome}
 use Rattle.thing_ops.specs.Requests.{PlainRequest}
 use Rattle.thing_handler.specs.Handler.{Seen}
-use Rattle.thing_core.specs.Site.{Site}
-use Rattle.thing_core.specs.Kept.{Fits}
+use Rattle.thing_site.specs.Site.{Site}
+use Rattle.thing_site.specs.Fits.{Fits}
 use Rattle.http_bind.specs.Streams.{Replies, Continues, Refuses, IsDry}
 use Rattle.http_bind.specs.Slots.{Slots, Leads}
 use Rattle.servient_outside.specs.Network.{NetSeen, NetShows, did}

@@ -14,7 +14,7 @@ use Rattle.servient_base.specs.Moves.{Becomes, Stays, Then, Passing, Each, Until
 use Rattle.coap_msg.specs.declared.endpoint.Endpoint.{Endpoint}
 use Rattle.thing_ops.specs.Requests.{PlainRequest}
 use Rattle.thing_handler.specs.Turns.{HandlerCall}
-use Rattle.thing_core.specs.Site.{Site as Things}
+use Rattle.thing_site.specs.Site.{Site as Things}
 use Rattle.thing_core.specs.State.{State as ThingState, Emission, start as no_request_yet}
 use Rattle.thing_core.specs.Thing.{Move as ThingMove, Done, Acts, Polls}
 use Rattle.coap_bind.specs.declared.server.Server.{Server}

@@ -4,8 +4,8 @@ use Rattle.servient_base.specs.Moves.{Becomes, Stays, Then}
 use Rattle.servient_outside.specs.declared.net.What.TheVariants as what
 use Rattle.servient_outside.specs.declared.net.EventWithBytes.{EventWithBytes}
 use Rattle.servient_outside.specs.Network.{Happening, broke, next_event, break_count}
-use Rattle.thing_core.specs.declared.fault.ExposeFault.{ExposeFault}
-use Rattle.thing_core.specs.Exposing.{IsFirst}
+use Rattle.thing_site.specs.declared.fault.ExposeFault.{ExposeFault}
+use Rattle.thing_site.specs.Exposing.{IsFirst}
 use Rattle.std.specs.List.{AllByRecursion}
 use Rattle.http_bind.specs.Slots.{StandsFor as ConnectionsStandFor, HasRoomFor, longest_piece}
 use Rattle.servient_core.specs.Trace.{Sighting, at_network}

@@ -3,7 +3,7 @@
 ghost use Rattle.std.specs.Prelude.{◌≡◌, ◌≤◌, ◌<◌, ◌++◌, List, map, length, true, false, IsSome};
 ghost use Rattle.thing_handler.specs.Handler.{Seen};
 ghost use Rattle.servient_base.specs.Moves.{Refines};
-ghost use Rattle.thing_core.specs.Kept.{Fits};
+ghost use Rattle.thing_site.specs.Fits.{Fits};
 ghost use Rattle.thing_ops.specs.Requests.{PlainRequest};
 ghost use Rattle.http_bind.specs.Replying.{fault_word};
 ghost use Rattle.http_bind.specs.Slots.{left_at, longest_piece, IsOpen, IsAskedBy, OthersStay, HasRoom};

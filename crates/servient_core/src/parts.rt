@@ -2,7 +2,7 @@
 
 ghost use Rattle.std.specs.Prelude.{◌≡◌, ◌≤◌, [], length};
 ghost use Rattle.std.specs.List.{All};
-ghost use Rattle.thing_core.specs.Kept.{Fits};
+ghost use Rattle.thing_site.specs.Fits.{Fits};
 ghost use Rattle.thing_ops.specs.Requests.{plain_request};
 ghost use Rattle.servient_core.specs.Machine.{Follows, HearsDatagram};
 ghost use Rattle.servient_outside.specs.Network.{byte_count, IsEvent};

@@ -4,9 +4,9 @@ ghost use Rattle.std.specs.Prelude.{◌≡◌, ◌≤◌, ◌<◌, [], length, I
 ghost use Rattle.std.specs.List.{AllByRecursion};
 ghost use Rattle.servient_base.specs.Moves.{Refines};
 ghost use Rattle.wot_terms.specs.Faults.{IsValid};
-ghost use Rattle.thing_core.specs.Site.{site_of, expose_faults};
-ghost use Rattle.thing_core.specs.Exposing.{kinds_of};
-ghost use Rattle.thing_core.specs.Kept.{Fits};
+ghost use Rattle.thing_site.specs.Site.{site_of, expose_faults};
+ghost use Rattle.thing_site.specs.Exposing.{kinds_of};
+ghost use Rattle.thing_site.specs.Fits.{Fits};
 ghost use Rattle.servient_outside.specs.Network.{byte_count, IsEvent};
 ghost use Rattle.servient_core.specs.Trace.{Shows, outside};
 ghost use Rattle.servient_core.specs.Machine.{start, Step};

@@ -2,7 +2,7 @@
 use Rattle.std.specs.Prelude.{List, [], ◌∷◌, codes, ℕ, None, unwrap_or}
 use Rattle.wot_json.specs.Tree.{Json, string}
 use Rattle.wot_json.specs.Reading.{tree_of}
-use Rattle.thing_core.specs.Site.{Slots}
+use Rattle.thing_site.specs.Site.{Slots}
 use Rattle.servient_plan.specs.declared.plan.Plan.{Plan}
 
 -- the URL and the text of its model

@@ -6,7 +6,7 @@ ghost use Rattle.servient_plan.specs.BuiltIn.{built_in_plan, built_in_model as m
 
 use crate::{ModelFiles, Plan};
 use std::alloc::{AllocError, Global};
-use thing_core::Slots;
+use thing_site::Slots;
 use tm_derive::{Choices, Frame};
 use tm_parts::Bindings;
 use wot_forms::Bases;

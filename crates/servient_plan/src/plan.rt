@@ -13,7 +13,7 @@ use crate::values::{
 use servient_outside::Place;
 use std::alloc::{AllocError, Global};
 use std::marker::Model;
-use thing_core::Slots;
+use thing_site::Slots;
 use thiserror::Error;
 use tm_derive::{Choices, Frame};
 use tm_parts::Bindings;

@@ -10,7 +10,7 @@ ghost use Rattle.servient_plan.specs.Plan as spec;
 use crate::plan::{ModelFiles, PlanFault};
 use crate::texts::TextRow;
 use std::alloc::Global;
-use thing_core::Slots;
+use thing_site::Slots;
 use tm_derive::Choices;
 use tm_parts::Bindings;
 use wot_json::{Items, NoMemory, Text, Tree, copy};

@@ -15,10 +15,11 @@ use Rattle.thing_handler.specs.declared.handler.CallKind.{CallKind}
 use Rattle.thing_handler.specs.declared.handler.CallKind.TheVariants as call
 use Rattle.thing_handler.specs.declared.handler.Answer.TheVariants as answer
 use Rattle.thing_handler.specs.Turns.{HandlerCall, answered, missed}
-use Rattle.thing_core.specs.Site.{Placed, Site, those_of, of_kind}
+use Rattle.thing_site.specs.Site.{Placed, Site, those_of, of_kind}
 use Rattle.thing_core.specs.State.{Status, running, completed, State, Emission, last_of}
-use Rattle.thing_core.specs.Places.{Act, describes, reads_all, writes_many, reads, writes, invokes, queries, cancels, reads_event, waits}
-use Rattle.thing_core.specs.Refusals.{Asked, Refusal, Input, inputs_of, refusals, Stands, IsAnsweredWith, IsFirst, IsNone}
+use Rattle.thing_site.specs.Places.{Act, describes, reads_all, writes_many, reads, writes, invokes, queries, cancels, reads_event, waits}
+use Rattle.thing_site.specs.Refusals.{Refusal, Input, inputs_of, IsFirst, IsNone}
+use Rattle.thing_core.specs.Refusals.{Asked, refusals, Stands, IsAnsweredWith}
 use Rattle.thing_core.specs.Thing.{Move, Done, content_of, Called, no_number, no_memory, gives, failure_of, only, Calls, GivesValue, ReadsValue, is_readable, readable, ReadsEach, Emits, emissions_of_write, Stops, IfDone, WritesEach, IsInvoked, IsQueried, Queries, IsCancelled, Cancels, event_outcome, Performs, refuses, has_no_memory, performs}
 use Rattle.thing_core.specs.Performing.{affordances_of_act}
 use Rattle.thing_core.specs.Completeness.{IsInKind, AnswersInKind, IsContent, IsInvocation, IsSuccess, Succeeds, succeeds, lacks_memory, lacks_numbers, IsComplete}

@@ -22,10 +22,11 @@ use Rattle.thing_handler.specs.declared.handler.CallKind.TheVariants as call
 use Rattle.thing_handler.specs.declared.handler.Answer.{Answer}
 use Rattle.thing_handler.specs.declared.handler.Answer.TheVariants as answer
 use Rattle.thing_handler.specs.Turns.{HandlerCall, answered, missed}
-use Rattle.thing_core.specs.Site.{Placed, Site}
+use Rattle.thing_site.specs.Site.{Placed, Site}
 use Rattle.thing_core.specs.State.{Status, running, completed, Invocation, State, Emission}
-use Rattle.thing_core.specs.Places.{Place, flags_of, Act, describes, reads_all, writes_many, reads, writes, invokes, queries, cancels, reads_event, waits}
-use Rattle.thing_core.specs.Refusals.{Asked, Refusal, nothing_there, verb_not_taken, answer_not_acceptable, format_not_taken, body_not_as_wanted, value_too_large, refused_by_schema, no_invocation_left, Input, place_asked, Holding, refusals, Stands, IsAnsweredWith, IsFirst, inputs_of, NoneStands}
+use Rattle.thing_site.specs.Places.{Place, flags_of, Act, describes, reads_all, writes_many, reads, writes, invokes, queries, cancels, reads_event, waits}
+use Rattle.thing_site.specs.Refusals.{Refusal, nothing_there, verb_not_taken, answer_not_acceptable, format_not_taken, body_not_as_wanted, value_too_large, refused_by_schema, no_invocation_left, Input, Holding, IsFirst, inputs_of}
+use Rattle.thing_core.specs.Refusals.{Asked, place_asked, refusals, Stands, IsAnsweredWith, NoneStands}
 use Rattle.thing_core.specs.Thing.{Move, Done, content_of, Called, no_number, no_memory, gives, failure_of, Decides, IsTaken, only, Calls, GivesValue, ReadsValue, Reads, readable, ReadsEach, Emits, emissions_of_write, Stops, IfDone, WritesEach, IsHandedIn, IsInvoked, Invokes, IsQueried, Queries, IsCancelled, Cancels, OnInvocation, Answers, Performs, Acts, refuses, has_no_memory, performs}
 use Rattle.thing_core.specs.Determined.{AreAnsweredBy, HadMemory, IsDetermined}
 use Rattle.thing_core.proofs.ReadLaws.{AfterValue}

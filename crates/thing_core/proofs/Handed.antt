@@ -8,9 +8,9 @@ use Rattle.wot_json.specs.Tree.{Json, object, Members, no_members, member}
 use Rattle.wot_json.specs.Reading.{tree_of}
 use Rattle.wot_terms.specs.declared.kind.Kind.{Kind}
 use Rattle.wot_terms.specs.declared.kind.Kind.TheVariants as kind
-use Rattle.thing_core.specs.Site.{Placed, ExposedThing, is_kind, affordance_named}
-use Rattle.thing_core.specs.Places.{Act, describes, reads_all, writes_many, reads, writes, invokes, queries, cancels, reads_event, waits}
-use Rattle.thing_core.specs.Refusals.{Input, inputs_of, no_inputs, invoke_inputs, object_inputs, member_inputs, only_input, written_property, unless_read_only}
+use Rattle.thing_site.specs.Site.{Placed, ExposedThing, is_kind, affordance_named}
+use Rattle.thing_site.specs.Places.{Act, describes, reads_all, writes_many, reads, writes, invokes, queries, cancels, reads_event, waits}
+use Rattle.thing_site.specs.Refusals.{Input, inputs_of, no_inputs, invoke_inputs, object_inputs, member_inputs, only_input, written_property, unless_read_only}
 use Rattle.thing_core.specs.Performing.{affordances_of_act}
 
 -- what a step after another gives came of something

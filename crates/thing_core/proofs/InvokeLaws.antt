@@ -9,13 +9,14 @@ use Rattle.thing_ops.specs.declared.outcome.Outcome.TheVariants as outcome
 use Rattle.thing_handler.specs.declared.handler.CallKind.TheVariants as call
 use Rattle.thing_handler.specs.Handler.{Seen}
 use Rattle.thing_handler.specs.Turns.{RackShows}
-use Rattle.thing_core.specs.declared.input.Input.{Input as InputInCode}
-use Rattle.thing_core.specs.Site.{Placed}
+use Rattle.thing_site.specs.declared.input.Input.{Input as InputInCode}
+use Rattle.thing_site.specs.Site.{Placed}
 use Rattle.thing_core.specs.State.{Status, running, completed, Invocation, State, invocation_named, is_running, without_invocation, status_text}
 use Rattle.thing_core.specs.Course.{Course}
-use Rattle.thing_core.specs.Thing.{Called, gives, only, place_of_invocation, IsHandedIn, IsInvoked, Invokes, IsQueried, Queries, IsCancelled, Cancels, OnInvocation, with_invocations}
+use Rattle.thing_core.specs.Thing.{Called, no_number, no_memory, gives, only, place_of_invocation, IsHandedIn, IsInvoked, Invokes, IsQueried, Queries, IsCancelled, Cancels, OnInvocation, with_invocations}
 use Rattle.thing_handler.specs.declared.handler.Answer.{Answer}
-use Rattle.thing_core.specs.Performing.{MakesCall, MakesDone, HandsIn, SettlesInvocation, input_of}
+use Rattle.thing_site.specs.HandedIn.{input_of}
+use Rattle.thing_core.specs.Performing.{IsUnanswered, MakesCall, MakesDone, HandsIn, SettlesInvocation}
 use Rattle.thing_core.proofs.MoveLaws.{call_ends, done_alone, made_unseen}
 
 -- what inputs hand in
@@ -69,6 +70,22 @@ told_done p id i output o c a found stands is =
     done_alone (OnInvocation p id (Queries p id)) o c c a a
     (made_unseen (OnInvocation p id (Queries p id) (only o)) c.state c.state a
     (i, found, subst (λ (s : Status). Queries p id s (only o) c.state [] c.state) (sym stands) (ap only is, record { next = refl; saw = refl }))) refl
+
+-- there is no answer, and nothing changes
+pub unanswered_invoke : (p : Placed) (path : List (List ℕ)) (id : ℕ) (s : State) (called : Called) (o : Outcome) → IsUnanswered called o → IsInvoked p path id (only o) called s [] s
+unanswered_invoke p path id s no_number o e = (ap only e, record { next = refl; saw = refl })
+unanswered_invoke p path id s no_memory o e = (ap only e, record { next = refl; saw = refl })
+unanswered_invoke p path id s (gives answer) o e = absurd e
+
+pub unanswered_query : (p : Placed) (id : ℕ) (s : State) (called : Called) (o : Outcome) → IsUnanswered called o → IsQueried p id (only o) called s [] s
+unanswered_query p id s no_number o e = (ap only e, record { next = refl; saw = refl })
+unanswered_query p id s no_memory o e = (ap only e, record { next = refl; saw = refl })
+unanswered_query p id s (gives answer) o e = absurd e
+
+pub unanswered_cancel : (id : ℕ) (s : State) (called : Called) (o : Outcome) → IsUnanswered called o → IsCancelled id (only o) called s [] s
+unanswered_cancel id s no_number o e = (ap only e, record { next = refl; saw = refl })
+unanswered_cancel id s no_memory o e = (ap only e, record { next = refl; saw = refl })
+unanswered_cancel id s (gives answer) o e = absurd e
 
 -- ---- how an invocation stands
 

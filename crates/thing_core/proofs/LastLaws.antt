@@ -10,10 +10,10 @@ use Rattle.thing_handler.specs.declared.handler.CallKind.{CallKind}
 use Rattle.thing_handler.specs.declared.handler.CallKind.TheVariants as call
 use Rattle.thing_handler.specs.declared.handler.Answer.TheVariants as answer
 use Rattle.thing_handler.specs.Turns.{HandlerCall}
-use Rattle.thing_core.specs.Site.{Placed}
+use Rattle.thing_site.specs.Site.{Placed}
 use Rattle.thing_core.specs.State.{Status, running, completed, State, Emission, Latest, last_after, renewed}
-use Rattle.thing_core.specs.Places.{Act, describes, reads_all, writes_many, reads, writes, invokes, queries, cancels, reads_event, waits}
-use Rattle.thing_core.specs.Refusals.{Input}
+use Rattle.thing_site.specs.Places.{Act, describes, reads_all, writes_many, reads, writes, invokes, queries, cancels, reads_event, waits}
+use Rattle.thing_site.specs.Refusals.{Input}
 use Rattle.thing_core.specs.Thing.{Move, Done, Called, no_number, no_memory, gives, failure_of, Calls, ReadsValue, ReadsEach, Emits, emissions_of_write, Stops, IfDone, WritesEach, IsInvoked, IsQueried, Queries, IsCancelled, Cancels, Performs, PollsEach}
 use Rattle.thing_core.specs.Performing.{OrMemory}
 use Rattle.thing_core.proofs.ReadLaws.{AfterValue}

@@ -1,6 +1,3 @@
-pub mod Fitting
-pub mod Judging
-pub mod PlaceLaws
 pub mod PlacedLists
 pub mod ThingLaws
 pub mod InvocationLists
@@ -19,6 +16,3 @@ mod Handed
 mod CompleteLaws
 pub mod DeterminedLaws
 mod TickLaws
-mod RisingLaws
-mod Halving
-mod IndexLaws

@@ -13,11 +13,11 @@ use Rattle.thing_handler.specs.declared.handler.Answer.{Answer}
 use Rattle.thing_handler.specs.Handler.{Seen, CallsHandler}
 use Rattle.thing_handler.specs.Turns.{HandlerCall, answered, missed, RackShows}
 use Rattle.thing_handler.proofs.RackLaws.{rack_shows_in_order, rack_shows_answer, rack_shows_miss}
-use Rattle.thing_core.specs.Site.{Placed}
+use Rattle.thing_site.specs.Site.{Placed}
 use Rattle.thing_core.specs.State.{State}
 use Rattle.thing_core.specs.Course.{Course}
 use Rattle.thing_core.specs.Thing.{Move, Done, Called, no_number, no_memory, gives, only, most_turns, Calls, GivesValue, ReadsValue}
-use Rattle.thing_core.specs.Performing.{IsOrMemory, Leads, MakesCall, MakesDone, OrMemory}
+use Rattle.thing_core.specs.Performing.{CallsFor, ComesAs, IsOrMemory, Leads, MakesCall, MakesDone, OrMemory}
 
 -- ---- a call
 
@@ -58,6 +58,18 @@ call_answered c d before after slot what a room made is = record {
   room = ap (λ (x : Course). x.room) is;
   slots = ap length made.others ∙ length-set before slot made.after;
 }
+
+-- a call, and what holds of what came of it
+pub calls_for : (P : Called → Type 0) (slot : ℕ) (what : CallKind) (called : Called) (c d : Course) (a b : List Seen) → P called → MakesCall slot what called c d a b → CallsFor P slot what c d a b
+calls_for P slot what called c d a b comes k = record { called = called; comes = comes; made = k.made; pending = k.pending; room = k.room; slots = k.slots }
+
+pub makes_call : (P : Called → Type 0) (n slot : ℕ) (what : CallKind) (c d : Course) (a b : List Seen) → n ≡ slot → (k : CallsFor P n what c d a b) → MakesCall slot what k.called c d a b
+makes_call P n slot what c d a b same k =
+    subst (λ (i : ℕ). MakesCall i what k.called c d a b) same (record { made = k.made; pending = k.pending; room = k.room; slots = k.slots })
+
+pub makes_answered : (n slot : ℕ) (what : CallKind) (x : Answer) (c d : Course) (a b : List Seen) → n ≡ slot → CallsFor (λ called. ComesAs called (Ok x)) n what c d a b → MakesCall slot what (gives x) c d a b
+makes_answered n slot what x c d a b same k =
+    subst (λ (y : Called). MakesCall slot what y c d a b) k.comes (makes_call (λ called. ComesAs called (Ok x)) n slot what c d a b same k)
 
 -- ---- parts of a move
 

@@ -10,11 +10,12 @@ use Rattle.thing_handler.specs.Handler.{Seen}
 use Rattle.thing_handler.specs.Turns.{HandlerCall, RackShows}
 use Rattle.thing_handler.proofs.RackLaws.{rack_shows_in_order}
 use Rattle.wot_terms.specs.declared.kind.Kind.TheVariants as kind
-use Rattle.thing_core.specs.Site.{Placed, Site, those_of, events_of, is_emitter, is_kind, of_kind, emitters_of, emitters_of_thing}
+use Rattle.thing_site.specs.Site.{Placed, Site, those_of, events_of, is_emitter, is_kind, of_kind, emitters_of, emitters_of_thing}
 use Rattle.thing_core.specs.Course.{Course}
 use Rattle.thing_core.specs.State.{Emission}
-use Rattle.thing_core.specs.Places.{Act}
-use Rattle.thing_core.specs.Refusals.{Input, act_asked, inputs_of, refusals, IsRefusedBy, NoneStands}
+use Rattle.thing_site.specs.Places.{Act}
+use Rattle.thing_site.specs.Refusals.{Input, inputs_of}
+use Rattle.thing_core.specs.Refusals.{act_asked, refusals, IsRefusedBy, NoneStands}
 use Rattle.thing_core.specs.Thing.{only, Performs, PollsEach, Acts, refuses, has_no_memory, performs}
 use Rattle.thing_core.specs.Performing.{MakesAct, MakesDone, MakesPolls, OrMemory, PollsSome}
 

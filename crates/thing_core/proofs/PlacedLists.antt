@@ -10,10 +10,10 @@ use Rattle.wot_terms.specs.declared.kind.Kind.{Kind}
 use Rattle.wot_terms.specs.declared.affordance.Affordance.{Affordance}
 use Rattle.thing_core.specs.State.{Latest}
 use Rattle.wot_terms.specs.declared.kind.Kind.TheVariants as kind
-use Rattle.thing_core.specs.Site.{Placed, affordance_named, is_emitter, is_kind, of_kind}
+use Rattle.thing_site.specs.Site.{Placed, affordance_named, is_emitter, is_kind, of_kind}
 use Rattle.thing_core.specs.Thing.{is_readable}
 use Rattle.thing_core.specs.State.{silent}
-use Rattle.thing_core.specs.Exposing.{placed_all}
+use Rattle.thing_site.specs.Exposing.{placed_all}
 use Rattle.thing_core.specs.Performing.{AllStand}
 
 -- the next affordance, where there is a slot for it

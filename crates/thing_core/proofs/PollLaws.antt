@@ -3,19 +3,26 @@ use Rattle.std.proofs.Common.{◌≡◌, ℕ, List, [], ◌∷◌, ◌++◌, map
 use Rattle.std.proofs.lemmas.List.{append-nil}
 use Rattle.wot_json.specs.Meaning.{json_of}
 use Rattle.wot_json.specs.declared.tree.Tree.{Tree}
+use Rattle.thing_ops.specs.declared.outcome.Outcome.{Outcome}
 use Rattle.thing_handler.specs.declared.handler.CallKind.TheVariants as call
 use Rattle.thing_handler.specs.declared.handler.Answer.TheVariants as answer
 use Rattle.thing_handler.specs.Handler.{Seen}
 use Rattle.thing_handler.specs.Turns.{HandlerCall}
 use Rattle.thing_handler.proofs.RackLaws.{rack_shows_in_order}
-use Rattle.thing_core.specs.Site.{Placed}
+use Rattle.thing_site.specs.Site.{Placed}
 use Rattle.thing_core.specs.State.{State, Emission, last_after}
 use Rattle.thing_core.specs.Course.{Course}
-use Rattle.thing_core.specs.Thing.{Called, gives, IsTaken, emission, IsPolled, PollsEach}
-use Rattle.thing_core.specs.Performing.{MakesCall, PollsSome, has_fired}
+use Rattle.thing_core.specs.Thing.{Called, no_number, no_memory, gives, IsTaken, emission, IsPolled, PollsEach}
+use Rattle.thing_core.specs.Performing.{IsUnanswered, MakesCall, PollsSome, has_fired}
 use Rattle.thing_core.proofs.WriteLoop.{targets_then}
 
 -- ---- what an answer emits
+
+-- there is no answer, and nothing is emitted
+pub unanswered_poll : (p : Placed) (called : Called) (o : Outcome) → IsUnanswered called o → IsPolled p [] called
+unanswered_poll p no_number o e = refl
+unanswered_poll p no_memory o e = refl
+unanswered_poll p (gives answer) o e = absurd e
 
 pub not_fired : (p : Placed) (called : Called) → has_fired called ≡ false → IsPolled p [] called
 not_fired p (gives (answer.Fired tree)) e = absurd cc

@@ -14,10 +14,10 @@ use Rattle.thing_handler.specs.declared.handler.CallKind.TheVariants as call
 use Rattle.thing_handler.specs.declared.handler.Answer.TheVariants as answer
 use Rattle.thing_handler.specs.Handler.{Seen}
 use Rattle.thing_handler.specs.Turns.{RackShows}
-use Rattle.thing_core.specs.Site.{Placed}
+use Rattle.thing_site.specs.Site.{Placed}
 use Rattle.thing_core.specs.Course.{Course}
-use Rattle.thing_core.specs.Thing.{Move, Done, Called, gives, only, IsTaken, GivesValue, content_of, Reads, ReadsEach}
-use Rattle.thing_core.specs.Performing.{MakesCall, MakesDone, OrMemory, Leads, open_object, with_member}
+use Rattle.thing_core.specs.Thing.{Move, Done, Called, no_number, no_memory, gives, only, IsTaken, GivesValue, content_of, Reads, ReadsEach}
+use Rattle.thing_core.specs.Performing.{IsUnanswered, IsValueOf, MakesCall, MakesDone, OrMemory, Leads, open_object, with_member}
 use Rattle.thing_core.proofs.MoveLaws.{done_alone, or_memory, leads_value, leads_end, made_unseen}
 
 -- a value is taken, or it isn't
@@ -26,6 +26,12 @@ value_taken schema called tree e taken = subst (λ (x : Called). GivesValue sche
 
 pub value_refused : (schema : Option Json) (called : Called) (tree : Tree) → called ≡ gives (answer.Value tree) → ¬ (IsTaken schema (json_of tree)) → GivesValue schema called (Err outcome.BadAnswer)
 value_refused schema called tree e refused = subst (λ (x : Called). GivesValue schema x (Err outcome.BadAnswer)) (sym e) (inr (refused, refl))
+
+-- there is no answer, and so no value
+pub unanswered_value : (called : Called) (o : Outcome) → IsUnanswered called o → IsValueOf called (Err o)
+unanswered_value no_number o e = λ schema. ap Err e
+unanswered_value no_memory o e = λ schema. ap Err e
+unanswered_value (gives answer) o e = absurd e
 
 -- a property is read by one call
 pub read_done : (p : Placed) (called : Called) (r : Result Json Outcome) (o : Outcome) (c d : Course) (a b : List Seen) → MakesCall p.slot call.Read called c d a b

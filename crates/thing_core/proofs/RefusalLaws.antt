@@ -1,52 +1,54 @@
 -- Refusals of acts, and of requests that ask for them.
-use Rattle.std.proofs.Common.{◌≡◌, List, map, true, false, refl, sym, ap, subst, inl, inr}
-use Rattle.std.specs.Prelude.{Option, Some, None, option_and_then}
+use Rattle.std.proofs.Common.{◌≡◌, List, [], ◌∷◌, ◌++◌, refl, sym, ap, subst, inl, inr, ◌∙◌}
+use Rattle.std.specs.Prelude.{◌⊎◌, Option, Some, None, option_and_then}
 use Rattle.thing_ops.specs.declared.outcome.Outcome.{Outcome}
 use Rattle.thing_ops.specs.declared.outcome.Outcome.TheVariants as outcome
+use Rattle.thing_ops.specs.declared.allow.Allow.{Allow}
+use Rattle.thing_ops.specs.declared.routing.RouteKind.{RouteKind}
 use Rattle.thing_ops.specs.Requests.{PlainRequest}
-use Rattle.thing_core.specs.declared.input.Input.{Input as InputInCode}
-use Rattle.thing_core.specs.State.{State}
-use Rattle.thing_core.specs.Places.{Act, act_at}
-use Rattle.thing_core.specs.Refusals.{Asked, Input, act_asked, place_asked, inputs_of, is_acceptable, is_taken_format, refusals, refusals_of_acts, Holding, HasNoInvocationLeft, IsEmptyBody, IsLong, IsAnswer, IsFirst, IsNone, IsRefusedBy, IsRefusedBySchema, NoneStands, SomeInput, StandsAgainst}
-use Rattle.thing_core.specs.Performing.{input_of, IsActRefused, IsFree}
+use Rattle.thing_ops.specs.Routes.{route_of}
+use Rattle.thing_ops.specs.Verbs.{verbs_in, verbs_of}
+use Rattle.thing_site.specs.declared.input.Input.{Input as InputInCode}
+use Rattle.thing_site.specs.Places.{Place, Act, act_at, flags_of}
+use Rattle.thing_site.specs.Refusals.{Refusal, no_invocation_left, refusals_by_request, Holding, StandsByRequest, IsAnswer, IsFirst, IsNone}
+use Rattle.thing_site.specs.HandedIn.{IsRefusedByRequest, IsUnrefused}
+use Rattle.thing_core.specs.State.{State, Invocation}
+use Rattle.thing_core.specs.Places.{place_of}
+use Rattle.thing_core.specs.Refusals.{Asked, act_asked, place_asked, refusals, refusals_of_acts, HasNoInvocationLeft, IsRefusedBy, NoneStands, StandsAgainst}
+use Rattle.thing_core.specs.Performing.{IsActRefused, IsFree}
 
--- what holds of inputs that are handed in
-given_hold : (P : List Input → Type 0) (o : Option (List Input)) (is : List Input) → o ≡ Some is → Holding P o → P is
-given_hold P o is e h = subst (λ (x : Option (List Input)). Holding P x) e h
+-- ---- from the request alone to the state
 
--- none stands against an act but perhaps that no further invocation may run
-pub act_is_free : (act : Act) (s : State) (q : PlainRequest) (inputs : List InputInCode) → is_acceptable act q.accept ≡ true → ¬ ((¬ (IsEmptyBody q.body)) × (is_taken_format act q.format ≡ false))
-    → inputs_of act q.body ≡ Some (map input_of inputs) → ¬ (SomeInput IsLong (map input_of inputs)) → ¬ (SomeInput IsRefusedBySchema (map input_of inputs)) → ¬ (HasNoInvocationLeft s act)
-    → IsFree act s q inputs
-act_is_free act s q inputs accepted formatted given short taken free = (
-  given,
-  (
-    λ bad. absurd cc,
-    (
-      formatted,
-      (
-        λ none. absurd (let some : inputs_of act q.body ≡ Some (map input_of inputs) = given in cc),
-        (λ h. short (given_hold (SomeInput IsLong) (inputs_of act q.body) (map input_of inputs) given h), (λ h. taken (given_hold (SomeInput IsRefusedBySchema) (inputs_of act q.body) (map input_of inputs) given h), (free, tt))),
-      ),
-    ),
-  ),
-)
+-- none stands against an act that needs no state
+pub act_is_free : (act : Act) (s : State) (q : PlainRequest) (inputs : List InputInCode) → IsUnrefused act q inputs → ¬ (HasNoInvocationLeft s act) → IsFree act s q inputs
+act_is_free act s q inputs given free = (given.0, (given.1.0, (given.1.1.0, (given.1.1.1.0, (given.1.1.1.1.0, (given.1.1.1.1.1.0, (free, tt)))))))
 
-pub act_is_full : (act : Act) (s : State) (q : PlainRequest) (inputs : List InputInCode) → is_acceptable act q.accept ≡ true → ¬ ((¬ (IsEmptyBody q.body)) × (is_taken_format act q.format ≡ false))
-    → inputs_of act q.body ≡ Some (map input_of inputs) → ¬ (SomeInput IsLong (map input_of inputs)) → ¬ (SomeInput IsRefusedBySchema (map input_of inputs)) → HasNoInvocationLeft s act
-    → IsActRefused act s q outcome.InvocationsFull
-act_is_full act s q inputs accepted formatted given short taken full =
-    let unread : ¬ (inputs_of act q.body ≡ None) = λ none. absurd (let some : inputs_of act q.body ≡ Some (map input_of inputs) = given in cc) in
-    let long : ¬ (Holding (SomeInput IsLong) (inputs_of act q.body)) = λ h. short (given_hold (SomeInput IsLong) (inputs_of act q.body) (map input_of inputs) given h) in
-    let refused : ¬ (Holding (SomeInput IsRefusedBySchema) (inputs_of act q.body)) = λ h. taken (given_hold (SomeInput IsRefusedBySchema) (inputs_of act q.body) (map input_of inputs) given h) in
-    let unaccepted : ¬ (is_acceptable act q.accept ≡ false) = λ bad. absurd cc in
-    inr (inr (unaccepted, inr (formatted, inr (unread, inr (long, inr (refused, inl (full, refl)))))))
+pub act_is_full : (act : Act) (s : State) (q : PlainRequest) (inputs : List InputInCode) → IsUnrefused act q inputs → HasNoInvocationLeft s act → IsActRefused act s q outcome.InvocationsFull
+act_is_full act s q inputs given full =
+    inr (inr (given.1.0, inr (given.1.1.0, inr (given.1.1.1.0, inr (given.1.1.1.1.0, inr (given.1.1.1.1.1.0, inl (full, refl)))))))
+
+-- two conditions are the same of these
+abbrev Alike : (Refusal → Type 0) → (Refusal → Type 0) → List Refusal → Type 0
+Alike S T [] = Unit {0}
+Alike S T (r ∷ rs) = ((S r → T r) × (T r → S r)) × Alike S T rs
+
+-- the first of some is the first of those and others after them
+first_of_more : (S T : Refusal → Type 0) (rs more : List Refusal) (o : Outcome) → Alike S T rs → IsFirst S IsAnswer rs o → IsFirst T IsAnswer (rs ++ more) o
+first_of_more S T [] more o alike first = absurd first
+first_of_more S T (r ∷ rs) more o alike (inl here) = inl (alike.0.0 here.0, here.1)
+first_of_more S T (r ∷ rs) more o alike (inr further) = inr (λ stands. further.0 (alike.0.1 stands), first_of_more S T rs more o alike.1 further.1)
+
+pub act_is_refused : (act : Act) (s : State) (q : PlainRequest) (o : Outcome) → IsRefusedByRequest act q o → IsActRefused act s q o
+act_is_refused act s q o (inl out) = inl out
+act_is_refused act s q o (inr first) =
+    inr (first_of_more (λ r. StandsByRequest r act q) (λ r. StandsAgainst r act s q) refusals_by_request (no_invocation_left ∷ []) o
+    ((λ h. h, λ h. h), ((λ h. h, λ h. h), ((λ h. h, λ h. h), ((λ h. h, λ h. h), ((λ h. h, λ h. h), tt))))) first)
 
 -- ---- a request that asks for an act
 
 there_is_a_place : (a : Asked) (act : Act) → act_asked a ≡ Some act → ¬ (place_asked a ≡ None)
 there_is_a_place a act e none =
-    let nothing : act_asked a ≡ None = ap (option_and_then (λ place. act_at place a.request.verb)) none in absurd cc
+    let nothing : act_asked a ≡ None = ap (option_and_then (λ place. act_at (route_of a.request.path) place a.request.verb)) none in absurd cc
 
 there_is_an_act : (a : Asked) (act : Act) → act_asked a ≡ Some act → ¬ (act_asked a ≡ None)
 there_is_an_act a act e none = absurd cc
@@ -70,3 +72,30 @@ none_stands a act e none = (
     subst (λ (x : Option Act). IsNone (λ r. Holding (λ y. StandsAgainst r y a.state a.request) x) refusals_of_acts) (sym e) none,
   ),
 )
+
+-- what the code found at the path is what is there
+pub is_there : (a : Asked) (invocations : List Invocation) (place : Place) → a.state.invocations ≡ invocations → Some place ≡ place_of a.request.path a.site invocations → place_asked a ≡ Some place
+is_there a invocations place same found = ap (λ (i : List Invocation). place_of a.request.path a.site i) same ∙ sym found
+
+-- the act that it found is the one that is asked for
+pub is_asked : (a : Asked) (form : RouteKind) (place : Place) (act : Act) → place_asked a ≡ Some place → form ≡ route_of a.request.path → act_at form place a.request.verb ≡ Some act → act_asked a ≡ Some act
+is_asked a form place act there of asked =
+    ap (option_and_then (λ p. act_at (route_of a.request.path) p a.request.verb)) there
+    ∙ ap (λ (f : RouteKind). act_at f place a.request.verb) (sym of) ∙ asked
+
+-- the verb isn't taken there
+pub verb_decides : (a : Asked) (form : RouteKind) (place : Place) (allow : Allow) → place_asked a ≡ Some place → form ≡ route_of a.request.path → act_at form place a.request.verb ≡ None
+    → verbs_in allow ≡ verbs_of form (flags_of place) → IsRefusedBy refusals a (outcome.NotAllowed allow)
+verb_decides a form place allow there of none lists =
+    inr (
+      λ nothing. absurd (let some : None ≡ Some place = sym nothing ∙ there in cc),
+      inl (
+        ap (option_and_then (λ p. act_at (route_of a.request.path) p a.request.verb)) there ∙ ap (λ (f : RouteKind). act_at f place a.request.verb) (sym of) ∙ none,
+        (
+          allow,
+          subst (λ (o : Option Place). Holding (λ p. verbs_in allow ≡ verbs_of (route_of a.request.path) (flags_of p)) o) (sym there)
+              (subst (λ (f : RouteKind). verbs_in allow ≡ verbs_of f (flags_of place)) of lists),
+          refl,
+        ),
+      ),
+    )

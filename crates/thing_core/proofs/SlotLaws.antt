@@ -9,18 +9,22 @@ use Rattle.wot_json.specs.Meaning.{json_of}
 use Rattle.wot_terms.specs.declared.kind.Kind.{Kind}
 use Rattle.wot_terms.specs.declared.kind.Kind.TheVariants as kind
 use Rattle.thing_ops.specs.Routes.{route_of}
+use Rattle.thing_ops.specs.Verbs.{verbs_of}
 use Rattle.thing_ops.specs.declared.routing.RouteKind.{RouteKind}
 use Rattle.thing_ops.specs.declared.routing.RouteKind.TheVariants as route
 use Rattle.thing_ops.specs.declared.verb.Verb.{Verb}
 use Rattle.thing_ops.specs.declared.verb.Verb.TheVariants as verb
 use Rattle.thing_handler.specs.Handler.{Seen}
-use Rattle.thing_core.specs.declared.input.Input.{Input as InputInCode}
-use Rattle.thing_core.specs.Site.{Placed, ExposedThing, Site, affordance_named, thing_named, events_of, those_of}
+use Rattle.thing_site.specs.declared.input.Input.{Input as InputInCode}
+use Rattle.thing_site.specs.Site.{Placed, ExposedThing, Site, affordance_named, thing_named, events_of, those_of}
 use Rattle.thing_core.specs.State.{State, Invocation, invocation_named, running_count, most_invocations}
-use Rattle.thing_core.specs.Places.{Place, description, all_properties, property, observed, action, invocation, event, subscribed, thing_in, affordance_in, place_at, where_observable, where_invoked, Act, describes, reads_all, writes_many, reads, writes, invokes, queries, cancels, reads_event, waits, act_at, unless}
-use Rattle.thing_core.specs.Refusals.{Asked, Input, act_asked, place_asked, inputs_of, longest_value, refusals, IsLong, SomeInput, Holding, HasNoInvocationLeft, NoneStands}
-use Rattle.thing_core.specs.Kept.{FitsSlot, Fits}
-use Rattle.thing_core.specs.Performing.{AllStand, InputsFit, MayBeDone, affordances_of_act, input_of}
+use Rattle.thing_site.specs.Places.{Place, description, all_properties, property, observed, action, invocation, event, subscribed, thing_in, affordance_in, place_at, where_observable, Act, invokes, queries, cancels, act_at, act_of, flags_of, is_listed}
+use Rattle.thing_core.specs.Places.{where_stands}
+use Rattle.thing_site.specs.Refusals.{Input, inputs_of, longest_value, IsLong, SomeInput, Holding}
+use Rattle.thing_core.specs.Refusals.{Asked, act_asked, place_asked, refusals, HasNoInvocationLeft, NoneStands}
+use Rattle.thing_site.specs.Fits.{FitsSlot, Fits}
+use Rattle.thing_site.specs.HandedIn.{input_of}
+use Rattle.thing_core.specs.Performing.{AllStand, InputsFit, MayBeDone, affordances_of_act}
 use Rattle.thing_core.proofs.Handed.{came_of, made_of, named_has, InputsHave, handed_have}
 use Rattle.thing_core.proofs.PlacedLists.{events_stand}
 
@@ -70,7 +74,18 @@ in_thing_stands count k path site p all e =
 
 -- ---- places and acts
 
--- what a place is about stands, and an invocation that it is about is one of these
+-- what a place is about stands
+abbrev HasSlots : ℕ → Place → Type 0
+HasSlots count (description thing) = AllStand count thing.affordances
+HasSlots count (all_properties thing) = AllStand count thing.affordances
+HasSlots count (property p) = p.slot < count
+HasSlots count (observed p) = p.slot < count
+HasSlots count (action p) = p.slot < count
+HasSlots count (invocation p id) = p.slot < count
+HasSlots count (event p) = p.slot < count
+HasSlots count (subscribed p) = p.slot < count
+
+-- the same, and an invocation that it is about is one of these
 abbrev PlaceStands : ℕ → State → Place → Type 0
 PlaceStands count s (description thing) = AllStand count thing.affordances
 PlaceStands count s (all_properties thing) = AllStand count thing.affordances
@@ -85,40 +100,52 @@ root_stands : (count : ℕ) (site : Site) (thing : ExposedThing) → SiteStands 
 root_stands count [] thing all e = absurd cc
 root_stands count (t ∷ site) thing all e = subst (λ (x : ExposedThing). AllStand count x.affordances) (same_Some t thing e) all.0
 
-observable_stands : (count : ℕ) (s : State) (p : Placed) (place : Place) → p.slot < count → where_observable p ≡ Some place → PlaceStands count s place
-observable_stands count s p place below e = by_test p.affordance.observable e
+observable_has : (count : ℕ) (p : Placed) (place : Place) → p.slot < count → where_observable p ≡ Some place → HasSlots count place
+observable_has count p place below e = by_test p.affordance.observable e
   where
-    by_test : (b : Bool) → cond b (Some (observed p)) None ≡ Some place → PlaceStands count s place
-    by_test true is = subst (λ (x : Place). PlaceStands count s x) (same_Some (observed p) place is) below
+    by_test : (b : Bool) → cond b (Some (observed p)) None ≡ Some place → HasSlots count place
+    by_test true is = subst (λ (x : Place). HasSlots count x) (same_Some (observed p) place is) below
     by_test false is = absurd cc
 
-invoked_stands : (count id : ℕ) (s : State) (p : Placed) (place : Place) → p.slot < count → where_invoked id s p ≡ Some place → PlaceStands count s place
-invoked_stands count id s p place below e =
-    let of_invocation = made_of (λ (i : Invocation). invocation p id) (invocation_named p.slot id s.invocations) place e in
-    subst (λ (x : Place). PlaceStands count s x) of_invocation.2 (below, subst (λ (o : Option Invocation). IsSome o) (sym of_invocation.1) refl)
+place_has : (count : ℕ) (form : RouteKind) (path : List (List ℕ)) (site : Site) (place : Place) → SiteStands count site → place_at form path site ≡ Some place → HasSlots count place
+place_has count route.Root path site place all e =
+    let of = made_of description (slice_get site 0) place e in subst (λ (x : Place). HasSlots count x) of.2 (root_stands count site of.0 all of.1)
+place_has count route.Thing path site place all e =
+    let of = made_of description (thing_in path site) place e in subst (λ (x : Place). HasSlots count x) of.2 (in_site_stands count path site of.0 all of.1)
+place_has count route.All path site place all e =
+    let of = made_of all_properties (thing_in path site) place e in subst (λ (x : Place). HasSlots count x) of.2 (in_site_stands count path site of.0 all of.1)
+place_has count route.Property path site place all e =
+    let of = made_of property (affordance_in kind.Property path site) place e in subst (λ (x : Place). HasSlots count x) of.2 (in_thing_stands count kind.Property path site of.0 all of.1)
+place_has count route.Observe path site place all e =
+    let of = came_of where_observable (affordance_in kind.Property path site) place e in observable_has count of.0 place (in_thing_stands count kind.Property path site of.0 all of.1) of.2
+place_has count route.Subscribe path site place all e =
+    let of = made_of subscribed (affordance_in kind.Event path site) place e in subst (λ (x : Place). HasSlots count x) of.2 (in_thing_stands count kind.Event path site of.0 all of.1)
+place_has count route.Action path site place all e =
+    let of = made_of action (affordance_in kind.Action path site) place e in subst (λ (x : Place). HasSlots count x) of.2 (in_thing_stands count kind.Action path site of.0 all of.1)
+place_has count (route.Invocation id) path site place all e =
+    let of = made_of (λ (p : Placed). invocation p id) (affordance_in kind.Action path site) place e in
+    subst (λ (x : Place). HasSlots count x) of.2 (in_thing_stands count kind.Action path site of.0 all of.1)
+place_has count route.Event path site place all e =
+    let of = made_of event (affordance_in kind.Event path site) place e in subst (λ (x : Place). HasSlots count x) of.2 (in_thing_stands count kind.Event path site of.0 all of.1)
+place_has count route.Things path site place all e = absurd cc
+place_has count route.Entry path site place all e = absurd cc
+place_has count route.Nowhere path site place all e = absurd cc
 
-place_stands : (count : ℕ) (form : RouteKind) (path : List (List ℕ)) (site : Site) (s : State) (place : Place) → SiteStands count site → place_at form path site s ≡ Some place → PlaceStands count s place
-place_stands count route.Root path site s place all e =
-    let of = made_of description (slice_get site 0) place e in subst (λ (x : Place). PlaceStands count s x) of.2 (root_stands count site of.0 all of.1)
-place_stands count route.Thing path site s place all e =
-    let of = made_of description (thing_in path site) place e in subst (λ (x : Place). PlaceStands count s x) of.2 (in_site_stands count path site of.0 all of.1)
-place_stands count route.All path site s place all e =
-    let of = made_of all_properties (thing_in path site) place e in subst (λ (x : Place). PlaceStands count s x) of.2 (in_site_stands count path site of.0 all of.1)
-place_stands count route.Property path site s place all e =
-    let of = made_of property (affordance_in kind.Property path site) place e in subst (λ (x : Place). PlaceStands count s x) of.2 (in_thing_stands count kind.Property path site of.0 all of.1)
-place_stands count route.Observe path site s place all e =
-    let of = came_of where_observable (affordance_in kind.Property path site) place e in observable_stands count s of.0 place (in_thing_stands count kind.Property path site of.0 all of.1) of.2
-place_stands count route.Subscribe path site s place all e =
-    let of = made_of subscribed (affordance_in kind.Event path site) place e in subst (λ (x : Place). PlaceStands count s x) of.2 (in_thing_stands count kind.Event path site of.0 all of.1)
-place_stands count route.Action path site s place all e =
-    let of = made_of action (affordance_in kind.Action path site) place e in subst (λ (x : Place). PlaceStands count s x) of.2 (in_thing_stands count kind.Action path site of.0 all of.1)
-place_stands count (route.Invocation id) path site s place all e =
-    let of = came_of (where_invoked id s) (affordance_in kind.Action path site) place e in invoked_stands count id s of.0 place (in_thing_stands count kind.Action path site of.0 all of.1) of.2
-place_stands count route.Event path site s place all e =
-    let of = made_of event (affordance_in kind.Event path site) place e in subst (λ (x : Place). PlaceStands count s x) of.2 (in_thing_stands count kind.Event path site of.0 all of.1)
-place_stands count route.Things path site s place all e = absurd cc
-place_stands count route.Entry path site s place all e = absurd cc
-place_stands count route.Nowhere path site s place all e = absurd cc
+is_there : (count : ℕ) (s : State) (place found : Place) → PlaceStands count s place → Some place ≡ Some found → PlaceStands count s found
+is_there count s place found stands e = subst (λ (x : Place). PlaceStands count s x) (same_Some place found e) stands
+
+-- a place that is there
+place_stands : (count : ℕ) (s : State) (place found : Place) → HasSlots count place → where_stands s.invocations place ≡ Some found → PlaceStands count s found
+place_stands count s (invocation p id) found below e =
+    let of_invocation = made_of (λ (i : Invocation). invocation p id) (invocation_named p.slot id s.invocations) found e in
+    subst (λ (x : Place). PlaceStands count s x) of_invocation.2 (below, subst (λ (o : Option Invocation). IsSome o) (sym of_invocation.1) refl)
+place_stands count s (description t) found below e = is_there count s (description t) found below e
+place_stands count s (all_properties t) found below e = is_there count s (all_properties t) found below e
+place_stands count s (property p) found below e = is_there count s (property p) found below e
+place_stands count s (observed p) found below e = is_there count s (observed p) found below e
+place_stands count s (action p) found below e = is_there count s (action p) found below e
+place_stands count s (event p) found below e = is_there count s (event p) found below e
+place_stands count s (subscribed p) found below e = is_there count s (subscribed p) found below e
 
 -- what an act asks of slots and of the state, but for room for a further invocation
 abbrev ActStands : ℕ → State → Act → Type 0
@@ -126,36 +153,47 @@ ActStands count s (queries p id) = AllStand count (p ∷ []) × IsSome (invocati
 ActStands count s (cancels p id) = AllStand count (p ∷ []) × IsSome (invocation_named p.slot id s.invocations)
 ActStands count s act = AllStand count (affordances_of_act act)
 
-unless_stands : (count : ℕ) (s : State) (b : Bool) (one act : Act) → ActStands count s one → unless b one ≡ Some act → ActStands count s act
-unless_stands count s true one act stands e = absurd cc
-unless_stands count s false one act stands e = subst (λ (x : Act). ActStands count s x) (same_Some one act e) stands
+of_stands : (count : ℕ) (s : State) (place : Place) (v : Verb) → PlaceStands count s place → ActStands count s (act_of place v)
+of_stands count s (description t) v stands = tt
+of_stands count s (all_properties t) verb.Get stands = stands
+of_stands count s (all_properties t) verb.Head stands = stands
+of_stands count s (all_properties t) verb.Put stands = stands
+of_stands count s (all_properties t) verb.Post stands = stands
+of_stands count s (all_properties t) verb.Patch stands = stands
+of_stands count s (all_properties t) verb.Delete stands = stands
+of_stands count s (all_properties t) verb.Other stands = stands
+of_stands count s (property p) verb.Get stands = (stands, tt)
+of_stands count s (property p) verb.Head stands = (stands, tt)
+of_stands count s (property p) verb.Put stands = (stands, tt)
+of_stands count s (property p) verb.Post stands = (stands, tt)
+of_stands count s (property p) verb.Patch stands = (stands, tt)
+of_stands count s (property p) verb.Delete stands = (stands, tt)
+of_stands count s (property p) verb.Other stands = (stands, tt)
+of_stands count s (observed p) v stands = tt
+of_stands count s (action p) v stands = (stands, tt)
+of_stands count s (invocation p id) verb.Get stands = ((stands.0, tt), stands.1)
+of_stands count s (invocation p id) verb.Head stands = ((stands.0, tt), stands.1)
+of_stands count s (invocation p id) verb.Put stands = ((stands.0, tt), stands.1)
+of_stands count s (invocation p id) verb.Post stands = ((stands.0, tt), stands.1)
+of_stands count s (invocation p id) verb.Patch stands = ((stands.0, tt), stands.1)
+of_stands count s (invocation p id) verb.Delete stands = ((stands.0, tt), stands.1)
+of_stands count s (invocation p id) verb.Other stands = ((stands.0, tt), stands.1)
+of_stands count s (event p) v stands = tt
+of_stands count s (subscribed p) v stands = tt
 
-is_that : (count : ℕ) (s : State) (one act : Act) → ActStands count s one → Some one ≡ Some act → ActStands count s act
-is_that count s one act stands e = subst (λ (x : Act). ActStands count s x) (same_Some one act e) stands
-
-act_stands : (count : ℕ) (s : State) (place : Place) (v : Verb) (act : Act) → PlaceStands count s place → act_at place v ≡ Some act → ActStands count s act
-act_stands count s (description t) verb.Get act stands e = is_that count s (describes t) act tt e
-act_stands count s (description t) verb.Head act stands e = is_that count s (describes t) act tt e
-act_stands count s (all_properties t) verb.Get act stands e = is_that count s (reads_all t) act stands e
-act_stands count s (all_properties t) verb.Head act stands e = is_that count s (reads_all t) act stands e
-act_stands count s (all_properties t) verb.Put act stands e = is_that count s (writes_many t) act stands e
-act_stands count s (property p) verb.Get act stands e = unless_stands count s p.affordance.write_only (reads p) act (stands, tt) e
-act_stands count s (property p) verb.Head act stands e = unless_stands count s p.affordance.write_only (reads p) act (stands, tt) e
-act_stands count s (property p) verb.Put act stands e = unless_stands count s p.affordance.read_only (writes p) act (stands, tt) e
-act_stands count s (observed p) verb.Get act stands e = is_that count s (waits p) act tt e
-act_stands count s (subscribed p) verb.Get act stands e = is_that count s (waits p) act tt e
-act_stands count s (action p) verb.Post act stands e = is_that count s (invokes p) act (stands, tt) e
-act_stands count s (invocation p id) verb.Get act stands e = is_that count s (queries p id) act ((stands.0, tt), stands.1) e
-act_stands count s (invocation p id) verb.Head act stands e = is_that count s (queries p id) act ((stands.0, tt), stands.1) e
-act_stands count s (invocation p id) verb.Delete act stands e = is_that count s (cancels p id) act ((stands.0, tt), stands.1) e
-act_stands count s (event p) verb.Get act stands e = is_that count s (reads_event p) act tt e
-act_stands count s (event p) verb.Head act stands e = is_that count s (reads_event p) act tt e
-act_stands count s place v act stands e = absurd cc
+act_stands : (count : ℕ) (s : State) (form : RouteKind) (place : Place) (v : Verb) (act : Act) → PlaceStands count s place → act_at form place v ≡ Some act → ActStands count s act
+act_stands count s form place v act stands e = by_test (is_listed v (verbs_of form (flags_of place))) e
+  where
+    by_test : (b : Bool) → cond b (Some (act_of place v)) None ≡ Some act → ActStands count s act
+    by_test true is = subst (λ (x : Act). ActStands count s x) (same_Some (act_of place v) act is) (of_stands count s place v stands)
+    by_test false is = absurd cc
 
 asked_stands : (count : ℕ) (a : Asked) (act : Act) → SiteStands count a.site → act_asked a ≡ Some act → ActStands count a.state act
 asked_stands count a act all e =
-    let of = came_of (λ (place : Place). act_at place a.request.verb) (place_asked a) act e in
-    act_stands count a.state of.0 a.request.verb act (place_stands count (route_of a.request.path) a.request.path a.site a.state of.0 all of.1) of.2
+    let of = came_of (λ (place : Place). act_at (route_of a.request.path) place a.request.verb) (place_asked a) act e in
+    let there = came_of (where_stands a.state.invocations) (place_at (route_of a.request.path) a.request.path a.site) of.0 of.1 in
+    act_stands count a.state (route_of a.request.path) of.0 a.request.verb act
+    (place_stands count a.state there.0 of.0 (place_has count (route_of a.request.path) a.request.path a.site there.0 all there.1) there.2) of.2
 
 slots_of : (count : ℕ) (s : State) (act : Act) → ActStands count s act → AllStand count (affordances_of_act act)
 slots_of count s (queries p id) stands = stands.0

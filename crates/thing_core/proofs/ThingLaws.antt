@@ -7,11 +7,13 @@ use Rattle.thing_ops.specs.declared.outcome.Outcome.{Outcome}
 use Rattle.thing_ops.specs.Requests.{PlainRequest}
 use Rattle.thing_handler.specs.Handler.{Seen}
 use Rattle.thing_handler.specs.Turns.{RunTurn, HandlerCall, GrewBy}
-use Rattle.thing_core.specs.Site.{Placed, Site}
+use Rattle.thing_site.specs.Site.{Placed, Site}
 use Rattle.thing_core.specs.State.{State}
-use Rattle.thing_core.specs.Refusals.{Stands, refused_by_schema}
+use Rattle.thing_site.specs.Refusals.{refused_by_schema}
+use Rattle.thing_core.specs.Refusals.{Stands}
 use Rattle.thing_core.specs.Thing.{Acts, Done, refuses, has_no_memory, performs}
-use Rattle.thing_core.specs.Kept.{Fits, FitsSlot, Kept}
+use Rattle.thing_site.specs.Fits.{Fits, FitsSlot}
+use Rattle.thing_core.specs.Kept.{Kept}
 use Rattle.thing_core.specs.Performing.{MakesAct, MakesPolls}
 
 -- a value that its schema refuses reaches no handler

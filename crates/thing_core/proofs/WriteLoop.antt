@@ -13,12 +13,18 @@ use Rattle.thing_handler.specs.Handler.{Seen}
 use Rattle.thing_handler.specs.Turns.{HandlerCall, RackShows}
 use Rattle.thing_core.specs.State.{State, Emission, last_after}
 use Rattle.thing_core.specs.Course.{Course}
-use Rattle.thing_core.specs.Refusals.{Input}
-use Rattle.thing_core.specs.Thing.{Move, Done, Called, gives, failure_of, Emits, emissions_of_write, IfDone, Stops, WritesEach}
-use Rattle.thing_core.specs.Performing.{Leads, MakesCall, MakesDone, WritesOne, is_done}
+use Rattle.thing_site.specs.Refusals.{Input}
+use Rattle.thing_core.specs.Thing.{Move, Done, Called, no_number, no_memory, gives, failure_of, Emits, emissions_of_write, IfDone, Stops, WritesEach}
+use Rattle.thing_core.specs.Performing.{IsUnanswered, Leads, MakesCall, MakesDone, WritesOne, is_done}
 use Rattle.thing_core.proofs.MoveLaws.{leads_none, leads_then, leads_end, made_unseen}
 
 -- ---- one
+
+-- there is no answer
+pub unanswered_write : (called : Called) (o : Outcome) → IsUnanswered called o → (is_done called ≡ false) × (o ≡ failure_of called)
+unanswered_write no_number o e = (refl, e)
+unanswered_write no_memory o e = (refl, e)
+unanswered_write (gives answer) o e = absurd e
 
 done_is : (called : Called) → is_done called ≡ true → called ≡ gives answer.Done
 done_is (gives answer.Done) e = refl

@@ -3,7 +3,7 @@ use Rattle.std.specs.Prelude.{◌≡◌, ◌≤◌, ℕ, List, length, Option, S
 use Rattle.std.specs.Coded.{Coded, code_by, coded×, coded_ℕ, coded_list, coded_option}
 use Rattle.thing_core.specs.declared.state.Progress.{Progress}
 use Rattle.thing_core.specs.declared.state.Progress.TheVariants as progress
-use Rattle.thing_core.specs.Refusals.{longest_value}
+use Rattle.thing_site.specs.Refusals.{longest_value}
 use Rattle.thing_core.specs.State.{Status, running, completed, Invocation, Latest, State}
 
 -- the state of the machine, the targets of emissions that weren't handed out yet, and how many more of these can be kept

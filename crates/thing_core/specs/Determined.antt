@@ -4,7 +4,7 @@ use Rattle.thing_ops.specs.declared.outcome.Outcome.TheVariants as outcome
 use Rattle.thing_ops.specs.Requests.{PlainRequest}
 use Rattle.thing_handler.specs.declared.handler.Answer.{Answer}
 use Rattle.thing_handler.specs.Turns.{HandlerCall, answered, missed}
-use Rattle.thing_core.specs.Site.{Site}
+use Rattle.thing_site.specs.Site.{Site}
 use Rattle.thing_core.specs.State.{State}
 use Rattle.thing_core.specs.Thing.{Done, Acts}
 

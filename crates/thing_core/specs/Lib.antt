@@ -1,4 +1,3 @@
-pub mod Site
 pub mod State
 pub mod Rooms
 pub mod Course
@@ -6,13 +5,9 @@ pub mod Places
 pub mod Refusals
 pub mod Thing
 pub mod Keeping
-pub mod Exposing
 pub mod Kept
-pub mod Found
 pub mod Performing
 pub mod Completeness
 pub mod Determined
 pub mod Ticks
-pub mod Order
 pub mod Ids
-pub mod Index

@@ -14,33 +14,21 @@ use Rattle.thing_handler.specs.declared.handler.Answer.{Answer}
 use Rattle.thing_handler.specs.declared.handler.Answer.TheVariants as answer
 use Rattle.thing_handler.specs.Handler.{Seen}
 use Rattle.thing_handler.specs.Turns.{HandlerCall, RackShows}
-use Rattle.thing_core.specs.declared.calling.Called.{Called as CalledInCode}
-use Rattle.thing_core.specs.declared.calling.Called.TheVariants as code
-use Rattle.thing_core.specs.declared.input.Input.{Input as InputInCode}
+use Rattle.thing_site.specs.declared.input.Input.{Input as InputInCode}
 use Rattle.thing_core.specs.declared.field.Field.{Field}
 use Rattle.thing_core.specs.declared.admitting.Task.{Task}
-use Rattle.thing_core.specs.Site.{Placed}
+use Rattle.thing_site.specs.Site.{Placed}
 use Rattle.thing_core.specs.State.{State, Emission, Invocation, completed, running, status_text, invocation_named, running_count, most_invocations}
 use Rattle.thing_core.specs.Course.{Course}
-use Rattle.thing_core.specs.Places.{Act, describes, reads_all, writes_many, reads, writes, invokes, queries, cancels, reads_event, waits}
-use Rattle.thing_core.specs.Refusals.{Asked, Input, longest_value, act_asked, inputs_of, refusals, refusals_of_acts, StandsAgainst, IsAnswer, IsFirst, IsNone, IsRefusedBy, NoneStands}
+use Rattle.thing_site.specs.Places.{Act, describes, reads_all, writes_many, reads, writes, invokes, queries, cancels, reads_event, waits}
+use Rattle.thing_site.specs.Refusals.{Input, longest_value, inputs_of, IsAnswer, IsFirst, IsNone}
+use Rattle.thing_core.specs.Refusals.{Asked, act_asked, refusals, refusals_of_acts, StandsAgainst, IsRefusedBy, NoneStands}
 use Rattle.thing_core.specs.Thing.{Move, Done, only, Called, no_number, no_memory, gives, Calls, Decides, IsTaken, GivesValue, Answers, WritesEach, ReadsEach, PollsEach, Polls, emissions_of_write, place_of_invocation, IsInvoked, IsQueried, IsCancelled, Acts}
-use Rattle.thing_core.specs.Exposing.{placed_spot}
-use Rattle.thing_core.specs.Found.{found_act}
+use Rattle.thing_site.specs.HandedIn.{input_of}
+use Rattle.thing_site.specs.Found.{found_act}
 use Rattle.thing_core.specs.Kept.{Kept}
 
 -- ---- judging a request
-
-abbrev pub input_of : InputInCode → Input
-input_of i = record { affordance = placed_spot i.spot; value = json_of i.value }
-
--- a body isn't as wanted, or memory is out
-abbrev pub HasNoInputs : Option (List Input) → Outcome → Type 0
-HasNoInputs expected o = (o ≡ outcome.Memory) ⊎ ((expected ≡ None) × (o ≡ outcome.BadValue))
-
--- this stands, and comes to this
-abbrev pub Comes : Type 0 → Outcome → Outcome → Type 0
-Comes P refusal o = P × (o ≡ refusal)
 
 -- nothing stands against an act, and this is handed in
 abbrev pub IsFree : Act → State → PlainRequest → List InputInCode → Type 0
@@ -83,13 +71,28 @@ InputsFit count inputs = AllByRecursion (λ i. (i.spot.slot < count) × (length 
 
 -- ---- acting
 
-abbrev pub found_called : CalledInCode → Called
-found_called code.NoNumber = no_number
-found_called code.NoMemory = no_memory
-found_called (code.Gives answer) = gives answer
-
 -- a handler was called, and nothing else changed but the number of turns
 pub record MakesCall (slot : ℕ) (what : CallKind) (called : Called) (old new : Course) (before after : List Seen) : Type 0 where
+  pub made : Makes RackShows (Calls slot what called) old.state new.state before after
+  pub pending : new.pending ≡ old.pending
+  pub room : new.room ≡ old.room
+  pub slots : length after ≡ length before
+
+-- there was no answer, and this is what the request comes to
+abbrev pub IsUnanswered : Called → Outcome → Type 0
+IsUnanswered no_number o = o ≡ outcome.CallsUsed
+IsUnanswered no_memory o = o ≡ outcome.Memory
+IsUnanswered (gives answer) o = ⊥
+
+-- an answer, or what the request comes to where there was none
+abbrev pub ComesAs : Called → Result Answer Outcome → Type 0
+ComesAs called (Ok answer) = called ≡ gives answer
+ComesAs called (Err o) = IsUnanswered called o
+
+-- the same where this holds of what came of the call
+pub record CallsFor (P : Called → Type 0) (slot : ℕ) (what : CallKind) (old new : Course) (before after : List Seen) : Type 0 where
+  pub called : Called
+  pub comes : P called
   pub made : Makes RackShows (Calls slot what called) old.state new.state before after
   pub pending : new.pending ≡ old.pending
   pub room : new.room ≡ old.room
@@ -133,7 +136,7 @@ with_member text name value = text ++ (if nat_lt 1 (length text) then codes "," 
 
 -- properties that are to be read, and how many bytes an object has room in that has them with the longest values
 abbrev pub spots_of : List Field → List Placed
-spots_of fields = map (λ f. placed_spot f.spot) fields
+spots_of fields = map (λ f. f.spot) fields
 
 abbrev pub room_of_fields : List Field → ℕ
 room_of_fields [] = 2

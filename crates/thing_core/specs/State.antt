@@ -1,6 +1,6 @@
 -- The state of the Thing machine: what its devices don't keep themselves.
 use Rattle.std.specs.Prelude.{ℕ, ◌+◌, ◌==◌, List, [], ◌∷◌, ◌++◌, map, length, Bool, true, false, ◌&&◌, Option, Some, None, codes, decimal, if◌then◌else◌}
-use Rattle.thing_core.specs.Site.{Placed, Site, emitters_of}
+use Rattle.thing_site.specs.Site.{Placed, Site, emitters_of}
 
 -- ---- invocations of actions
 

@@ -17,10 +17,11 @@ use Rattle.thing_handler.specs.declared.handler.CallKind.TheVariants as call
 use Rattle.thing_handler.specs.declared.handler.Answer.{Answer}
 use Rattle.thing_handler.specs.declared.handler.Answer.TheVariants as answer
 use Rattle.thing_handler.specs.Turns.{HandlerCall, answered, missed}
-use Rattle.thing_core.specs.Site.{Placed, ExposedThing, Site, those_of, events_of}
+use Rattle.thing_site.specs.Site.{Placed, ExposedThing, Site, those_of, events_of}
 use Rattle.thing_core.specs.State.{Status, running, completed, Invocation, State, Emission, invocation_named, without_invocation, with_completed, with_running, status_text, last_of, last_after}
-use Rattle.thing_core.specs.Places.{Act, describes, reads_all, writes_many, reads, writes, invokes, queries, cancels, reads_event, waits}
-use Rattle.thing_core.specs.Refusals.{Input, IsAccepted, longest_value, inputs_of, act_asked, refusals, IsRefusedBy, NoneStands}
+use Rattle.thing_site.specs.Places.{Act, describes, reads_all, writes_many, reads, writes, invokes, queries, cancels, reads_event, waits}
+use Rattle.thing_site.specs.Refusals.{Input, IsAccepted, longest_value, inputs_of}
+use Rattle.thing_core.specs.Refusals.{act_asked, refusals, IsRefusedBy, NoneStands}
 
 -- a move of this machine
 abbrev pub Move : Type 1

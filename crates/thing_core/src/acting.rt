@@ -5,19 +5,20 @@ ghost use Rattle.wot_json.specs.Json.{json_text};
 ghost use Rattle.thing_ops.specs.Requests.{plain_request};
 ghost use Rattle.thing_core.specs.State.{last_of};
 ghost use Rattle.thing_core.specs.Thing.{event_outcome, Performs};
-ghost use Rattle.thing_core.specs.Found.{found_act};
-ghost use Rattle.thing_core.specs.Performing.{affordances_of_act, input_of, AllStand, InputsFit, IsOrMemory, MakesDone, MayBeDone, OrMemory};
+ghost use Rattle.thing_site.specs.Found.{found_act};
+ghost use Rattle.thing_site.specs.HandedIn.{input_of};
+ghost use Rattle.thing_core.specs.Performing.{affordances_of_act, AllStand, InputsFit, IsOrMemory, MakesDone, MayBeDone, OrMemory};
 
 use crate::admitting::Task;
 use crate::invoking::{cancel, invoke, prepare, query};
 use crate::machine::Machine;
-use crate::place::Act;
 use crate::reading::{read, read_all};
 use crate::state::Latest;
 use crate::writing::write_each;
 use std::alloc::Global;
 use thing_handler::Handlers;
 use thing_ops::{Outcome, Request};
+use thing_site::Act;
 use wot_json::{Bytes, Tree, text_of};
 
 /// Does an act.
@@ -33,20 +34,27 @@ pub fn act<R: Handlers>(
     requires state { MayBeDone (found_act task.act) machine.old.state }
     ensures { MakesDone (OrMemory (Performs (found_act task.entry.act) (plain_request request.now) (map input_of task.entry.inputs.items))) result machine.old machine.new (R.slots rack.old) (R.slots rack.new) }
 {
-    match task.act {
+    let Task { act, inputs } = task;
+    match act {
         Act::Describes(thing) => describe(alloc, &thing.tree, request.accept.td),
         Act::ReadsAll(thing) => read_all(alloc, thing, machine, rack),
         Act::Reads(spot) => read(alloc, spot, machine, rack),
-        Act::WritesMany(_) => write_each(task.inputs, machine, rack),
-        Act::Writes(_) => write_each(task.inputs, machine, rack),
+        Act::WritesMany(_) => write_each(inputs, machine, rack),
+        Act::Writes(_) => write_each(inputs, machine, rack),
         Act::Invokes(spot) => match prepare(alloc, &request.path, machine.next_invocation()) {
-            Ok(prepared) => invoke(spot, task.inputs, prepared, machine, rack),
+            Ok(prepared) => invoke(spot, inputs, prepared, machine, rack),
             Err(_) => Outcome::Memory,
         },
         Act::Queries(spot, id) => query(alloc, spot, id, machine, rack),
         Act::Cancels(spot, id) => cancel(spot, id, machine, rack),
-        Act::ReadsEvent(spot) => last_emission(alloc, machine.last(), spot.slot),
-        Act::Waits(spot) => Outcome::Wait(spot.slot),
+        Act::ReadsEvent(spot) => {
+            let event = spot.slot();
+            last_emission(alloc, machine.last(), event)
+        }
+        Act::Waits(spot) => {
+            let target = spot.slot();
+            Outcome::Wait(target)
+        }
     }
 }
 

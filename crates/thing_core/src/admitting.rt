@@ -1,28 +1,18 @@
 //! Why a request is refused before any handler is called.
 
-ghost use Rattle.std.specs.Prelude.{◌≡◌, ◌≢◌, ◌≤◌, ◌++◌, ◌↔◌, [], map, option_map, option_and_then, ◌⊎◌, Some, None, IfOk, IfErr, OnOk, IsTrue, count_by, false};
-ghost use Rattle.wot_json.specs.Reading.{tree_of};
-ghost use Rattle.wot_json.specs.Tree.{members_of};
-ghost use Rattle.wot_json.specs.Meaning.{json_of};
+ghost use Rattle.std.specs.Prelude.{◌≡◌, ◌↔◌, IsTrue, count_by};
 ghost use Rattle.thing_ops.specs.Requests.{plain_request};
+ghost use Rattle.thing_site.specs.Found.{found_act};
 ghost use Rattle.thing_core.specs.State as state;
 ghost use Rattle.thing_core.specs.Refusals as refusal;
-ghost use Rattle.thing_core.specs.Exposing.{held_thing, placed_spot};
-ghost use Rattle.thing_core.specs.Found.{found_act};
-ghost use Rattle.thing_core.specs.Performing.{input_of, Comes, HasNoInputs, IsActRefused, IsAdmitted, IsFree};
+ghost use Rattle.thing_core.specs.Performing.{IsAdmitted};
 
-use crate::calling::{LONGEST_VALUE, is_accepted};
-use crate::held::HeldThing;
-use crate::indexed::IndexedThings;
-use crate::input::Input;
 use crate::machine::Machine;
-use crate::place::{Act, act_at, flags_of, place_of};
-use crate::site::Spot;
+use crate::standing::place_of;
 use crate::state::{Invocation, MOST_INVOCATIONS};
 use std::alloc::Global;
-use thing_ops::{Accept, Format, Outcome, Request, allowed, route};
-use wot_json::{Members, ReadFault, Tree, read, text_of};
-use wot_terms::Kind;
+use thing_ops::{Outcome, Request, route};
+use thing_site::{Act, IndexedThings, Input, act_at, judge};
 
 /// An act that is to be done, with what is handed in to it.
 #[derive(Drop)]
@@ -44,262 +34,23 @@ pub fn admitted<'a>(
         Some(place) => place,
         None => return Err(Outcome::NotFound),
     };
-    let act = match act_at(place, request.verb) {
-        Some(act) => act,
-        None => {
-            return Err(Outcome::NotAllowed(allowed(route(&request.path), flags_of(place))));
-        }
+    let act = match act_at(route(&request.path), place, request.verb) {
+        Ok(act) => act,
+        Err(allow) => return Err(Outcome::NotAllowed(allow)),
     };
-    match judge(alloc, act, machine, request) {
-        Ok(inputs) => Ok(Task { act, inputs }),
-        Err(outcome) => Err(outcome),
-    }
-}
-
-/// What is handed in to an act, where nothing stands against it; else what the request comes to.
-fn judge<'a>(
-    alloc: Global,
-    act: Act<'a>,
-    machine: &Machine,
-    request: &Request<'_>,
-) -> Result<Vec<Input<'a>>, Outcome>
-    ensures ok { IfOk result (λ inputs. IsFree (found_act act.entry) machine.now.state (plain_request request.now) inputs.items) }
-    ensures fault { IfErr result (λ o. IsActRefused (found_act act.entry) machine.now.state (plain_request request.now) o) }
-{
-    if !is_acceptable(act, request.accept) {
-        return Err(Outcome::NotAcceptable);
-    }
-    if has_other_format(act, request) {
-        return Err(Outcome::Format);
-    }
-    let inputs = inputs_of(alloc, act, request.body)?;
-    if is_any_long(inputs.as_slice()) {
-        return Err(Outcome::TooLarge);
-    }
-    if is_any_refused(inputs.as_slice()) {
-        return Err(Outcome::BadValue);
-    }
-    if has_none_left(act, machine.invocations()) {
+    let inputs = match judge(alloc, &act, request) {
+        Ok(inputs) => inputs,
+        Err(outcome) => return Err(outcome),
+    };
+    if has_none_left(&act, machine.invocations()) {
         return Err(Outcome::InvocationsFull);
     }
-    Ok(inputs)
-}
-
-/// The sender takes what the answer of the act can be sent as.
-fn is_acceptable(act: Act<'_>, accept: Accept) -> bool
-    ensures { result ≡ refusal.is_acceptable (found_act act.entry) accept }
-{
-    match act {
-        Act::Describes(_) => accept.json || accept.td,
-        Act::ReadsAll(_)
-        | Act::Reads(_)
-        | Act::Invokes(_)
-        | Act::Queries(_, _)
-        | Act::ReadsEvent(_)
-        | Act::Waits(_) => accept.json,
-        Act::WritesMany(_) | Act::Writes(_) | Act::Cancels(_, _) => true,
-    }
-}
-
-/// The request has a body in a format that isn't taken.
-fn has_other_format(act: Act<'_>, request: &Request<'_>) -> bool
-    ensures { IsTrue result ↔ ((¬ (refusal.IsEmptyBody (plain_request request.now).body)) × (refusal.is_taken_format (found_act act.entry) request.now.format ≡ false)) }
-{
-    if request.body.is_empty() {
-        return false;
-    }
-    !is_taken_format(act, request.format)
-}
-
-/// The act takes a body of this format.
-fn is_taken_format(act: Act<'_>, format: Format) -> bool
-    ensures { result ≡ refusal.is_taken_format (found_act act.entry) format }
-{
-    match format {
-        Format::Absent | Format::Json => true,
-        Format::Td => is_description(act),
-        Format::Patch | Format::Other => false,
-    }
-}
-
-/// The act describes a Thing.
-fn is_description(act: Act<'_>) -> bool
-    ensures { result ≡ refusal.is_description (found_act act.entry) }
-{
-    match act {
-        Act::Describes(_) => true,
-        _ => false,
-    }
-}
-
-/// What a body hands in to an act.
-fn inputs_of<'a>(alloc: Global, act: Act<'a>, body: &[u8]) -> Result<Vec<Input<'a>>, Outcome>
-    ensures ok { IfOk result (λ inputs. refusal.inputs_of (found_act act.entry) body.now ≡ Some (map input_of inputs.items)) }
-    ensures fault { IfErr result (λ o. HasNoInputs (refusal.inputs_of (found_act act.entry) body.now) o) }
-{
-    match act {
-        Act::WritesMany(thing) => object_inputs(alloc, thing, body),
-        Act::Writes(spot) => one_input(alloc, spot, body),
-        Act::Invokes(spot) => invoke_inputs(alloc, spot, body),
-        Act::Describes(_)
-        | Act::ReadsAll(_)
-        | Act::Reads(_)
-        | Act::Queries(_, _)
-        | Act::Cancels(_, _)
-        | Act::ReadsEvent(_)
-        | Act::Waits(_) => no_inputs(alloc, body),
-    }
-}
-
-/// No body is wanted.
-fn no_inputs<'a>(alloc: Global, body: &[u8]) -> Result<Vec<Input<'a>>, Outcome>
-    ensures ok { IfOk result (λ inputs. refusal.no_inputs body.now ≡ Some (map input_of inputs.items)) }
-    ensures fault { IfErr result (λ o. HasNoInputs (refusal.no_inputs body.now) o) }
-{
-    if body.is_empty() {
-        Ok(Vec::new(alloc))
-    } else {
-        Err(Outcome::BadValue)
-    }
-}
-
-/// What is handed in to an action, which takes a body exactly where it has an input schema.
-fn invoke_inputs<'a>(alloc: Global, spot: Spot<'a>, body: &[u8]) -> Result<Vec<Input<'a>>, Outcome>
-    ensures ok { IfOk result (λ inputs. refusal.invoke_inputs (placed_spot spot.entry) (placed_spot spot.entry).affordance.input body.now ≡ Some (map input_of inputs.items)) }
-    ensures fault { IfErr result (λ o. HasNoInputs (refusal.invoke_inputs (placed_spot spot.entry) (placed_spot spot.entry).affordance.input body.now) o) }
-{
-    match &spot.affordance.input {
-        Some(_) => one_input(alloc, spot, body),
-        None => no_inputs(alloc, body),
-    }
-}
-
-/// The body is one value.
-fn one_input<'a>(alloc: Global, spot: Spot<'a>, body: &[u8]) -> Result<Vec<Input<'a>>, Outcome>
-    ensures ok { IfOk result (λ inputs. option_map (refusal.only_input (placed_spot spot.entry)) (tree_of body.now) ≡ Some (map input_of inputs.items)) }
-    ensures fault { IfErr result (λ o. HasNoInputs (option_map (refusal.only_input (placed_spot spot.entry)) (tree_of body.now)) o) }
-{
-    let value = value_in(alloc, body)?;
-    let mut inputs = Vec::new(alloc);
-    push_input(alloc, &mut inputs, spot, value)?;
-    Ok(inputs)
-}
-
-/// The value that a body is.
-fn value_in(alloc: Global, body: &[u8]) -> Result<Tree, Outcome>
-    ensures ok { IfOk result (λ value. tree_of body.now ≡ Some (json_of value)) }
-    ensures fault { IfErr result (λ o. (o ≡ Outcome.Memory) ⊎ ((tree_of body.now ≡ None) × (o ≡ Outcome.BadValue))) }
-{
-    match read(alloc, body) {
-        Ok(value) => Ok(value),
-        Err(ReadFault::NoMemory) => Err(Outcome::Memory),
-        Err(ReadFault::NotJson) | Err(ReadFault::TooDeep) | Err(ReadFault::NotInteger(_)) => {
-            Err(Outcome::BadValue)
-        }
-    }
-}
-
-/// Puts a value with its text at the end; or memory is out.
-fn push_input<'a>(
-    alloc: Global,
-    inputs: &mut Vec<Input<'a>>,
-    spot: Spot<'a>,
-    value: Tree,
-) -> Result<(), Outcome>
-    ensures ok { OnOk result (map input_of inputs.new.items ≡ map input_of inputs.old.items ++ refusal.only_input (placed_spot spot.entry) (json_of value)) }
-    ensures fault { IfErr result (λ o. o ≡ Outcome.Memory) }
-{
-    let text = match text_of(alloc, &value) {
-        Ok(text) => text,
-        Err(_) => return Err(Outcome::Memory),
-    };
-    match inputs.push(Input { spot, value, text }) {
-        Ok(()) => Ok(()),
-        Err(_) => Err(Outcome::Memory),
-    }
-}
-
-/// The body is an object whose members name properties that may be written.
-fn object_inputs<'a>(
-    alloc: Global,
-    thing: &'a HeldThing,
-    body: &[u8],
-) -> Result<Vec<Input<'a>>, Outcome>
-    ensures ok { IfOk result (λ inputs. option_and_then (refusal.object_inputs (held_thing thing.now)) (tree_of body.now) ≡ Some (map input_of inputs.items)) }
-    ensures fault { IfErr result (λ o. HasNoInputs (option_and_then (refusal.object_inputs (held_thing thing.now)) (tree_of body.now)) o) }
-{
-    let value = value_in(alloc, body)?;
-    match value {
-        Tree::Obj(members) => member_inputs(alloc, thing, members),
-        Tree::Null | Tree::Bool(_) | Tree::Int(_) | Tree::Text(_) | Tree::List(_) => {
-            Err(Outcome::BadValue)
-        }
-    }
-}
-
-/// The values that the members of an object hand in.
-fn member_inputs<'a>(
-    alloc: Global,
-    thing: &'a HeldThing,
-    members: Members,
-) -> Result<Vec<Input<'a>>, Outcome>
-    ensures ok { IfOk result (λ inputs. refusal.member_inputs (held_thing thing.now) (members_of members) ≡ Some (map input_of inputs.items)) }
-    ensures fault { IfErr result (λ o. HasNoInputs (refusal.member_inputs (held_thing thing.now) (members_of members)) o) }
-{
-    let mut inputs = Vec::new(alloc);
-    for (name, value) in members.into_vec() {
-        let spot = match writable(thing, name.as_str().as_bytes()) {
-            Some(spot) => spot,
-            None => return Err(Outcome::BadValue),
-        };
-        push_input(alloc, &mut inputs, spot, value)?;
-    }
-    Ok(inputs)
-}
-
-/// The property of this name that may be written.
-fn writable<'a>(thing: &'a HeldThing, name: &[u8]) -> Option<Spot<'a>>
-    ensures { option_map placed_spot result ≡ refusal.written_property (held_thing thing.now) name.now }
-{
-    match thing.affordance(Kind::Property, name) {
-        Some(spot) => {
-            if spot.affordance.read_only {
-                None
-            } else {
-                Some(spot)
-            }
-        }
-        None => None,
-    }
-}
-
-/// Some value is longer than is taken.
-fn is_any_long(inputs: &[Input<'_>]) -> bool
-    ensures { IsTrue result ↔ refusal.SomeInput refusal.IsLong (map input_of inputs.now) }
-{
-    for input in inputs {
-        if LONGEST_VALUE < input.text.len() {
-            return true;
-        }
-    }
-    false
-}
-
-/// A schema refuses some value.
-fn is_any_refused(inputs: &[Input<'_>]) -> bool
-    ensures { IsTrue result ↔ refusal.SomeInput refusal.IsRefusedBySchema (map input_of inputs.now) }
-{
-    for input in inputs {
-        if !is_accepted(&input.spot.affordance.input, &input.value) {
-            return true;
-        }
-    }
-    false
+    Ok(Task { act, inputs })
 }
 
 /// An action is to be invoked, and no further invocation may run.
-fn has_none_left(act: Act<'_>, invocations: &[Invocation]) -> bool
-    ensures { (s : state.State) → s.invocations ≡ invocations.now → IsTrue result ↔ refusal.HasNoInvocationLeft s (found_act act.entry) }
+fn has_none_left(act: &Act<'_>, invocations: &[Invocation]) -> bool
+    ensures { (s : state.State) → s.invocations ≡ invocations.now → IsTrue result ↔ refusal.HasNoInvocationLeft s (found_act act.now) }
 {
     match act {
         Act::Invokes(_) => MOST_INVOCATIONS <= running_count(invocations),

@@ -1,113 +1,117 @@
 //! Calls of handlers, and what comes of them.
 
-ghost use Rattle.std.specs.Prelude.{◌≡◌, ◌<◌, ◌↔◌, length, true, false, IsTrue, MatchOption};
+ghost use Rattle.std.specs.Prelude.{◌≡◌, ◌<◌, length, true, false, MatchOption};
 ghost use Rattle.wot_json.specs.Json.{json_text};
 ghost use Rattle.wot_json.specs.Meaning.{json_of};
-ghost use Rattle.thing_core.specs.Refusals.{IsAccepted};
-ghost use Rattle.thing_core.specs.Thing.{failure_of, IsTaken};
-ghost use Rattle.thing_core.specs.Performing.{found_called, is_done, IsFired, IsValueOf, MakesCall};
+ghost use Rattle.thing_core.specs.Thing.{failure_of, gives, IsTaken};
+ghost use Rattle.thing_core.specs.Performing.{is_done, CallsFor, ComesAs, IsFired, IsValueOf};
 
 use crate::machine::Machine;
 use crate::state::MOST_TURNS;
 use thing_handler::{Answer, CallKind, Handlers};
 use thing_ops::Outcome;
+use thing_site::{LONGEST_VALUE, is_accepted};
 use wot_json::{Tree, write};
 use wot_schema::Schema;
 
-/// How long the text of a value may be, in bytes.
-pub const LONGEST_VALUE: usize = 1024;
-
-/// What comes of a call of a handler.
-#[derive(Drop)]
-pub enum Called {
-    /// The run has no number left for a turn.
-    NoNumber,
-    /// The handler is out of memory.
-    NoMemory,
-    Gives(Answer),
-}
-
-/// Calls the handler in a slot.
-pub fn call<R: Handlers>(machine: &mut Machine, rack: &mut R, slot: u32, what: &CallKind) -> Called
+/// Calls the handler in a slot: its answer; else what the request comes to, where the handler is out of memory or the run has no
+/// number left for a turn.
+pub fn call<R: Handlers>(
+    machine: &mut Machine,
+    rack: &mut R,
+    slot: u32,
+    what: &CallKind,
+) -> Result<Answer, Outcome>
     requires { slot < length (R.slots rack.old) }
-    ensures { MakesCall slot what.now (found_called result) machine.old machine.new (R.slots rack.old) (R.slots rack.new) }
+    ensures { CallsFor (λ called. ComesAs called result) slot what.now machine.old machine.new (R.slots rack.old) (R.slots rack.new) }
 {
     let number = machine.turns();
     if number == MOST_TURNS {
-        return Called::NoNumber;
+        return Err(Outcome::CallsUsed);
     }
     match rack.call(slot as usize, number, what) {
         Ok(answer) => {
             machine.count_turn();
-            Called::Gives(answer)
+            Ok(answer)
         }
-        Err(_) => Called::NoMemory,
+        Err(_) => Err(Outcome::Memory),
     }
 }
 
-/// The value that a call for one gave, or what it comes to where it gave none.
-pub fn value_of(called: Called) -> Result<Tree, Outcome>
-    ensures { IsValueOf (found_called called) result }
+/// What a request comes to whose device answers so, where that isn't a success: a refusal and a fault of the device as they
+/// are; any other answer is one that it mustn't give.
+pub fn failure(answer: &Answer) -> Outcome
+    ensures { result ≡ failure_of (gives answer.now) }
 {
-    match called {
-        Called::NoNumber => Err(Outcome::CallsUsed),
-        Called::NoMemory => Err(Outcome::Memory),
-        Called::Gives(answer) => match answer {
-            Answer::Value(value) => Ok(value),
-            Answer::Refused(number) => Err(Outcome::Refused(number)),
-            Answer::DeviceFault(number) => Err(Outcome::DeviceFault(number)),
-            Answer::Done
-            | Answer::Started
-            | Answer::Running
-            | Answer::Finished(_)
-            | Answer::Cancelled
-            | Answer::Quiet
-            | Answer::Fired(_) => Err(Outcome::BadAnswer),
-        },
+    match answer {
+        Answer::Refused(number) => Outcome::Refused(*number),
+        Answer::DeviceFault(number) => Outcome::DeviceFault(*number),
+        Answer::Value(_)
+        | Answer::Done
+        | Answer::Started
+        | Answer::Running
+        | Answer::Finished(_)
+        | Answer::Cancelled
+        | Answer::Quiet
+        | Answer::Fired(_) => Outcome::BadAnswer,
     }
 }
 
-/// What a call to write comes to where the value wasn't written.
-pub fn write_failure(called: Called) -> Option<Outcome>
-    ensures { MatchOption result (is_done (found_called called) ≡ true)
-        (λ o. (is_done (found_called called) ≡ false) × (o ≡ failure_of (found_called called))) }
+/// The value that a device answered with, or what the request comes to where it gave none.
+pub fn value_of(answer: Answer) -> Result<Tree, Outcome>
+    ensures { IsValueOf (gives answer) result }
 {
-    match called {
-        Called::NoNumber => Some(Outcome::CallsUsed),
-        Called::NoMemory => Some(Outcome::Memory),
-        Called::Gives(answer) => match answer {
-            Answer::Done => None,
-            Answer::Refused(number) => Some(Outcome::Refused(number)),
-            Answer::DeviceFault(number) => Some(Outcome::DeviceFault(number)),
-            Answer::Value(_)
-            | Answer::Started
-            | Answer::Running
-            | Answer::Finished(_)
-            | Answer::Cancelled
-            | Answer::Quiet
-            | Answer::Fired(_) => Some(Outcome::BadAnswer),
-        },
+    let failed = failure(&answer);
+    // For the proof: what was lent is moved before it is taken apart.
+    let given = answer;
+    match given {
+        Answer::Value(value) => Ok(value),
+        Answer::Done
+        | Answer::Started
+        | Answer::Running
+        | Answer::Finished(_)
+        | Answer::Cancelled
+        | Answer::Quiet
+        | Answer::Fired(_)
+        | Answer::Refused(_)
+        | Answer::DeviceFault(_) => Err(failed),
     }
 }
 
-/// The value that an event came about with, where a poll says that it did.
-pub fn fired(called: Called) -> Option<Tree>
-    ensures { IsFired (found_called called) result }
+/// What a request to write comes to where the device answers so and the value wasn't written.
+pub fn write_failure(answer: &Answer) -> Option<Outcome>
+    ensures { MatchOption result (is_done (gives answer.now) ≡ true)
+        (λ o. (is_done (gives answer.now) ≡ false) × (o ≡ failure_of (gives answer.now))) }
 {
-    match called {
-        Called::NoNumber | Called::NoMemory => None,
-        Called::Gives(answer) => match answer {
-            Answer::Fired(value) => Some(value),
-            Answer::Value(_)
-            | Answer::Done
-            | Answer::Started
-            | Answer::Running
-            | Answer::Finished(_)
-            | Answer::Cancelled
-            | Answer::Quiet
-            | Answer::Refused(_)
-            | Answer::DeviceFault(_) => None,
-        },
+    match answer {
+        Answer::Done => None,
+        Answer::Value(_)
+        | Answer::Started
+        | Answer::Running
+        | Answer::Finished(_)
+        | Answer::Cancelled
+        | Answer::Quiet
+        | Answer::Fired(_)
+        | Answer::Refused(_)
+        | Answer::DeviceFault(_) => Some(failure(answer)),
+    }
+}
+
+/// The value that an event came about with, where the answer to a poll says that it did.
+pub fn fired(answer: Answer) -> Option<Tree>
+    ensures { IsFired (gives answer) result }
+{
+    match answer {
+        Answer::Fired(value) => Some(value),
+        Answer::Value(_)
+        | Answer::Done
+        | Answer::Started
+        | Answer::Running
+        | Answer::Finished(_)
+        | Answer::Cancelled
+        | Answer::Quiet
+        | Answer::Refused(_)
+        | Answer::DeviceFault(_) => None,
     }
 }
 
@@ -126,15 +130,5 @@ pub fn taken_text<'a>(
     match write(value, out) {
         Some(count) => Some(&out[..count]),
         None => None,
-    }
-}
-
-/// The schema accepts the value, or there is none.
-pub fn is_accepted(schema: &Option<Schema>, value: &Tree) -> bool
-    ensures { IsTrue result ↔ IsAccepted schema.now (json_of value.now) }
-{
-    match schema {
-        Some(schema) => schema.accepts(value),
-        None => true,
     }
 }

@@ -3,27 +3,26 @@
 ghost use Rattle.std.specs.Prelude.{◌≡◌, ◌≤◌, ◌<◌, [], ◌∷◌, length, map, option_map, MatchOption, IfErr, IfOk, OnOk};
 ghost use Rattle.std.specs.List.{AllByRecursion};
 ghost use Rattle.wot_terms.specs.Faults.{IsValid};
-ghost use Rattle.thing_core.specs.Site.{site_of, expose_faults};
+ghost use Rattle.thing_site.specs.Site.{site_of, expose_faults};
 ghost use Rattle.thing_core.specs.State.{start, last_of};
 ghost use Rattle.thing_core.specs.Places.{target_of as target_of_path};
-ghost use Rattle.thing_core.specs.Exposing.{kinds_of, IsFirst};
-ghost use Rattle.thing_core.specs.Kept.{Fits};
+ghost use Rattle.thing_site.specs.Exposing.{kinds_of, IsFirst};
+ghost use Rattle.thing_site.specs.Fits.{Fits};
 ghost use Rattle.thing_core.specs.Performing.{MakesAct, MakesPolls};
 ghost use Rattle.thing_ops.specs.Requests.{plain_request};
 
 use crate::acting::{act, last_in};
 use crate::admitting::admitted;
-use crate::indexed::IndexedThings;
+use crate::emitters::silent_all;
 use crate::machine::Machine;
-use crate::place::{place_of, target_at};
-use crate::placing::place_all;
 use crate::polling::poll_all;
-use crate::site::silent_all;
+use crate::standing::place_of;
 use crate::{ExposeFault, Slots};
 use std::alloc::Global;
 use std::marker::Model;
 use thing_handler::Handlers;
 use thing_ops::{Outcome, Request, Segments};
+use thing_site::{IndexedThings, target_at};
 use wot_terms::Things;
 
 /// Things, their affordances and the handlers of these, with the state of the Thing machine.
@@ -36,7 +35,7 @@ pub struct Exposed {
 
 impl Model for Exposed {
     ghost use Rattle.std.specs.Prelude.{◌≡◌, length};
-    ghost use Rattle.thing_core.specs.Site.{emitters_of};
+    ghost use Rattle.thing_site.specs.Site.{emitters_of};
     ghost use Rattle.thing_core.specs.Kept.{Kept, kept_code};
 
     ghost Value = { Kept };
@@ -71,11 +70,11 @@ impl Exposed {
         ensures fits { IfOk result (λ e. Fits e.site (R.slots rack.now)) }
         ensures fault { IfErr result (λ fault. IsFirst (expose_faults (kinds_of (R.slots rack.now)) slots.now things) fault) }
     {
-        let held = place_all(alloc, rack, slots, things.as_slice())?;
-        let last = silent_all(alloc, held.as_slice())?;
+        let things = IndexedThings::new(alloc, things, slots, rack)?;
+        let last = silent_all(alloc, things.as_slice())?;
         Ok(Exposed {
             alloc,
-            things: IndexedThings::of(alloc, held)?,
+            things,
             machine: Machine::new(alloc, last)?,
         })
     }
@@ -99,13 +98,14 @@ impl Exposed {
         requires pending { self.old.pending ≡ [] }
         ensures { MakesPolls self.old self.new (R.slots rack.old) (R.slots rack.new) }
     {
+        // For the proof: there is room for as many emissions as there are emitters.
         let _room = self.machine.emitters();
         poll_all(self.things.as_slice(), &mut self.machine, rack);
     }
 
     /// The target of the own path of an observable property or an event: the slot of its affordance.
     pub fn target_of(&self, path: &Segments) -> Option<u32>
-        ensures { result ≡ target_of_path path.now self.now.site self.now.state }
+        ensures { result ≡ target_of_path path.now self.now.site self.now.state.invocations }
     {
         let place = place_of(&self.things, self.machine.invocations(), path);
         target_at(place)

@@ -3,7 +3,7 @@
 ghost use Rattle.std.specs.Prelude.{◌≡◌};
 ghost use Rattle.wot_json.specs.Json.{json_string};
 
-use crate::site::Spot;
+use thing_site::Spot;
 use wot_json::Bytes;
 
 /// A property that is to be read, and its name as a JSON text.
@@ -11,5 +11,5 @@ use wot_json::Bytes;
 pub struct Field<'a> {
     pub spot: Spot<'a>,
     pub name: Bytes,
-    ghost quoted: { name ≡ json_string spot.affordance.now.name },
+    ghost quoted: { name ≡ json_string spot.affordance.name },
 }

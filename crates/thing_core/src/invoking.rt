@@ -4,22 +4,21 @@ ghost use Rattle.std.specs.Prelude.{◌≡◌, ◌≤◌, ◌<◌, ℕ, List, []
 ghost use Rattle.thing_core.specs.Ids.{IdsRise};
 ghost use Rattle.thing_core.specs.State.{invocation_named, is_running as is_running_one, most_invocations, running, running_count, status_text};
 ghost use Rattle.thing_core.specs.Thing.{place_of_invocation, Cancels, Invokes, OnInvocation, Queries};
-ghost use Rattle.thing_core.specs.Exposing.{placed_spot};
-ghost use Rattle.thing_core.specs.Performing.{input_of, HandsIn, IsTold, MakesDone, OrMemory, OutputComesTo, SettlesCancel, SettlesInvocation, SettlesQuery};
+ghost use Rattle.thing_site.specs.HandedIn.{input_of};
+ghost use Rattle.thing_core.specs.Performing.{HandsIn, IsTold, MakesDone, OrMemory, OutputComesTo, SettlesCancel, SettlesInvocation, SettlesQuery};
 
 use crate::NoMemory;
-use crate::calling::{Called, LONGEST_VALUE, call, taken_text};
-use crate::input::Input;
+use crate::calling::{call, failure, taken_text};
 use crate::machine::Machine;
-use crate::place::invocation_in;
 use crate::room::Room;
-use crate::site::Spot;
+use crate::standing::invocation_in;
 use crate::state::{Invocation, MOST_TURNS};
 use crate::status::{put_completed, put_running};
 use itoa::Buffer;
 use std::alloc::Global;
 use thing_handler::{Answer, CallKind, Handlers};
 use thing_ops::{Outcome, Segments};
+use thing_site::{Input, LONGEST_VALUE, Spot};
 use wot_json::{Bytes, Tree};
 use wot_schema::Schema;
 
@@ -76,22 +75,20 @@ pub fn invoke<R: Handlers>(
     requires status { prepared.status ≡ status_text machine.old.state.next_invocation running }
     requires output { prepared.output ≡ [] }
     ensures { (path : List (List ℕ)) → prepared.place ≡ place_of_invocation path machine.old.state.next_invocation
-        → MakesDone (Invokes (placed_spot spot.entry) path (map input_of inputs.entry.items)) result machine.old machine.new (R.slots rack.old) (R.slots rack.new) }
+        → MakesDone (Invokes spot.entry path (map input_of inputs.entry.items)) result machine.old machine.new (R.slots rack.old) (R.slots rack.new) }
 {
     if machine.turns() == MOST_TURNS {
         return Outcome::CallsUsed;
     }
     let id = machine.next_invocation() as u32;
-    let called = call(
+    match call(
         machine,
         rack,
-        spot.slot,
+        spot.slot(),
         &CallKind::Invoke(id, handed_in(inputs)),
-    );
-    match called {
-        Called::NoNumber => Outcome::CallsUsed,
-        Called::NoMemory => Outcome::Memory,
-        Called::Gives(answer) => settle(spot, prepared, answer, machine),
+    ) {
+        Ok(answer) => settle(spot, prepared, answer, machine),
+        Err(outcome) => outcome,
     }
 }
 
@@ -111,33 +108,30 @@ fn settle(spot: Spot<'_>, prepared: Prepared, answer: Answer, machine: &mut Mach
     requires running { running_count machine.old.state.invocations < most_invocations }
     requires status { prepared.status ≡ status_text machine.old.state.next_invocation running }
     requires output { prepared.output ≡ [] }
-    ensures { SettlesInvocation (placed_spot spot.entry) prepared.place answer result machine.old machine.new }
+    ensures { SettlesInvocation spot.entry prepared.place answer result machine.old machine.new }
 {
-    match answer {
+    let failed = failure(&answer);
+    // For the proof: what was lent is moved before it is taken apart.
+    let given = answer;
+    match given {
         Answer::Started => {
-            machine.start(spot.slot);
+            machine.start(spot.slot());
             Outcome::Started(prepared.place, prepared.status)
         }
         Answer::Finished(output) => {
             machine.use_id();
-            finished(prepared.output, &spot.affordance.output, output)
-        }
-        Answer::Refused(number) => {
-            machine.use_id();
-            Outcome::Refused(number)
-        }
-        Answer::DeviceFault(number) => {
-            machine.use_id();
-            Outcome::DeviceFault(number)
+            finished(prepared.output, &spot.affordance().output, output)
         }
         Answer::Value(_)
         | Answer::Done
         | Answer::Running
         | Answer::Cancelled
         | Answer::Quiet
-        | Answer::Fired(_) => {
+        | Answer::Fired(_)
+        | Answer::Refused(_)
+        | Answer::DeviceFault(_) => {
             machine.use_id();
-            Outcome::BadAnswer
+            failed
         }
     }
 }
@@ -171,21 +165,19 @@ pub fn query<R: Handlers>(
 ) -> Outcome
     requires slot { spot.slot < length (R.slots rack.old) }
     requires stands { IsSome (invocation_named spot.slot id machine.old.state.invocations) }
-    ensures { MakesDone (OrMemory (OnInvocation (placed_spot spot.entry) id (Queries (placed_spot spot.entry) id))) result machine.old machine.new (R.slots rack.old) (R.slots rack.new) }
+    ensures { MakesDone (OrMemory (OnInvocation spot.entry id (Queries spot.entry id))) result machine.old machine.new (R.slots rack.old) (R.slots rack.new) }
 {
     let room = match Room::new(alloc) {
         Ok(room) => room,
         Err(_) => return Outcome::Memory,
     };
-    let room = match told(machine.invocations(), spot.slot, id, room) {
+    let room = match told(machine.invocations(), spot.slot(), id, room) {
         Ok(outcome) => return outcome,
         Err(room) => room,
     };
-    let called = call(machine, rack, spot.slot, &CallKind::Query(id));
-    match called {
-        Called::NoNumber => Outcome::CallsUsed,
-        Called::NoMemory => Outcome::Memory,
-        Called::Gives(answer) => queried(spot, id, room, answer, machine),
+    match call(machine, rack, spot.slot(), &CallKind::Query(id)) {
+        Ok(answer) => queried(spot, id, room, answer, machine),
+        Err(outcome) => outcome,
     }
 }
 
@@ -216,9 +208,12 @@ fn queried(
     machine: &mut Machine,
 ) -> Outcome
     requires { room ≡ [] }
-    ensures { SettlesQuery (placed_spot spot.entry) id answer result machine.old machine.new }
+    ensures { SettlesQuery spot.entry id answer result machine.old machine.new }
 {
-    match answer {
+    let failed = failure(&answer);
+    // For the proof: what was lent is moved before it is taken apart.
+    let given = answer;
+    match given {
         Answer::Running => {
             put_running(&mut room, u64::from(id));
             Outcome::Content(room.into_bytes())
@@ -230,7 +225,7 @@ fn queried(
         }
         Answer::Finished(Some(value)) => {
             let mut buffer = [0; LONGEST_VALUE];
-            match taken_text(&spot.affordance.output, &value, &mut buffer) {
+            match taken_text(&spot.affordance().output, &value, &mut buffer) {
                 Some(text) => {
                     machine.complete(id, Some(text));
                     put_completed(&mut room, u64::from(id), Some(text));
@@ -239,14 +234,14 @@ fn queried(
                 None => Outcome::BadAnswer,
             }
         }
-        Answer::Refused(number) => Outcome::Refused(number),
-        Answer::DeviceFault(number) => Outcome::DeviceFault(number),
         Answer::Value(_)
         | Answer::Done
         | Answer::Started
         | Answer::Cancelled
         | Answer::Quiet
-        | Answer::Fired(_) => Outcome::BadAnswer,
+        | Answer::Fired(_)
+        | Answer::Refused(_)
+        | Answer::DeviceFault(_) => failed,
     }
 }
 
@@ -254,38 +249,36 @@ fn queried(
 pub fn cancel<R: Handlers>(spot: Spot<'_>, id: u32, machine: &mut Machine, rack: &mut R) -> Outcome
     requires slot { spot.slot < length (R.slots rack.old) }
     requires stands { IsSome (invocation_named spot.slot id machine.old.state.invocations) }
-    ensures { MakesDone (OnInvocation (placed_spot spot.entry) id (Cancels (placed_spot spot.entry) id)) result machine.old machine.new (R.slots rack.old) (R.slots rack.new) }
+    ensures { MakesDone (OnInvocation spot.entry id (Cancels spot.entry id)) result machine.old machine.new (R.slots rack.old) (R.slots rack.new) }
 {
-    if !is_running(machine.invocations(), spot.slot, id) {
+    if !is_running(machine.invocations(), spot.slot(), id) {
         machine.remove(id);
         return Outcome::Deleted;
     }
-    let called = call(machine, rack, spot.slot, &CallKind::Cancel(id));
-    match called {
-        Called::NoNumber => Outcome::CallsUsed,
-        Called::NoMemory => Outcome::Memory,
-        Called::Gives(answer) => cancelled(id, answer, machine),
+    match call(machine, rack, spot.slot(), &CallKind::Cancel(id)) {
+        Ok(answer) => cancelled(id, &answer, machine),
+        Err(outcome) => outcome,
     }
 }
 
 /// What the answer to a cancellation brings about.
-fn cancelled(id: u32, answer: Answer, machine: &mut Machine) -> Outcome
-    ensures { SettlesCancel id answer result machine.old machine.new }
+fn cancelled(id: u32, answer: &Answer, machine: &mut Machine) -> Outcome
+    ensures { SettlesCancel id answer.now result machine.old machine.new }
 {
     match answer {
         Answer::Cancelled => {
             machine.remove(id);
             Outcome::Deleted
         }
-        Answer::Refused(number) => Outcome::Refused(number),
-        Answer::DeviceFault(number) => Outcome::DeviceFault(number),
         Answer::Value(_)
         | Answer::Done
         | Answer::Started
         | Answer::Running
         | Answer::Finished(_)
         | Answer::Quiet
-        | Answer::Fired(_) => Outcome::BadAnswer,
+        | Answer::Fired(_)
+        | Answer::Refused(_)
+        | Answer::DeviceFault(_) => failure(answer),
     }
 }
 

@@ -1,8 +1,7 @@
-//! Things as they are exposed: which handler serves which affordance, and what a request to Things does.
+//! Things as they are exposed: what a request to Things does.
 //!
-//! `Exposed::new` gives the affordances of Things the handlers of a rack, by a list of slots, or names the first that has none,
-//! one of another kind, or one that is taken. `perform` does what a request asks: it goes through the refusals in their
-//! order, and then does the act.
+//! `Exposed::new` takes the Things of a site (`thing_site`), or says what stands against exposing them. `perform` does what a
+//! request asks: it goes through the refusals in their order, and then does the act.
 //!
 //! ```text
 //! let mut slots = Slots::new(alloc);
@@ -13,7 +12,7 @@
 //! assert_eq!(lamp.accounts().calls, 1);
 //! ```
 //!
-//! Contracts see the site, which is constant (`specs/Site.antt`), and the state of the Thing machine (`specs/State.antt`). The
+//! Contracts see the site, which is constant (`Site` of `thing_site`), and the state of the Thing machine (`specs/State.antt`). The
 //! contract in a sentence: what `perform` answers, calls and leaves is a move of that machine (`Acts` of `specs/Thing.antt`), what
 //! `tick` calls and leaves is one of its polls (`Polls`), and the rack shows the calls of it. Memory is taken before the first
 //! call of a handler, and by `tick` never.
@@ -22,32 +21,24 @@
 mod acting;
 mod admitting;
 mod calling;
+mod emitters;
 mod exposed;
-mod fault;
 mod field;
-mod held;
-mod indexed;
-mod input;
 mod invoking;
 mod laws;
 mod machine;
-mod place;
-mod placing;
 mod polling;
 mod reading;
 mod room;
-mod site;
-mod slots;
+mod standing;
 mod state;
 mod status;
-mod wanted;
 mod writing;
 
 pub use exposed::{Accounts, Exposed};
-pub use fault::ExposeFault;
 pub use laws::{
     a_rack_fits_on, a_rack_fits_on_after_polls, polls_are_the_same_in_turn,
     refused_values_reach_no_handler, requests_are_complete,
 };
 pub use servient_base::NoMemory;
-pub use slots::Slots;
+pub use thing_site::{ExposeFault, Slots};

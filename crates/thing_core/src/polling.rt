@@ -2,15 +2,14 @@
 
 ghost use Rattle.std.specs.Prelude.{◌≡◌, ◌≤◌, ◌<◌, ◌+◌, ◌∷◌, [], length};
 ghost use Rattle.std.specs.List.{filter};
-ghost use Rattle.thing_core.specs.Site.{events_of, of_kind};
-ghost use Rattle.thing_core.specs.Exposing.{held_site, placed_all, placed_spot};
+ghost use Rattle.thing_site.specs.Site.{events_of, of_kind};
+ghost use Rattle.thing_site.specs.Exposing.{held_site, placed_all};
 ghost use Rattle.thing_core.specs.Performing.{AllStand, PollsSome};
 
-use crate::calling::{LONGEST_VALUE, call, fired, taken_text};
-use crate::held::HeldThing;
+use crate::calling::{call, fired, taken_text};
 use crate::machine::Machine;
-use crate::site::{Spot, is_kind, slot_at};
 use thing_handler::{CallKind, Handlers};
+use thing_site::{HeldThing, LONGEST_VALUE, Spot, is_kind, slot_at};
 use wot_terms::{Affordance, Kind};
 
 /// Polls each event, in the order of Things and affordances.
@@ -47,19 +46,19 @@ fn poll_thing<R: Handlers>(
             Some(slot) => slot,
             None => return,
         };
-        poll_if_event(Spot { affordance, slot }, machine, rack);
+        poll_if_event(Spot::of(affordance, slot), machine, rack);
     }
 }
 
 /// Polls an affordance, where it is an event.
 fn poll_if_event<R: Handlers>(spot: Spot<'_>, machine: &mut Machine, rack: &mut R)
-    requires slots { AllStand (length (R.slots rack.old)) (filter (of_kind Kind.Event) (placed_spot spot ∷ [])) }
-    requires room { length (filter (of_kind Kind.Event) (placed_spot spot ∷ [])) ≤ machine.old.room }
-    ensures polled { PollsSome (filter (of_kind Kind.Event) (placed_spot spot.entry ∷ [])) machine.old machine.new (R.slots rack.old) (R.slots rack.new) }
-    ensures room { machine.old.room ≤ machine.new.room + length (filter (of_kind Kind.Event) (placed_spot spot.entry ∷ [])) }
+    requires slots { AllStand (length (R.slots rack.old)) (filter (of_kind Kind.Event) (spot ∷ [])) }
+    requires room { length (filter (of_kind Kind.Event) (spot ∷ [])) ≤ machine.old.room }
+    ensures polled { PollsSome (filter (of_kind Kind.Event) (spot.entry ∷ [])) machine.old machine.new (R.slots rack.old) (R.slots rack.new) }
+    ensures room { machine.old.room ≤ machine.new.room + length (filter (of_kind Kind.Event) (spot.entry ∷ [])) }
     ensures slots { length (R.slots rack.new) ≡ length (R.slots rack.old) }
 {
-    if is_kind(Kind::Event, spot.affordance.kind) {
+    if is_kind(Kind::Event, spot.affordance().kind) {
         poll(spot, machine, rack);
     }
 }
@@ -68,18 +67,21 @@ fn poll_if_event<R: Handlers>(spot: Spot<'_>, machine: &mut Machine, rack: &mut 
 fn poll<R: Handlers>(spot: Spot<'_>, machine: &mut Machine, rack: &mut R)
     requires slot { spot.slot < length (R.slots rack.old) }
     requires room { 0 < machine.old.room }
-    ensures polled { PollsSome (placed_spot spot.entry ∷ []) machine.old machine.new (R.slots rack.old) (R.slots rack.new) }
+    ensures polled { PollsSome (spot.entry ∷ []) machine.old machine.new (R.slots rack.old) (R.slots rack.new) }
     ensures room { machine.old.room ≤ machine.new.room + 1 }
     ensures slots { length (R.slots rack.new) ≡ length (R.slots rack.old) }
 {
-    let called = call(machine, rack, spot.slot, &CallKind::Poll);
-    let value = match fired(called) {
+    let answer = match call(machine, rack, spot.slot(), &CallKind::Poll) {
+        Ok(answer) => answer,
+        Err(_) => return,
+    };
+    let value = match fired(answer) {
         Some(value) => value,
         None => return,
     };
     let mut buffer = [0; LONGEST_VALUE];
-    match taken_text(&spot.affordance.output, &value, &mut buffer) {
-        Some(text) => machine.emit(spot.slot, text),
+    match taken_text(&spot.affordance().output, &value, &mut buffer) {
+        Some(text) => machine.emit(spot.slot(), text),
         None => {}
     }
 }

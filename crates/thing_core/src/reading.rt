@@ -2,21 +2,20 @@
 
 ghost use Rattle.std.specs.Prelude.{◌≡◌, ◌≤◌, ◌<◌, ◌+◌, ◌++◌, ◌∷◌, [], length, vec_len, vec_capacity, IfOk, IfSome, OnOk};
 ghost use Rattle.std.specs.List.{filter};
-ghost use Rattle.thing_core.specs.Site.{of_kind};
+ghost use Rattle.thing_site.specs.Site.{of_kind};
 ghost use Rattle.thing_core.specs.Thing.{is_readable, readable, Reads, ReadsEach};
-ghost use Rattle.thing_core.specs.Exposing.{held_thing, placed_all, placed_spot};
-ghost use Rattle.thing_core.specs.Performing.{with_member, room_of_fields, spots_of, AllStand, MakesDone, OrMemory, ReadsOne};
+ghost use Rattle.thing_site.specs.Exposing.{held_thing, placed_all};
+ghost use Rattle.thing_core.specs.Performing.{with_member, room_of_fields, spots_of, AllStand, CallsFor, IsValueOf, MakesDone, OrMemory, ReadsOne};
 
 use crate::NoMemory;
-use crate::calling::{LONGEST_VALUE, call, taken_text, value_of};
+use crate::calling::{call, taken_text, value_of};
 use crate::field::Field;
-use crate::held::HeldThing;
 use crate::machine::Machine;
-use crate::site::{Spot, slot_at};
 use std::alloc::Global;
 use thing_handler::{CallKind, Handlers};
 use thing_ops::Outcome;
-use wot_json::{Bytes, quoted};
+use thing_site::{HeldThing, LONGEST_VALUE, Spot, slot_at};
+use wot_json::{Bytes, Tree, quoted};
 use wot_terms::{Affordance, Kind};
 
 /// Reads a property. The room for its text is taken before the call.
@@ -27,21 +26,35 @@ pub fn read<R: Handlers>(
     rack: &mut R,
 ) -> Outcome
     requires { spot.slot < length (R.slots rack.old) }
-    ensures { MakesDone (OrMemory (Reads (placed_spot spot.entry))) result machine.old machine.new (R.slots rack.old) (R.slots rack.new) }
+    ensures { MakesDone (OrMemory (Reads spot.entry)) result machine.old machine.new (R.slots rack.old) (R.slots rack.new) }
 {
     let room = match Vec::with_capacity(alloc, LONGEST_VALUE) {
         Ok(room) => room,
         Err(_) => return Outcome::Memory,
     };
-    let called = call(machine, rack, spot.slot, &CallKind::Read);
-    let value = match value_of(called) {
+    let value = match read_value(&spot, machine, rack) {
         Ok(value) => value,
         Err(outcome) => return outcome,
     };
     let mut buffer = [0; LONGEST_VALUE];
-    match taken_text(&spot.affordance.output, &value, &mut buffer) {
+    match taken_text(&spot.affordance().output, &value, &mut buffer) {
         Some(text) => Outcome::Content(filled(room, text)),
         None => Outcome::BadAnswer,
+    }
+}
+
+/// The value that a property's device gives, or what the request comes to where it gives none.
+fn read_value<R: Handlers>(
+    spot: &Spot<'_>,
+    machine: &mut Machine,
+    rack: &mut R,
+) -> Result<Tree, Outcome>
+    requires { spot.now.slot < length (R.slots rack.old) }
+    ensures { CallsFor (λ called. IsValueOf called result) spot.now.slot CallKind.Read machine.old machine.new (R.slots rack.old) (R.slots rack.new) }
+{
+    match call(machine, rack, spot.slot(), &CallKind::Read) {
+        Ok(answer) => value_of(answer),
+        Err(outcome) => Err(outcome),
     }
 }
 
@@ -112,19 +125,18 @@ fn read_one<R: Handlers>(
 ) -> Option<Outcome>
     requires slot { field.now.spot.slot < length (R.slots rack.old) }
     requires room { vec_len text.old + length field.now.name + LONGEST_VALUE + 2 ≤ vec_capacity text.old }
-    ensures read { ReadsOne (placed_spot field.now.spot) result text.old.items text.new.items machine.old machine.new (R.slots rack.old) (R.slots rack.new) }
+    ensures read { ReadsOne field.now.spot result text.old.items text.new.items machine.old machine.new (R.slots rack.old) (R.slots rack.new) }
     ensures pending { machine.new.pending ≡ machine.old.pending }
     ensures slots { length (R.slots rack.new) ≡ length (R.slots rack.old) }
     ensures len { vec_len text.new ≤ vec_len text.old + length field.now.name + LONGEST_VALUE + 2 }
     ensures places { vec_capacity text.old ≤ vec_capacity text.new }
 {
-    let called = call(machine, rack, field.spot.slot, &CallKind::Read);
-    let value = match value_of(called) {
+    let value = match read_value(&field.spot, machine, rack) {
         Ok(value) => value,
         Err(outcome) => return Some(outcome),
     };
     let mut buffer = [0; LONGEST_VALUE];
-    match taken_text(&field.spot.affordance.output, &value, &mut buffer) {
+    match taken_text(&field.spot.affordance().output, &value, &mut buffer) {
         Some(value) => {
             put_member(text, field.name.as_slice(), value);
             None
@@ -162,7 +174,7 @@ fn fields_of<'a>(
             Some(slot) => slot,
             None => return Ok(fields),
         };
-        push_if_readable(alloc, &mut fields, Spot { affordance, slot })?;
+        push_if_readable(alloc, &mut fields, Spot::of(affordance, slot))?;
     }
     Ok(fields)
 }
@@ -173,14 +185,14 @@ fn push_if_readable<'a>(
     fields: &mut Vec<Field<'a>>,
     spot: Spot<'a>,
 ) -> Result<(), NoMemory>
-    ensures { OnOk result (spots_of fields.new.items ≡ spots_of fields.old.items ++ filter is_readable (filter (of_kind Kind.Property) (placed_spot spot.entry ∷ []))) }
+    ensures { OnOk result (spots_of fields.new.items ≡ spots_of fields.old.items ++ filter is_readable (filter (of_kind Kind.Property) (spot.entry ∷ []))) }
 {
-    let is_property = match spot.affordance.kind {
+    let is_property = match spot.affordance().kind {
         Kind::Property => true,
         Kind::Action | Kind::Event => false,
     };
-    if is_property && !spot.affordance.write_only {
-        let name = quoted(alloc, spot.affordance.name.as_str())?;
+    if is_property && !spot.affordance().write_only {
+        let name = quoted(alloc, spot.affordance().name.as_str())?;
         fields.push(Field { spot, name })?;
     }
     Ok(())

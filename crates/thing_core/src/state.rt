@@ -40,7 +40,7 @@ pub struct Invocation {
 impl Model for Invocation {
     ghost use Rattle.thing_core.specs.State.{Invocation as InvocationSeen};
     ghost use Rattle.std.specs.Prelude.{◌≤◌, length};
-    ghost use Rattle.thing_core.specs.Refusals.{longest_value};
+    ghost use Rattle.thing_site.specs.Refusals.{longest_value};
     ghost use Rattle.thing_core.specs.Course.{invocation_code, status_of};
 
     ghost Value = { InvocationSeen };
@@ -54,7 +54,7 @@ impl Model for Invocation {
 
 impl Invocation {
     ghost use Rattle.std.specs.Prelude.{◌≤◌, length};
-    ghost use Rattle.thing_core.specs.Refusals.{longest_value};
+    ghost use Rattle.thing_site.specs.Refusals.{longest_value};
     ghost use Rattle.thing_core.specs.State.{completed, is_running as is_running_one, running};
 
     /// One that runs, in a room that has no longer text than a value.

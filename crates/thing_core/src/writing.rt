@@ -2,17 +2,16 @@
 
 ghost use Rattle.std.specs.Prelude.{◌≡◌, ◌≤◌, ◌<◌, ◌+◌, ◌++◌, [], length, map};
 ghost use Rattle.thing_core.specs.State.{last_after};
-ghost use Rattle.thing_core.specs.Refusals.{longest_value};
+ghost use Rattle.thing_site.specs.Refusals.{longest_value};
 ghost use Rattle.thing_core.specs.Thing.{WritesEach};
-ghost use Rattle.thing_core.specs.Exposing.{placed_spot};
-ghost use Rattle.thing_core.specs.Performing.{emissions_of_text, input_of, InputsFit, MakesDone, OrMemory, WritesOne};
+ghost use Rattle.thing_site.specs.HandedIn.{input_of};
+ghost use Rattle.thing_core.specs.Performing.{emissions_of_text, InputsFit, MakesDone, OrMemory, WritesOne};
 
 use crate::calling::{call, write_failure};
-use crate::input::Input;
 use crate::machine::Machine;
-use crate::site::Spot;
 use thing_handler::{CallKind, Handlers};
 use thing_ops::Outcome;
+use thing_site::{Input, Spot};
 
 /// Writes values to properties, one after another, until one isn't done. Room for the emissions is taken before the first
 /// call.
@@ -54,11 +53,18 @@ fn write_one<R: Handlers>(input: Input<'_>, machine: &mut Machine, rack: &mut R)
     ensures room { machine.old.room ≤ machine.new.room + 1 }
     ensures slots { length (R.slots rack.new) ≡ length (R.slots rack.old) }
 {
-    let spot = input.spot;
-    let called = call(machine, rack, spot.slot, &CallKind::Write(input.value));
-    match write_failure(called) {
+    let answer = match call(
+        machine,
+        rack,
+        input.spot.slot(),
+        &CallKind::Write(input.value),
+    ) {
+        Ok(answer) => answer,
+        Err(outcome) => return Some(outcome),
+    };
+    match write_failure(&answer) {
         None => {
-            emit_written(spot, input.text.as_slice(), machine);
+            emit_written(&input.spot, input.text.as_slice(), machine);
             None
         }
         Some(outcome) => Some(outcome),
@@ -66,14 +72,14 @@ fn write_one<R: Handlers>(input: Input<'_>, machine: &mut Machine, rack: &mut R)
 }
 
 /// A property emits the text of what was written to it, if it is observable.
-fn emit_written(spot: Spot<'_>, text: &[u8], machine: &mut Machine)
+fn emit_written(spot: &Spot<'_>, text: &[u8], machine: &mut Machine)
     requires text { length text.now ≤ longest_value }
     requires room { 0 < machine.old.room }
-    ensures state { machine.new.state ≡ record machine.old.state { last = last_after (emissions_of_text (placed_spot spot.entry) text.now) machine.old.state.last } }
-    ensures pending { machine.new.pending ≡ machine.old.pending ++ map (λ e. e.target) (emissions_of_text (placed_spot spot.entry) text.now) }
+    ensures state { machine.new.state ≡ record machine.old.state { last = last_after (emissions_of_text spot.now text.now) machine.old.state.last } }
+    ensures pending { machine.new.pending ≡ machine.old.pending ++ map (λ e. e.target) (emissions_of_text spot.now text.now) }
     ensures room { machine.old.room ≤ machine.new.room + 1 }
 {
-    if spot.affordance.observable {
-        machine.emit(spot.slot, text);
+    if spot.affordance().observable {
+        machine.emit(spot.slot(), text);
     }
 }

@@ -11,7 +11,7 @@
 //! ```
 
 ghost use Rattle.std.specs.Prelude.{◌≡◌, [], OnOk};
-ghost use Rattle.thing_core.specs.Kept.{Fits};
+ghost use Rattle.thing_site.specs.Fits.{Fits};
 
 use crate::asking::{Ask, ask_of};
 use crate::outcomes::put_answer;

@@ -1,6 +1,6 @@
 use Rattle.std.proofs.Common.{◌≡◌, sym, subst}
 use Rattle.std.specs.Prelude.{IfOk}
-use Rattle.thing_core.specs.declared.fault.ExposeFault.{ExposeFault}
+use Rattle.thing_site.specs.declared.fault.ExposeFault.{ExposeFault}
 use Rattle.servient_cli.specs.Lines.{input_line}
 use Rattle.servient_cli.specs.FaultLines.{misfit_text}
 use Rattle.servient_cli.proofs.fault_lines.misfit.Goals as goal

@@ -1,5 +1,5 @@
 use Rattle.std.proofs.lemmas.Result.{err_from_is_err_and}
-use Rattle.thing_core.specs.Exposing.{kinds_of}
+use Rattle.thing_site.specs.Exposing.{kinds_of}
 use Rattle.servient_core.specs.Trace.{outside}
 use Rattle.servient_cli.specs.Stages.{around}
 use Rattle.servient_cli.specs.Deriving.{ReadsPlanned}

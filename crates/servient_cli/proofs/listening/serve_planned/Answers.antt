@@ -1,7 +1,7 @@
 use Rattle.std.proofs.Common.{◌*◌}
 use Rattle.std.specs.Prelude.{Err}
 use Rattle.std.proofs.lemmas.Result.{err_from_is_err_and}
-use Rattle.thing_core.specs.Exposing.{kinds_of}
+use Rattle.thing_site.specs.Exposing.{kinds_of}
 use Rattle.servient_plan.specs.Plan.{place_of}
 use Rattle.servient_core.specs.Trace.{outside}
 use Rattle.servient_cli.specs.Stages.{AndThen, around}

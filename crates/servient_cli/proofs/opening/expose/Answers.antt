@@ -1,8 +1,8 @@
 use Rattle.std.proofs.Common.{refl, ap, subst}
 use Rattle.servient_core.specs.Machine.{Site}
 use Rattle.servient_cli.specs.Stages.{goes_on}
-use Rattle.thing_core.specs.Site.{expose_faults}
-use Rattle.thing_core.specs.Exposing.{kinds_of}
+use Rattle.thing_site.specs.Site.{expose_faults}
+use Rattle.thing_site.specs.Exposing.{kinds_of}
 use Rattle.servient_core.specs.declared.servient.OpenFault.{OpenFault}
 use Rattle.servient_core.specs.Serving.{IsOpenFault}
 use Rattle.servient_cli.specs.Opening.{Exposes, is_exposed, expose_memory}

@@ -1,8 +1,8 @@
 use Rattle.std.proofs.Common.{◌≡◌, ◌≤◌, ◌∙◌, sym, ap, subst, arith}
 use Rattle.std.proofs.lemmas.Bool.{leb-true, le-leb}
-use Rattle.thing_core.specs.declared.place.Act.{Act as FoundAct}
+use Rattle.thing_site.specs.declared.place.Act.{Act as FoundAct}
 use Rattle.thing_core.specs.Refusals.{HasNoInvocationLeft}
-use Rattle.thing_core.specs.Found.{found_act}
+use Rattle.thing_site.specs.Found.{found_act}
 use Rattle.thing_core.specs.State.{running_count}
 use Rattle.thing_core.proofs.InvocationLists.{running_are_counted}
 use Rattle.thing_core.proofs.admitting.has_none_left.Goals as goal

@@ -1,22 +1,28 @@
-use Rattle.std.proofs.Common.{ℕ, sym, subst, ◌∙◌, arith}
+use Rattle.std.proofs.Common.{ℕ, refl, sym, subst, ◌∙◌, arith}
 use Rattle.std.specs.Prelude.{Ok, Err}
+use Rattle.thing_ops.specs.declared.outcome.Outcome.TheVariants as outcome
 use Rattle.thing_handler.specs.Handler.{CallsHandler}
-use Rattle.thing_core.proofs.MoveLaws.{call_full, call_missed, call_answered}
+use Rattle.thing_core.specs.Thing.{no_number, no_memory, gives}
+use Rattle.thing_core.specs.Performing.{ComesAs}
+use Rattle.thing_core.proofs.MoveLaws.{call_full, call_missed, call_answered, calls_for}
 use Rattle.thing_core.proofs.calling.call.Goals as goal
 
 pub returns-then-number-eq-MOST_TURNS : goal.returns-then-number-eq-MOST_TURNS
 returns-then-number-eq-MOST_TURNS g c =
-    call_full c.args.machine.now (g.R.Handlers.slots c.args.rack.now) c.args.slot c.args.what.now (sym c.turns-number.ensures.turns ∙ c.if-number-eq-MOST_TURNS.true)
+    calls_for (λ called. ComesAs called (Err outcome.CallsUsed)) c.args.slot c.args.what.now no_number c.args.machine.now c.args.machine.now (g.R.Handlers.slots c.args.rack.now) (g.R.Handlers.slots c.args.rack.now) refl
+    (call_full c.args.machine.now (g.R.Handlers.slots c.args.rack.now) c.args.slot c.args.what.now (sym c.turns-number.ensures.turns ∙ c.if-number-eq-MOST_TURNS.true))
 
 pub returns-in-Ok : goal.returns-in-Ok
 returns-in-Ok g c =
-    call_answered c.args.machine.now c.count_turn.new.self (g.R.Handlers.slots c.args.rack.now) (g.R.Handlers.slots c.call.new.self) c.args.slot c.args.what.now c.in-Ok.answer
+    calls_for (λ called. ComesAs called (Ok c.in-Ok.answer)) c.args.slot c.args.what.now (gives c.in-Ok.answer) c.args.machine.now c.count_turn.new.self (g.R.Handlers.slots c.args.rack.now) (g.R.Handlers.slots c.call.new.self) refl
+    (call_answered c.args.machine.now c.count_turn.new.self (g.R.Handlers.slots c.args.rack.now) (g.R.Handlers.slots c.call.new.self) c.args.slot c.args.what.now c.in-Ok.answer
     (omega (arith, c.turns-number.ensures.turns, c.turns-number.ensures.bound, c.if-number-eq-MOST_TURNS.false))
     (subst (λ (n : ℕ). CallsHandler (g.R.Handlers.slots c.args.rack.now) (g.R.Handlers.slots c.call.new.self) c.args.slot n c.args.what.now (Ok c.in-Ok.answer)) c.turns-number.ensures.turns c.in-Ok.ensures)
-    c.count_turn.ensures
+    c.count_turn.ensures)
 
 pub returns-in-Err : goal.returns-in-Err
 returns-in-Err g c =
-    call_missed c.args.machine.now (g.R.Handlers.slots c.args.rack.now) (g.R.Handlers.slots c.call.new.self) c.args.slot c.args.what.now c.in-Err.field-0
+    calls_for (λ called. ComesAs called (Err outcome.Memory)) c.args.slot c.args.what.now no_memory c.args.machine.now c.args.machine.now (g.R.Handlers.slots c.args.rack.now) (g.R.Handlers.slots c.call.new.self) refl
+    (call_missed c.args.machine.now (g.R.Handlers.slots c.args.rack.now) (g.R.Handlers.slots c.call.new.self) c.args.slot c.args.what.now c.in-Err.field-0
     (omega (arith, c.turns-number.ensures.turns, c.turns-number.ensures.bound, c.if-number-eq-MOST_TURNS.false))
-    (subst (λ (n : ℕ). CallsHandler (g.R.Handlers.slots c.args.rack.now) (g.R.Handlers.slots c.call.new.self) c.args.slot n c.args.what.now (Err c.in-Err.field-0)) c.turns-number.ensures.turns c.in-Err.ensures)
+    (subst (λ (n : ℕ). CallsHandler (g.R.Handlers.slots c.args.rack.now) (g.R.Handlers.slots c.call.new.self) c.args.slot n c.args.what.now (Err c.in-Err.field-0)) c.turns-number.ensures.turns c.in-Err.ensures))

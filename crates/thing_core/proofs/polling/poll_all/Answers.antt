@@ -1,8 +1,8 @@
 use Rattle.std.proofs.Common.{◌≡◌, ◌+◌, ◌∙◌, ◌<◌, ℕ, List, [], ◌∷◌, ◌++◌, drop, get_or, length, length-append, refl, sym, ap, subst, arith, append_assoc}
 use Rattle.std.proofs.lemmas.List.{append-nil, at_drop_all, at_drop_more}
-use Rattle.thing_core.specs.declared.held.HeldThing.{HeldThing}
-use Rattle.thing_core.specs.Site.{Placed, events_of}
-use Rattle.thing_core.specs.Exposing.{held_site, placed_all}
+use Rattle.thing_site.specs.declared.held.HeldThing.{HeldThing}
+use Rattle.thing_site.specs.Site.{Placed, events_of}
+use Rattle.thing_site.specs.Exposing.{held_site, placed_all}
 use Rattle.thing_core.specs.Performing.{AllStand, PollsSome}
 use Rattle.thing_core.proofs.PlacedLists.{events_among, stands_first, stands_rest}
 use Rattle.thing_core.proofs.PollLaws.{none_polled, polled_then}

@@ -1,6 +1,6 @@
 use Rattle.std.proofs.Common.{◌≡◌, ◌≤◌, ◌+◌, ◌++◌, List, drop, length}
-use Rattle.thing_core.specs.Site.{Placed, events_of}
-use Rattle.thing_core.specs.Exposing.{held_site}
+use Rattle.thing_site.specs.Site.{Placed, events_of}
+use Rattle.thing_site.specs.Exposing.{held_site}
 use Rattle.thing_core.specs.Performing.{AllStand, PollsSome}
 use Rattle.thing_core.proofs.polling.poll_all.Given as goal
 

@@ -2,8 +2,8 @@ use Rattle.std.proofs.Common.{◌≡◌, ◌+◌, ◌∙◌, ℕ, List, [], ◌�
 use Rattle.std.specs.Prelude.{slice_get, Some}
 use Rattle.wot_terms.specs.declared.affordance.Affordance.{Affordance}
 use Rattle.std.proofs.lemmas.List.{append-nil, at_drop_all}
-use Rattle.thing_core.specs.Site.{Placed}
-use Rattle.thing_core.specs.Exposing.{placed_all}
+use Rattle.thing_site.specs.Site.{Placed}
+use Rattle.thing_site.specs.Exposing.{placed_all}
 use Rattle.thing_core.specs.Performing.{AllStand, PollsSome}
 use Rattle.thing_core.proofs.PlacedLists.{placed_more, placed_end, events_among, events_more, stands_first, stands_rest}
 use Rattle.thing_core.proofs.PollLaws.{none_polled, polled_then}
@@ -33,10 +33,11 @@ pub poll_if_event-requires-clause-slots : goal.poll_if_event-requires-clause-slo
 poll_if_event-requires-clause-slots g c =
     let p : Placed = record { affordance = c.index-affordances-index.result; slot = c.in-Some.slot } in
     let rest : List Placed = events_among (placed_all (drop (c.loop-index.index + 1) c.args.affordances.now) (drop (c.loop-index.index + 1) c.args.slots.now)) in
-    stands_first (length (g.R.Handlers.slots c.loop-index.rack)) (events_among (p ∷ [])) rest
+    subst (λ (q : Placed). AllStand (length (g.R.Handlers.slots c.loop-index.rack)) (events_among (q ∷ []))) (sym c.of.ensures)
+    (stands_first (length (g.R.Handlers.slots c.loop-index.rack)) (events_among (p ∷ [])) rest
     (subst (λ (ps : List Placed). AllStand (length (g.R.Handlers.slots c.loop-index.rack)) ps)
     (split c.args.affordances.now c.args.slots.now c.loop-index.index c.index-affordances-index.result c.in-Some.slot c.loop-index-test.true c.index-affordances-index.is (sym c.slot_at.ensures ∙ c.in-Some.is))
-    c.loop-index.invariant.1)
+    c.loop-index.invariant.1))
 
 pub poll_if_event-requires-clause-room : goal.poll_if_event-requires-clause-room
 poll_if_event-requires-clause-room g c =
@@ -44,7 +45,8 @@ poll_if_event-requires-clause-room g c =
     let rest : List Placed = events_among (placed_all (drop (c.loop-index.index + 1) c.args.affordances.now) (drop (c.loop-index.index + 1) c.args.slots.now)) in
     let counts = length-append (events_among (p ∷ [])) rest in
     let lengths = ap length (split c.args.affordances.now c.args.slots.now c.loop-index.index c.index-affordances-index.result c.in-Some.slot c.loop-index-test.true c.index-affordances-index.is (sym c.slot_at.ensures ∙ c.in-Some.is)) in
-    omega (arith, counts, lengths, c.loop-index.invariant.2, c.requires.room)
+    let same = ap (λ (q : Placed). length (events_among (q ∷ []))) c.of.ensures in
+    omega (arith, counts, lengths, same, c.loop-index.invariant.2, c.requires.room)
 
 pub loop-index-preserved : goal.loop-index-preserved
 loop-index-preserved g c =
@@ -58,12 +60,13 @@ loop-index-preserved g c =
         done ++ events_among (p ∷ []),
         append_assoc done (events_among (p ∷ [])) rest ∙ ap (λ (l : List Placed). done ++ l) (sym e) ∙ c.loop-index.invariant.0.1,
         polled_then done (events_among (p ∷ [])) c.args.machine.now c.loop-index.machine c.poll_if_event.new.machine
-            (g.R.Handlers.slots c.args.rack.now) (g.R.Handlers.slots c.loop-index.rack) (g.R.Handlers.slots c.poll_if_event.new.rack) c.loop-index.invariant.0.2 c.poll_if_event.ensures.polled,
+            (g.R.Handlers.slots c.args.rack.now) (g.R.Handlers.slots c.loop-index.rack) (g.R.Handlers.slots c.poll_if_event.new.rack) c.loop-index.invariant.0.2
+            (subst (λ (q : Placed). PollsSome (events_among (q ∷ [])) c.loop-index.machine c.poll_if_event.new.machine (g.R.Handlers.slots c.loop-index.rack) (g.R.Handlers.slots c.poll_if_event.new.rack)) c.of.ensures c.poll_if_event.ensures.polled),
       ),
       subst (λ (n : ℕ). AllStand n rest) (sym c.poll_if_event.ensures.slots)
           (stands_rest (length (g.R.Handlers.slots c.loop-index.rack)) (events_among (p ∷ [])) rest
           (subst (λ (ps : List Placed). AllStand (length (g.R.Handlers.slots c.loop-index.rack)) ps) e c.loop-index.invariant.1)),
-      omega (arith, counts, ap length e, c.loop-index.invariant.2, c.poll_if_event.ensures.room),
+      omega (arith, counts, ap length e, ap (λ (q : Placed). length (events_among (q ∷ []))) c.of.ensures, c.loop-index.invariant.2, c.poll_if_event.ensures.room),
       c.poll_if_event.ensures.slots ∙ c.loop-index.invariant.3,
     )
 

@@ -1,6 +1,6 @@
 use Rattle.std.proofs.Common.{◌≡◌, ◌≤◌, ◌+◌, ◌++◌, List, drop, length}
-use Rattle.thing_core.specs.Site.{Placed}
-use Rattle.thing_core.specs.Exposing.{placed_all}
+use Rattle.thing_site.specs.Site.{Placed}
+use Rattle.thing_site.specs.Exposing.{placed_all}
 use Rattle.thing_core.specs.Performing.{AllStand, PollsSome}
 use Rattle.thing_core.proofs.PlacedLists.{events_among}
 use Rattle.thing_core.proofs.polling.poll_thing.Given as goal

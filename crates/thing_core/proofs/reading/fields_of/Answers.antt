@@ -1,7 +1,7 @@
 use Rattle.std.proofs.Common.{◌+◌, ◌++◌, List, [], ◌∷◌, drop, ap, sym, ◌∙◌, append_assoc}
 use Rattle.std.proofs.lemmas.List.{append-nil}
-use Rattle.thing_core.specs.Site.{Placed}
-use Rattle.thing_core.specs.Exposing.{placed_all}
+use Rattle.thing_site.specs.Site.{Placed}
+use Rattle.thing_site.specs.Exposing.{placed_all}
 use Rattle.thing_core.specs.Performing.{spots_of}
 use Rattle.thing_core.proofs.PlacedLists.{placed_more, placed_end, readable_of, readable_more}
 use Rattle.thing_core.proofs.reading.fields_of.Goals as goal
@@ -16,7 +16,8 @@ pub loop-index-preserved : goal.loop-index-preserved
 loop-index-preserved c =
     let p : Placed = record { affordance = c.index-affordances-index.result; slot = c.in-Some.slot } in
     let rest : List Placed = placed_all (drop (c.loop-index.index + 1) c.args.affordances.now) (drop (c.loop-index.index + 1) c.args.slots.now) in
-    ap (λ (l : List Placed). l ++ readable_of rest) c.in_ok-push_if_readable.ensures
+    ap (λ (l : List Placed). l ++ readable_of rest)
+    (c.in_ok-push_if_readable.ensures ∙ ap (λ (q : Placed). spots_of c.loop-index.fields.items ++ readable_of (q ∷ [])) c.of.ensures)
     ∙ append_assoc (spots_of c.loop-index.fields.items) (readable_of (p ∷ [])) (readable_of rest)
     ∙ ap (λ (l : List Placed). spots_of c.loop-index.fields.items ++ l)
     (sym (readable_more p rest)

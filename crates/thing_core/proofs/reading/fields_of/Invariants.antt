@@ -1,5 +1,5 @@
 use Rattle.std.proofs.Common.{◌≡◌, ◌++◌, drop}
-use Rattle.thing_core.specs.Exposing.{placed_all}
+use Rattle.thing_site.specs.Exposing.{placed_all}
 use Rattle.thing_core.specs.Performing.{spots_of}
 use Rattle.thing_core.proofs.PlacedLists.{readable_of}
 use Rattle.thing_core.proofs.reading.fields_of.Given as goal

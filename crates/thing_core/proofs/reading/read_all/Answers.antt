@@ -1,7 +1,7 @@
 use Rattle.std.proofs.Common.{◌≡◌, ◌∙◌, List, [], length, refl, sym, ap, subst}
-use Rattle.thing_core.specs.Site.{Placed}
+use Rattle.thing_site.specs.Site.{Placed}
 use Rattle.thing_core.specs.Thing.{readable, ReadsEach}
-use Rattle.thing_core.specs.Exposing.{held_thing, placed_all}
+use Rattle.thing_site.specs.Exposing.{held_thing, placed_all}
 use Rattle.thing_core.specs.Performing.{AllStand, spots_of}
 use Rattle.thing_core.proofs.MoveLaws.{memory_out}
 use Rattle.thing_core.proofs.PlacedLists.{readable_of, readable_stand}

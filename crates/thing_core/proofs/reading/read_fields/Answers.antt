@@ -1,7 +1,6 @@
 use Rattle.std.proofs.Common.{◌≡◌, ◌∙◌, ◌<◌, ◌+◌, ℕ, List, [], ◌∷◌, ◌++◌, drop, length, get_or, sym, ap, subst, arith}
 use Rattle.std.proofs.lemmas.List.{at_drop_more, at_drop_all}
 use Rattle.thing_core.specs.declared.field.Field.{Field}
-use Rattle.thing_core.specs.Exposing.{placed_spot}
 use Rattle.thing_core.specs.Performing.{AllStand, room_of_fields, spots_of}
 use Rattle.thing_core.proofs.ReadLoop.{ReadSoFar, none_read, one_read, one_fails, all_read, two_or_more}
 use Rattle.thing_core.proofs.reading.read_fields.Goals as goal
@@ -37,7 +36,7 @@ read_one-requires-clause-room g c =
 
 pub returns-in-Some : goal.returns-in-Some
 returns-in-Some g c =
-    one_fails (spots_of c.args.fields.now) (spots_of (drop (c.loop-field.field-index + 1) c.args.fields.now)) (placed_spot c.field-item.result.spot) c.in-Some.outcome
+    one_fails (spots_of c.args.fields.now) (spots_of (drop (c.loop-field.field-index + 1) c.args.fields.now)) c.field-item.result.spot c.in-Some.outcome
     c.loop-field.text.items c.read_one.new.text.items c.args.machine.now c.loop-field.machine c.read_one.new.machine
     (g.R.Handlers.slots c.args.rack.now) (g.R.Handlers.slots c.loop-field.rack) (g.R.Handlers.slots c.read_one.new.rack)
     (subst (λ (fs : List Field). ReadSoFar (spots_of c.args.fields.now) (spots_of fs) c.loop-field.text.items c.args.machine.now c.loop-field.machine (g.R.Handlers.slots c.args.rack.now) (g.R.Handlers.slots c.loop-field.rack))
@@ -48,7 +47,7 @@ pub loop-field-preserved : goal.loop-field-preserved
 loop-field-preserved g c =
     let e : drop c.loop-field.field-index c.args.fields.now ≡ c.field-item.result ∷ drop (c.loop-field.field-index + 1) c.args.fields.now =
     begins c.args.fields.now c.loop-field.field-index c.field-item.result c.loop-field-test.true c.field-item.is in (
-      one_read (spots_of c.args.fields.now) (spots_of (drop (c.loop-field.field-index + 1) c.args.fields.now)) (placed_spot c.field-item.result.spot)
+      one_read (spots_of c.args.fields.now) (spots_of (drop (c.loop-field.field-index + 1) c.args.fields.now)) c.field-item.result.spot
           c.loop-field.text.items c.read_one.new.text.items c.args.machine.now c.loop-field.machine c.read_one.new.machine
           (g.R.Handlers.slots c.args.rack.now) (g.R.Handlers.slots c.loop-field.rack) (g.R.Handlers.slots c.read_one.new.rack)
           (subst (λ (fs : List Field). ReadSoFar (spots_of c.args.fields.now) (spots_of fs) c.loop-field.text.items c.args.machine.now c.loop-field.machine (g.R.Handlers.slots c.args.rack.now) (g.R.Handlers.slots c.loop-field.rack))

@@ -1,7 +1,8 @@
 use Rattle.std.proofs.Common.{◌≡◌, ℕ, List, [], ◌∷◌, length, map, refl, sym, ap, subst, arith}
 use Rattle.std.specs.Vec.Iter.{into_iter_items}
-use Rattle.thing_core.specs.declared.input.Input.{Input as InputInCode}
-use Rattle.thing_core.specs.Performing.{input_of, InputsFit}
+use Rattle.thing_site.specs.declared.input.Input.{Input as InputInCode}
+use Rattle.thing_site.specs.HandedIn.{input_of}
+use Rattle.thing_core.specs.Performing.{InputsFit}
 use Rattle.thing_core.proofs.WriteLoop.{WrittenSoFar, none_written, one_written, one_stops, all_written}
 use Rattle.thing_core.proofs.writing.write_all.Goals as goal
 

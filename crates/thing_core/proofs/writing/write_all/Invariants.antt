@@ -1,6 +1,7 @@
 use Rattle.std.proofs.Common.{◌≡◌, ◌≤◌, length, map}
 use Rattle.std.specs.Vec.Iter.{into_iter_items, into_iter_len}
-use Rattle.thing_core.specs.Performing.{input_of, InputsFit}
+use Rattle.thing_site.specs.HandedIn.{input_of}
+use Rattle.thing_core.specs.Performing.{InputsFit}
 use Rattle.thing_core.proofs.WriteLoop.{WrittenSoFar}
 use Rattle.thing_core.proofs.writing.write_all.Given as goal
 

@@ -1,6 +1,6 @@
 use Rattle.std.proofs.Common.{[], map}
 use Rattle.thing_core.specs.Thing.{WritesEach}
-use Rattle.thing_core.specs.Performing.{input_of}
+use Rattle.thing_site.specs.HandedIn.{input_of}
 use Rattle.thing_core.proofs.MoveLaws.{memory_out}
 use Rattle.thing_core.proofs.writing.write_each.Goals as goal
 

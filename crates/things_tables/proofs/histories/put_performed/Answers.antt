@@ -1,6 +1,6 @@
 use Rattle.std.proofs.Common.{sym, subst}
-use Rattle.thing_core.specs.Site.{Site}
-use Rattle.thing_core.specs.Kept.{Fits}
+use Rattle.thing_site.specs.Site.{Site}
+use Rattle.thing_site.specs.Fits.{Fits}
 use Rattle.things_tables.proofs.histories.put_performed.Goals as goal
 
 pub returns-clause-fits : goal.returns-clause-fits

@@ -1,6 +1,6 @@
 -- the rack fits, and all emissions were handed out
 use Rattle.std.proofs.Common.{◌≡◌, []}
-use Rattle.thing_core.specs.Kept.{Fits}
+use Rattle.thing_site.specs.Fits.{Fits}
 use Rattle.things_tables.proofs.histories.put_steps.Given as goal
 
 abbrev pub invariant-loop-line : goal.invariant-loop-line

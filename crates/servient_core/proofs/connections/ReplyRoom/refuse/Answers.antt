@@ -2,7 +2,7 @@ use Rattle.std.proofs.Common.{◌++◌, ◌∙◌, ◌==◌, ℕ, List, Bool, ma
 use Rattle.http_bind.specs.Slots.{left_at}
 use Rattle.std.proofs.Common.{cond}
 use Rattle.std.specs.Prelude.{not}
-use Rattle.servient_edge.specs.Network.{NetShows, did}
+use Rattle.servient_outside.specs.Network.{NetShows, did}
 use Rattle.servient_core.specs.Machine.{acts_of_reply}
 use Rattle.servient_core.proofs.ConnectionLaws.{isnt_100}
 use Rattle.servient_core.proofs.connections.ReplyRoom.refuse.Goals as goal

@@ -1,7 +1,8 @@
 use Rattle.std.proofs.Common.{◌∙◌, sym, subst, ap}
 use Rattle.servient_base.specs.Moves.{Refines}
-use Rattle.thing_core.specs.Kept.{Kept, Fits}
-use Rattle.thing_core.specs.Site.{Site}
+use Rattle.thing_site.specs.Fits.{Fits}
+use Rattle.thing_core.specs.Kept.{Kept}
+use Rattle.thing_site.specs.Site.{Site}
 use Rattle.servient_outside.specs.declared.net.EventWithBytes.{EventWithBytes}
 use Rattle.servient_core.specs.Trace.{Shows, outside}
 use Rattle.servient_core.specs.Machine.{Follows, Step}

@@ -1,11 +1,13 @@
 use Rattle.std.proofs.Common.{◌≡◌, List, map, length, sym, ap, subst, ◌∙◌}
 use Rattle.thing_ops.specs.Requests.{PlainRequest, plain_request}
 use Rattle.thing_handler.specs.Handler.{Seen}
-use Rattle.thing_core.specs.Site.{Site}
+use Rattle.thing_site.specs.Site.{Site}
 use Rattle.thing_core.specs.Refusals.{Asked}
-use Rattle.thing_core.specs.Found.{found_act}
-use Rattle.thing_core.specs.Kept.{Kept, Fits}
-use Rattle.thing_core.specs.Performing.{MakesAct, input_of}
+use Rattle.thing_site.specs.Found.{found_act}
+use Rattle.thing_site.specs.Fits.{Fits}
+use Rattle.thing_core.specs.Kept.{Kept}
+use Rattle.thing_site.specs.HandedIn.{input_of}
+use Rattle.thing_core.specs.Performing.{MakesAct}
 use Rattle.thing_core.proofs.SlotLaws.{SiteStands, site_stands, slots_stand, inputs_fit, may_be_done}
 use Rattle.thing_core.proofs.LastLaws.{act_keeps}
 use Rattle.thing_core.proofs.PerformLaws.{done_makes, refusal_makes}

@@ -1,7 +1,8 @@
 use Rattle.std.proofs.Common.{◌≡◌, [], ◌++◌, length, refl, sym, ap, subst, ◌∙◌, arith}
-use Rattle.thing_core.specs.Site.{Site, events_of, emitters_of}
-use Rattle.thing_core.specs.Exposing.{held_site}
-use Rattle.thing_core.specs.Kept.{Kept, Fits}
+use Rattle.thing_site.specs.Site.{Site, events_of, emitters_of}
+use Rattle.thing_site.specs.Exposing.{held_site}
+use Rattle.thing_site.specs.Fits.{Fits}
+use Rattle.thing_core.specs.Kept.{Kept}
 use Rattle.thing_core.specs.Performing.{MakesPolls, PollsSome}
 use Rattle.thing_core.proofs.SlotLaws.{site_stands, all_events_stand}
 use Rattle.thing_core.proofs.LastLaws.{polls_keep}

@@ -1,8 +1,0 @@
-use Rattle.std.proofs.Common.{drop, map}
-use Rattle.std.specs.Prelude.{◌↔◌}
-use Rattle.thing_core.specs.Refusals.{SomeInput, IsRefusedBySchema}
-use Rattle.thing_core.specs.Performing.{input_of}
-use Rattle.thing_core.proofs.admitting.is_any_refused.Given as goal
-
-abbrev pub invariant-loop-input : goal.invariant-loop-input
-invariant-loop-input l = SomeInput IsRefusedBySchema (map input_of (drop l.input-index l.inputs)) ↔ SomeInput IsRefusedBySchema (map input_of l.inputs)

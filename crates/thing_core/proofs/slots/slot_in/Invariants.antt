@@ -1,6 +1,0 @@
-use Rattle.std.proofs.Common.{◌≡◌, drop}
-use Rattle.thing_core.specs.Site.{slot_named}
-use Rattle.thing_core.proofs.slots.slot_in.Given as goal
-
-abbrev pub invariant-loop-named : goal.invariant-loop-named
-invariant-loop-named l = slot_named l.segment l.pointer (drop l.named-index l.entries) ≡ slot_named l.segment l.pointer l.entries

@@ -1,0 +1,68 @@
+//! What the path of a request leads to: an invocation is there only where it stands.
+
+ghost use Rattle.std.specs.Prelude.{◌≡◌, ◌==◌, Some, None, if◌then◌else◌, option_map};
+ghost use Rattle.thing_site.specs.Found.{found_place};
+ghost use Rattle.thing_core.specs.Places as spec;
+ghost use Rattle.thing_core.specs.State.{invocation_named as invocation_of};
+ghost use Rattle.thing_core.specs.Ids.{IdsRise};
+
+use crate::state::{Invocation, place_by_id};
+use thing_ops::Segments;
+use thing_site::{IndexedThings, Place, place_at};
+
+/// What a path leads to, where it leads anywhere and these invocations stand.
+pub fn place_of<'a>(
+    things: &'a IndexedThings,
+    invocations: &[Invocation],
+    path: &Segments,
+) -> Option<Place<'a>>
+    requires { IdsRise invocations.now }
+    ensures { option_map found_place result ≡ spec.place_of path.now things.now invocations.now }
+{
+    match place_at(things, path) {
+        Some(place) => where_stands(place, invocations),
+        None => None,
+    }
+}
+
+/// A place, unless it is an invocation that doesn't stand.
+fn where_stands<'a>(place: Place<'a>, invocations: &[Invocation]) -> Option<Place<'a>>
+    requires { IdsRise invocations.now }
+    ensures { option_map found_place result ≡ spec.where_stands invocations.now (found_place place.entry) }
+{
+    match place {
+        Place::Invocation(spot, id) => match invocation_in(invocations, spot.slot(), id) {
+            Some(_) => Some(Place::Invocation(spot, id)),
+            None => None,
+        },
+        Place::Description(_)
+        | Place::AllProperties(_)
+        | Place::Property(_)
+        | Place::Observed(_)
+        | Place::Action(_)
+        | Place::Event(_)
+        | Place::Subscribed(_) => Some(place),
+    }
+}
+
+/// The invocation of this id under the action in this slot, found by halving.
+pub fn invocation_in(invocations: &[Invocation], slot: u32, id: u32) -> Option<&Invocation>
+    requires { IdsRise invocations.now }
+    ensures { option_map (λ i. i.now) result ≡ invocation_of slot id invocations.now }
+{
+    match place_by_id(invocations, id) {
+        Some(index) => of_slot(&invocations[index], slot),
+        None => None,
+    }
+}
+
+/// An invocation, where its action is in this slot.
+fn of_slot(invocation: &Invocation, slot: u32) -> Option<&Invocation>
+    ensures { option_map (λ i. i.now) result ≡ (if invocation.now.slot == slot then Some invocation.now else None) }
+{
+    if invocation.slot() == slot {
+        Some(invocation)
+    } else {
+        None
+    }
+}

@@ -1,0 +1,10 @@
+pub mod Site
+pub mod SiteCodes
+pub mod Fits
+pub mod Places
+pub mod Refusals
+pub mod Exposing
+pub mod Found
+pub mod HandedIn
+pub mod Order
+pub mod Index

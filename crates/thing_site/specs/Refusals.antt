@@ -1,0 +1,165 @@
+-- What a request hands in to an act, and why it is refused whatever the state is.
+use Rattle.std.specs.Prelude.{◌≡◌, ◌<◌, ◌⊎◌, ℕ, List, [], ◌∷◌, ◌++◌, length, Bool, true, false, ◌||◌, IfSome, Option, Some, None, option_map, option_and_then, if◌then◌else◌}
+use Rattle.wot_json.specs.Tree.{Json, object, Members, no_members, member}
+use Rattle.wot_json.specs.Json.{text_of}
+use Rattle.wot_json.specs.Reading.{tree_of}
+use Rattle.wot_schema.specs.Acceptance.{Accepts}
+use Rattle.wot_terms.specs.declared.kind.Kind.TheVariants as kind
+use Rattle.thing_ops.specs.declared.request.Accept.{Accept}
+use Rattle.thing_ops.specs.declared.request.Format.{Format}
+use Rattle.thing_ops.specs.declared.request.Format.TheVariants as format
+use Rattle.thing_ops.specs.declared.outcome.Outcome.{Outcome}
+use Rattle.thing_ops.specs.declared.outcome.Outcome.TheVariants as outcome
+use Rattle.thing_ops.specs.Requests.{PlainRequest}
+use Rattle.thing_site.specs.Site.{Placed, ExposedThing, affordance_named}
+use Rattle.thing_site.specs.Places.{Act, describes, reads_all, writes_many, reads, writes, invokes, queries, cancels, reads_event, waits}
+
+-- ---- what is handed in
+
+-- how long the text of a value may be that is handed in or comes back, in bytes
+abbrev pub longest_value : ℕ
+longest_value = 1024
+
+-- a value of a request, and the affordance that it is for
+pub record Input : Type 0 where
+  pub affordance : Placed
+  pub value : Json
+
+abbrev pub only_input : Placed → Json → List Input
+only_input p value = record { affordance = p; value = value } ∷ []
+
+-- the property that a member of a body writes: one of the Thing's that isn't read-only
+abbrev pub unless_read_only : Placed → Option Placed
+unless_read_only p = if p.affordance.read_only then None else Some p
+
+abbrev pub written_property : ExposedThing → List ℕ → Option Placed
+written_property thing name = option_and_then unless_read_only (affordance_named kind.Property name thing.affordances)
+
+-- the values that the members of an object hand in, where each is for such a property
+abbrev pub member_inputs : ExposedThing → Members → Option (List Input)
+member_inputs thing no_members = Some []
+member_inputs thing (member name value ms) =
+    option_and_then (λ p. option_map (λ inputs. only_input p value ++ inputs) (member_inputs thing ms)) (written_property thing name)
+
+abbrev pub object_inputs : ExposedThing → Json → Option (List Input)
+object_inputs thing (object ms) = member_inputs thing ms
+object_inputs thing value = None
+
+-- no body is wanted
+abbrev pub no_inputs : List ℕ → Option (List Input)
+no_inputs [] = Some []
+no_inputs (byte ∷ body) = None
+
+-- an action takes a body exactly where it has an input schema (TD 1.1, section 5.3.1.4)
+abbrev pub invoke_inputs : Placed → Option Json → List ℕ → Option (List Input)
+invoke_inputs p None body = no_inputs body
+invoke_inputs p (Some schema) body = option_map (only_input p) (tree_of body)
+
+-- What a body hands in to an act; None: the act wants a body and has none that can be read, or the other way round.
+abbrev pub inputs_of : Act → List ℕ → Option (List Input)
+inputs_of (describes thing) body = no_inputs body
+inputs_of (reads_all thing) body = no_inputs body
+inputs_of (writes_many thing) body = option_and_then (object_inputs thing) (tree_of body)
+inputs_of (reads p) body = no_inputs body
+inputs_of (writes p) body = option_map (only_input p) (tree_of body)
+inputs_of (invokes p) body = invoke_inputs p p.affordance.input body
+inputs_of (queries p id) body = no_inputs body
+inputs_of (cancels p id) body = no_inputs body
+inputs_of (reads_event p) body = no_inputs body
+inputs_of (waits p) body = no_inputs body
+
+-- ---- what an act asks of a request
+
+-- what its answer can be sent as: a description as either format, a value as JSON; other acts send no such thing
+abbrev pub is_acceptable : Act → Accept → Bool
+is_acceptable (describes thing) accept = accept.json || accept.td
+is_acceptable (reads_all thing) accept = accept.json
+is_acceptable (reads p) accept = accept.json
+is_acceptable (invokes p) accept = accept.json
+is_acceptable (queries p id) accept = accept.json
+is_acceptable (reads_event p) accept = accept.json
+is_acceptable (waits p) accept = accept.json
+is_acceptable (writes_many thing) accept = true
+is_acceptable (writes p) accept = true
+is_acceptable (cancels p id) accept = true
+
+-- the formats in which a body is taken: JSON, which is also what a body is that names none; for a description that of descriptions too
+abbrev pub is_description : Act → Bool
+is_description (describes thing) = true
+is_description act = false
+
+abbrev pub is_taken_format : Act → Format → Bool
+is_taken_format act format.Absent = true
+is_taken_format act format.Json = true
+is_taken_format act format.Td = is_description act
+is_taken_format act format.Patch = false
+is_taken_format act format.Other = false
+
+-- some input is so
+abbrev pub SomeInput : (Input → Type 0) → List Input → Type 0
+SomeInput P [] = ⊥
+SomeInput P (input ∷ inputs) = P input ⊎ SomeInput P inputs
+
+-- the text of its value is longer than is taken
+abbrev pub IsLong : Input → Type 0
+IsLong input = longest_value < length (text_of input.value)
+
+-- the schema of what is handed in there accepts it; what has no schema is accepted
+abbrev pub IsAccepted : Option Json → Json → Type 0
+IsAccepted schema value = IfSome schema (λ s. Accepts s value)
+
+abbrev pub IsRefusedBySchema : Input → Type 0
+IsRefusedBySchema input = ¬ (IsAccepted input.affordance.affordance.input input.value)
+
+-- ---- the refusals
+
+-- the kinds of refusals
+pub data Refusal : Type 0 where
+  nothing_there verb_not_taken answer_not_acceptable format_not_taken body_not_as_wanted value_too_large refused_by_schema no_invocation_left : Refusal
+
+-- those of an act that is there for which no state counts, in the order in which they are judged
+abbrev pub refusals_by_request : List Refusal
+refusals_by_request = answer_not_acceptable ∷ format_not_taken ∷ body_not_as_wanted ∷ value_too_large ∷ refused_by_schema ∷ []
+
+-- there is one, and this holds of it
+abbrev pub Holding : {A : Type 0} → (A → Type 0) → Option A → Type 0
+Holding P None = ⊥
+Holding P (Some a) = P a
+
+abbrev pub IsEmptyBody : List ℕ → Type 0
+IsEmptyBody body = body ≡ []
+
+-- when each of them stands against an act that is asked for, whatever the state
+abbrev pub StandsByRequest : Refusal → Act → PlainRequest → Type 0
+-- the sender takes no format that the answer has
+StandsByRequest answer_not_acceptable act q = is_acceptable act q.accept ≡ false
+-- it has a body in a format that isn't taken there
+StandsByRequest format_not_taken act q = (¬ (IsEmptyBody q.body)) × (is_taken_format act q.format ≡ false)
+-- its body is missing, not wanted, can't be read, or isn't an object of properties that may be written
+StandsByRequest body_not_as_wanted act q = inputs_of act q.body ≡ None
+-- a value is longer than is taken
+StandsByRequest value_too_large act q = Holding (SomeInput IsLong) (inputs_of act q.body)
+-- a schema refuses a value
+StandsByRequest refused_by_schema act q = Holding (SomeInput IsRefusedBySchema) (inputs_of act q.body)
+-- the others aren't judged by the request alone
+StandsByRequest r act q = ⊥
+
+-- what those against an act are answered with
+abbrev pub IsAnswer : Refusal → Outcome → Type 0
+IsAnswer answer_not_acceptable o = o ≡ outcome.NotAcceptable
+IsAnswer format_not_taken o = o ≡ outcome.Format
+IsAnswer body_not_as_wanted o = o ≡ outcome.BadValue
+IsAnswer value_too_large o = o ≡ outcome.TooLarge
+IsAnswer refused_by_schema o = o ≡ outcome.BadValue
+IsAnswer no_invocation_left o = o ≡ outcome.InvocationsFull
+IsAnswer r o = ⊥
+
+-- the first of these that stands decides the outcome
+abbrev pub IsFirst : (Refusal → Type 0) → (Refusal → Outcome → Type 0) → List Refusal → Outcome → Type 0
+IsFirst S Answers [] o = ⊥
+IsFirst S Answers (r ∷ rs) o = (S r × Answers r o) ⊎ ((¬ (S r)) × IsFirst S Answers rs o)
+
+-- none of these stands
+abbrev pub IsNone : (Refusal → Type 0) → List Refusal → Type 0
+IsNone S [] = Unit {0}
+IsNone S (r ∷ rs) = (¬ (S r)) × IsNone S rs

@@ -1,0 +1,148 @@
+//! Things with an index, by which each is found by its segment.
+
+ghost use Rattle.std.specs.Prelude.{◌≡◌, ◌<◌, ◌+◌, [], length, take, option_map, slice_get, IfErr, IfOk, OnOk};
+ghost use Rattle.std.specs.List.{AllByRecursion};
+ghost use Rattle.std.specs.List.Sorted.{IsBinarySearchResult, IsSearchInRange};
+ghost use Rattle.wot_terms.specs.Faults.{IsValid};
+ghost use Rattle.thing_site.specs.Site.{expose_faults, site_of, thing_named as thing_of};
+ghost use Rattle.thing_site.specs.Fits.{Fits};
+ghost use Rattle.thing_site.specs.Exposing.{held_site, held_thing, kinds_of, IsFirst};
+ghost use Rattle.thing_site.specs.Index.{segment_at as segment_in, segment_order, Indexes};
+
+use crate::placing::place_all;
+use crate::{ExposeFault, HeldThing, NoMemory, Slots};
+use std::alloc::Global;
+use std::cmp::Ordering;
+use std::marker::Model;
+use thing_handler::Handlers;
+use wot_terms::Things;
+
+/// Things in their order, with an index. Contracts see the Things.
+#[derive(Drop)]
+pub struct IndexedThings {
+    things: Vec<HeldThing>,
+    /// The numbers of the Things, in the order of their segments. A Thing whose segment an earlier one has is left out.
+    index: Vec<usize>,
+}
+
+impl Model for IndexedThings {
+    ghost use Rattle.thing_site.specs.Site.{Site};
+    ghost use Rattle.thing_site.specs.SiteCodes.{site_code};
+    ghost use Rattle.thing_site.specs.Exposing.{held_site};
+    ghost use Rattle.thing_site.specs.Index.{Indexes};
+
+    ghost Value = { Site };
+
+    ghost coded = { site_code };
+
+    ghost view = { λ t. held_site t.things.items };
+
+    ghost invariant = { λ t. Indexes (held_site t.things.items) t.index.items (held_site t.things.items) };
+}
+
+impl IndexedThings {
+    /// Things as they are exposed by these slots of a rack.
+    pub fn new<R: Handlers>(
+        alloc: Global,
+        things: Things,
+        slots: &Slots,
+        rack: &R,
+    ) -> Result<IndexedThings, ExposeFault>
+        requires { AllByRecursion (λ t. IsValid t.1) things }
+        ensures ok { IfOk result (λ t. t ≡ site_of slots.now things) }
+        ensures faultless { OnOk result (expose_faults (kinds_of (R.slots rack.now)) slots.now things ≡ []) }
+        ensures fits { IfOk result (λ t. Fits t (R.slots rack.now)) }
+        ensures fault { IfErr result (λ fault. IsFirst (expose_faults (kinds_of (R.slots rack.now)) slots.now things) fault) }
+    {
+        let held = place_all(alloc, rack, slots, things.as_slice())?;
+        Ok(IndexedThings::of(alloc, held)?)
+    }
+
+    /// These Things, with their index.
+    fn of(alloc: Global, things: Vec<HeldThing>) -> Result<IndexedThings, NoMemory>
+        ensures { IfOk result (λ t. t ≡ held_site things.items) }
+    {
+        let index = index_of(alloc, things.as_slice())?;
+        Ok(IndexedThings { things, index })
+    }
+
+    /// The Things in their order.
+    pub fn as_slice(&self) -> &[HeldThing]
+        ensures { held_site result.now ≡ self.now }
+    {
+        self.things.as_slice()
+    }
+
+    /// The Thing of this segment, found by halving.
+    pub fn named(&self, segment: &[u8]) -> Option<&HeldThing>
+        ensures { option_map (λ t. held_thing t.now) result ≡ thing_of segment.now self.now }
+    {
+        thing_named(self.things.as_slice(), self.index.as_slice(), segment)
+    }
+}
+
+/// The Thing of this segment, by an index of the Things.
+fn thing_named<'a>(
+    things: &'a [HeldThing],
+    index: &[usize],
+    segment: &[u8],
+) -> Option<&'a HeldThing>
+    requires { Indexes (held_site things.now) index.now (held_site things.now) }
+    ensures { option_map (λ t. held_thing t.now) result ≡ thing_of segment.now (held_site things.now) }
+{
+    match search(things, index, segment) {
+        Ok(place) => thing_at(things, index[place]),
+        Err(_) => None,
+    }
+}
+
+/// Where the number of the Thing of this segment is in an index, or where it would be.
+fn search(things: &[HeldThing], index: &[usize], segment: &[u8]) -> Result<usize, usize>
+    ensures bound { IsSearchInRange result (length index.now) }
+    ensures place { IsBinarySearchResult (segment_order (held_site things.now) segment.now) index.now result }
+{
+    let order = |number: &usize| -> Ordering
+        ensures { result ≡ segment_order (held_site things.entry.now) segment.entry.now number.now }
+    { segment_at(things, *number).cmp(segment) };
+    index.binary_search_by(order)
+}
+
+/// The Thing of this number.
+fn thing_at(things: &[HeldThing], number: usize) -> Option<&HeldThing>
+    ensures { option_map (λ t. held_thing t.now) result ≡ slice_get (held_site things.now) number }
+{
+    things.get(number)
+}
+
+/// The segment of the Thing of this number.
+fn segment_at(things: &[HeldThing], number: usize) -> &[u8]
+    ensures { result.now ≡ segment_in (held_site things.now) number }
+{
+    match thing_at(things, number) {
+        Some(thing) => thing.segment.as_str().as_bytes(),
+        None => &[],
+    }
+}
+
+/// The index of these Things.
+fn index_of(alloc: Global, things: &[HeldThing]) -> Result<Vec<usize>, NoMemory>
+    ensures { IfOk result (λ index. Indexes (held_site things.now) index.items (held_site things.now)) }
+{
+    let mut index = Vec::new(alloc);
+    for number in 0..things.len() {
+        add_number(&mut index, things, number)?;
+    }
+    Ok(index)
+}
+
+/// Puts the number of a Thing into an index of those before it, unless one of these has its segment.
+fn add_number(index: &mut Vec<usize>, things: &[HeldThing], number: usize) -> Result<(), NoMemory>
+    requires number { number < length things.now }
+    requires index { Indexes (held_site things.now) index.old.items (take number (held_site things.now)) }
+    ensures { OnOk result (Indexes (held_site things.now) index.new.items (take (number + 1) (held_site things.now))) }
+{
+    match search(things, index.as_slice(), segment_at(things, number)) {
+        Ok(_) => Ok(()),
+        Err(place) => Ok(index.insert(place, number)?),
+    }
+}

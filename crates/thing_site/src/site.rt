@@ -1,0 +1,157 @@
+//! What is constant in a run: the Things, their affordances and the slots of their handlers.
+
+ghost use Rattle.std.specs.Prelude.{◌≡◌, option_map, slice_get, true};
+ghost use Rattle.thing_site.specs.Site.{affordance_named, is_emitter as is_emitter_of, is_kind as is_kind_of};
+ghost use Rattle.std.specs.Cmp.Lexicographic.{slice_cmp};
+ghost use Rattle.std.specs.Ordering.{nat_cmp};
+ghost use Rattle.thing_site.specs.Order.{key, key_of, rank as rank_of, are_rising};
+ghost use Rattle.thing_site.specs.Exposing.{held_thing, placed_all};
+
+use crate::HeldThing;
+use std::cmp::Ordering;
+use std::marker::Model;
+use wot_terms::{Affordance, Kind};
+
+/// An affordance, and the slot of its handler. Contracts see both.
+#[derive(Drop)]
+pub struct Spot<'a> {
+    affordance: &'a Affordance,
+    slot: u32,
+}
+
+impl<'a> Model for Spot<'a> {
+    ghost use Rattle.thing_site.specs.Site.{Placed};
+    ghost use Rattle.thing_site.specs.SiteCodes.{placed_code};
+
+    ghost Value = { Placed };
+
+    ghost coded = { placed_code };
+
+    ghost view = { λ s. record { affordance = s.affordance.now; slot = s.slot } };
+}
+
+impl<'a> Spot<'a> {
+    /// An affordance with its slot.
+    pub fn of(affordance: &'a Affordance, slot: u32) -> Spot<'a>
+        ensures { result ≡ record { affordance = affordance.now; slot = slot } }
+    {
+        Spot { affordance, slot }
+    }
+
+    pub fn affordance(&self) -> &'a Affordance
+        ensures { result.now ≡ self.now.affordance }
+    {
+        self.affordance
+    }
+
+    /// The slot of its handler.
+    pub fn slot(&self) -> u32
+        ensures { result ≡ self.now.slot }
+    {
+        self.slot
+    }
+
+    /// The same again.
+    pub fn again(&self) -> Spot<'a>
+        ensures { result ≡ self.now }
+    {
+        Spot {
+            affordance: self.affordance,
+            slot: self.slot,
+        }
+    }
+}
+
+impl HeldThing {
+    /// The affordance of this kind and name, found by halving.
+    pub fn affordance(&self, kind: Kind, name: &[u8]) -> Option<Spot<'_>>
+        ensures { result ≡ affordance_named kind name.now (held_thing self.now).affordances }
+    {
+        spot_named(
+            self.affordances.affordances(),
+            self.slots.as_slice(),
+            kind,
+            name,
+        )
+    }
+}
+
+/// The one of these affordances of this kind and name.
+fn spot_named<'a>(
+    affordances: &'a [Affordance],
+    slots: &[u32],
+    kind: Kind,
+    name: &[u8],
+) -> Option<Spot<'a>>
+    requires { are_rising affordances.now ≡ true }
+    ensures { result ≡ affordance_named kind name.now (placed_all affordances.now slots.now) }
+{
+    let order = |affordance: &Affordance| -> Ordering
+        ensures { result ≡ slice_cmp nat_cmp (key_of affordance.now) (key kind name.entry.now) }
+    { compare(affordance, kind, name) };
+    match affordances.binary_search_by(order) {
+        Ok(index) => spot_of(&affordances[index], slot_at(slots, index)),
+        Err(_) => None,
+    }
+}
+
+/// An affordance with its slot, where it has one.
+fn spot_of(affordance: &Affordance, slot: Option<u32>) -> Option<Spot<'_>>
+    ensures { result ≡ option_map (λ s. record { affordance = affordance.now; slot = s }) slot }
+{
+    match slot {
+        Some(slot) => Some(Spot::of(affordance, slot)),
+        None => None,
+    }
+}
+
+/// How an affordance compares to one of this kind and name, in the order in which a Thing keeps them.
+fn compare(affordance: &Affordance, kind: Kind, name: &[u8]) -> Ordering
+    ensures { result ≡ slice_cmp nat_cmp (key_of affordance.now) (key kind name.now) }
+{
+    match rank(affordance.kind).cmp(&rank(kind)) {
+        Ordering::Equal => affordance.name.as_str().as_bytes().cmp(name),
+        order => order,
+    }
+}
+
+/// Properties are before actions, and these before events.
+fn rank(kind: Kind) -> u8
+    ensures { result ≡ rank_of kind }
+{
+    match kind {
+        Kind::Property => 0,
+        Kind::Action => 1,
+        Kind::Event => 2,
+    }
+}
+
+/// The slot with this number.
+pub fn slot_at(slots: &[u32], index: usize) -> Option<u32>
+    ensures { result ≡ slice_get slots.now index }
+{
+    slots.get(index).copied()
+}
+
+/// Both kinds are one.
+pub fn is_kind(left: Kind, right: Kind) -> bool
+    ensures { result ≡ is_kind_of left right }
+{
+    match (left, right) {
+        (Kind::Property, Kind::Property)
+        | (Kind::Action, Kind::Action)
+        | (Kind::Event, Kind::Event) => true,
+        _ => false,
+    }
+}
+
+/// The affordance may emit.
+pub fn is_emitter(affordance: &Affordance) -> bool
+    ensures { result ≡ is_emitter_of (record { affordance = affordance.now; slot = 0 }) }
+{
+    match affordance.kind {
+        Kind::Event => true,
+        Kind::Property => affordance.observable,
+        Kind::Action => false,
+    }
+}

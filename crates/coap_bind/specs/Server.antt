@@ -4,7 +4,7 @@
 -- What it holds is `Server` of src/server.rt: the `exchanges` that live, with the replies that are kept
 -- (coap_exchange/specs/Table.antt), and `next_id`, the message ID of the next message that isn't an acknowledgement. What a request
 -- asks for is coap_opts/specs/Reading.antt, and what a reply is on the wire is in Writing.antt.
-use Rattle.std.specs.Prelude.{◌≡◌, ℕ, ◌+◌, ◌*◌, ◌/◌, ◌%◌, ◌==◌, ◌&&◌, nat_lt, Bool, true, false, List, [], ◌∷◌, Option, Some, None, slice_get, if◌then◌else◌}
+use Rattle.std.specs.Prelude.{◌≡◌, ℕ, ◌+◌, ◌/◌, ◌%◌, ◌&&◌, nat_lt, Bool, true, false, List, [], Option, Some, None, slice_get, if◌then◌else◌}
 use Rattle.coap_msg.specs.declared.endpoint.Endpoint.{Endpoint}
 use Rattle.coap_msg.specs.declared.message.MsgFault.{MsgFault}
 use Rattle.coap_msg.specs.declared.message.Type4.{Type4}

@@ -1,5 +1,5 @@
 -- Which messages a client takes, and what each message means to it (RFC 7252, sections 4.2 and 5.3.2; RFC 7641, section 3).
-use Rattle.std.specs.Prelude.{◌+◌, ◌-◌, ◌*◌, ◌/◌, ◌^◌, ◌==◌, ◌&&◌, ◌||◌, ℕ, nat_lt, nat_le, length, Bool, true, false, List, [], ◌∷◌, Option, Some, None, if◌then◌else◌}
+use Rattle.std.specs.Prelude.{◌-◌, ◌/◌, ◌^◌, ◌==◌, ◌&&◌, ◌||◌, ℕ, nat_lt, nat_le, length, Bool, true, false, List, [], ◌∷◌, Option, Some, None, if◌then◌else◌}
 use Rattle.std.specs.Str.{bytes_eq}
 use Rattle.coap_msg.specs.declared.endpoint.Endpoint.{Endpoint}
 use Rattle.coap_msg.specs.declared.message.Type4.{Type4}

@@ -1,4 +1,4 @@
--- Laws of the client, over all that it does from its beginning.
+-- Laws of the client, over all that it does from its beginning (RFC 7252, sections 4.4, 4.8.2 and 5.3.2).
 use Rattle.std.specs.Prelude.{◌≡◌, ◌<◌, ◌≤◌, ◌+◌, ◌⊎◌, ℕ, true, List, [], ◌∷◌, ◌++◌, take, Some, Contains, AllPairs}
 use Rattle.coap_msg.specs.declared.endpoint.Endpoint.{Endpoint}
 use Rattle.coap_msg.specs.Grammar.{CoapMessage}

@@ -1,5 +1,5 @@
 -- What is seen of the code's entries.
-use Rattle.std.proofs.Common.{◌-◌, ◌⊎◌, inl, inr, not, ◌++◌, vec_capacity, length-append, ◌≡◌, ◌+◌, ◌≤◌, ◌<◌, ◌==◌, ℕ, Bool, true, false, cond, List, [], ◌∷◌, map, length, get_or, set, Option, Some, None, ◌≢◌, ◌∙◌, sym, refl, ap, arith}
+use Rattle.std.proofs.Common.{◌-◌, not, ◌++◌, vec_capacity, length-append, ◌≡◌, ◌+◌, ◌≤◌, ◌<◌, ◌==◌, ℕ, Bool, true, false, cond, List, [], ◌∷◌, map, length, get_or, set, Option, Some, None, ◌≢◌, ◌∙◌, sym, refl, ap, arith}
 use Rattle.std.specs.Option.{option_map}
 use Rattle.std.specs.Prelude.{nat_lt}
 use Rattle.std.proofs.lemmas.List.Elements.{All-push, filter_passes}

@@ -1,5 +1,5 @@
 -- Laws of admission (RFC 7252, sections 4.4 and 4.5).
-use Rattle.std.specs.Prelude.{◌≡◌, ◌≤◌, ◌⊎◌, ℕ, true, false, List, [], ◌∷◌, ◌++◌, All, AllPairs, Contains}
+use Rattle.std.specs.Prelude.{◌≡◌, ◌≤◌, ℕ, true, false, List, [], ◌∷◌, ◌++◌, All, AllPairs, Contains}
 use Rattle.coap_exchange.specs.Admission.{Arrival, lives, is_same_exchange, is_duplicate_of, Verdict, admitted, duplicate, refused, verdict, admitted_among}
 use Rattle.coap_exchange.specs.Table.{Table, at_moment, Meets, StandsFor}
 use Rattle.coap_exchange.specs.declared.met.Met.{Met}

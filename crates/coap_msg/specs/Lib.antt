@@ -3,12 +3,12 @@ pub mod Headers
 pub mod Faults
 pub mod MessageOf
 pub mod PlainMessage
+pub mod Options
 pub mod OptionsLeft
 pub mod Opts
 pub mod Numbers
 pub mod Requests
 pub mod Empty
 pub mod Written
-pub mod Options
 pub mod Kept
 pub mod Parts

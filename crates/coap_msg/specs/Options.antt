@@ -1,4 +1,4 @@
--- Inside: the options that bytes spell (RFC 7252, section 3.1), for the views of `Options` and `Opts`. The contracts of
+-- The options that bytes spell (RFC 7252, section 3.1), for the views of `Options` and `Opts`. The contracts of
 -- `decode` and `encode` are by the grammar alone.
 use Rattle.std.specs.Prelude.{ℕ, zero, suc, ◌+◌, ◌*◌, ◌/◌, ◌%◌, ◌^◌, List, [], ◌∷◌, length, take, drop, nat_lt, nat_eq, if◌then◌else◌, Option, Some, None, option_and_then}
 use Rattle.std.specs.Option.{option_map_or}

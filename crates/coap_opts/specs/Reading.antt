@@ -69,10 +69,10 @@ number_under k os = option_and_then (number_within k) (slice_get (values_under k
 -- the verb of a code of class 0 (section 12.1.1)
 abbrev pub verb_of : ℕ → Verb
 verb_of code =
-    if code == 1 then verb.Get
-    else if code == 2 then verb.Post
-    else if code == 3 then verb.Put
-    else if code == 4 then verb.Delete
+    if code == GET then verb.Get
+    else if code == POST then verb.Post
+    else if code == PUT then verb.Put
+    else if code == DELETE then verb.Delete
     else verb.Other
 
 -- the media type of a content format (section 12.3; TD 1.1)

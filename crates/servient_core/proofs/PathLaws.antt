@@ -1,5 +1,5 @@
 -- The segments of the path of a CoAP request are short.
-use Rattle.std.proofs.Common.{◌≡◌, ℕ, ◌≤◌, ◌+◌, ◌*◌, ◌/◌, List, [], ◌∷◌, length, map, Bool, true, false, refl, sym, subst}
+use Rattle.std.proofs.Common.{◌≡◌, ℕ, ◌≤◌, List, [], ◌∷◌, length, map, Bool, true, false, refl, sym, subst}
 use Rattle.std.specs.Prelude.{Option, Some, None, ◌==◌, not, if◌then◌else◌}
 use Rattle.std.specs.List.{All, filter}
 use Rattle.std.proofs.lemmas.Bool.{and_parts, leb-true, eqb-true}

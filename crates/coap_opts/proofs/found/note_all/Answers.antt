@@ -1,5 +1,5 @@
 -- One more option was noted.
-use Rattle.std.proofs.Common.{sym, ℕ, List, Option}
+use Rattle.std.proofs.Common.{sym, List}
 use Rattle.coap_msg.specs.Grammar.{CoapOption}
 use Rattle.coap_msg.specs.OptionsLeft.{options_left}
 use Rattle.coap_opts.specs.Found.{kept_first}

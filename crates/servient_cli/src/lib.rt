@@ -2,6 +2,17 @@
 //!
 //! `servient_main` is what the program does. Its contract, `Ends` of `specs/Command.antt`, says for each
 //! exit status why it came and what was written.
+//!
+//! ```
+//! use servient_cli::servient_main;
+//! use servient_outside::OutMemory;
+//!
+//! // `servient check lamp.td.json`, with files, a network and an output in memory, and a rack of any handlers.
+//! let words = [text("check"), text("lamp.td.json")];
+//! let mut out = OutMemory::new(alloc, 1024, Calls::new(alloc))?;
+//! assert_eq!(servient_main(alloc, &words, &mut files, &mut net, &mut rack, &mut out), 0);
+//! assert_eq!(out.written(), b"valid\n");
+//! ```
 #![tactic(auto)]
 
 mod checking;

@@ -4,6 +4,17 @@
 //! servient stood for before, it stands afterwards for one to which the machine's move leads, and the network and the
 //! rack show what is seen of that move. The crate sees the handlers as `Handlers` and the network as `Net`, and knows no
 //! socket and no clock.
+//!
+//! ```
+//! use servient_core::{Calls, Events, NetMemory, Plan, Served, Servient, serve};
+//!
+//! let plan = Plan::built_in(alloc)?;
+//! let mut servient = Servient::new(alloc, &plan, derived, &rack)?;
+//! // No event but the Stop that a network in memory gives at its end.
+//! let mut net = NetMemory::new(alloc, Events::new(alloc), Calls::new(alloc))?;
+//! assert!(matches!(serve(&mut servient, &mut net, &mut rack, 100), Served::Stopped));
+//! assert!(net.acts().is_empty());
+//! ```
 #![tactic(auto)]
 
 mod connections;

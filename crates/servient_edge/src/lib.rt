@@ -2,6 +2,16 @@
 //!
 //! The traits that they meet, and their versions in memory, stand in `servient_outside` and are exported here too. An
 //! adapter records nothing of what happened but its count of faults: no contract says what a socket or a file gives.
+//!
+//! ```
+//! use servient_edge::{Files, FilesReal, Got, Out, OutReal, Put};
+//!
+//! let mut files = FilesReal::new(rt.clone()?);
+//! let mut content = Bytes::new(alloc);
+//! assert_eq!(files.read(alloc, "examples/lamp.td.json", 1_048_576, &mut content), Got::Whole);
+//! let mut out = OutReal::new(io::writer(&rt));
+//! assert_eq!(out.put(content.as_slice()), Put::Done);
+//! ```
 #![tactic(auto)]
 
 mod addresses;

@@ -5,6 +5,20 @@
 //! records all of that; but a network in memory that has lost an act, because it was out of memory, records no more of
 //! what happened. The adapters to the machine, which record only what failed, stand in `servient_edge`: what is said of the
 //! sockets, files and writers there is tested, and what is said here is proved.
+//!
+//! ```
+//! use servient_outside::{Calls, Events, Net, NetMemory, Next, What};
+//!
+//! // A network that gives no event, and whose first call fails: then comes the Stop, whose moment is 0.
+//! let mut fails = Calls::new(alloc);
+//! fails.push(1)?;
+//! let mut net = NetMemory::new(alloc, Events::new(alloc), fails)?;
+//! let mut buffer = [0; 4096];
+//! assert_eq!(net.next(&mut buffer), Next::Failed);
+//! assert!(matches!(net.next(&mut buffer), Next::Got(event) if event.what == What::Stop));
+//! net.send(3, b"HTTP/1.1 204 ", b"No Content");
+//! assert_eq!(net.acts().len(), 1);
+//! ```
 #![tactic(auto)]
 
 mod act_log;

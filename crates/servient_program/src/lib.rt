@@ -15,7 +15,7 @@ use std::{env, io};
 use thing_handler::{Handler, Rack, SHIPPED_SLOTS, shipped_in};
 use wot_json::Text;
 
-/// Does what the words after the program's name say, and gives the exit status. README.md has the table of these.
+/// Does what the words after the program's name say, and gives the exit status. docs/PROFILE.md has the table of these.
 pub fn run(rt: &HostRuntime) -> ExitCode {
     match run_words(rt) {
         Ok(status) => ExitCode::from(status),

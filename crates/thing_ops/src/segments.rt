@@ -67,6 +67,7 @@ impl Segments {
         ensures unchanged { OnErr result (self.new ≡ self.old) }
     {
         self.bytes.extend_from_slice(bytes)?;
+        // For the proof: a length that was read is below 2^64.
         let _fits = self.ends.len();
         let _ = self.ends.pop();
         self.ends.push_reserved(self.bytes.len());

@@ -4,6 +4,17 @@
 //! none, one of another kind, or one that is taken. `place_at` says what a path leads to, `act_at` what a verb asks for there,
 //! and `judge` what a request hands in to that act, or why it is refused whatever the state of the Things.
 //!
+//! ```
+//! use thing_handler::{Kind, Rack};
+//! use thing_site::{IndexedThings, Place, Slots, place_at};
+//!
+//! // The affordance `on` of the Thing `lamp` is served by the handler in slot 1 of the rack.
+//! let mut slots = Slots::new(alloc);
+//! slots.push(text("lamp"), text("/properties/on"), 1)?;
+//! let things = IndexedThings::new(alloc, derived, &slots, &rack)?;
+//! assert!(matches!(place_at(&things, &segments), Some(Place::Property(_))));
+//! ```
+//!
 //! Contracts see a site (`specs/Site.antt`): the Things, each with its affordances and the slots of their handlers. The contract
 //! in a sentence: `IndexedThings::new` is `site_of`, which fits the rack, or the first of `expose_faults`; what is found in it is
 //! what the site has there (`specs/Places.antt`), and a request is judged by the first of its refusals (`specs/Refusals.antt`).

@@ -38,6 +38,7 @@ impl<'a> Spot<'a> {
         Spot { affordance, slot }
     }
 
+    /// The affordance.
     pub fn affordance(&self) -> &'a Affordance
         ensures { result.now ≡ self.now.affordance }
     {

@@ -41,6 +41,7 @@ pub(crate) fn push_target(
     ensures ok { OnOk result (chain.new.items ≡ chain.old.items ++ target.now ∷ []) }
     ensures room { OnOk result (length chain.old.items < 2 ^ 64) }
 {
+    // For the proof: a length that was read is below 2^64.
     let _before = chain.len();
     let url = Text::copy_of(alloc, target.url.as_str())?;
     let pointer = Text::copy_of(alloc, target.pointer.as_str())?;

@@ -50,9 +50,11 @@ pub fn tree_is_well_formed(tree: &Tree)
         Tree::Null => {}
         Tree::Bool(_truth) => {}
         Tree::Int(number) => {
+            // For the proof: a number that was read has 64 bits with sign.
             let _fits = *number;
         }
         Tree::Text(text) => {
+            // For the proof: a text that was read is UTF-8.
             let _utf8 = text.as_str();
         }
         Tree::List(items) => items_are_well_formed(items),
@@ -75,6 +77,7 @@ fn members_are_well_formed(members: &Members)
     ensures members { MembersAreWellFormed (members_of members.now) }
 {
     for (name, member) in &members.list {
+        // For the proof: a name that was read is UTF-8.
         let _utf8 = name.as_str();
         tree_is_well_formed(member);
     }

@@ -8,7 +8,8 @@ ghost use Rattle.servient_core.specs.Trace.{outside};
 ghost use Rattle.servient_plan.specs.Plan.{HasFewExchanges, place_of};
 ghost use Rattle.servient_core.specs.Machine.{start};
 ghost use Rattle.servient_core.specs.Serving.{StandsFor};
-ghost use Rattle.servient_cli.specs.Stages.{FilesSeen, around};
+ghost use Rattle.servient_outside.specs.Files.{FilesSeen};
+ghost use Rattle.servient_cli.specs.Stages.{around};
 ghost use Rattle.servient_cli.specs.Listening.{Listens, ServesEvents, ServesPlan, ServesPlanned};
 ghost use Rattle.servient_cli.specs.Ending.{EndsBy, Performs};
 

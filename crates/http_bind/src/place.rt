@@ -1,11 +1,10 @@
 //! The path of a place, as it is written in a reply (RFC 3986, section 2).
 
 ghost use Rattle.std.specs.Prelude.{◌≡◌, ◌≤◌, ◌<◌, ◌∷◌, [], codes, length, slice_index_or};
-ghost use Rattle.wot_json.specs.Writing.{PutsIfRoom};
-ghost use Rattle.http_bind.specs.Places.{encoded, encoded_byte, is_unreserved as is_plain, path_text, segment_text};
+ghost use Rattle.servient_base.specs.Writing.{PutsIfRoom};
+ghost use Rattle.http_bind.specs.Places.{path_text, segment_text};
 
-use http_wire::put_piece;
-use percent_encoding::percent_encode_byte;
+use servient_base::{put_encoded, put_piece};
 use thing_ops::Segments;
 
 /// Writes the path of these segments to the beginning of `out`, if there is room for it.
@@ -48,39 +47,5 @@ fn put_segment(segment: &[u8], out: &mut [u8], at: usize) -> Option<usize>
     ensures { PutsIfRoom (segment_text segment.now) at out.old out.new result }
 {
     let at = put_piece(out, at, b"/")?;
-    put_encoded(segment, out, at)
-}
-
-/// Writes a segment, percent-encoded.
-fn put_encoded(segment: &[u8], out: &mut [u8], at: usize) -> Option<usize>
-    requires { at ≤ length out.old }
-    ensures { PutsIfRoom (encoded segment.now) at out.old out.new result }
-{
-    let mut end = at;
-    for byte in segment {
-        match put_byte(*byte, out, end) {
-            Some(next) => end = next,
-            None => return None,
-        }
-    }
-    Some(end)
-}
-
-/// Writes a byte of a segment.
-fn put_byte(byte: u8, out: &mut [u8], at: usize) -> Option<usize>
-    requires { at ≤ length out.old }
-    ensures { PutsIfRoom (encoded_byte byte) at out.old out.new result }
-{
-    if is_unreserved(byte) {
-        put_piece(out, at, &[byte])
-    } else {
-        put_piece(out, at, percent_encode_byte(byte).as_bytes())
-    }
-}
-
-/// Whether a byte is written as it is.
-fn is_unreserved(byte: u8) -> bool
-    ensures { result ≡ is_plain byte }
-{
-    byte.is_ascii_alphanumeric() || b"-._~".contains(&byte)
+    put_encoded(out, at, segment)
 }

@@ -42,7 +42,7 @@ mod target;
 
 pub use heads::skip_pairs;
 pub use laws::{chunked_bodies_are_spelled, front_is_stable, one_front};
-pub use reply::{Reply, has_reason, put_piece, put_reply};
+pub use reply::{Reply, has_reason, put_reply};
 pub use request::{RequestParts, request_of, verb_of};
 pub use scanned::{Body, Head, Scanned};
 pub use stream::scan;

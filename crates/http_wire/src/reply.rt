@@ -4,12 +4,12 @@ ghost use Rattle.std.specs.Prelude.{◌≡◌, ◌≤◌, ◌++◌, ◌↔◌, l
 ghost use Rattle.std.specs.List.{flat_map};
 ghost use Rattle.std.specs.Fmt.{decimal};
 ghost use Rattle.http_wire.specs.Heads.{line_end};
-ghost use Rattle.wot_json.specs.Writing.{Puts, PutsIfRoom};
+ghost use Rattle.servient_base.specs.Writing.{Puts, PutsIfRoom};
 ghost use Rattle.http_wire.specs.Writing.{http_reply, head_text, phrase_of, phrase_text, field_line, closing, written_length};
 ghost use Rattle.http_wire.specs.Replies.{plain_reply, line_of};
 
 use itoa::Buffer;
-use servient_base::put_bytes;
+use servient_base::put_piece;
 
 /// What a reply says before its payload.
 #[derive(Clone, Copy, Debug, Drop)]
@@ -120,17 +120,6 @@ fn put_line(name: &[u8], value: &[u8], out: &mut [u8], at: usize) -> Option<usiz
     let at = put_piece(out, at, name)?;
     let at = put_piece(out, at, value)?;
     put_piece(out, at, b"\r\n")
-}
-
-/// Writes bytes at a place where there is room for them, and returns the place after them.
-pub fn put_piece(out: &mut [u8], at: usize, bytes: &[u8]) -> Option<usize>
-    requires { at ≤ length out.old }
-    ensures { PutsIfRoom bytes.now at out.old out.new result }
-{
-    if out.len() - at < bytes.len() {
-        return None;
-    }
-    Some(put_bytes(out, at, bytes))
 }
 
 /// The bytes of a text, if there is one.

@@ -1,3 +1,5 @@
 pub mod Lists
 pub mod DecimalTexts
+pub mod EncodedBytes
 pub mod MovesLaws
+pub mod Pieces

@@ -1,3 +1,5 @@
 pub mod Count
+pub mod Encoding
 pub mod Location
 pub mod Moves
+pub mod Writing

@@ -1,16 +1,19 @@
 //! Words that several crates share and none of them owns.
 //!
 //! Being out of memory has one name, `NoMemory`. A count of faults that rose is `Rose` in `specs/Count.antt`.
-//! `put_bytes` is how every writer of this repository fills a caller's slice: it takes no memory and touches nothing
-//! but the bytes that it writes. `parse_decimal` is how every number that a person writes is read, and `join` how
-//! every text is joined to a URL.
+//! `put_bytes`, and `put_piece` where there may be no room, are how every writer of this repository fills a caller's
+//! slice: they take no memory and change nothing but the bytes that they write. `put_encoded` and `push_encoded` are how
+//! a segment is written into the path of a URL. `parse_decimal` is how every number that a person writes is read, and
+//! `join` how every text is joined to a URL.
 //!
 //! ```
-//! use servient_base::{join, parse_decimal, put_bytes};
+//! use servient_base::{join, parse_decimal, put_bytes, put_encoded, put_piece};
 //!
 //! let mut out = [0; 4];
 //! assert_eq!(put_bytes(&mut out, 1, b"ab"), 3);
 //! assert_eq!(&out, b"\0ab\0");
+//! assert_eq!(put_piece(&mut out, 3, b"cd"), None);
+//! assert_eq!(put_encoded(&mut out, 0, b"/"), Some(3));
 //!
 //! assert_eq!(parse_decimal("8080", 65_535), Some(8080));
 //! assert_eq!(parse_decimal("08080", 65_535), None);
@@ -21,13 +24,15 @@
 #![tactic(auto)]
 
 mod decimal;
+mod encoding;
 mod location;
 mod writing;
 
 pub use decimal::parse_decimal;
-pub use location::join;
+pub use encoding::{push_encoded, put_encoded};
+pub use location::{join, join_to};
 use std::alloc::AllocError;
-pub use writing::put_bytes;
+pub use writing::{put_bytes, put_piece};
 
 /// Out of memory. It is std's `AllocError` under the name that this product uses.
 pub type NoMemory = AllocError;

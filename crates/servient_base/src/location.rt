@@ -21,10 +21,18 @@ pub fn join(alloc: Global, base: Option<&str>, text: &str) -> Result<Option<Url>
     };
     match Url::parse(alloc, base) {
         Err(error) => refused(error),
-        Ok(base) => match base.join(text) {
-            Err(error) => refused(error),
-            Ok(url) => Ok(Some(url)),
-        },
+        Ok(base) => join_to(&base, text),
+    }
+}
+
+/// The URL of a text that is joined to a base. None where the text can't be joined.
+pub fn join_to(base: &Url, text: &str) -> Result<Option<Url>, NoMemory>
+    ensures { IfOk result (λ url. MatchOption url (IsRefused (parse_url (Some base.now) text.now))
+        (λ url. parse_url (Some base.now) text.now ≡ Ok url)) }
+{
+    match base.join(text) {
+        Err(error) => refused(error),
+        Ok(url) => Ok(Some(url)),
     }
 }
 

@@ -1,6 +1,7 @@
 //! Writing into a caller's slice, one piece after another.
 
 ghost use Rattle.std.specs.Prelude.{◌≡◌, ◌+◌, ◌≤◌, ◌++◌, length, take, drop};
+ghost use Rattle.servient_base.specs.Writing.{PutsIfRoom};
 
 /// Writes bytes at a place of `out`, and returns the place after them.
 pub fn put_bytes(out: &mut [u8], at: usize, bytes: &[u8]) -> usize
@@ -12,4 +13,15 @@ pub fn put_bytes(out: &mut [u8], at: usize, bytes: &[u8]) -> usize
     let end = at + bytes.len();
     out[at..end].copy_from_slice(bytes);
     end
+}
+
+/// Writes bytes at a place of `out` where there is room for them, and returns the place after them; else None.
+pub fn put_piece(out: &mut [u8], at: usize, bytes: &[u8]) -> Option<usize>
+    requires { at ≤ length out.old }
+    ensures { PutsIfRoom bytes.now at out.old out.new result }
+{
+    if out.len() - at < bytes.len() {
+        return None;
+    }
+    Some(put_bytes(out, at, bytes))
 }

@@ -5,8 +5,8 @@ use Rattle.std.specs.Prelude.{IsTrue}
 use Rattle.std.proofs.lemmas.Bool.{ne_eqb}
 use Rattle.std.proofs.lemmas.List.{append-nil}
 use Rattle.std.proofs.lemmas.List.Elements.{All-contains, filter_more, filter_passes}
-use Rattle.wot_json.specs.Writing.{Puts}
-use Rattle.wot_json.proofs.Pieces.{puts_then}
+use Rattle.servient_base.specs.Writing.{Puts}
+use Rattle.servient_base.proofs.Pieces.{puts_then}
 use Rattle.thing_ops.specs.declared.verb.Verb.{Verb}
 use Rattle.thing_ops.specs.declared.verb.Verb.TheVariants as verb
 use Rattle.thing_ops.specs.declared.allow.Allow.{Allow}

@@ -2,7 +2,7 @@
 
 ghost use Rattle.std.specs.Prelude.{◌≡◌, ◌+◌, ◌≤◌, length};
 ghost use Rattle.thing_ops.specs.Verbs.{takes as takes_verb, name_at, names_of, verbs_in, verbs_of};
-ghost use Rattle.wot_json.specs.Writing.{Puts};
+ghost use Rattle.servient_base.specs.Writing.{Puts};
 
 use crate::words::put;
 use crate::{RouteKind, Verb};

@@ -3,7 +3,7 @@
 ghost use Rattle.std.specs.Prelude.{◌++◌, ◌+◌, ◌≤◌, length};
 ghost use Rattle.std.specs.Fmt.{decimal};
 ghost use Rattle.thing_ops.specs.Outcomes.{word_of};
-ghost use Rattle.wot_json.specs.Writing.{Puts};
+ghost use Rattle.servient_base.specs.Writing.{Puts};
 
 use crate::Outcome;
 use itoa::Buffer;

@@ -1,15 +1,14 @@
 //! Where a model is: the text of its URL, parsed once for all that is joined to it.
 
-ghost use Rattle.std.specs.Prelude.{◌≡◌, ◌⊎◌, Some, None, Ok, IfOk, IfErr, MatchOption, MatchResult};
-ghost use Rattle.url.specs.Parser.{IsOutOfRoom};
+ghost use Rattle.std.specs.Prelude.{◌≡◌, ◌⊎◌, Some, None, Ok, IfOk, IfErr, MatchOption};
 ghost use Rattle.servient_base.specs.Location.{joined_url, IsRefused};
 ghost use Rattle.tm_parts.specs.References.{location_target, reference_target};
 
 use crate::reference::{RefFault, Reference, written_pointer};
-use servient_base::{NoMemory, join};
-use std::alloc::{AllocError, Global};
+use servient_base::{NoMemory, join, join_to};
+use std::alloc::Global;
 use std::marker::Model;
-use url::{ParseError, Url};
+use url::Url;
 use wot_json::Text;
 
 /// The text of a URL. Contracts see its bytes.
@@ -55,10 +54,7 @@ impl Location {
     {
         match &self.base {
             None => Ok(None),
-            Some(base) => match base.join(text) {
-                Err(error) => refused(error),
-                Ok(url) => Ok(Some(url)),
-            },
+            Some(base) => join_to(base, text),
         }
     }
 
@@ -89,16 +85,5 @@ impl Location {
             None => Err(RefFault::BadRef),
             Some(url) => Ok(Text::copy_of(alloc, url.as_str())?),
         }
-    }
-}
-
-/// What a refusal of the URL parser is here: a text that has no room is out of memory, and any other refusal says that
-/// there is no URL.
-fn refused(error: ParseError) -> Result<Option<Url>, NoMemory>
-    ensures { MatchResult result (λ url. (url ≡ None) × ¬ IsOutOfRoom error) (λ _. IsOutOfRoom error) }
-{
-    match error {
-        ParseError::Overflow | ParseError::OutOfMemory => Err(AllocError),
-        _ => Ok(None),
     }
 }

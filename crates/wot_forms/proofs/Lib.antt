@@ -1,4 +1,3 @@
 pub mod NamedOps
 pub mod FormLists
-pub mod Encoding
 pub mod PatchedForms

@@ -4,7 +4,7 @@ use Rattle.std.specs.Prelude.{ℕ, Bool, true, false, not, ◌&&◌, ◌||◌, �
 use Rattle.std.specs.List.{flat_map, list_any}
 use Rattle.std.specs.Char.{is_ascii_alphanumeric}
 use Rattle.std.specs.Str.{bytes_eq}
-use Rattle.percent_encoding.specs.Percent.{percent_encode_byte}
+use Rattle.servient_base.specs.Encoding.{encoded}
 use Rattle.wot_json.specs.Tree.{Json, string, array, object, elements_of, members_of}
 use Rattle.wot_json.specs.Lookup.{member_list, value_under}
 use Rattle.wot_json.specs.Merge.{with_member, without_member}
@@ -21,18 +21,6 @@ use Rattle.wot_forms.specs.declared.bases.Protocol.TheVariants.{Http, Coap}
 use Rattle.wot_forms.specs.Forms.{default_ops}
 
 -- ## Where a form leads
-
--- A byte of a name in the path of a URL: an unreserved one as it is, and any other as `%` and its two upper-case
--- hexadecimal digits (RFC 3986 sections 2.1 and 2.3).
-abbrev pub is_unreserved : ℕ → Bool
-is_unreserved b = is_ascii_alphanumeric b || list_any (λ c. c == b) (codes "-._~")
-
-abbrev pub encoded_byte : ℕ → List ℕ
-encoded_byte b = if is_unreserved b then b ∷ [] else percent_encode_byte b
-
--- a name as a segment of a path
-abbrev pub encoded : List ℕ → List ℕ
-encoded name = flat_map encoded_byte name
 
 -- what is before the path in the URLs of a protocol
 abbrev pub base_of : Bases → Protocol → List ℕ

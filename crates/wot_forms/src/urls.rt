@@ -1,21 +1,13 @@
 //! The URLs that generated forms lead to.
 
 ghost use Rattle.std.specs.Prelude.{◌≡◌, ◌++◌, IfOk, OnOk, codes, string_bytes};
-ghost use Rattle.wot_forms.specs.Generated.{affordance_path, encoded, holder_path, is_coap_segment as is_coap_segment_of};
+ghost use Rattle.servient_base.specs.Encoding.{encoded};
+ghost use Rattle.wot_forms.specs.Generated.{affordance_path, holder_path, is_coap_segment as is_coap_segment_of};
 
-use percent_encoding::{AsciiSet, NON_ALPHANUMERIC, ascii_set, percent_encode};
+use servient_base::push_encoded;
 use std::alloc::Global;
 use wot_json::{NoMemory, Text};
 use wot_terms::Kind;
-
-/// The bytes of ASCII that are escaped in a path: all but the unreserved ones (RFC 3986, section 2.3).
-const ESCAPED: AsciiSet = ascii_set!(
-    NON_ALPHANUMERIC
-        .remove(b'-')
-        .remove(b'.')
-        .remove(b'_')
-        .remove(b'~')
-);
 
 /// How many bytes a segment of a path of CoAP has at most (RFC 7252, section 5.10).
 const LONGEST_COAP_SEGMENT: usize = 255;
@@ -61,13 +53,11 @@ pub(crate) fn extended_url(alloc: Global, url: &str, more: &str) -> Result<Text,
 }
 
 /// Puts a `/` and a name, as a segment of a path, at the end.
-#[tactic(auto, using(crate::proofs::Encoding::encoded_by_set))]
 fn push_segment(url: &mut String, name: &str) -> Result<(), NoMemory>
     ensures { OnOk result (string_bytes url.new ≡ string_bytes url.old ++ codes "/" ++ encoded name.now) }
 {
     url.push_str("/")?;
-    percent_encode(name.as_bytes(), ESCAPED).append_to(url)?;
-    Ok(())
+    push_encoded(url, name.as_bytes())
 }
 
 /// Whether a name can be a segment of a path of CoAP.

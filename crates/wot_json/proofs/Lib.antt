@@ -3,7 +3,6 @@ pub mod MemberOrder
 pub mod MemberCuts
 pub mod Nesting
 pub mod EqualTrees
-pub mod Pieces
 pub mod TreeTexts
 pub mod Tokens
 pub mod PointerTexts

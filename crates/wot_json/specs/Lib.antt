@@ -3,7 +3,6 @@ pub mod JsonCodes
 pub mod Meaning
 pub mod JsonSizes
 pub mod Json
-pub mod Writing
 pub mod Lookup
 pub mod Places
 pub mod Pointer

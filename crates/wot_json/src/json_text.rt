@@ -4,11 +4,11 @@ ghost use Rattle.std.specs.Prelude.{◌≡◌, ◌≤◌, ◌<◌, length, drop,
 ghost use Rattle.std.specs.List.{flat_map};
 ghost use Rattle.wot_json.specs.Json.{json_text, json_string, escaped_byte, hex_digit as digit_of, text_of as text_of_value, field_text, further_element, further_field};
 ghost use Rattle.wot_json.specs.Tree.{array, object, elements_of, members_of};
-ghost use Rattle.wot_json.specs.Writing.{PutsIfRoom};
+ghost use Rattle.servient_base.specs.Writing.{PutsIfRoom};
 
 use crate::{Bytes, Items, Members, Text, Tree};
 use itoa::Buffer;
-use servient_base::{NoMemory, put_bytes};
+use servient_base::{NoMemory, put_piece};
 use std::alloc::{AllocError, Global};
 
 /// For how many bytes there is room at first.
@@ -80,17 +80,6 @@ fn escaped_length(byte: u8) -> usize
         0..=31 => 6,
         _ => 1,
     }
-}
-
-/// Writes bytes at a place where there is room for them, and returns the place after them.
-fn put_piece(out: &mut [u8], at: usize, bytes: &[u8]) -> Option<usize>
-    requires { at ≤ length out.old }
-    ensures { PutsIfRoom bytes.now at out.old out.new result }
-{
-    if out.len() - at < bytes.len() {
-        return None;
-    }
-    Some(put_bytes(out, at, bytes))
 }
 
 /// Writes one byte of a text, escaped where it needs to be.

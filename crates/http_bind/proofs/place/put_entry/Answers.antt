@@ -1,7 +1,7 @@
 use Rattle.std.proofs.Common.{codes, subst, sym, ap, List, ℕ, ◌++◌}
 use Rattle.std.proofs.lemmas.List.{append-nil}
-use Rattle.wot_json.specs.Writing.{PutsIfRoom}
-use Rattle.wot_json.proofs.Pieces.{puts_then_if_room}
+use Rattle.servient_base.specs.Writing.{PutsIfRoom}
+use Rattle.servient_base.proofs.Pieces.{puts_then_if_room}
 use Rattle.http_bind.specs.Places.{segment_text}
 use Rattle.http_bind.proofs.place.put_entry.Goals as goal
 

@@ -1,5 +1,5 @@
 use Rattle.std.proofs.Common.{refl, [], arith}
-use Rattle.wot_json.proofs.Pieces.{puts_more, no_room_more}
+use Rattle.servient_base.proofs.Pieces.{puts_more, no_room_more}
 use Rattle.http_bind.specs.Places.{segment_text}
 use Rattle.http_bind.proofs.place.put_path.Goals as goal
 

@@ -1,6 +1,6 @@
 use Rattle.std.proofs.Common.{take}
 use Rattle.std.specs.List.{flat_map}
-use Rattle.wot_json.specs.Writing.{Puts}
+use Rattle.servient_base.specs.Writing.{Puts}
 use Rattle.http_bind.specs.Places.{segment_text}
 use Rattle.http_bind.proofs.place.put_path.Given as goal
 

@@ -1,6 +1,6 @@
 use Rattle.std.proofs.Common.{codes}
-use Rattle.wot_json.proofs.Pieces.{puts_then_if_room}
-use Rattle.http_bind.specs.Places.{encoded}
+use Rattle.servient_base.proofs.Pieces.{puts_then_if_room}
+use Rattle.servient_base.specs.Encoding.{encoded}
 use Rattle.http_bind.proofs.place.put_segment.Goals as goal
 
 pub returns : goal.returns

@@ -1,7 +1,7 @@
 use Rattle.std.proofs.Common.{refl, []}
 use Rattle.std.specs.Prelude.{None}
 use Rattle.http_wire.specs.Replies.{line_of}
-use Rattle.wot_json.proofs.Pieces.{puts_more, no_room_more}
+use Rattle.servient_base.proofs.Pieces.{puts_more, no_room_more}
 use Rattle.http_wire.proofs.reply.put_fields.Goals as goal
 
 pub returns-in-None : goal.returns-in-None

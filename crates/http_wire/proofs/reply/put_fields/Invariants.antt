@@ -1,6 +1,6 @@
 use Rattle.std.proofs.Common.{take}
 use Rattle.std.specs.List.{flat_map}
-use Rattle.wot_json.specs.Writing.{Puts}
+use Rattle.servient_base.specs.Writing.{Puts}
 use Rattle.http_wire.specs.Replies.{line_of}
 use Rattle.http_wire.proofs.reply.put_fields.Given as goal
 

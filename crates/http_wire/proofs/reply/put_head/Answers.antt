@@ -1,6 +1,6 @@
 use Rattle.std.proofs.Common.{◌++◌}
 use Rattle.std.specs.List.{flat_map}
-use Rattle.wot_json.proofs.Pieces.{puts_then_if_room}
+use Rattle.servient_base.proofs.Pieces.{puts_then_if_room}
 use Rattle.http_wire.specs.Heads.{line_end}
 use Rattle.http_wire.specs.Writing.{status_line}
 use Rattle.http_wire.specs.Replies.{line_of}

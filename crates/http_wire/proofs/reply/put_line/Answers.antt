@@ -1,5 +1,5 @@
 use Rattle.std.proofs.Common.{◌++◌}
-use Rattle.wot_json.proofs.Pieces.{puts_then_if_room}
+use Rattle.servient_base.proofs.Pieces.{puts_then_if_room}
 use Rattle.http_wire.specs.Heads.{line_end}
 use Rattle.http_wire.proofs.reply.put_line.Goals as goal
 

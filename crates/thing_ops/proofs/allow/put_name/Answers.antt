@@ -1,6 +1,6 @@
 use Rattle.std.proofs.Common.{◌≡◌, List, ℕ, codes, subst, sym, ◌∙◌, arith}
-use Rattle.wot_json.specs.Writing.{Puts}
-use Rattle.wot_json.proofs.Pieces.{puts_then}
+use Rattle.servient_base.specs.Writing.{Puts}
+use Rattle.servient_base.proofs.Pieces.{puts_then}
 use Rattle.thing_ops.specs.Verbs.{verb_name}
 use Rattle.thing_ops.proofs.VerbNames.{name_after}
 use Rattle.thing_ops.proofs.allow.put_name.Goals as goal

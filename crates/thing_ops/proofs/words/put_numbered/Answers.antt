@@ -1,6 +1,6 @@
 use Rattle.std.proofs.Common.{◌≡◌, List, ℕ, decimal, subst, ◌∙◌}
-use Rattle.wot_json.specs.Writing.{Puts}
-use Rattle.wot_json.proofs.Pieces.{puts_then}
+use Rattle.servient_base.specs.Writing.{Puts}
+use Rattle.servient_base.proofs.Pieces.{puts_then}
 use Rattle.thing_ops.proofs.words.put_numbered.Goals as goal
 
 pub returns : goal.returns

@@ -2,9 +2,9 @@ use Rattle.std.proofs.Common.{ℕ, List, [], ◌∷◌, ◌++◌, ◌≡◌, ◌
 use Rattle.std.specs.Prelude.{Option, None}
 use Rattle.std.specs.List.{flat_map}
 use Rattle.wot_json.specs.Json.{text_of, json_text, json_string, field_text, further_element, further_field}
-use Rattle.wot_json.specs.Writing.{PutsIfRoom}
+use Rattle.servient_base.specs.Writing.{PutsIfRoom}
 use Rattle.wot_json.specs.Tree.{array, elements_of, object, members_of}
-use Rattle.wot_json.proofs.Pieces.{puts_then, puts_then_if_room, puts_more, no_room_more, puts_fourth_if_room, no_room_for_third}
+use Rattle.servient_base.proofs.Pieces.{puts_then, puts_then_if_room, puts_more, no_room_more, puts_fourth_if_room, no_room_for_third}
 use Rattle.wot_json.proofs.TreeTexts.{list_text_is, object_text_is}
 use Rattle.wot_json.proofs.json_text.+put.Goals as goal
 

@@ -1,7 +1,7 @@
 use Rattle.std.proofs.Common.{take}
 use Rattle.std.specs.List.{flat_map}
 use Rattle.wot_json.specs.Json.{further_element, further_field}
-use Rattle.wot_json.specs.Writing.{Puts}
+use Rattle.servient_base.specs.Writing.{Puts}
 use Rattle.wot_json.proofs.json_text.+put.Given as goal
 
 abbrev pub invariant-put_further_elements-loop-item : goal.invariant-put_further_elements-loop-item

@@ -1,6 +1,6 @@
 use Rattle.std.proofs.Common.{refl}
 use Rattle.wot_json.specs.Json.{escaped_byte}
-use Rattle.wot_json.proofs.Pieces.{puts_more, no_room_more}
+use Rattle.servient_base.proofs.Pieces.{puts_more, no_room_more}
 use Rattle.wot_json.proofs.json_text.put_all_escaped.Goals as goal
 
 pub returns-in-None : goal.returns-in-None

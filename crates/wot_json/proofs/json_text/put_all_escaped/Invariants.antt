@@ -1,7 +1,7 @@
 use Rattle.std.proofs.Common.{take}
 use Rattle.std.specs.List.{flat_map}
 use Rattle.wot_json.specs.Json.{escaped_byte}
-use Rattle.wot_json.specs.Writing.{Puts}
+use Rattle.servient_base.specs.Writing.{Puts}
 use Rattle.wot_json.proofs.json_text.put_all_escaped.Given as goal
 
 abbrev pub invariant-loop-byte : goal.invariant-loop-byte

@@ -1,8 +1,8 @@
 use Rattle.std.proofs.Common.{ℕ, List, [], ◌∷◌, ◌++◌, ◌≡◌, ◌∙◌, subst}
 use Rattle.std.specs.List.{flat_map}
 use Rattle.wot_json.specs.Json.{escaped_byte}
-use Rattle.wot_json.specs.Writing.{Puts}
-use Rattle.wot_json.proofs.Pieces.{puts_then_if_room}
+use Rattle.servient_base.specs.Writing.{Puts}
+use Rattle.servient_base.proofs.Pieces.{puts_then_if_room}
 use Rattle.wot_json.proofs.json_text.put_string.Goals as goal
 
 pub returns : goal.returns

@@ -1,6 +1,6 @@
 use Rattle.std.proofs.Common.{◌≤◌, ◌*◌, take}
 use Rattle.std.specs.List.{filter}
-use Rattle.wot_json.specs.Writing.{Puts}
+use Rattle.servient_base.specs.Writing.{Puts}
 use Rattle.thing_ops.specs.Verbs.{takes, names_of, in_order}
 use Rattle.thing_ops.proofs.allow.Allow.write.Given as goal
 

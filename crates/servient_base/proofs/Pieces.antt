@@ -6,7 +6,7 @@ use Rattle.std.proofs.lemmas.List.{append-nil, take_more}
 use Rattle.std.proofs.lemmas.List.Folds.{length-flat_map-take}
 use Rattle.std.proofs.lemmas.Grind.{flat_map-append}
 use Rattle.servient_base.proofs.Lists.{drop-further}
-use Rattle.wot_json.specs.Writing.{Puts, PutsIfRoom}
+use Rattle.servient_base.specs.Writing.{Puts, PutsIfRoom}
 
 -- one text was written, and then another after it
 pub puts_then : (s t : List ℕ) (at mid end : ℕ) (before between now : List ℕ) → Puts s at mid before between → Puts t mid end between now → Puts (s ++ t) at end before now

@@ -1,10 +1,10 @@
 -- The bytes that the code escapes in a path are those that aren't unreserved.
-use Rattle.std.proofs.Common.{◌≡◌, ℕ, ◌≤◌, Bool, true, false, cond, not, List, [], ◌∷◌, ◌++◌, inl, inr, refl, ap, ◌∙◌, arith, le-leb, le-ltb}
+use Rattle.std.proofs.Common.{◌≡◌, ℕ, ◌≤◌, Bool, true, false, cond, not, List, [], ◌∷◌, ◌++◌, inl, inr, refl, sym, ap, ◌∙◌, arith, le-leb, le-ltb}
 use Rattle.std.proofs.lemmas.Bool.{agree_below, agree_below_at, cases_lt, lt-leb, ne_eqb}
 use Rattle.percent_encoding.specs.AsciiSet.{should_percent_encode}
 use Rattle.percent_encoding.specs.Percent.{percent_encode, percent_encode_byte, encode_byte}
-use Rattle.wot_forms.specs.declared.urls.TheConstants.{ESCAPED}
-use Rattle.wot_forms.specs.Generated.{is_unreserved, encoded_byte, encoded}
+use Rattle.servient_base.specs.declared.encoding.TheConstants.{ESCAPED}
+use Rattle.servient_base.specs.Encoding.{is_unreserved, encoded_byte, encoded}
 
 -- each byte of ASCII, one after another
 in_ascii : agree_below (should_percent_encode ESCAPED) (λ b. not (is_unreserved b)) 128 ≡ true
@@ -37,10 +37,19 @@ other_way : (t : Bool) (x y : List ℕ) → cond (not t) x y ≡ cond t y x
 other_way true x y = refl
 other_way false x y = refl
 
-same_byte : (b : ℕ) → encode_byte ESCAPED b ≡ encoded_byte b
+-- a byte is written by the set as it is encoded
+pub same_byte : (b : ℕ) → encode_byte ESCAPED b ≡ encoded_byte b
 same_byte b =
     ap (λ (t : Bool). cond t (percent_encode_byte b) (b ∷ [])) (same_test b)
     ∙ other_way (is_unreserved b) (percent_encode_byte b) (b ∷ [])
+
+-- a byte of the set is escaped
+pub escaped : (b : ℕ) → should_percent_encode ESCAPED b ≡ true → percent_encode_byte b ≡ encoded_byte b
+escaped b test = sym (ap (λ (t : Bool). cond t (percent_encode_byte b) (b ∷ [])) test) ∙ same_byte b
+
+-- and any other is as it is
+pub unescaped : (b : ℕ) → should_percent_encode ESCAPED b ≡ false → b ∷ [] ≡ encoded_byte b
+unescaped b test = sym (ap (λ (t : Bool). cond t (percent_encode_byte b) (b ∷ [])) test) ∙ same_byte b
 
 pub encoded_by_set : (name : List ℕ) → percent_encode ESCAPED name ≡ encoded name
 unfolding percent_encode

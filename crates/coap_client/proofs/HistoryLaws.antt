@@ -10,8 +10,9 @@ use Rattle.coap_client.specs.declared.observation.Observation.{Observation}
 use Rattle.coap_client.specs.declared.state.State.{State}
 use Rattle.coap_client.specs.Exchange.{at_moment, IsNew, request_for, Delivers, of_message, of_fault}
 use Rattle.coap_client.specs.Answers.{meaning, is_for_request, is_for_observation}
-use Rattle.coap_client.specs.Names.{is_same_endpoint}
-use Rattle.coap_client.specs.Times.{first_timeout, transmission_end, deadline, retransmissions_by}
+use Rattle.coap_msg.specs.Endpoints.{is_same_endpoint}
+use Rattle.coap_msg.specs.Transmission.{first_timeout}
+use Rattle.coap_client.specs.Times.{transmission_end, deadline, retransmissions_by}
 use Rattle.coap_client.specs.Laws.{Did, nothing, asked, refused, took, retransmitted, RetransmissionsEnd, TakenFromTheAsked, TakenFromAPeer, IdsRest}
 use Rattle.coap_client.proofs.StepLaws.{Follows, IsSame, Keeps, keeps_self, keeps_after, keeps_due, follows_kept, follows_later, follows_asked}
 

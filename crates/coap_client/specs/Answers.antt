@@ -13,7 +13,7 @@ use Rattle.coap_client.specs.declared.observation.Observation.{Observation}
 use Rattle.coap_client.specs.declared.state.State.{State}
 use Rattle.coap_client.specs.declared.meaning.Meaning.{Meaning}
 use Rattle.coap_client.specs.declared.meaning.Meaning.TheVariants as meant
-use Rattle.coap_client.specs.Names.{is_same_endpoint}
+use Rattle.coap_msg.specs.Endpoints.{is_same_endpoint}
 
 -- ---- which messages are taken
 

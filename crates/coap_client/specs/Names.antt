@@ -1,7 +1,8 @@
 -- Endpoints, message IDs and tokens: which of them are one, and which come next (RFC 7252, sections 4.4 and 5.3.1).
-use Rattle.std.specs.Prelude.{◌≡◌, ◌<◌, ◌+◌, ◌-◌, ◌%◌, ◌==◌, ◌&&◌, ℕ, nat_le, Bool, true, false, List, slice_index_or, Option, Some, None, if◌then◌else◌}
+use Rattle.std.specs.Prelude.{◌≡◌, ◌<◌, ◌+◌, ◌-◌, ◌%◌, ℕ, nat_le, Bool, true, false, List, slice_index_or, Option, Some, None, if◌then◌else◌}
 use Rattle.std.specs.Int.{to_be_bytes, w64}
 use Rattle.coap_msg.specs.declared.endpoint.Endpoint.{Endpoint}
+use Rattle.coap_msg.specs.Endpoints.{is_same_endpoint}
 use Rattle.coap_client.specs.declared.observation.Observation.{Observation}
 
 -- an id isn't used again within 400 seconds, which is longer than it may be in use (EXCHANGE_LIFETIME, sections 4.4 and 4.8.2)
@@ -24,9 +25,6 @@ pub record IsNextId (uses : List (Option ℕ)) (next now id : ℕ) : Type 0 wher
 -- all ids are used
 abbrev pub AreAllUsed : List (Option ℕ) → ℕ → Type 0
 AreAllUsed uses now = (id : ℕ) → id < 65536 → is_used uses now id ≡ true
-
-abbrev pub is_same_endpoint : Endpoint → Endpoint → Bool
-is_same_endpoint a b = a.host == b.host && a.port == b.port
 
 -- the token that a request takes over, in order to end an observation: that of the observation, where its peer is the same
 -- (RFC 7641, section 3.6)

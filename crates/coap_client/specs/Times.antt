@@ -1,11 +1,7 @@
 -- The times of a request, in milliseconds (RFC 7252, sections 4.2 and 4.8).
-use Rattle.std.specs.Prelude.{◌+◌, ◌*◌, ◌%◌, ℕ, nat_lt, if◌then◌else◌}
+use Rattle.std.specs.Prelude.{◌+◌, ◌*◌, ℕ, nat_lt, if◌then◌else◌}
+use Rattle.coap_msg.specs.Transmission.{first_timeout}
 use Rattle.coap_client.specs.declared.outstanding.Outstanding.{Outstanding}
-
--- how long after its first sending a request is sent again: ACK_TIMEOUT, 2 seconds, and up to 1 second more, which its id
--- says in place of a random factor (RFC 7252, sections 4.2 and 4.8)
-abbrev pub first_timeout : ℕ → ℕ
-first_timeout id = 2000 + id % 1001
 
 -- how many of the four moments for a retransmission (MAX_RETRANSMIT, section 4.8) have come so long after the first sending: the
 -- timeout doubles each time (section 4.2)

@@ -5,11 +5,11 @@ ghost use Rattle.coap_client.specs.Names.{kept_token, token_after};
 ghost use Rattle.coap_client.specs.Exchange.{is_registration};
 
 use crate::ask::{Ask, put_ask};
-use crate::observation::{Observation, is_same_endpoint};
+use crate::observation::Observation;
 use crate::outstanding::Outstanding;
 use crate::state::State;
 use crate::{ClientFault, Due};
-use coap_msg::{BoundedBytes, Endpoint, LONGEST_MESSAGE};
+use coap_msg::{BoundedBytes, Endpoint, LONGEST_MESSAGE, is_same_endpoint};
 use servient_base::put_bytes;
 
 impl State {

@@ -1,6 +1,6 @@
 //! What is observed.
 
-use coap_msg::Endpoint;
+use coap_msg::{Endpoint, is_same_endpoint};
 
 /// What is observed (RFC 7641, section 1.1).
 #[derive(Clone, Copy, Drop)]
@@ -46,7 +46,6 @@ impl Observation {
 
 ghost use Rattle.std.specs.Prelude.{◌≡◌};
 ghost use Rattle.coap_client.specs.Answers.{is_newer_than};
-ghost use Rattle.coap_client.specs.Names.{is_same_endpoint};
 
 /// Half of the sequence numbers: those within this distance after a number are later than it (RFC 7641, section 3.4).
 const HALF: u32 = 1 << 23;
@@ -61,11 +60,4 @@ fn is_newer_than(latest: Latest, now: u64, sequence: u32) -> bool
     (latest.sequence < sequence && sequence - latest.sequence < HALF)
         || (sequence < latest.sequence && latest.sequence - sequence > HALF)
         || now.saturating_sub(latest.moment) > REORDERED
-}
-
-/// Whether two endpoints are one.
-pub fn is_same_endpoint(a: Endpoint, b: Endpoint) -> bool
-    ensures { result ≡ is_same_endpoint a b }
-{
-    a.host == b.host && a.port == b.port
 }

@@ -1,10 +1,9 @@
 //! The request that is unanswered.
 
 ghost use Rattle.std.specs.Prelude.{◌≡◌, ◌≤◌, ◌<◌};
-ghost use Rattle.coap_client.specs.Times.{first_timeout, retransmissions_within};
+ghost use Rattle.coap_client.specs.Times.{retransmissions_within};
 
-use crate::observation::is_same_endpoint;
-use coap_msg::{BoundedBytes, Endpoint, LONGEST_MESSAGE};
+use coap_msg::{BoundedBytes, Endpoint, LONGEST_MESSAGE, first_timeout, is_same_endpoint};
 
 /// A request that is unanswered.
 #[derive(Drop)]
@@ -70,14 +69,6 @@ impl Outstanding {
     {
         is_same_endpoint(from, self.peer) && id == self.id
     }
-}
-
-/// How long after its first sending a request with this ID is sent again, in milliseconds (RFC 7252, section 4.2).
-fn first_timeout(id: u16) -> u64
-    ensures ok { result ≡ first_timeout id }
-    ensures bound { result ≤ 3000 }
-{
-    2000 + u64::from(id % 1001)
 }
 
 /// How many moments for a retransmission have come so long after the first sending.

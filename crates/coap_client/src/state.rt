@@ -1,7 +1,7 @@
 //! What a client holds.
 
 use crate::ids::Ids;
-use crate::observation::{Latest, Observation, is_same_endpoint};
+use crate::observation::{Latest, Observation};
 use crate::outstanding::Outstanding;
 use coap_msg::Endpoint;
 

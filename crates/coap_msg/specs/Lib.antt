@@ -8,6 +8,8 @@ pub mod OptionsLeft
 pub mod Opts
 pub mod Numbers
 pub mod Requests
+pub mod Endpoints
+pub mod Transmission
 pub mod Empty
 pub mod Written
 pub mod Kept

@@ -1,5 +1,8 @@
 //! Where datagrams come from and go to.
 
+ghost use Rattle.std.specs.Prelude.{◌≡◌};
+ghost use Rattle.coap_msg.specs.Endpoints.{is_same_endpoint};
+
 /// One end of a CoAP exchange (RFC 7252, section 1.2): a host and a UDP port.
 #[derive(Clone, Copy, Debug, PartialEq, Eq, PartialOrd, Ord)]
 pub struct Endpoint {
@@ -7,4 +10,11 @@ pub struct Endpoint {
     pub host: u128,
     /// The UDP port.
     pub port: u16,
+}
+
+/// Whether two endpoints are one.
+pub fn is_same_endpoint(a: Endpoint, b: Endpoint) -> bool
+    ensures { result ≡ is_same_endpoint a b }
+{
+    a.host == b.host && a.port == b.port
 }

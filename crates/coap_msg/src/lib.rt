@@ -45,6 +45,7 @@ mod message;
 mod numbers;
 mod options;
 mod opts;
+mod transmission;
 
 pub use bounded::BoundedBytes;
 pub use constants::{
@@ -56,9 +57,10 @@ pub use constants::{
 pub use decoding::decode;
 pub use empty::{put_empty_reply, put_rejection};
 pub use encoding::{Plain, encode};
-pub use endpoint::Endpoint;
+pub use endpoint::{Endpoint, is_same_endpoint};
 pub use laws::{no_fault, one_fault, one_message, one_spelling};
 pub use message::{Message, MsgFault, RequestType, Type4};
 pub use numbers::{number_of, put_number};
 pub use options::{Options, OptionsIter};
 pub use opts::{NoRoom, Opts, put_segment};
+pub use transmission::{MOST_RETRANSMISSIONS, first_timeout};

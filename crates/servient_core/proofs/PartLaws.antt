@@ -4,6 +4,7 @@ use Rattle.std.specs.Prelude.{Option, Some, None, replicate}
 use Rattle.std.specs.List.{AllByRecursion}
 use Rattle.servient_base.specs.Moves.{Stays, Then, Passing, Makes, Refines}
 use Rattle.servient_base.proofs.MovesLaws.{refines_then, refines_passing, refines_as, refines_stays}
+use Rattle.coap_msg.specs.declared.constants.TheConstants.{LONGEST_DATAGRAM}
 use Rattle.coap_msg.specs.declared.endpoint.Endpoint.{Endpoint}
 use Rattle.thing_handler.specs.Handler.{Seen}
 use Rattle.thing_handler.specs.Turns.{HandlerCall, RackShows, turns_in}
@@ -27,7 +28,7 @@ use Rattle.servient_outside.specs.declared.net.EventWithBytes.{EventWithBytes}
 use Rattle.servient_outside.specs.Network.{Happening, NetSeen, NetShows, did}
 use Rattle.servient_outside.proofs.NetLaws.{net_shows_none}
 use Rattle.servient_core.specs.Trace.{at_network, at_handler, happened_in, calls_in, Outside, outside, Shows}
-use Rattle.servient_core.specs.Machine.{State, Move, OnHttp, OnCoap, OnThing, Does, Performs, AnswersDatagram, HearsDatagram, Follows, Step, ClosesAllIdle, longest_datagram}
+use Rattle.servient_core.specs.Machine.{State, Move, OnHttp, OnCoap, OnThing, Does, Performs, AnswersDatagram, HearsDatagram, Follows, Step, ClosesAllIdle}
 use Rattle.servient_core.specs.Serving.{StandsFor}
 use Rattle.servient_core.specs.Keeping.{IsPerformed}
 use Rattle.servient_core.specs.declared.parts.Parts.{Parts}
@@ -120,14 +121,14 @@ passing_moves P Q a k l m w v u p q = refines_passing StandsFor Shows shows_in_o
 -- ---- datagrams
 
 -- one that is too long
-pub receives_long : (site : Site) (from : Endpoint) (bytes : List ℕ) (k : Parts) (w : Outside) → longest_datagram < length bytes
+pub receives_long : (site : Site) (from : Endpoint) (bytes : List ℕ) (k : Parts) (w : Outside) → LONGEST_DATAGRAM < length bytes
     → Refines StandsFor Shows (HearsDatagram site from bytes) k k w w
 receives_long site from bytes k w long =
     refines_as StandsFor Shows (λ (s : State). Stays s) (HearsDatagram site from bytes) k k w w (λ s seen t stays. inl (long, stays)) (refines_nothing k w)
 
 -- one that is heard
 pub receives_heard : (site : Site) (from : Endpoint) (bytes : List ℕ) (k l : Parts) (c : Server) (w v : Outside) (h : Heard)
-    → length bytes ≤ longest_datagram → Hears from bytes k.moment h k.coap c
+    → length bytes ≤ LONGEST_DATAGRAM → Hears from bytes k.moment h k.coap c
     → Refines StandsFor Shows (AnswersDatagram site from h) (record k { coap = c }) l w v
     → Refines StandsFor Shows (HearsDatagram site from bytes) k l w v
 receives_heard site from bytes k l c w v h short hears responds =
@@ -137,14 +138,14 @@ receives_heard site from bytes k l c w v h short hears responds =
     (refines_coap (λ now. Hears from bytes now h) k c w hears) responds)
 
 -- nothing is done
-pub heard_nothing : (site : Site) (from : Endpoint) (bytes : List ℕ) (k : Parts) (c : Server) (w : Outside) (h : Heard) → length bytes ≤ longest_datagram
+pub heard_nothing : (site : Site) (from : Endpoint) (bytes : List ℕ) (k : Parts) (c : Server) (w : Outside) (h : Heard) → length bytes ≤ LONGEST_DATAGRAM
     → Hears from bytes k.moment h k.coap c → h ≡ ignored → Refines StandsFor Shows (HearsDatagram site from bytes) k (record k { coap = c }) w w
 heard_nothing site from bytes k c w h short hears is =
     receives_heard site from bytes k (record k { coap = c }) c w w h short hears
     (subst (λ (x : Heard). Refines StandsFor Shows (AnswersDatagram site from x) (record k { coap = c }) (record k { coap = c }) w w) (sym is) (refines_nothing (record k { coap = c }) w))
 
 -- bytes are sent back at once
-pub heard_at_once : (site : Site) (from : Endpoint) (bytes sent : List ℕ) (k : Parts) (c : Server) (n m : NetSeen) (slots : List Seen) (h : Heard) → length bytes ≤ longest_datagram
+pub heard_at_once : (site : Site) (from : Endpoint) (bytes sent : List ℕ) (k : Parts) (c : Server) (n m : NetSeen) (slots : List Seen) (h : Heard) → length bytes ≤ LONGEST_DATAGRAM
     → Hears from bytes k.moment h k.coap c → h ≡ answered_at_once sent → NetShows n m (did (act.Datagram from sent) ∷ [])
     → Refines StandsFor Shows (HearsDatagram site from bytes) k (record k { coap = c }) (outside n slots) (outside m slots)
 heard_at_once site from bytes sent k c n m slots h short hears is shows =
@@ -168,7 +169,7 @@ responds_asked site from ask request sent k e c done n m before after made answe
     (refines_act (record k { exposed = e; coap = c }) n m after (act.Datagram from sent) shows))
 
 pub heard_asked : (site : Site) (from : Endpoint) (bytes sent : List ℕ) (ask : PlainAsk) (request : OpenRequest) (o : Outcome) (k : Parts) (e : Kept) (b c : Server)
-    (n m : NetSeen) (before after : List Seen) (h : Heard) → length bytes ≤ longest_datagram → Hears from bytes k.moment h k.coap b → h ≡ asked ask request
+    (n m : NetSeen) (before after : List Seen) (h : Heard) → length bytes ≤ LONGEST_DATAGRAM → Hears from bytes k.moment h k.coap b → h ≡ asked ask request
     → k.exposed.site ≡ site → IsPerformed k.exposed e ask.request o before after → Answers request o sent b c → NetShows n m (did (act.Datagram from sent) ∷ [])
     → Refines StandsFor Shows (HearsDatagram site from bytes) k (record k { exposed = e; coap = c }) (outside n before) (outside m after)
 heard_asked site from bytes sent ask request o k e b c n m before after h short hears is same performed answers shows =

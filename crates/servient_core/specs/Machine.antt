@@ -11,6 +11,7 @@
 
 use Rattle.std.specs.Prelude.{ℕ, ◌<◌, ◌≤◌, ◌⊎◌, max, List, [], ◌∷◌, map, length, Bool, true, false, if◌then◌else◌}
 use Rattle.servient_base.specs.Moves.{Becomes, Stays, Then, Passing, Each, Until}
+use Rattle.coap_msg.specs.declared.constants.TheConstants.{LONGEST_DATAGRAM}
 use Rattle.coap_msg.specs.declared.endpoint.Endpoint.{Endpoint}
 use Rattle.thing_ops.specs.Requests.{PlainRequest}
 use Rattle.thing_handler.specs.Turns.{HandlerCall}
@@ -77,10 +78,6 @@ Performs site q done = OnThing (Acts site q done)
 
 -- ---- CoAP (RFC 7252): a datagram is heard, and where it asks for something it is answered, once
 
--- how many bytes a datagram may have that is heard
-abbrev pub longest_datagram : ℕ
-longest_datagram = 1280
-
 -- what follows on a datagram from this endpoint
 abbrev pub AnswersDatagram : Site → Endpoint → Heard → Move
 AnswersDatagram site from ignored s seen t = Stays s seen t
@@ -89,11 +86,11 @@ AnswersDatagram site from (asked ask request) s seen t =
     Passing (Performs site ask.request)
     (λ done. Passing (λ bytes. OnCoap (λ now. Answers request done.outcome bytes)) (λ bytes. Does (act.Datagram from bytes ∷ []))) s seen t
 
--- it is too long and nothing is done, or it is heard
+-- a datagram is longer than one that is looked at and nothing is done, or it is heard
 abbrev pub HearsDatagram : Site → Endpoint → List ℕ → Move
 HearsDatagram site from bytes s seen t =
-    (longest_datagram < length bytes × Stays s seen t)
-    ⊎ (length bytes ≤ longest_datagram × Passing (λ h. OnCoap (λ now. Hears from bytes now h)) (AnswersDatagram site from) s seen t)
+    (LONGEST_DATAGRAM < length bytes × Stays s seen t)
+    ⊎ (length bytes ≤ LONGEST_DATAGRAM × Passing (λ h. OnCoap (λ now. Hears from bytes now h)) (AnswersDatagram site from) s seen t)
 
 -- ---- HTTP (RFC 9112): the messages of a stream that weren't taken yet, one after another
 

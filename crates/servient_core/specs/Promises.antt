@@ -1,5 +1,6 @@
 -- What follows from the machine for duplicates of requests and for a table that is full.
 use Rattle.std.specs.Prelude.{◌≡◌, ◌≤◌, ℕ, true, None, List, [], ◌∷◌, length, Contains}
+use Rattle.coap_msg.specs.declared.constants.TheConstants.{LONGEST_DATAGRAM}
 use Rattle.coap_msg.specs.declared.endpoint.Endpoint.{Endpoint}
 use Rattle.coap_msg.specs.Grammar.{CoapMessage, Spells}
 use Rattle.coap_exchange.specs.Admission.{Arrival, is_duplicate_of, admitted_among}
@@ -9,7 +10,7 @@ use Rattle.coap_bind.specs.Laws.{Did}
 use Rattle.servient_outside.specs.declared.net.Act.TheVariants as act
 use Rattle.servient_outside.specs.Network.{did}
 use Rattle.servient_core.specs.Trace.{Sighting, at_network, calls_in}
-use Rattle.servient_core.specs.Machine.{Site, State, HearsDatagram, longest_datagram}
+use Rattle.servient_core.specs.Machine.{Site, State, HearsDatagram}
 
 -- no handler was called, and nothing of the Things changed
 pub record ActsOnNothing (s : State) (seen : List Sighting) (t : State) : Type 0 where
@@ -33,6 +34,6 @@ pub record IsOverfull (from : Endpoint) (m : CoapMessage) (s : State) : Type 0 w
 abbrev pub FullTableActsOnNothing : Type 0
 FullTableActsOnNothing =
     (site : Site) (from : Endpoint) (bytes : List ℕ) (s : State) (seen : List Sighting) (t : State) (m : CoapMessage)
-    → HearsDatagram site from bytes s seen t → length bytes ≤ longest_datagram → Spells m bytes → IsOverfull from m s
+    → HearsDatagram site from bytes s seen t → length bytes ≤ LONGEST_DATAGRAM → Spells m bytes → IsOverfull from m s
     → ActsOnNothing s seen t × (t.coap.exchanges ≡ at_moment s.moment s.coap.exchanges)
     × (reply : List ℕ) × (seen ≡ at_network (did (act.Datagram from reply)) ∷ [])

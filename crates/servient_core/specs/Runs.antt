@@ -1,5 +1,6 @@
 -- What holds of whole runs of the machine.
 use Rattle.std.specs.Prelude.{◌≡◌, ◌<◌, ◌≤◌, ◌+◌, ◌-◌, ◌^◌, ◌⊎◌, max, ℕ, List, [], ◌∷◌, ◌++◌, length, Some, slice_get}
+use Rattle.coap_msg.specs.declared.constants.TheConstants.{LONGEST_DATAGRAM}
 use Rattle.coap_exchange.specs.Admission.{Arrival}
 use Rattle.coap_bind.specs.Laws.{AreArrivals, Did}
 use Rattle.thing_handler.specs.Handler.{Seen}
@@ -9,7 +10,7 @@ use Rattle.servient_outside.specs.declared.net.What.TheVariants as what
 use Rattle.servient_outside.specs.declared.net.EventWithBytes.{EventWithBytes}
 use Rattle.servient_core.specs.declared.serving.Served.{Served}
 use Rattle.servient_core.specs.Trace.{Sighting, calls_in, Outside, Shows}
-use Rattle.servient_core.specs.Machine.{Site, State, start, Run, longest_datagram}
+use Rattle.servient_core.specs.Machine.{Site, State, start, Run}
 use Rattle.servient_core.specs.Serving.{Serves}
 
 -- ---- histories
@@ -17,7 +18,7 @@ use Rattle.servient_core.specs.Serving.{Serves}
 -- The requests of what comes with these bytes at a moment: those of a datagram that isn't too long, and else none.
 abbrev pub AreRequestsOf : What → List ℕ → ℕ → List Arrival → Type 0
 AreRequestsOf (what.Datagram from size) bytes now new =
-    (longest_datagram < length bytes × (new ≡ [])) ⊎ (length bytes ≤ longest_datagram × AreArrivals from bytes now new)
+    (LONGEST_DATAGRAM < length bytes × (new ≡ [])) ⊎ (length bytes ≤ LONGEST_DATAGRAM × AreArrivals from bytes now new)
 AreRequestsOf w bytes now new = new ≡ []
 
 -- those of events, one after another, each at the greatest moment so far, from this one on

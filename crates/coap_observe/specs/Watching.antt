@@ -1,0 +1,173 @@
+-- Who observes what on a CoAP server, and what is sent to them (RFC 7641, sections 3 and 4).
+use Rattle.std.specs.Prelude.{◌≡◌, ◌<◌, ◌≤◌, ◌+◌, ◌%◌, ◌^◌, ◌==◌, ◌&&◌, ◌++◌, ℕ, Bool, true, false, not, List, [], ◌∷◌, length, take, map, filter, find, Option, Some, None, is_some, option_map, option_and_then, if◌then◌else◌}
+use Rattle.std.specs.List.{list_any}
+use Rattle.std.specs.Str.{bytes_eq}
+use Rattle.coap_msg.specs.declared.endpoint.Endpoint.{Endpoint}
+use Rattle.coap_msg.specs.Endpoints.{is_same_endpoint}
+use Rattle.coap_observe.specs.Sending.{Sent, first_sent, sent_again, is_due as is_past, is_exhausted}
+use Rattle.coap_observe.specs.declared.watcher.Watcher.{Watcher}
+use Rattle.coap_observe.specs.declared.notice.Registered.{Registered}
+use Rattle.coap_observe.specs.declared.notice.Registered.TheVariants.{New, Replaced, Full}
+use Rattle.coap_observe.specs.declared.notice.Notice.{Notice}
+
+-- the watchers, in the order in which they registered, and how many there may be
+pub record Watching : Type 0 where
+  pub capacity : ℕ
+  pub list : List Watcher
+
+-- nobody watches
+abbrev pub none_watch : ℕ → Watching
+none_watch capacity = record { capacity = capacity; list = [] }
+
+-- ---- which watcher is meant
+
+-- one of an endpoint
+abbrev pub is_from : Endpoint → Watcher → Bool
+is_from from w = is_same_endpoint from w.from
+
+-- the one of an endpoint and a token (section 4.1)
+abbrev pub is_pair : Endpoint → List ℕ → Watcher → Bool
+is_pair from token w = is_same_endpoint from w.from && bytes_eq token w.token
+
+-- one to which something was sent from an endpoint with a message ID that isn't acknowledged
+abbrev pub is_named : Endpoint → ℕ → Endpoint → Option Sent → Bool
+is_named from id to None = false
+is_named from id to (Some n) = is_same_endpoint from to && id == n.id
+
+abbrev pub is_sent_as : Endpoint → ℕ → Watcher → Bool
+is_sent_as from id w = is_named from id w.from w.notification
+
+-- one of an endpoint to which something was sent that isn't acknowledged
+abbrev pub is_busy : Endpoint → Watcher → Bool
+is_busy from w = is_some w.notification && is_same_endpoint from w.from
+
+-- one of a target
+abbrev pub is_of_target : ℕ → Watcher → Bool
+is_of_target target w = w.target == target
+
+-- ---- registrations (section 4.1)
+
+-- the sequence number after this one: they have 24 bits (section 3.4)
+abbrev pub next_sequence : ℕ → ℕ
+next_sequence sequence = (sequence + 1) % 2 ^ 24
+
+-- a watcher that registers now
+abbrev pub newcomer : Endpoint → List ℕ → ℕ → Watcher
+newcomer from token target = record { from = from; token = token; target = target; sequence = 0; is_marked = false; notification = None }
+
+-- one that registers anew: it keeps its place and takes the target, its sequence number goes on, and what was to be sent or to
+-- be acknowledged is forgotten
+abbrev pub replaced : ℕ → Watcher → Watcher
+replaced target w = record w { target = target; sequence = next_sequence w.sequence; is_marked = false; notification = None }
+
+-- the watchers that pass a test are changed, the others stay
+abbrev pub where_so : {X : Type 0} → (X → Bool) → (X → X) → X → X
+where_so test change w = if test w then change w else w
+
+-- What a registration comes to: the watcher of this endpoint and token registers anew, or there is a new one, or no room for
+-- one.
+abbrev pub Registers : Endpoint → List ℕ → ℕ → Watching → Registered → Watching → Type 0
+Registers from token target t (Replaced sequence) u =
+    (option_map (λ w. next_sequence w.sequence) (find (is_pair from token) t.list) ≡ Some sequence)
+    × (u ≡ record t { list = map (where_so (is_pair from token) (replaced target)) t.list })
+Registers from token target t (New sequence) u =
+    (find (is_pair from token) t.list ≡ None) × (length t.list < t.capacity) × (sequence ≡ 0)
+    × (u ≡ record t { list = t.list ++ newcomer from token target ∷ [] })
+Registers from token target t Full u = (find (is_pair from token) t.list ≡ None) × (t.capacity ≤ length t.list) × (u ≡ t)
+
+-- those that fail a test stay
+abbrev pub without : (Watcher → Bool) → List Watcher → List Watcher
+without test ws = filter (λ w. not (test w)) ws
+
+-- ---- what is to be sent
+
+-- its target has a value that wasn't sent to it yet
+abbrev pub marked : Watcher → Watcher
+marked w = record w { is_marked = true }
+
+-- what was sent to it is acknowledged
+abbrev pub acknowledged : Watcher → Watcher
+acknowledged w = record w { notification = None }
+
+-- what was sent to it isn't acknowledged and its timeout is over
+abbrev pub is_late : ℕ → Option Sent → Bool
+is_late now None = false
+is_late now (Some n) = is_past now n
+
+abbrev pub is_due : ℕ → Watcher → Bool
+is_due now w = is_late now w.notification
+
+-- and it was sent again as often as it may be
+abbrev pub is_spent : Option Sent → Bool
+is_spent None = false
+is_spent (Some n) = is_exhausted n
+
+abbrev pub is_given_up : Watcher → Bool
+is_given_up w = is_spent w.notification
+
+-- it has a value to be sent, and nothing that was sent to its endpoint is unacknowledged (section 4.5.1)
+abbrev pub is_free : List Watcher → Watcher → Bool
+is_free ws w = w.is_marked && not (list_any (is_busy w.from) ws)
+
+-- the same message is sent to it again
+abbrev pub resent : ℕ → Watcher → Watcher
+resent now w = record w { notification = option_map (λ n. sent_again now n.id n) w.notification }
+
+-- in place of it a new message is sent with the last value, of which the count and the timeouts go on (section 4.5.2)
+abbrev pub renewed : ℕ → ℕ → Watcher → Watcher
+renewed now id w = record w { sequence = next_sequence w.sequence; is_marked = false; notification = option_map (sent_again now id) w.notification }
+
+-- the last value is sent to it
+abbrev pub notified : ℕ → ℕ → Watcher → Watcher
+notified now id w = record w { sequence = next_sequence w.sequence; is_marked = false; notification = Some (first_sent now id) }
+
+-- the first that passes a test is changed
+abbrev pub with_first : {X : Type 0} → (X → Bool) → (X → X) → List X → List X
+with_first test change [] = []
+with_first test change (w ∷ ws) = if test w then change w ∷ ws else w ∷ with_first test change ws
+
+-- A notification to a watcher, with this message ID and sequence number; fresh, where the id is the one that was handed in.
+pub record IsNotice (w : Watcher) (id sequence : ℕ) (fresh : Bool) (n : Notice) : Type 0 where
+  pub to : n.to ≡ w.from
+  pub token : take n.token_length n.token ≡ w.token
+  pub token_length : n.token_length ≡ length w.token
+  pub target : n.target ≡ w.target
+  pub id_is : n.id ≡ id
+  pub sequence_is : n.sequence ≡ sequence
+  pub fresh_is : n.fresh ≡ fresh
+
+-- ---- the order in which it is sent
+
+-- the endpoint of a watcher, if it is given up
+abbrev pub given_up_endpoint : Watcher → Option Endpoint
+given_up_endpoint w = if is_given_up w then Some w.from else None
+
+-- the endpoint of the first watcher whose notification is due, in the order of registration, if it is given up
+abbrev pub hopeless : ℕ → List Watcher → Option Endpoint
+hopeless now ws = option_and_then given_up_endpoint (find (is_due now) ws)
+
+-- All watchers of such an endpoint are removed (section 4.5), and the search begins again.
+pub data GivesUp (now : ℕ) : List Watcher → List Watcher → Type 0 where
+  nobody : (ws us : List Watcher) → hopeless now ws ≡ None → us ≡ ws → GivesUp now ws us
+  endpoint : (from : Endpoint) (ws us : List Watcher) → hopeless now ws ≡ Some from
+      → GivesUp now (without (is_from from) ws) us → GivesUp now ws us
+
+-- At most one message is sent: to the first watcher whose notification is due, the same message again, or a new one where its
+-- target has a newer value; where none is due, to the first that has a value to be sent and whose endpoint acknowledged all.
+pub data Sends (now id : ℕ) (ws : List Watcher) : Option Notice → List Watcher → Type 0 where
+  same : (w : Watcher) (s : Sent) (n : Notice) (us : List Watcher) → find (is_due now) ws ≡ Some w → w.is_marked ≡ false
+      → w.notification ≡ Some s → IsNotice w s.id w.sequence false n → us ≡ with_first (is_due now) (resent now) ws
+      → Sends now id ws (Some n) us
+  newer : (w : Watcher) (n : Notice) (us : List Watcher) → find (is_due now) ws ≡ Some w → w.is_marked ≡ true
+      → IsNotice w id (next_sequence w.sequence) true n → us ≡ with_first (is_due now) (renewed now id) ws
+      → Sends now id ws (Some n) us
+  first : (w : Watcher) (n : Notice) (us : List Watcher) → find (is_due now) ws ≡ None → find (is_free ws) ws ≡ Some w
+      → IsNotice w id (next_sequence w.sequence) true n → us ≡ with_first (is_free ws) (notified now id) ws
+      → Sends now id ws (Some n) us
+  nothing : (us : List Watcher) → find (is_due now) ws ≡ None → find (is_free ws) ws ≡ None → us ≡ ws → Sends now id ws None us
+
+-- Endpoints are given up, and then one message at most is sent.
+pub record Notifies (now id : ℕ) (ws : List Watcher) (n : Option Notice) (us : List Watcher) : Type 0 where
+  pub left : List Watcher
+  pub gives_up : GivesUp now ws left
+  pub sends : Sends now id left n us

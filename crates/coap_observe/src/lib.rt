@@ -1,0 +1,32 @@
+//! Who observes what on a CoAP server, and which notifications are sent (RFC 7641, sections 3 and 4). This crate knows
+//! endpoints, tokens, message IDs, moments and numbers of targets, and no message: what a target is, and what its value is,
+//! is decided elsewhere. It has no clock and no socket, and takes memory once, when the list is made. `Watchers` and
+//! `Notice` carry everything.
+//!
+//! ```
+//! use coap_msg::Endpoint;
+//! use coap_observe::{Registered, Watchers};
+//!
+//! let mut watchers = Watchers::new(alloc, 1024)?;
+//! let from = Endpoint { host: 1, port: 5683 };
+//! assert_eq!(watchers.register(from, b"a", 3), Registered::New(0));
+//! // Target 3 has a new value: its watchers are to be notified.
+//! watchers.emit(3);
+//! let notice = watchers.next_send(now, 7).unwrap();
+//! assert_eq!((notice.target, notice.id, notice.sequence), (3, 7, 1));
+//! // One notification to an endpoint is unacknowledged at a time.
+//! assert!(watchers.acked(from, 7));
+//! ```
+//!
+//! The contract in a sentence: each call is its step of `specs/Watching.antt`, and `next_send` is `Notifies` there.
+#![tactic(auto)]
+
+mod notice;
+mod notification;
+mod sending;
+mod watcher;
+mod watchers;
+
+pub use notice::{Notice, Registered};
+pub use servient_base::NoMemory;
+pub use watchers::Watchers;

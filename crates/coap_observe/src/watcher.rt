@@ -1,0 +1,211 @@
+//! One watcher as it is kept.
+
+ghost use Rattle.std.specs.Prelude.{◌≡◌};
+ghost use Rattle.coap_observe.specs.Watching.{next_sequence};
+
+use crate::notice::Notice;
+use crate::notification::Notification;
+use coap_msg::{BoundedBytes, Endpoint, LONGEST_TOKEN, is_same_endpoint};
+
+/// How many sequence numbers there are: they have 24 bits (RFC 7641, section 3.4).
+const SEQUENCES: u32 = 1 << 24;
+
+/// An observer of a target (RFC 7641, section 4.1).
+#[derive(Drop)]
+pub struct Watcher {
+    /// Where it registered from.
+    pub from: Endpoint,
+    /// The token of its registration.
+    pub token: BoundedBytes<LONGEST_TOKEN>,
+    /// What it observes.
+    pub target: u32,
+    /// The last sequence number that was sent to it.
+    pub sequence: u32,
+    /// Whether its target has a value that wasn't sent to it yet.
+    pub is_marked: bool,
+    /// What was sent to it and isn't acknowledged.
+    pub notification: Option<Notification>,
+}
+
+impl Watcher {
+    ghost use Rattle.std.specs.Prelude.{◌≡◌, ◌≤◌, length, false, Some};
+    ghost use Rattle.coap_observe.specs.Sending.{Sent};
+    ghost use Rattle.coap_observe.specs.Watching.{where_so, newcomer, replaced, marked, acknowledged, is_of_target, is_from, is_pair, is_sent_as, is_busy, is_due, is_given_up, given_up_endpoint, next_sequence, resent, renewed, notified, IsNotice};
+
+    /// One that registers.
+    pub fn new(from: Endpoint, token: &[u8], target: u32) -> Self
+        requires { length token.now ≤ LONGEST_TOKEN }
+        ensures { result ≡ newcomer from token.now target }
+    {
+        Watcher {
+            from,
+            token: BoundedBytes::of(token),
+            target,
+            sequence: 0,
+            is_marked: false,
+            notification: None,
+        }
+    }
+
+    /// The sequence number after the last one.
+    pub fn sequence_after(&self) -> u32
+        ensures { result ≡ next_sequence self.now.sequence }
+    {
+        next_sequence(self.sequence)
+    }
+
+    /// It registers anew, if it is the one of this endpoint and token.
+    pub fn replace_if(&mut self, from: Endpoint, token: &[u8], target: u32)
+        ensures { self.new ≡ where_so (is_pair from token.now) (replaced target) self.old }
+    {
+        if self.is_pair(from, token) {
+            self.target = target;
+            self.sequence = next_sequence(self.sequence);
+            self.is_marked = false;
+            self.notification = None;
+        }
+    }
+
+    /// It is to be notified, if it observes this target.
+    pub fn mark_if(&mut self, target: u32)
+        ensures { self.new ≡ where_so (is_of_target target) marked self.old }
+    {
+        if self.target == target {
+            self.is_marked = true;
+        }
+    }
+
+    /// What was sent to it is acknowledged, if that was sent from this endpoint with this message ID.
+    pub fn acknowledge_if(&mut self, from: Endpoint, id: u16)
+        ensures { self.new ≡ where_so (is_sent_as from id) acknowledged self.old }
+    {
+        if self.is_sent_as(from, id) {
+            self.notification = None;
+        }
+    }
+
+    /// The message ID of what was sent to it; 0 where nothing was.
+    pub fn last_id(&self) -> u16
+        ensures { (s : Sent) → self.now.notification ≡ Some s → result ≡ s.id }
+    {
+        match &self.notification {
+            Some(notification) => notification.id(),
+            None => 0,
+        }
+    }
+
+    /// What was sent to it is sent again now, if something was.
+    pub fn resend(&mut self, now: u64)
+        requires { is_given_up self.old ≡ false }
+        ensures { self.new ≡ resent now self.old }
+    {
+        self.notification = match &self.notification {
+            Some(notification) => Some(notification.again(now, notification.id())),
+            None => None,
+        };
+    }
+
+    /// A new message with this message ID is sent now in place of what was sent to it, if something was.
+    pub fn renew(&mut self, now: u64, id: u16)
+        requires { is_given_up self.old ≡ false }
+        ensures { self.new ≡ renewed now id self.old }
+    {
+        self.sequence = next_sequence(self.sequence);
+        self.is_marked = false;
+        self.notification = match &self.notification {
+            Some(notification) => Some(notification.again(now, id)),
+            None => None,
+        };
+    }
+
+    /// The last value is sent to it now, with this message ID.
+    pub fn notify(&mut self, now: u64, id: u16)
+        ensures { self.new ≡ notified now id self.old }
+    {
+        self.sequence = next_sequence(self.sequence);
+        self.is_marked = false;
+        self.notification = Some(Notification::first(now, id));
+    }
+
+    /// The notice of a message to it.
+    pub fn notice(&self, id: u16, sequence: u32, fresh: bool) -> Notice
+        ensures { IsNotice self.now id sequence fresh result }
+    {
+        let token = self.token.as_bytes();
+        let mut room = [0u8; LONGEST_TOKEN];
+        room[..token.len()].copy_from_slice(token);
+        Notice {
+            to: self.from,
+            token: room,
+            token_length: token.len(),
+            target: self.target,
+            id,
+            sequence,
+            fresh,
+        }
+    }
+
+    /// Whether it is of this endpoint.
+    pub fn is_from(&self, from: Endpoint) -> bool
+        ensures { result ≡ is_from from self.now }
+    {
+        is_same_endpoint(from, self.from)
+    }
+
+    /// Whether it is the one of this endpoint and token.
+    pub fn is_pair(&self, from: Endpoint, token: &[u8]) -> bool
+        ensures { result ≡ is_pair from token.now self.now }
+    {
+        is_same_endpoint(from, self.from) && token == self.token.as_bytes()
+    }
+
+    /// Whether what was sent to it from this endpoint with this message ID isn't acknowledged.
+    pub fn is_sent_as(&self, from: Endpoint, id: u16) -> bool
+        ensures { result ≡ is_sent_as from id self.now }
+    {
+        match &self.notification {
+            Some(notification) => is_same_endpoint(from, self.from) && id == notification.id(),
+            None => false,
+        }
+    }
+
+    /// Whether something was sent to this endpoint, by this watcher, that isn't acknowledged.
+    pub fn is_busy(&self, from: Endpoint) -> bool
+        ensures { result ≡ is_busy from self.now }
+    {
+        self.notification.is_some() && is_same_endpoint(from, self.from)
+    }
+
+    /// Whether what was sent to it is to be sent again, or given up.
+    pub fn is_due(&self, now: u64) -> bool
+        ensures { result ≡ is_due now self.now }
+    {
+        match &self.notification {
+            Some(notification) => notification.is_due(now),
+            None => false,
+        }
+    }
+
+    /// Its endpoint, if what was sent to it was sent again as often as it may be.
+    pub fn endpoint_given_up(&self) -> Option<Endpoint>
+        ensures { result ≡ given_up_endpoint self.now }
+    {
+        match &self.notification {
+            Some(notification) => {
+                if notification.is_exhausted() {
+                    Some(self.from)
+                } else {
+                    None
+                }
+            }
+            None => None,
+        }
+    }
+}
+
+/// The sequence number after this one.
+fn next_sequence(sequence: u32) -> u32
+    ensures { result ≡ next_sequence sequence }
+{
+    sequence.wrapping_add(1) % SEQUENCES
+}

@@ -43,7 +43,7 @@ fn nibble(number: usize) -> u8 {
     }
 }
 
-/// Writes what stands for a delta or a length behind the option's first byte.
+/// Writes what stands for a delta or a length after the option's first byte.
 fn extend(bytes: &mut Vec<u8>, number: usize) -> Result<(), AllocError> {
     match number {
         0..=12 => Ok(()),
@@ -58,7 +58,7 @@ fn extend(bytes: &mut Vec<u8>, number: usize) -> Result<(), AllocError> {
     }
 }
 
-/// Writes an option behind one of the number `last`.
+/// Writes an option after one of the number `last`.
 fn put_option(bytes: &mut Vec<u8>, last: u16, number: u16, value: &[u8]) -> Result<(), AllocError> {
     let delta = usize::from(number.saturating_sub(last));
     bytes.push(
@@ -82,7 +82,7 @@ fn short(alloc: Global, text: &str) -> Result<Vec<u8>, AllocError> {
     Ok(value)
 }
 
-/// Writes the options Uri-Path of a path, behind one of the number `last`.
+/// Writes the options Uri-Path of a path, after one of the number `last`.
 fn put_path(alloc: Global, bytes: &mut Vec<u8>, last: u16, path: &str) -> Result<(), AllocError> {
     let mut last = last;
     if path == "/" {
@@ -95,7 +95,7 @@ fn put_path(alloc: Global, bytes: &mut Vec<u8>, last: u16, path: &str) -> Result
     Ok(())
 }
 
-/// Writes the option of a word behind one of the number `last`, and gives its number; none where the word is no option.
+/// Writes the option of a word after one of the number `last`, and gives its number; none where the word is no option.
 fn put_word(
     alloc: Global,
     bytes: &mut Vec<u8>,
@@ -189,7 +189,7 @@ fn put_value(text: &mut String, value: &[u8]) -> Result<(), AllocError> {
     Ok(())
 }
 
-/// Writes an option with a blank before it; a further segment of a path right behind the one before it.
+/// Writes an option with a blank before it; a further segment of a path right after the one before it.
 fn put_named(text: &mut String, last: u16, number: u16, value: &[u8]) -> Result<(), AllocError> {
     if number == 11 {
         text.push_str(if last == 11 { "/" } else { " /" })?;

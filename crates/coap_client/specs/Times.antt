@@ -17,8 +17,8 @@ retransmissions_within timeout age =
 abbrev pub retransmissions_by : Outstanding → ℕ → ℕ
 retransmissions_by o age = if o.is_acknowledged then 0 else retransmissions_within (first_timeout o.id) age
 
--- How long after its first sending a request is given up: where nothing acknowledged it, when the timeout after the fourth
--- retransmission is over (section 4.2); else after 100 seconds (MAX_LATENCY, section 4.8.2).
+-- How long after its first sending a request is given up: where nothing acknowledged it, when the timeout after the
+-- fourth retransmission is over (section 4.2); else after 100 seconds (MAX_LATENCY, section 4.8.2).
 abbrev pub deadline : Outstanding → ℕ
 deadline o = if o.is_acknowledged then 100000 else 31 * first_timeout o.id
 

@@ -14,7 +14,7 @@ pub data WordKind : Type 0 where
   option : List ℕ → Option (List ℕ) → WordKind
   -- another word that begins with `-`, as `-x`: no option is called so
   unknown : WordKind
-  -- any other word, and `-` alone
+  -- any other word, also an empty one, and `-` alone
   plain : WordKind
 
 abbrev pub is_equals_sign : ℕ → Bool

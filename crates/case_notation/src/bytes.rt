@@ -1,5 +1,5 @@
-//! Bytes as text: a byte stands for itself, `\r`, `\n`, `\t`, `\\` and `\xHH` for what they are in Rust, and `\*N;` after a byte lets it
-//! stand N times. `-` alone is no bytes.
+//! Bytes as text: a byte stands for itself, `\r`, `\n`, `\t`, `\\` and `\xHH` for what they are in Rust, and `\*N;`
+//! after a byte lets it stand N times. `-` alone is no bytes.
 
 ghost use Rattle.std.specs.Prelude.{◌<◌};
 

@@ -1,5 +1,5 @@
-//! CoAP messages in words: type, code, message ID and token (hexadecimal digits, `-` for none), then the options in the order
-//! of their numbers, then the payload as `bytes.rt` writes bytes.
+//! CoAP messages in words: type, code, message ID and token (hexadecimal digits, `-` for none), then the options in the
+//! order of their numbers, then the payload as `bytes.rt` writes bytes.
 //!
 //! ```text
 //! CON PUT 7 aa /lamp/properties/level Content-Format=50 42
@@ -8,8 +8,9 @@
 //! bytes \x40\x01\x00
 //! ```
 //!
-//! `/a/b` is two options Uri-Path, `/` alone none. An option is written by its name or `#` and its number; a blank in a value is `\x20`. What is
-//! no message is `bytes` and the bytes themselves. The bytes are laid out here by RFC 7252, section 3, and not by the encoder under test.
+//! `/a/b` is two options Uri-Path, `/` alone none. An option is written by its name or `#` and its number; a blank in a
+//! value is `\x20`. What is no message is `bytes` and the bytes themselves. The bytes are laid out here by RFC 7252,
+//! section 3, and not by the encoder under test.
 
 use crate::bytes::{bytes_of, digit, number, put, put_digits};
 use crate::names::{Format, code_of, name_of, option_named, put_code, type_bits};

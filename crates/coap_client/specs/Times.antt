@@ -3,8 +3,8 @@ use Rattle.std.specs.Prelude.{◌+◌, ◌*◌, ℕ, nat_lt, if◌then◌else◌
 use Rattle.coap_msg.specs.Transmission.{first_timeout}
 use Rattle.coap_client.specs.declared.outstanding.Outstanding.{Outstanding}
 
--- how many of the four moments for a retransmission (MAX_RETRANSMIT, section 4.8) have come so long after the first sending: the
--- timeout doubles each time (section 4.2)
+-- how many of the four moments for a retransmission (MAX_RETRANSMIT, section 4.8) have come so long after the first
+-- sending: the timeout doubles each time (section 4.2)
 abbrev pub retransmissions_within : ℕ → ℕ → ℕ
 retransmissions_within timeout age =
     if nat_lt age timeout then 0

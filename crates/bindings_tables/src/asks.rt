@@ -1,4 +1,4 @@
-//! CoAP requests in words, and what they ask for.
+//! Rows of CoAP requests in words, and what they ask for.
 
 use crate::runs;
 use crate::targets::put_path;

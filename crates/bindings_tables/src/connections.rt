@@ -1,10 +1,10 @@
-//! The connections of an HTTP server. A step is its moment, a word, the number of a connection or `all` for the 64 of them, and bytes; and
-//! what comes of it:
+//! The connections of an HTTP server. A step is its moment, a word, the number of a connection or `all` for the 64 of
+//! them, and bytes; and what comes of it:
 //!
 //! - `opens`: the connection is opened;
 //! - `hears`: what is to be done on it is done, and these bytes come;
-//! - `does`: what is to be done on it is done, at this moment: what is sent, `-` for nothing; of all connections that of the first, and
-//!   that of any other where it is something else;
+//! - `does`: what is to be done on it is done, at this moment: what is sent, `-` for nothing; of all connections that
+//!   of the first, and that of any other where it is something else;
 //! - `ends`: it has ended;
 //! - `idle` (without a number): the lowest that is idle.
 
@@ -109,7 +109,7 @@ fn act(
     Ok(())
 }
 
-/// Forgets what was sent from this place on, where it is the same as what stands before it.
+/// Forgets what was sent from this place on, where it is the same as what is before it.
 fn forget_repeat(sent: &mut Vec<u8>, place: usize) {
     let bytes = sent.as_slice();
     if place > 0 && bytes.get(place..) == bytes.get(..place) {

@@ -1,5 +1,6 @@
-//! The CoAP server, in which 16 exchanges may live, or as many as a line `room for N exchanges` says. A step is a datagram: its moment, its
-//! host, what it comes to where it is asked (`-` where it isn't to be), and its message; and what is done with it.
+//! The CoAP server, in which 16 exchanges may live, or as many as a line `room for N exchanges` says. A step is a
+//! datagram: its moment, its host, what it comes to where it is asked (`-` where it isn't to be), and its message; and
+//! what is done with it.
 
 ghost use Rattle.std.specs.Prelude.{◌≤◌};
 ghost use Rattle.thing_ops.specs.Outcomes.{HasCode};

@@ -1,5 +1,5 @@
-//! Exchanges of CoAP in a table in which 16 may live. A step is a request: its moment, where it comes from, `CON` or `NON`, its message
-//! id, and the reply to keep, `none` for none; and what it meets.
+//! Exchanges of CoAP in a table in which 16 may live. A step is a request: its moment, where it comes from, `CON` or
+//! `NON`, its message id, and the reply to keep, `none` for none; and what it meets.
 
 ghost use Rattle.std.specs.Prelude.{◌≡◌, ◌≤◌, ◌⊎◌};
 ghost use Rattle.coap_exchange.specs.Table.{IsAwaited};

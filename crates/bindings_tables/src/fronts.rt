@@ -1,6 +1,7 @@
-//! HTTP: the bytes of a stream, and what stands at its front, however many of them are there. Whatever that is for the first bytes
-//! stands until another follows after ` | `, with the number of bytes from which on it is so; at first nothing is whole and no 100 reply is
-//! asked for. Of more than 1,000 bytes the one place where that changes is found by halving.
+//! HTTP: the bytes of a stream, and what is at its front, however many of them are there. Whatever that is for the
+//! first bytes stands until another follows after ` | `, with the number of bytes from which on it is so; at first
+//! nothing is whole and no 100 reply is asked for. Of more than 1,000 bytes the one place where that changes is found
+//! by binary search.
 
 use crate::asks::accept_word;
 use crate::runs;
@@ -53,7 +54,7 @@ const MANY: usize = 1000;
 /// What is seen at first.
 const NOTHING: Seen = Seen::Short(false);
 
-/// From how many of these bytes on something is seen, found by halving.
+/// From how many of these bytes on something is seen, found by binary search.
 fn first_seen(bytes: &[u8]) -> usize {
     let mut low = 0usize;
     let mut high = bytes.len();

@@ -1,5 +1,5 @@
-//! The message IDs of the CoAP server: a message comes from one host so many times, each so many milliseconds after the one before it; and the ids of
-//! what is sent.
+//! The message IDs of the CoAP server: a message comes from one host n times, each m milliseconds after the one before
+//! it; and the ids of what is sent.
 
 ghost use Rattle.std.specs.Prelude.{◌≤◌};
 
@@ -65,7 +65,7 @@ fn with_id(ids: Ids, id: u16) -> Ids {
     }
 }
 
-/// The ids of what is sent for so many copies of a datagram.
+/// The ids of what is sent for n copies of a datagram.
 fn ids_of(server: &mut CoapBind, datagram: &[u8], times: u64, distance: u64) -> Ids
     requires { server.old.exchanges.moment ≤ 0 }
 {

@@ -1,12 +1,13 @@
-//! Tables of the bindings: CoAP messages, what they ask for, exchanges, and the server; HTTP requests at the front of a stream, their
-//! targets, the heads of replies, outcomes, and the connections of an HTTP server. Each argument names a file: the table of that name.
+//! Tables of the bindings: CoAP messages, what they ask for, exchanges, and the server; HTTP requests at the front of a
+//! stream, their targets, the heads of replies, outcomes, and the connections of an HTTP server. Each argument names a
+//! file: the table of that name.
 //!
-//! A row is what is given, ` => `, and what comes of it. The program prints each row with what does come of it, and each other line as it
-//! is: so it prints its files, if all is right. Most rows stand alone. In some files rows are steps of a history, which begins at the top
-//! and anew after each empty line.
+//! A row is what is given, ` => `, and what comes of it. The program prints each row with what does come of it, and
+//! each other line as it is: so it prints its files, if all is right. Most rows stand alone. In some files rows are
+//! steps of a history, which begins at the top and anew after each empty line.
 //!
-//! All that is said is put behind one text, which is passed on by reference: what fails then has nothing of its own to give up, which
-//! is what makes a proof long.
+//! All that is said goes to one text, which is passed on by reference: what fails then has nothing of its own to give
+//! up, which is what makes a proof long.
 #![tactic(auto)]
 
 mod asks;

@@ -1,4 +1,4 @@
-//! What requests come to, by words: the name of an outcome, and after a colon what it carries.
+//! Outcomes of requests, by words: the name of an outcome, and after a colon what it carries.
 
 ghost use Rattle.std.specs.Prelude.{IfOk};
 ghost use Rattle.thing_ops.specs.Outcomes.{HasCode};
@@ -23,7 +23,7 @@ fn status_of(alloc: Global, id: &str) -> Result<Bytes, AllocError> {
     Ok(Bytes::copy_of(alloc, text.as_str().as_bytes())?)
 }
 
-/// The action of the lamp that goes on as the invocation of this digit.
+/// The action of the lamp that runs as the invocation of this digit.
 fn started(alloc: Global, id: &str) -> Result<Outcome, AllocError>
     ensures { IfOk result (λ o. HasCode o × HasShortPlace o) }
 {
@@ -85,7 +85,7 @@ fn plain(name: &str, carried: &str) -> Outcome
     }
 }
 
-/// What a request comes to.
+/// The outcome of a request.
 pub fn outcome_of(alloc: Global, word: &str) -> Result<Outcome, AllocError>
     ensures { IfOk result (λ o. HasCode o × HasShortPlace o) }
 {

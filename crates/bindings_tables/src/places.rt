@@ -1,4 +1,5 @@
-//! Outcomes over HTTP, each the answer to a POST request: the name of an outcome, after a colon what it carries, and the bytes that are sent.
+//! Outcomes over HTTP, each the answer to a POST request: the name of an outcome, after a colon what it carries, and
+//! the bytes that are sent.
 
 ghost use Rattle.std.specs.Prelude.{◌<◌};
 ghost use Rattle.http_bind.specs.Slots.{IsOpen};
@@ -26,7 +27,7 @@ fn created(alloc: Global, id: &str) -> Result<Outcome, AllocError> {
     Ok(Outcome::Created(Some(Text::copy_of(alloc, id)?)))
 }
 
-/// What a request comes to, also of outcomes that HTTP alone has.
+/// The outcome of a request, also of those that HTTP alone has.
 fn any_outcome_of(alloc: Global, word: &str) -> Result<Outcome, AllocError> {
     let (name, carried) = word.split_once(':').unwrap_or((word, ""));
     match name {

@@ -1,5 +1,5 @@
-//! Heads of HTTP replies: the status, and of `type`, `location`, `allow`, `length` and `close` what a reply has, each after ` | `; and the
-//! bytes of the head.
+//! Heads of HTTP replies: the status, and of `type`, `location`, `allow`, `length` and `close` what a reply has, each
+//! after ` | `; and the bytes of the head.
 
 use crate::runs;
 use http_wire::{Reply, has_reason, put_reply};

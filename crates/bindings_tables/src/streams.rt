@@ -1,5 +1,5 @@
-//! HTTP connections: the bytes of a stream, and what is sent, however they come: at once, in pieces of 1 and of 7 bytes, and cut at any
-//! place; with the word `cut` before it also cut at any two places.
+//! HTTP connections: the bytes of a stream, and what is sent, however they come: at once, in pieces of 1 and of 7
+//! bytes, and cut at any place; with the word `cut` before it also cut at any two places.
 
 ghost use Rattle.std.specs.Prelude.{◌<◌, ◌≤◌, OnOk, length};
 ghost use Rattle.http_bind.specs.Slots.{HasRoom};
@@ -100,7 +100,7 @@ fn put_pieces(
     Ok(())
 }
 
-/// The last place of a second cut behind a first one: where the stream isn't cut twice, the first one's.
+/// The last place of a second cut after a first one: where the stream isn't cut twice, the first one's.
 fn last_second(stream: &[u8], first: usize, is_twice: bool) -> usize {
     if is_twice { stream.len() } else { first }
 }

@@ -1,7 +1,8 @@
-//! What an HTTP server with one value says on its connections. The value is 7 at first: GET reads it, or gives the query where there is
-//! one, PUT writes it, POST changes nothing, and no other method is taken.
+//! What an HTTP server with one value says on its connections. The value is 7 at first: GET reads it, or gives the
+//! query where there is one, PUT writes it, POST changes nothing, and no other method is taken.
 //!
-//! The room that requests are read in is lent to all functions here, since to take it anew for each message costs more than all else.
+//! The room that requests are read in is lent to all functions here, since to take it anew for each message costs more
+//! than all else.
 
 ghost use Rattle.std.specs.Prelude.{◌≡◌, ◌<◌, ◌≤◌, ◌⊎◌, Ok, false, IsSome, OnOk, length};
 ghost use Rattle.http_bind.specs.Replying.{fault_word};
@@ -87,7 +88,7 @@ fn refuse(http: &mut HttpBind, c: u32, status: u16, talk: &mut Talk) -> Result<(
     talk.send(&http.refused(c, status, &mut out, &mut word))
 }
 
-/// Puts down the reply to a request that came to this.
+/// Puts down the reply to a request with this outcome.
 fn answer(http: &mut HttpBind, c: u32, outcome: &Outcome, talk: &mut Talk) -> Result<(), AllocError>
     requires connection { c < 64 }
     requires open { IsOpen c http.old }
@@ -116,7 +117,7 @@ fn turn(http: &mut HttpBind, c: u32, talk: &mut Talk, room: &mut [u8]) -> Result
     Ok(true)
 }
 
-/// Does what is to be done on a connection, until nothing is left; more than 16 messages are as good as no memory.
+/// Does what is to be done on a connection, until nothing is left; more than 16 messages count as being out of memory.
 pub fn handle(
     http: &mut HttpBind,
     c: u32,

@@ -1,5 +1,5 @@
-//! Bytes as text: a byte stands for itself, `\r`, `\n`, `\t`, `\\` and `\xHH` for what they are in Rust, and `\*N;` behind a byte lets it
-//! stand N times. `-` alone is no bytes.
+//! Bytes as text: a byte stands for itself, `\r`, `\n`, `\t`, `\\` and `\xHH` for what they are in Rust, and `\*N;`
+//! after a byte lets it stand N times. `-` alone is no bytes.
 
 ghost use Rattle.std.specs.Prelude.{◌<◌};
 
@@ -29,7 +29,7 @@ pub fn digit(byte: u8) -> u8
     }
 }
 
-/// The last byte stands so many times.
+/// The last byte n times.
 fn repeat(bytes: &mut Vec<u8>, times: usize) -> Result<(), AllocError> {
     if let Some(last) = bytes.pop() {
         for _time in 0..times {

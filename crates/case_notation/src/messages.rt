@@ -1,5 +1,5 @@
-//! CoAP messages in words: type, code, message ID and token (hexadecimal digits, `-` for none), then the options in the order
-//! of their numbers, then the payload as `bytes.rt` writes bytes.
+//! CoAP messages in words: type, code, message ID and token (hexadecimal digits, `-` for none), then the options in the
+//! order of their numbers, then the payload as `bytes.rt` writes bytes.
 //!
 //! ```text
 //! CON PUT 7 aa /lamp/properties/level Content-Format=50 42
@@ -8,8 +8,9 @@
 //! bytes \x40\x01\x00
 //! ```
 //!
-//! `/a/b` is two options Uri-Path, `/` alone none. An option is written by its name or `#` and its number; a blank in a value is `\x20`. What is
-//! no message is `bytes` and the bytes themselves. The bytes are laid out here by RFC 7252, section 3, and not by the encoder under test.
+//! `/a/b` is two options Uri-Path, `/` alone none. An option is written by its name or `#` and its number; a blank in a
+//! value is `\x20`. What is no message is `bytes` and the bytes themselves. The bytes are laid out here by RFC 7252,
+//! section 3, and not by the encoder under test.
 
 use crate::bytes::{bytes_of, digit, number, put, put_digits};
 use crate::names::{Format, code_of, name_of, option_named, put_code, type_bits};
@@ -43,7 +44,7 @@ fn nibble(number: usize) -> u8 {
     }
 }
 
-/// Writes what stands for a delta or a length behind the option's first byte.
+/// Writes what stands for a delta or a length after the option's first byte.
 fn extend(bytes: &mut Vec<u8>, number: usize) -> Result<(), AllocError> {
     match number {
         0..=12 => Ok(()),
@@ -58,7 +59,7 @@ fn extend(bytes: &mut Vec<u8>, number: usize) -> Result<(), AllocError> {
     }
 }
 
-/// Writes an option behind one of the number `last`.
+/// Writes an option after one of the number `last`.
 fn put_option(bytes: &mut Vec<u8>, last: u16, number: u16, value: &[u8]) -> Result<(), AllocError> {
     let delta = usize::from(number.saturating_sub(last));
     bytes.push(
@@ -82,7 +83,7 @@ fn short(alloc: Global, text: &str) -> Result<Vec<u8>, AllocError> {
     Ok(value)
 }
 
-/// Writes the options Uri-Path of a path, behind one of the number `last`.
+/// Writes the options Uri-Path of a path, after one of the number `last`.
 fn put_path(alloc: Global, bytes: &mut Vec<u8>, last: u16, path: &str) -> Result<(), AllocError> {
     let mut last = last;
     if path == "/" {
@@ -95,7 +96,7 @@ fn put_path(alloc: Global, bytes: &mut Vec<u8>, last: u16, path: &str) -> Result
     Ok(())
 }
 
-/// Writes the option of a word behind one of the number `last`, and gives its number; none where the word is no option.
+/// Writes the option of a word after one of the number `last`, and gives its number; none where the word is no option.
 fn put_word(
     alloc: Global,
     bytes: &mut Vec<u8>,
@@ -189,7 +190,7 @@ fn put_value(text: &mut String, value: &[u8]) -> Result<(), AllocError> {
     Ok(())
 }
 
-/// Writes an option with a blank before it; a further segment of a path right behind the one before it.
+/// Writes an option with a blank before it; a further segment of a path right after the one before it.
 fn put_named(text: &mut String, last: u16, number: u16, value: &[u8]) -> Result<(), AllocError> {
     if number == 11 {
         text.push_str(if last == 11 { "/" } else { " /" })?;

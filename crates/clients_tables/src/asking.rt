@@ -39,7 +39,7 @@ fn observe_of(word: &str) -> Option<bool> {
     }
 }
 
-/// The content format at the beginning of these words, if there is one, and what stands behind it.
+/// The content format at the beginning of these words, if there is one, and what comes after it.
 fn format_of(words: &str) -> (Option<u16>, &str) {
     match words.strip_prefix("Content-Format=") {
         Some(rest) => {
@@ -50,7 +50,7 @@ fn format_of(words: &str) -> (Option<u16>, &str) {
     }
 }
 
-/// What is asked by the word of a step and the words behind it.
+/// What is asked by the word of a step and the words after it.
 pub fn asked_of<'a>(word: &'a str, words: &'a str) -> Asked<'a> {
     let mut fields = words.splitn(4, ' ');
     let peer = endpoint_of(fields.next().unwrap_or(""));

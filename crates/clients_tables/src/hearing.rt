@@ -1,4 +1,4 @@
-//! What comes to a client and what is due, and what it tells and sends.
+//! What comes to a client and what is due, and its news and what it sends.
 
 ghost use Rattle.std.specs.Prelude.{◌≤◌};
 
@@ -9,7 +9,7 @@ use coap_msg::{Endpoint, LONGEST_MESSAGE};
 use std::alloc::{AllocError, Global};
 use std::fmt::Write;
 
-/// What is told.
+/// The news.
 fn put_news(text: &mut String, news: News<'_>) -> Result<(), AllocError> {
     match news {
         News::Nothing => text.push_str("nothing"),
@@ -26,7 +26,7 @@ fn put_news(text: &mut String, news: News<'_>) -> Result<(), AllocError> {
     }
 }
 
-/// What is told of a datagram, and what is replied.
+/// The news of a datagram, and the reply to it.
 fn put_delivered(
     text: &mut String,
     client: &mut Client,

@@ -1,4 +1,4 @@
-//! A history of one client.
+//! A history of one client: the steps of a case, and the state between them.
 
 ghost use Rattle.std.specs.Prelude.{◌≤◌};
 
@@ -8,7 +8,7 @@ use case_notation::number;
 use coap_client::Client;
 use std::alloc::{AllocError, Global};
 
-/// A step: its moment, its word, and the words behind that.
+/// A step: its moment, its word, and the words after that.
 #[derive(Clone, Copy)]
 struct Step<'a> {
     moment: u64,

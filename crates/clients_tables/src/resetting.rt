@@ -29,7 +29,7 @@ const NONE: Counts = Counts {
     in_order: true,
 };
 
-/// A request that was sent: its id, and whether its reset was told.
+/// A request that was sent: its id, and whether the news of its reset came.
 #[derive(Clone, Copy)]
 struct Once {
     id: u16,
@@ -67,7 +67,7 @@ fn with_once(counts: Counts, once: Once) -> Counts {
     }
 }
 
-/// Asks so many times.
+/// Asks n times.
 fn counts_of(client: &mut Client, now: u64, peer: Endpoint, ask: &Ask<'_>, times: u64) -> Counts
     requires now { client.old.moment ≤ now }
     requires ask { MayAsk (asking_of ask.now) }

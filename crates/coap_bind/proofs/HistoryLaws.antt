@@ -1,4 +1,4 @@
--- The laws over all that a server did.
+-- Laws of the server, over all that it did from its beginning.
 use Rattle.std.proofs.Common.{◌≡◌, ◌≤◌, ◌∙◌, ℕ, Bool, true, false, Option, Some, None, List, [], ◌∷◌, ◌++◌, map, refl, sym, ap, subst}
 use Rattle.std.specs.Prelude.{◌==◌, if◌then◌else◌, Contains}
 use Rattle.std.specs.List.{list_any}
@@ -37,7 +37,7 @@ arrivals_stay slot bytes (e ∷ es) =
     ap (λ (a : Arrival). a ∷ map (λ x. x.arrival) (map (with_answer slot bytes) es)) (answered_at slot bytes e (e.slot == slot))
     ∙ ap (λ (l : List Arrival). e.arrival ∷ l) (arrivals_stay slot bytes es)
 
--- the exchanges of a server are those of a history, and so many may live
+-- the exchanges of a server are those of a history, and n may live
 record Follows (capacity : ℕ) (history : List Arrival) (t : Table) : Type 0 where
   stands : StandsFor t history
   same : t.capacity ≡ capacity

@@ -1,4 +1,4 @@
--- How long replies are.
+-- How long replies are, and that they fit their room.
 use Rattle.std.proofs.Common.{◌≡◌, ℕ, ◌+◌, ◌*◌, ◌-◌, ◌/◌, ◌%◌, ◌≤◌, ◌<◌, ◌⊎◌, ◌∙◌, Bool, true, false, inl, inr, Option, Some, None, List, [], ◌∷◌, ◌++◌, length, refl, ap, arith, length-append}
 use Rattle.std.specs.Prelude.{nat_lt, All, if◌then◌else◌}
 use Rattle.std.specs.Option.{option_map_or}

@@ -17,13 +17,13 @@ use Rattle.coap_bind.specs.Settling.{RefusesOption, ReadsAs}
 
 -- ---- faults
 
--- the first fault is this one, where that is no want of memory
+-- the first fault is this one, where that isn't being out of memory
 pub first_fault : (faults : List AskFault) (e f : AskFault) → e ≡ f → f ≢ NoMemory
     → (slice_get faults 0 ≡ Some e) ⊎ ((faults ≡ []) × (e ≡ NoMemory)) → slice_get faults 0 ≡ Some f
 first_fault faults e f same other (inl h) = h ∙ ap Some same
 first_fault faults e f same other (inr h) = absurd (other (let is = h.1 in cc))
 
--- no option is at fault for want of memory
+-- no option is at fault by being out of memory
 of_tests : (number : ℕ) (b c : Bool) (rest : List AskFault) → (slice_get rest 0 ≡ Some NoMemory → ⊥)
     → slice_get (and_then_these (cond b (Some Proxy) (cond c (Some (BadOption number)) None)) rest) 0 ≡ Some NoMemory → ⊥
 of_tests number true c rest none e = cc

@@ -1,4 +1,4 @@
--- How the code tells what is done.
+-- How results say what is done with a datagram.
 use Rattle.std.proofs.Common.{ℕ, List, Option, Some, None, refl}
 use Rattle.coap_msg.specs.Grammar.{CoapMessage}
 use Rattle.coap_msg.specs.Written.{IsReplied}

@@ -20,7 +20,8 @@ AreArrivals from bytes now [] = (m : CoapMessage) → Spells m bytes → is_requ
 AreArrivals from bytes now (a ∷ []) = (m : CoapMessage) × Spells m bytes × (is_request m ≡ true) × (a ≡ arrival from now m)
 AreArrivals from bytes now (a ∷ b ∷ more) = ⊥
 
--- What a server in which so many exchanges may live did so far: the requests that came, in their order, and what it holds now.
+-- What a server in which n exchanges may live did so far: the requests that came, in their order, and what it holds
+-- now.
 pub data Did (capacity : ℕ) : List Arrival → Server → Type 0 where
   nothing : Did capacity [] (start capacity)
   -- a datagram came
@@ -45,8 +46,8 @@ DuplicatesAskNothing =
     → is_duplicate_of (arrival from now m) earlier ≡ true
     → (what : PlainAsk) (request : OpenRequest) → ¬ (Hears from bytes now (asked what request) s t)
 
--- The place of what was started has at most four segments, each of at most 255 bytes (section 5.10), and its status at most
--- 100 bytes.
+-- The place of what was started has at most four segments, each of at most 255 bytes (section 5.10), and its status at
+-- most 100 bytes.
 abbrev pub HasShortPlace : Outcome → Type 0
 HasShortPlace (Started place status) = (length place ≤ 4) × All (λ segment. length segment ≤ LONGEST_SEGMENT) place × (length status ≤ 100)
 HasShortPlace _ = Unit {0}

@@ -1,9 +1,12 @@
--- A CoAP server as one machine (RFC 7252, sections 4.2 to 4.5 and 5.4): what it holds, and what each datagram and each answer
--- does to that.
+-- A CoAP server as one machine (RFC 7252, sections 4.2 to 4.5 and 5.4): what it holds, and what each datagram and each
+-- answer does to that.
 --
 -- What it holds is `Server` of src/server.rt: the `exchanges` that live, with the replies that are kept
--- (coap_exchange/specs/Table.antt), and `next_id`, the message ID of the next message that isn't an acknowledgement. What a request
--- asks for is coap_opts/specs/Reading.antt, and what a reply is on the wire is in Writing.antt.
+-- (coap_exchange/specs/Table.antt), and `next_id`, the message ID of the next message that isn't an acknowledgement.
+-- What a request asks for is coap_opts/specs/Reading.antt, and what a reply is on the wire is in Writing.antt.
+--
+-- The state is what the code holds, because a second relation between the code and a history would say no more: the law
+-- `ExchangesAreOfTheHistory` ties the table to what came.
 use Rattle.std.specs.Prelude.{◌≡◌, ℕ, ◌+◌, ◌/◌, ◌%◌, ◌&&◌, nat_lt, Bool, true, false, List, [], Option, Some, None, slice_get, if◌then◌else◌}
 use Rattle.coap_msg.specs.declared.endpoint.Endpoint.{Endpoint}
 use Rattle.coap_msg.specs.declared.message.MsgFault.{MsgFault}
@@ -27,7 +30,8 @@ use Rattle.coap_bind.specs.declared.head.OpenRequest.{OpenRequest}
 use Rattle.coap_bind.specs.declared.server.Server.{Server}
 use Rattle.coap_bind.specs.Writing.{Reply, full_reply, proxy_reply, option_reply, reply_of, head_of, coap_reply}
 
--- a server to which nothing came yet, in which so many exchanges may live
+-- A server to which nothing came yet, in which n exchanges may live. Its message IDs begin at 0 and not at a random
+-- number (docs/DECISIONS.md, "CoAP").
 abbrev pub start : ℕ → Server
 start capacity = record { exchanges = empty_table capacity; next_id = 0 }
 
@@ -37,17 +41,19 @@ pub data Heard : Type 0 where
   ignored : Heard
   -- these bytes are sent back at once
   answered_at_once : List ℕ → Heard
-  -- this is asked for, and is to be answered
+  -- this is asked for, and has to be answered
   asked : PlainAsk → OpenRequest → Heard
 
 -- ---- replies
 
--- the server after a reply to a request of this type: one that isn't an acknowledgement used the next message ID (section 4.4)
+-- the server after a reply to a request of this type: one that isn't an acknowledgement used the next message ID
+-- (section 4.4)
 abbrev pub with_id_used : RequestType → Server → Server
 with_id_used Confirmable s = s
 with_id_used NonConfirmable s = record s { next_id = (s.next_id + 1) % 65536 }
 
--- the server with the reply to a Confirmable request, which is kept for its duplicates (section 4.2); that to any other isn't
+-- the server with the reply to a Confirmable request, which is kept for its duplicates (section 4.2); that to any other
+-- isn't
 abbrev pub with_kept : RequestType → ℕ → List ℕ → Server → Server
 with_kept Confirmable slot bytes s = record s { exchanges = with_reply slot bytes s.exchanges }
 with_kept NonConfirmable slot bytes s = s
@@ -57,7 +63,7 @@ pub record Replies (r : Reply) (request : OpenRequest) (bytes : List ℕ) (s t :
   pub bytes_are : bytes ≡ spelling (coap_reply r request.head s.next_id)
   pub after : t ≡ with_kept request.head.kind request.slot bytes (with_id_used request.head.kind s)
 
--- What was asked comes to this, and is answered in these bytes.
+-- What was asked has this outcome, and is answered in these bytes.
 abbrev pub Answers : OpenRequest → Outcome → List ℕ → Server → Server → Type 0
 Answers request o bytes s t = Replies (reply_of o) request bytes s t
 
@@ -96,18 +102,21 @@ pub record IsMet (from : Endpoint) (bytes : List ℕ) (now : ℕ) (m : CoapMessa
   pub meets : Meets (at_moment now s.exchanges) (arrival from now m) met t.exchanges
   pub same_id : t.next_id ≡ s.next_id
 
--- What is done with a datagram that isn't admitted. It takes no memory.
+-- What is done with a datagram that isn't admitted. It takes no memory, and so is said apart: a duplicate, what finds
+-- the table full and what is no request are never out of memory.
 pub data Settles (from : Endpoint) (bytes : List ℕ) (now : ℕ) (heard : Heard) (s t : Server) : Type 0 where
   -- it is no message: it is rejected, and nothing else is done
   malformed : (f : MsgFault) → HasMsgFault f bytes → heard ≡ replied_at_once (rejection_of bytes) → t ≡ s → Settles from bytes now heard s t
-  -- it is a message and no request, as a response, an empty message, an acknowledgement or a Reset, for which nothing waits
+  -- it is a message and no request, as a response, an empty message, an acknowledgement or a Reset, for which nothing
+  -- waits
   no_request : (m : CoapMessage) → Spells m bytes → is_request m ≡ false → heard ≡ replied_at_once (empty_reply m.kind m.id false) → t ≡ s
       → Settles from bytes now heard s t
   -- it is a duplicate of the request of this exchange
   duplicate : (m : CoapMessage) (kept : Option ℕ) (e : Exchange) → IsMet from bytes now m (Repeat kept) s t
       → duplicated_exchange (arrival from now m) (at_moment now s.exchanges) ≡ Some e → heard ≡ duplicate_reply (request_type m.kind) e.reply
       → Settles from bytes now heard s t
-  -- as many exchanges live as may
+  -- as many exchanges live as may: the reply is the server's own and isn't kept, so a copy of the request may be
+  -- admitted
   full : (m : CoapMessage) (u : Server) → IsMet from bytes now m Full s u
       → heard ≡ answered_at_once (spelling (coap_reply full_reply (head_of m) s.next_id)) → t ≡ with_id_used (request_type m.kind) u
       → Settles from bytes now heard s t
@@ -118,10 +127,11 @@ pub data Settles (from : Endpoint) (bytes : List ℕ) (now : ℕ) (heard : Heard
 abbrev pub opened : CoapMessage → ℕ → OpenRequest
 opened m slot = record { head = head_of m; slot = slot }
 
--- What is done with a request that was admitted, by the first fault of its options. Out of memory is free to come where there
--- is none.
+-- What is done with a request that was admitted, by the first fault of its options. Out of memory is free to come where
+-- there is none.
 pub data Reads (m : CoapMessage) (slot : ℕ) (heard : Heard) (s t : Server) : Type 0 where
-  -- a bad option: a Confirmable request is told (section 5.4.1), and any other ignored
+  -- A bad option: a Confirmable request gets a reply (section 5.4.1), and any other is ignored; it was admitted, so a
+  -- duplicate of it is one.
   bad_option : (number : ℕ) (bytes : List ℕ) → slice_get (faults_of m.options) 0 ≡ Some (BadOption number) → request_type m.kind ≡ Confirmable
       → Replies (option_reply number) (opened m slot) bytes s t → heard ≡ answered_at_once bytes → Reads m slot heard s t
   bad_option_ignored : (number : ℕ) → slice_get (faults_of m.options) 0 ≡ Some (BadOption number) → request_type m.kind ≡ NonConfirmable
@@ -137,7 +147,7 @@ pub data Reads (m : CoapMessage) (slot : ℕ) (heard : Heard) (s t : Server) : T
 
 -- ---- any datagram
 
--- What a datagram of so many bytes from an endpoint does at a moment.
+-- What a datagram from an endpoint does at a moment.
 pub data Hears (from : Endpoint) (bytes : List ℕ) (now : ℕ) (heard : Heard) (s t : Server) : Type 0 where
   settled : Settles from bytes now heard s t → Hears from bytes now heard s t
   admitted : (m : CoapMessage) (slot : ℕ) (u : Server) → IsMet from bytes now m (Fresh slot) s u → Reads m slot heard u t

@@ -1,4 +1,4 @@
--- Inside: what is found out of a datagram before it is told, and of a request that was admitted.
+-- Inside the crate: what is found of a datagram before its result is made, and of a request that was admitted.
 use Rattle.std.specs.Prelude.{◌≡◌, ℕ, List, Option, Some, None}
 use Rattle.coap_msg.specs.declared.message.RequestType.TheVariants.{Confirmable, NonConfirmable}
 use Rattle.coap_msg.specs.declared.endpoint.Endpoint.{Endpoint}
@@ -17,7 +17,7 @@ use Rattle.coap_bind.specs.Writing.{option_reply}
 use Rattle.coap_bind.specs.Server.{Heard, ignored, answered_at_once, asked, IsMet, Settles, Reads}
 use Rattle.coap_bind.specs.Telling.{Tells, RepliesAs}
 
--- so many bytes are to be sent, or nothing
+-- n bytes are to be sent, or nothing
 abbrev pub TellsDone : Heard → Option ℕ → List ℕ → List ℕ → Type 0
 TellsDone ignored None old new = new ≡ old
 TellsDone ignored (Some n) old new = ⊥
@@ -37,7 +37,7 @@ pub record ReadsAs (m : CoapMessage) (slot : ℕ) (next : CoapNext) (old new : L
   pub reads : Reads m slot heard s t
   pub tells : Tells heard next old new
 
--- a Confirmable request with a bad option is told so, and any other isn't
+-- a Confirmable request with a bad option gets a reply, and any other doesn't
 abbrev pub RefusesOption : OpenRequest → ℕ → CoapNext → List ℕ → List ℕ → Server → Server → Type 0
 RefusesOption request number Nothing old new s t = (request.head.kind ≡ NonConfirmable) × (t ≡ s) × (new ≡ old)
 RefusesOption request number (Send n) old new s t = (request.head.kind ≡ Confirmable) × RepliesAs (option_reply number) request n old new s t

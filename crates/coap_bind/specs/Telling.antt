@@ -1,4 +1,5 @@
--- How the code tells what is done with a datagram (RFC 7252, sections 4.2 to 4.5): by its result and by the bytes that it writes.
+-- How a call answers what is done with a datagram (RFC 7252, sections 4.2 to 4.5): by its result and by the bytes that
+-- it writes.
 use Rattle.std.specs.Prelude.{◌≡◌, ◌≤◌, ℕ, List, length}
 use Rattle.coap_msg.specs.declared.constants.TheConstants.{LONGEST_TOKEN}
 use Rattle.coap_msg.specs.declared.endpoint.Endpoint.{Endpoint}
@@ -14,7 +15,7 @@ use Rattle.coap_bind.specs.declared.server.Server.{Server}
 use Rattle.coap_bind.specs.Writing.{Reply}
 use Rattle.coap_bind.specs.Server.{Heard, ignored, answered_at_once, asked, Replies, IsMet, Settles, Hears}
 
--- what is done is what the result says, and the bytes that are to be sent are at the front of the room
+-- what is done is what the result says, and the bytes to send are at the front of the room
 abbrev pub Tells : Heard → CoapNext → List ℕ → List ℕ → Type 0
 Tells heard Nothing old new = (heard ≡ ignored) × (new ≡ old)
 Tells heard (Send n) old new = (bytes : List ℕ) × (heard ≡ answered_at_once bytes) × IsWritten bytes n old new
@@ -39,7 +40,7 @@ pub record IsAdmitted (from : Endpoint) (bytes : List ℕ) (now : ℕ) (s : Serv
   pub after : Server
   pub met : IsMet from bytes now message (Fresh slot) s after
 
--- A reply to a request was written, so many bytes of it.
+-- A reply to a request was written, n bytes of it.
 pub record RepliesAs (r : Reply) (request : OpenRequest) (n : ℕ) (old new : List ℕ) (s t : Server) : Type 0 where
   pub bytes : List ℕ
   pub replies : Replies r request bytes s t

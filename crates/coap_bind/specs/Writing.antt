@@ -28,8 +28,8 @@ pub record Reply : Type 0 where
 abbrev pub word_reply : ℕ → List ℕ → Reply
 word_reply code word = record { code = code; options = []; payload = word }
 
--- the server's own replies: as many exchanges live as may; the request is for a proxy (section 5.10.2); a critical option is
--- bad (section 5.4.1); the payload would be too long
+-- the server's own replies: as many exchanges live as may; the request is for a proxy (section 5.10.2); a critical
+-- option is bad (section 5.4.1); the payload would be too long
 abbrev pub full_reply : Reply
 full_reply = word_reply SERVICE_UNAVAILABLE (codes "full")
 
@@ -56,8 +56,8 @@ text_format _ = JSON
 abbrev pub format_options : Outcome → List CoapOption
 format_options o = option_map_or (λ _. (CONTENT_FORMAT, number_bytes (text_format o)) ∷ []) (text_of o) []
 
--- what is said of an outcome, if its payload isn't too long; the options are in order of their numbers: one Location-Path for
--- each segment of the place (section 5.10.7), and the format
+-- what is said of an outcome, if its payload isn't too long; the options are in order of their numbers: one
+-- Location-Path for each segment of the place (section 5.10.7), and the format
 abbrev pub whole_reply : Outcome → Reply
 whole_reply o = record { code = unwrap_or (answer_of o).code 0; options = segment_options LOCATION_PATH (place_of o) ++ format_options o; payload = payload_of o }
 
@@ -71,18 +71,20 @@ reply_of o = if nat_lt LONGEST_PAYLOAD (length (payload_of o)) then long_reply e
 abbrev pub head_of : CoapMessage → RequestHead
 head_of m = record { kind = request_type m.kind; id = m.id; token = m.token }
 
--- a Confirmable request is answered in its acknowledgement, any other by a Non-confirmable message (sections 5.2.1 and 5.2.3)
+-- a Confirmable request is answered in its acknowledgement, any other by a Non-confirmable message (sections 5.2.1 and
+-- 5.2.3)
 abbrev pub reply_kind : RequestType → Type4
 reply_kind Confirmable = Ack
 reply_kind NonConfirmable = Non
 
--- an acknowledgement has the message ID of its request, any other reply the next one of the server (sections 4.2 and 4.4)
+-- an acknowledgement has the message ID of its request, any other reply the next one of the server (sections 4.2 and
+-- 4.4)
 abbrev pub reply_id : RequestType → ℕ → ℕ → ℕ
 reply_id Confirmable id next = id
 reply_id NonConfirmable id next = next
 
--- The message that a reply is: to the request with this head, where this is the next message ID of the server. It has the token of the
--- request (section 5.3.1).
+-- The message that a reply is: to the request with this head, where this is the next message ID of the server. It has
+-- the token of the request (section 5.3.1).
 abbrev pub coap_reply : Reply → RequestHead → ℕ → CoapMessage
 coap_reply r head next = record {
   kind = reply_kind head.kind;

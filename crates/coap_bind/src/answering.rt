@@ -1,4 +1,4 @@
-//! Replying to requests.
+//! Replies to requests: those of outcomes, and the server's own words.
 
 use crate::head::{OpenRequest, RequestHead};
 use crate::next::CoapNext;
@@ -20,7 +20,7 @@ impl Server {
     ghost use Rattle.coap_bind.specs.Telling.{RepliesAs};
     ghost use Rattle.coap_bind.specs.Settling.{RefusesOption};
 
-    /// Answers a request with an outcome, and returns how many bytes are to be sent.
+    /// Answers a request with an outcome, and returns how many bytes to send.
     pub fn answer(
         &mut self,
         request: &OpenRequest,
@@ -38,7 +38,7 @@ impl Server {
         size
     }
 
-    /// Answers a request that was admitted with a word, and returns how many bytes are to be sent.
+    /// Answers a request that was admitted with a word, and returns how many bytes to send.
     pub fn refuse(
         &mut self,
         request: &OpenRequest,
@@ -78,7 +78,7 @@ impl Server {
         }
     }
 
-    /// Writes a reply that is a word, which isn't kept, and returns how many bytes are to be sent.
+    /// Writes a reply that is a word, which isn't kept, and returns how many bytes to send.
     pub fn send(
         &mut self,
         code: u8,

@@ -1,4 +1,4 @@
-//! The server.
+//! The CoAP server: what a datagram asks for, and the reply to it.
 
 use crate::NoMemory;
 use crate::next::{CoapNext, Ticket};
@@ -36,7 +36,7 @@ impl CoapBind {
     ghost use Rattle.coap_bind.specs.Server.{start};
     ghost use Rattle.coap_bind.specs.Telling.{HearsAs, SettlesAs, IsAdmitted, TicketIsOpen, RepliesAs};
 
-    /// A server in which so many exchanges may live. The memory of its exchanges is taken here.
+    /// A server in which `exchanges` exchanges may live. The memory of its exchanges is taken here.
     pub fn new(alloc: Global, exchanges: u32) -> Result<CoapBind, NoMemory>
         requires least { 16 ≤ exchanges }
         requires most { exchanges ≤ 65536 }
@@ -52,8 +52,8 @@ impl CoapBind {
         })
     }
 
-    /// Takes a datagram that came from an endpoint. Bytes to be sent back are written to the beginning of `out`. Out of memory
-    /// is a reply too, 5.03 `memory`.
+    /// Takes a datagram of any length that came from an endpoint. Bytes to be sent back are written to the beginning of
+    /// `out`. Out of memory is a reply too, 5.03 `memory`.
     pub fn datagram<'a>(
         &mut self,
         from: Endpoint,
@@ -64,8 +64,8 @@ impl CoapBind {
         requires { self.old.exchanges.moment ≤ now }
         ensures ok { HearsAs from bytes.now now result out.old out.new self.old self.new }
 
-        // What isn't admitted takes no memory, and is never answered that there is none: duplicates, what finds the table full, and
-        // what is no request.
+        // What isn't admitted takes no memory, and is never answered to be out of memory: duplicates, what finds the
+        // table full, and what is no request.
         ensures memory { IsAdmitted from bytes.now now self.old ⊎ SettlesAs from bytes.now now result out.old out.new self.old self.new }
 
         // A ticket may be spent at once.
@@ -79,8 +79,9 @@ impl CoapBind {
         }
     }
 
-    /// Answers what was asked: the reply is written to the beginning of `out`, is to be sent to where the request came from, and
-    /// has as many bytes as are returned. It takes no memory.
+    /// Answers what was asked: the reply is written to the beginning of `out`, goes to where the request came from, and
+    /// has as many bytes as are returned. It takes no memory. That it has at most 1,152 bytes is asked just so; the law
+    /// `replies_fit` says when it has.
     pub fn answer(
         &mut self,
         ticket: Ticket,

@@ -1,4 +1,4 @@
-//! What is kept of a request until it is answered.
+//! What a reply takes over from its request, kept until that is answered.
 
 use coap_msg::{BoundedBytes, LONGEST_TOKEN, Message, RequestType};
 

@@ -1,6 +1,6 @@
-//! The CoAP server (RFC 7252): which datagrams are requests that are to be acted on, and the replies to them. It has no clock,
-//! no socket and no resources: moments and datagrams are handed in, what is asked is handed out, and what is to be sent is
-//! written into the caller's room. `CoapBind`, `CoapNext` and `Ticket` carry everything.
+//! The CoAP server (RFC 7252): which datagrams are requests to act on, and the replies to them. It has no
+//! clock, no socket and no resources: moments and datagrams are handed in, what is asked is handed out, and what is to
+//! be sent is written into the caller's room. `CoapBind`, `CoapNext` and `Ticket` carry everything.
 //!
 //! ```
 //! use coap_bind::{CoapBind, CoapNext};
@@ -20,10 +20,10 @@
 //! ```
 //!
 //! What a server holds and what its calls do is one machine, `specs/Server.antt`, and what a reply is on the wire is
-//! `specs/Writing.antt`. The contract in a sentence: each call does what the machine does (`Hears`, `Answers`), whatever comes
-//! in whatever order. The laws: the exchanges of a server are those of the admitted requests that live, a duplicate asks for
-//! nothing, and a reply fits its room. Memory is taken when the server is made, and then by the path of a request that was
-//! admitted.
+//! `specs/Writing.antt`. The contract in a sentence: each call does what the machine does (`Hears`, `Answers`),
+//! for all that comes in any order. The laws: the exchanges of a server are those of the admitted requests that live,
+//! a duplicate asks for nothing, and a reply fits its room. Memory is taken when the server is made, and then by the
+//! path of a request that was admitted.
 #![tactic(auto)]
 
 mod answering;

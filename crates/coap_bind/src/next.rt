@@ -1,4 +1,4 @@
-//! What is to be done with a datagram.
+//! The server's answer to a datagram, and the ticket of a request that it hands out.
 
 use crate::head::OpenRequest;
 use coap_opts::CoapAsk;
@@ -8,14 +8,16 @@ use std::marker::Model;
 pub enum CoapNext<'a> {
     /// Nothing.
     Nothing,
-    /// So many bytes of the room are to be sent to where the datagram came from.
+    /// This many bytes of the room go to where the datagram came from.
     Send(usize),
-    /// This is asked for: what comes of it is to be handed to `CoapBind::answer` with the ticket.
+    /// This is asked for: its outcome goes to `CoapBind::answer` with the ticket.
     Ask(CoapAsk<'a>, Ticket),
 }
 
-/// A request that was admitted and is to be answered, by `CoapBind::answer` alone: a ticket can't be dropped, copied or made
-/// elsewhere. Contracts see what the reply takes over from the request, and the slot of its exchange (`OpenRequest`).
+/// A request that was admitted and is to be answered, by `CoapBind::answer` alone: a ticket can't be dropped, copied or
+/// made elsewhere. Contracts see what the reply takes over from the request, and the slot of its exchange
+/// (`OpenRequest`). The endpoint, the value of Observe and the target aren't held yet: they come with observation, and
+/// so do the rules for an empty Acknowledgement and an empty Reset.
 pub struct Ticket {
     request: OpenRequest,
 }

@@ -48,6 +48,7 @@ impl Server {
     {
         let message = match decode(bytes) {
             Ok(message) => message,
+            // The first byte says whether there is a Reset, because a fault comes before anything else is known.
             Err(_fault) => return Settled::Done(put_rejection(bytes, out)),
         };
         if !is_request(message.kind, message.code) {
@@ -64,8 +65,8 @@ impl Server {
         }
     }
 
-    /// Answers a duplicate of a request by the reply that is kept in this slot, if it is answered: gives how many bytes are to
-    /// be sent.
+    /// Answers a duplicate of a request by the reply that is kept in this slot, if it is answered: gives how many bytes
+    /// to send.
     fn answer_duplicate(
         &self,
         kind: RequestType,

@@ -1,4 +1,4 @@
-//! Writing replies.
+//! The bytes of replies.
 
 ghost use Rattle.std.specs.Prelude.{◌≡◌, ◌≤◌, ◌/◌, ◌⊎◌, length};
 ghost use Rattle.coap_msg.specs.Grammar.{spelling};
@@ -79,7 +79,7 @@ pub fn put_outcome(
     put_whole(outcome, payload, head, next_id, out)
 }
 
-/// Writes the reply of an outcome with this payload, whatever its length, and returns how many bytes it has.
+/// Writes the reply of an outcome with this payload, of any length, and returns how many bytes it has.
 fn put_whole(
     outcome: &Outcome,
     payload: &[u8],

@@ -1,4 +1,5 @@
--- Which messages a client takes, and what each message means to it (RFC 7252, sections 4.2 and 5.3.2; RFC 7641, section 3).
+-- Which messages a client takes, and what each message means to it (RFC 7252, sections 4.2 and 5.3.2; RFC 7641, section
+-- 3).
 use Rattle.std.specs.Prelude.{◌-◌, ◌/◌, ◌^◌, ◌==◌, ◌&&◌, ◌||◌, ℕ, nat_lt, nat_le, length, Bool, true, false, List, [], ◌∷◌, Option, Some, None, if◌then◌else◌}
 use Rattle.std.specs.Str.{bytes_eq}
 use Rattle.coap_msg.specs.declared.endpoint.Endpoint.{Endpoint}
@@ -17,7 +18,7 @@ use Rattle.coap_msg.specs.Endpoints.{is_same_endpoint}
 
 -- ---- which messages are taken
 
--- an endpoint and a token are those of the outstanding request (section 5.3.2)
+-- an endpoint and a token are those of the outstanding request: tokens are those of one endpoint (section 5.3.2)
 abbrev pub is_for_request : Option Outstanding → Endpoint → List ℕ → Bool
 is_for_request None from token = false
 is_for_request (Some o) from token = is_same_endpoint from o.peer && bytes_eq token o.token
@@ -41,7 +42,8 @@ is_from_server (Some o) from id = is_same_endpoint from o.peer && id == o.id
 abbrev pub is_response_class : ℕ → Bool
 is_response_class class = class == 2 || class == 4 || class == 5
 
--- an acknowledgement carries a response only with the message ID of the request (section 5.2.1), a Reset carries none
+-- An acknowledgement carries a response only with the message ID of the outstanding request (section 5.2.1), also where
+-- its token is that of the observation: so a late one of a registration is no new value. A Reset carries none.
 abbrev pub may_carry : Option Outstanding → Type4 → ℕ → Bool
 may_carry o Con id = true
 may_carry o Non id = true
@@ -93,8 +95,9 @@ meaning_taken s None = meant.Response
 meaning_taken s (Some sequence) =
     if is_newer (latest_of s.observation) s.moment sequence then meant.Value sequence else meant.Old
 
--- what any other message means, of this type: a Reset of the outstanding request, its empty acknowledgement, or nothing
--- (section 4.2)
+-- What any other message means, of this type: a Reset of the outstanding request, its empty acknowledgement, or nothing
+-- (section 4.2). A Reset counts with every code, because its type says enough; an acknowledgement is empty by code
+-- 0.00.
 abbrev pub meaning_else : State → Endpoint → CoapMessage → Type4 → Meaning
 meaning_else s from m Rst = if is_from_server s.outstanding from m.id then meant.Reset else meant.Foreign
 meaning_else s from m Ack = if m.code == 0 && is_from_server s.outstanding from m.id then meant.Received else meant.Foreign

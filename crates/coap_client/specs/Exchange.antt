@@ -1,15 +1,18 @@
--- A CoAP client as one machine (RFC 7252, sections 4.2 to 4.4, 5.2 and 5.3; RFC 7641, section 3): what it holds, and what each
--- of its three calls does to that. At most one request is unanswered at a time, and at most one resource is observed.
+-- A CoAP client as one machine (RFC 7252, sections 4.2 to 4.4, 5.2 and 5.3; RFC 7641, section 3): what it holds, and
+-- what each of its three calls does to that. At most one request is unanswered at a time, and at most one resource is
+-- observed.
 --
--- What it holds is `State` of src/state.rt: the last `moment` that was handed in; the `outstanding` request; the
--- `observation`; `next_token`, the number whose bytes are the next token; `next_id`, from which the next id is sought; and in
--- `uses` when each id was used last. An outstanding request has its `peer`, its `id` and its `token`, the bytes that were
--- `sent`, when they were sent `first`, how many of the moments for a retransmission a call has `reached`, whether an empty message
--- acknowledged it, and whether it `registers` the observation. An observation has its `peer` and its `token`, and of the
--- `latest` value, once there was one, the sequence number and the moment.
+-- What it holds is `State` of src/state.rt, a plain record that code and definitions share, because what follows is
+-- then equations on it and a law can speak of any order of calls. It has the last `moment` that was handed in; the
+-- `outstanding` request; the `observation`; `next_token`, the number whose bytes are the next token; `next_id`, from
+-- which the next id is sought; and in `uses` when each id was used last. An outstanding request has its `peer`, its
+-- `id` and its `token`, the bytes that were `sent`, when they were sent `first`, how many of the moments for a
+-- retransmission a call has `reached`, whether an empty message acknowledged it, and whether it `registers` the
+-- observation. An observation has its `peer` and its `token`, and of the `latest` value, once there was one, the
+-- sequence number and the moment.
 --
--- The message of an ask is in Asking.antt, ids and tokens are in Names.antt, times in Times.antt, and which messages are taken
--- (`takes`) and what they mean (`meaning`) in Answers.antt.
+-- The message of an ask is in Asking.antt, ids and tokens are in Names.antt, times in Times.antt, and which messages
+-- are taken (`takes`) and what they mean (`meaning`) in Answers.antt.
 use Rattle.std.specs.Prelude.{◌≡◌, ◌<◌, ◌≤◌, ◌+◌, ◌-◌, ◌%◌, ◌^◌, ◌⊎◌, ℕ, Bool, true, false, List, length, slice_set, slice_index_or, Option, Some, None, IsSome, IfSome, is_some, if◌then◌else◌}
 use Rattle.coap_msg.specs.declared.constants.TheConstants.{LONGEST_MESSAGE}
 use Rattle.coap_msg.specs.declared.endpoint.Endpoint.{Endpoint}
@@ -92,15 +95,15 @@ begun s o kept = record {
 abbrev pub with_request : State → Endpoint → Asking → ℕ → State
 with_request s peer a id = begun s (request_for s peer a id) (is_some (kept_token s.observation peer a.observe))
 
--- Why an ask is refused: a request is unanswered (NSTART is 1, section 4.7); no id may be used; the message is too long for a
--- datagram (section 4.6).
+-- Why an ask is refused: a request is unanswered (NSTART is 1, section 4.7); no id may be used; the message is too long
+-- for a datagram (section 4.6).
 abbrev pub IsRefused : State → Endpoint → Asking → ClientFault → Type 0
 IsRefused s peer a Busy = IsSome s.outstanding
 IsRefused s peer a IdsUsed = (s.outstanding ≡ None) × AreAllUsed s.uses s.moment
 IsRefused s peer a NoRoom =
     (s.outstanding ≡ None) × (id : ℕ) × IsNextId s.uses s.next_id s.moment id × (LONGEST_MESSAGE < length (spelling (message_for a id (token_for s peer a.observe))))
 
--- An ask is sent: so many bytes in a room, and the state afterwards.
+-- An ask is sent: its message, of n bytes, at the front of a room, and the state afterwards.
 pub record Asks (s : State) (peer : Endpoint) (a : Asking) (n : ℕ) (old new : List ℕ) (t : State) : Type 0 where
   pub id : ℕ
   pub alone : s.outstanding ≡ None
@@ -123,9 +126,9 @@ ended s = record s { outstanding = None; observation = if registers s.outstandin
 abbrev pub age : State → Outstanding → ℕ
 age s o = s.moment - o.first
 
--- What comes due at the moment of a state. A request whose time is over ends before anything else. It goes again, byte for
--- byte, at the first call at which another of its moments for a retransmission has come; a call that is late for several sends it
--- once.
+-- What comes due at the moment of a state. A request whose time is over ends before anything else. It goes again, byte
+-- for byte, at the first call at which another of its moments for a retransmission has come; a call that is late for
+-- several sends it once, and the others are over.
 abbrev pub ComesDue : State → Due → List ℕ → List ℕ → State → Type 0
 ComesDue s due.TimedOut old new t =
     (o : Outstanding) × (s.outstanding ≡ Some o) × (deadline o ≤ age s o) × (t ≡ ended s) × (new ≡ old)
@@ -176,7 +179,7 @@ after s from token meant.Reset = ended s
 after s from token meant.Received = received s
 after s from token meant.Foreign = s
 
--- what is told of a message
+-- the news of a message
 abbrev pub IsNews : Meaning → CoapMessage → News → Type 0
 IsNews meaning m (news.Answered code payload) = (meaning ≡ meant.Response) × (code ≡ m.code) × (payload.now ≡ m.payload)
 IsNews meaning m (news.Value payload) = (sequence : ℕ) × (meaning ≡ meant.Value sequence) × (payload.now ≡ m.payload)
@@ -184,7 +187,7 @@ IsNews meaning m news.Old = meaning ≡ meant.Old
 IsNews meaning m news.Reset = meaning ≡ meant.Reset
 IsNews meaning m news.Nothing = (meaning ≡ meant.Received) ⊎ (meaning ≡ meant.Foreign)
 
--- What bytes from an endpoint do: what is told of them and whether there is a reply, which is written, and the state
+-- What bytes from an endpoint do: their news and whether there is a reply, which is written, and the state
 -- afterwards.
 pub data Delivers (s : State) (from : Endpoint) (bytes : List ℕ) (told : Delivered) (old new : List ℕ) (t : State) : Type 0 where
   of_message : (m : CoapMessage) → Spells m bytes → IsReplied (empty_reply m.kind m.id (takes s from m)) told.reply old new

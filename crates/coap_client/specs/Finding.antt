@@ -1,4 +1,4 @@
--- Inside: the search for the next message ID.
+-- Inside the crate: the search for the next message ID.
 use Rattle.std.specs.Prelude.{ℕ, List, Option, Some, None}
 use Rattle.coap_client.specs.Names.{IsNextId, AreAllUsed}
 

@@ -5,7 +5,8 @@ use Rattle.coap_msg.specs.declared.endpoint.Endpoint.{Endpoint}
 use Rattle.coap_msg.specs.Endpoints.{is_same_endpoint}
 use Rattle.coap_client.specs.declared.observation.Observation.{Observation}
 
--- an id isn't used again within 400 seconds, which is longer than it may be in use (EXCHANGE_LIFETIME, sections 4.4 and 4.8.2)
+-- an id isn't used again within 400 seconds, which is longer than it may be in use (EXCHANGE_LIFETIME, sections 4.4 and
+-- 4.8.2)
 abbrev pub is_recent : ℕ → Option ℕ → Bool
 is_recent now None = false
 is_recent now (Some moment) = nat_le (now - moment) 400000
@@ -26,8 +27,8 @@ pub record IsNextId (uses : List (Option ℕ)) (next now id : ℕ) : Type 0 wher
 abbrev pub AreAllUsed : List (Option ℕ) → ℕ → Type 0
 AreAllUsed uses now = (id : ℕ) → id < 65536 → is_used uses now id ≡ true
 
--- the token that a request takes over, in order to end an observation: that of the observation, where its peer is the same
--- (RFC 7641, section 3.6)
+-- the token that a request takes over, in order to end an observation: that of the observation, where its peer is the
+-- same (RFC 7641, section 3.6)
 abbrev pub kept_token : Option Observation → Endpoint → Option Bool → Option (List ℕ)
 kept_token (Some o) peer (Some false) = if is_same_endpoint peer o.peer then Some o.token else None
 kept_token (Some o) peer (Some true) = None

@@ -1,4 +1,4 @@
-//! Writing the message that asks for something.
+//! What is asked of a server, and the message that asks for it.
 
 ghost use Rattle.std.specs.Prelude.{◌≡◌, ◌≤◌, ◌<◌, ◌++◌, Bool, [], ◌∷◌, length, slice_index_or, All, IfOk, OnOk, OnErr, take};
 ghost use Rattle.coap_msg.specs.Grammar.{options_spelling, spelling};

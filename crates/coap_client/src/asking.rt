@@ -1,4 +1,4 @@
-//! Sending a request, and sending it again.
+//! How a request is sent, and sent again.
 
 ghost use Rattle.std.specs.Prelude.{◌≡◌};
 ghost use Rattle.coap_client.specs.Names.{kept_token, token_after};

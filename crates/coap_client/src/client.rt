@@ -1,4 +1,4 @@
-//! The client.
+//! The CoAP client: asks, takes datagrams, and sends again what is due.
 
 ghost use Rattle.std.specs.Prelude.{IfOk};
 
@@ -47,8 +47,8 @@ impl Client {
         })
     }
 
-    /// Asks a server for something: the message to be sent to it is written to the beginning of `out`, and the number of its
-    /// bytes returned.
+    /// Asks a server for something: the message to be sent to it is written to the beginning of `out`, and the number
+    /// of its bytes returned.
     pub fn request(
         &mut self,
         now: u64,
@@ -67,8 +67,8 @@ impl Client {
         self.state.ask(peer, ask, out)
     }
 
-    /// Takes a datagram that came from an endpoint. Where there is a reply to it, that is written to the beginning of `out`
-    /// and is to be sent to the same endpoint.
+    /// Takes a datagram that came from an endpoint. Where there is a reply to it, that is written to the beginning of
+    /// `out`, and goes to the same endpoint.
     pub fn deliver<'b>(
         &mut self,
         now: u64,
@@ -84,8 +84,8 @@ impl Client {
         self.state.deliver(from, bytes, out)
     }
 
-    /// Does what is due at a moment: a message to be sent again, to the peer of the request, is written to the beginning of
-    /// `out`.
+    /// Does what is due at a moment: a message to be sent again, to the peer of the request, is written to the
+    /// beginning of `out`.
     pub fn due(&mut self, now: u64, out: &mut [u8; LONGEST_MESSAGE]) -> Due
         requires { self.old.moment ≤ now }
         ensures ok { ComesDue (at_moment now self.old) result out.old out.new self.new }

@@ -1,4 +1,4 @@
-//! Taking what comes.
+//! What a datagram does to a client.
 
 ghost use Rattle.std.specs.Prelude.{◌≡◌};
 ghost use Rattle.coap_msg.specs.MessageOf.{message_of};
@@ -58,7 +58,7 @@ impl State {
         }
     }
 
-    /// Goes on after a message with this meaning.
+    /// Does what a message of this meaning asks for.
     fn follow(&mut self, meaning: Meaning, from: Endpoint, token: &[u8])
         ensures { self.new ≡ after self.old from token.now meaning }
     {
@@ -83,7 +83,7 @@ impl State {
         }
     }
 
-    /// Ends the outstanding request if it is a registration: its observation goes on.
+    /// Ends the outstanding request if it is a registration: its observation lasts.
     fn close_registration(&mut self)
         ensures { self.new ≡ registered self.old }
     {
@@ -114,7 +114,7 @@ impl State {
     }
 }
 
-/// What is told of a message with this meaning.
+/// The news of a message with this meaning.
 fn news_of<'b>(meaning: Meaning, message: &Message<'b>) -> News<'b>
     ensures { IsNews meaning (message_of message.now) result }
 {

@@ -1,4 +1,4 @@
-//! What comes due.
+//! What a client has to do at a moment: send again, or give up.
 
 /// What a client is to do at a moment.
 #[derive(Clone, Copy, Debug, PartialEq, Eq)]

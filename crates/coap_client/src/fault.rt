@@ -1,4 +1,4 @@
-//! Why an ask is refused.
+//! The faults for which an ask is refused.
 
 use coap_msg::NoRoom;
 use thiserror::Error;

@@ -43,7 +43,8 @@ impl Ids {
         Ok(Ids { uses })
     }
 
-    /// The first id from `next` on that wasn't used in the last 400 seconds. It looks at each id at most once.
+    /// The first id from `next` on that wasn't used in the last 400 seconds. It looks at each id at most once, and
+    /// mostly at one, since ids are used in their order.
     pub fn free(&self, next: u16, now: u64) -> Option<u16>
         ensures { FindsId self.now next now result }
     {

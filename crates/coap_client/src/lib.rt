@@ -1,6 +1,6 @@
-//! The exchanges of a CoAP client (RFC 7252; RFC 7641): it asks, sends again until there is a response, and observes. The client has
-//! no clock and no socket: moments and datagrams are handed in, and what is to be sent is written into the caller's room. It
-//! takes memory once, when it is made. `Client`, `Ask`, `Delivered` and `Due` carry everything.
+//! The exchanges of a CoAP client (RFC 7252; RFC 7641): it asks, sends again until there is a response, and observes.
+//! The client has no clock and no socket: moments and datagrams are handed in, and what is to be sent is written into
+//! the caller's room. It takes memory once, when it is made. `Client`, `Ask`, `Delivered` and `Due` carry everything.
 //!
 //! ```
 //! use coap_client::{Ask, Client, Due, News};
@@ -25,10 +25,10 @@
 //! }
 //! ```
 //!
-//! What a client holds and what its calls do is one machine, `specs/Exchange.antt`. The contract in a sentence: each call does
-//! what the machine does (`Asks` and `IsRefused`, `Delivers`, `ComesDue`), whatever comes in whatever order. The laws: a
-//! retransmission is sent less than 93 seconds after the first, what is taken comes from a peer that was asked, and an id isn't
-//! used again within 400 seconds.
+//! What a client holds and what its calls do is one machine, `specs/Exchange.antt`. The contract in a sentence: each
+//! call does what the machine does (`Asks` and `IsRefused`, `Delivers`, `ComesDue`), for all that comes in any order.
+//! The laws: a retransmission is sent less than 93 seconds after the first, what is taken comes from a peer that was
+//! asked, and an id isn't used again within 400 seconds.
 #![tactic(auto)]
 
 mod ask;

@@ -1,18 +1,18 @@
-//! What a datagram tells.
+//! The news that a datagram brings, and the reply to it.
 
-/// What a datagram that was delivered comes to.
+/// What a datagram that was delivered brings.
 #[derive(Clone, Copy, Debug)]
 pub struct Delivered<'b> {
-    /// How many bytes the acknowledgement or the Reset has that is to be sent to where the datagram came from.
+    /// How many bytes the acknowledgement or the Reset has that goes to where the datagram came from.
     pub reply: Option<usize>,
-    /// What it tells.
+    /// Its news.
     pub news: News<'b>,
 }
 
-/// What a message tells.
+/// The news of a message.
 #[derive(Clone, Copy, Debug)]
 pub enum News<'b> {
-    /// Nothing that a user would want.
+    /// Nothing that a user could use.
     Nothing,
     /// A response, with its code and its payload. The request and the observation that it belongs to have ended.
     Answered(u8, &'b [u8]),

@@ -1,4 +1,4 @@
-//! What is observed.
+//! The observation of a client, and when its values are newer.
 
 use coap_msg::{Endpoint, is_same_endpoint};
 

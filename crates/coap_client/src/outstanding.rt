@@ -1,4 +1,4 @@
-//! The request that is unanswered.
+//! The request that is unanswered, and when it is sent again.
 
 ghost use Rattle.std.specs.Prelude.{◌≡◌, ◌≤◌, ◌<◌};
 ghost use Rattle.coap_client.specs.Times.{retransmissions_within};
@@ -16,13 +16,14 @@ pub struct Outstanding {
     pub token: [u8; 8],
     /// When the message was sent first, in milliseconds.
     pub first: u64,
-    /// How many of the moments for a retransmission have come and were seen to.
+    /// How many of the moments for a retransmission have come and were seen to, which isn't how many were sent: a late
+    /// call sends one for several.
     pub reached: u8,
     /// Whether an empty acknowledgement came for it.
     pub is_acknowledged: bool,
     /// Whether it is the registration of what is observed.
     pub registers: bool,
-    /// The message.
+    /// The message, copied when it is sent, because a retransmission is then the same bytes by its clause.
     pub sent: BoundedBytes<LONGEST_MESSAGE>,
 }
 

@@ -1,4 +1,4 @@
-//! What a client holds.
+//! The state of a client, which code and definitions share.
 
 use crate::ids::Ids;
 use crate::observation::{Latest, Observation};

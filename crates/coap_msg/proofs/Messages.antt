@@ -16,7 +16,7 @@ type_bits_below Non = omega arith
 type_bits_below Ack = omega arith
 type_bits_below Rst = omega arith
 
--- types are told apart by their bits
+-- types are recognised by their bits
 pub same_type : (a b : Type4) → type_bits a ≡ type_bits b → a ≡ b
 same_type Con Con same = refl
 same_type Con Non same = absurd (omega arith)

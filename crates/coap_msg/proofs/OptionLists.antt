@@ -111,7 +111,7 @@ same_options last (o ∷ os) (p ∷ ps) x y a b ends_x ends_y same =
     let others = same_options o.0 os ps x y a.1 order ends_x ends_y others_are in
     (ap (λ (q : CoapOption). q ∷ os) option ∙ ap (λ (qs : List CoapOption). p ∷ qs) others.0, others.1)
 
--- payloads are told apart by their spelling
+-- payloads are recognised by their spelling
 same_payload : (p q : List ℕ) → payload_spelling p ≡ payload_spelling q → p ≡ q
 same_payload [] [] same = refl
 same_payload [] (b ∷ bytes) same = absurd cc

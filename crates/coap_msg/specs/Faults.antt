@@ -1,5 +1,6 @@
 -- Why bytes are no message (RFC 7252, section 3): what is wrong with them, where all that is judged before it is right.
--- At most one fault holds of given bytes, and none of the bytes of a message (`one_fault`, `no_fault`).
+-- At most one fault holds of given bytes, and none of the bytes of a message (`one_fault`, `no_fault`). So the faults
+-- are said without a function that would be the reader again.
 use Rattle.std.specs.Prelude.{◌≡◌, ◌≢◌, ℕ, ◌+◌, ◌/◌, ◌%◌, ◌^◌, ◌<◌, ◌≤◌, ◌⊎◌, List, [], ◌∷◌, ◌++◌, length, drop}
 use Rattle.coap_msg.specs.declared.constants.TheConstants.{LONGEST_TOKEN}
 use Rattle.coap_msg.specs.declared.header.Header.{Header}
@@ -37,7 +38,7 @@ pub data HasHeaderFault (f : MsgFault) (h : Header) (rest : List ℕ) : Type 0 w
 abbrev pub HasReservedNibble : ℕ → Type 0
 HasReservedNibble b = (b / 16 ≡ 15) ⊎ (b % 16 ≡ 15)
 
--- The bytes begin with the spelling of a delta and a value, whatever number the delta gives (section 3.1).
+-- The bytes begin with the spelling of a delta and a value, for any number that the delta gives (section 3.1).
 pub record BeginsWhole (bytes : List ℕ) : Type 0 where
   pub delta : ℕ
   pub value : List ℕ

@@ -77,11 +77,12 @@ abbrev pub AreInOrder : ℕ → List CoapOption → Type 0
 AreInOrder last [] = Unit {0}
 AreInOrder last (o ∷ os) = MayFollow last o × AreInOrder o.0 os
 
--- the classes that are not reserved: requests 0, success 2, client errors 4, server errors 5 (section 12.1)
+-- the classes that are not reserved: requests 0, success 2, client errors 4, server errors 5 (section 12.1); a message
+-- of a reserved class is none
 abbrev pub IsClass : ℕ → Type 0
 IsClass class = (class ≡ 0) ⊎ (class ≡ 2) ⊎ (class ≡ 4) ⊎ (class ≡ 5)
 
--- an Empty message has nothing beside its header (section 4.1)
+-- an Empty message has nothing but its header (section 4.1)
 pub record HasHeaderAlone (m : CoapMessage) : Type 0 where
   pub token : m.token ≡ []
   pub options : m.options ≡ []

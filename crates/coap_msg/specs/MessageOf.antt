@@ -1,4 +1,4 @@
--- A message that was read (RFC 7252, section 3).
+-- What contracts see of a message that `decode` read (RFC 7252, section 3).
 use Rattle.coap_msg.specs.declared.message.Message.{Message}
 use Rattle.coap_msg.specs.Grammar.{CoapMessage}
 

@@ -1,8 +1,8 @@
--- A message that is to be written (RFC 7252, section 3).
+-- What contracts see of a message that `encode` writes (RFC 7252, section 3).
 use Rattle.coap_msg.specs.declared.encoding.Plain.{Plain}
 use Rattle.coap_msg.specs.Grammar.{CoapMessage}
 
--- a message that is to be written, apart from where it lies in memory
+-- a message to write, apart from where it lies in memory
 abbrev pub plain_message : Plain → CoapMessage
 plain_message m =
     record {

@@ -4,7 +4,8 @@ use Rattle.coap_msg.specs.declared.message.Type4.TheVariants.{Con}
 use Rattle.coap_msg.specs.declared.message.RequestType.{RequestType}
 use Rattle.coap_msg.specs.declared.message.RequestType.TheVariants.{Confirmable, NonConfirmable}
 
--- a request is sent in a Confirmable message (section 4.2), and any other in a Non-confirmable one (section 4.3)
+-- A request is sent in a Confirmable message (section 4.2), and any other in a Non-confirmable one (section 4.3). Every
+-- type but Confirmable counts as that, because a caller has asked whether a message is a request.
 abbrev pub request_type : Type4 → RequestType
 request_type Con = Confirmable
 request_type _ = NonConfirmable

@@ -2,7 +2,7 @@
 use Rattle.std.specs.Prelude.{◌≡◌, ◌≤◌, ℕ, List, length, take, drop, Option, Some, None}
 use Rattle.coap_msg.specs.Grammar.{CoapMessage, spelling}
 
--- these bytes are at the front of a room, so many of them, and the rest of the room is as it was
+-- these bytes are at the front of a room, as many as there are, and the rest of the room is as it was
 pub record IsWritten (bytes : List ℕ) (n : ℕ) (old new : List ℕ) : Type 0 where
   pub within : n ≤ length new
   pub front : take n new ≡ bytes

@@ -1,8 +1,9 @@
-//! Bytes of which there are at most so many, in place.
+//! At most `N` bytes, kept in place: a token, a reply that is kept, a message that is sent.
 
 use std::marker::Model;
 
-/// At most `N` bytes, seen as the list of them: a token, or a message that may have to be sent again.
+/// At most `N` bytes, seen as the list of them. It isn't `arrayvec`'s type, because contracts are to see the list
+/// itself and not a vector that has one.
 #[derive(Drop)]
 pub struct BoundedBytes<const N: usize> {
     room: [u8; N],

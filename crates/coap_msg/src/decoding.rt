@@ -16,7 +16,8 @@ use crate::{Message, MsgFault, Options};
 /// The nibble that no option has (RFC 7252, section 3.1).
 const RESERVED: u8 = 15;
 
-/// The message that the bytes spell, whatever its type, its code and its options. It copies nothing.
+/// The message that the bytes spell, of every type and code and with any options: which messages are acted on is asked
+/// above, because that grows and the grammar doesn't. It copies nothing.
 pub fn decode(bytes: &[u8]) -> Result<Message<'_>, MsgFault>
     ensures ok { IfOk result (λ m. Spells (message_of m) bytes.now) }
     ensures complete { (m : CoapMessage) → Spells m bytes.now → IsOkAnd result (λ n. message_of n ≡ m) }
@@ -111,7 +112,7 @@ fn option_fault(last: u16, first: u8, after: &[u8]) -> MsgFault
     }
 }
 
-/// Whether an option doesn't pass the end, whatever its number.
+/// Whether an option doesn't pass the end, of any number.
 fn is_whole(first: u8, after: &[u8]) -> bool
     ensures { IsTrue result ↔ BeginsWhole (first ∷ after.now) }
 {

@@ -7,8 +7,8 @@ ghost use Rattle.coap_msg.specs.Written.{IsWritten, IsReplied};
 use crate::constants::{EMPTY, LONGEST_MESSAGE};
 use crate::{Opts, Plain, Type4, encode};
 
-/// Writes the empty message that a message of this type and ID is replied to with, which is taken or not, and returns how
-/// many bytes it has, if there is one.
+/// Writes the empty message that a message of this type and ID is replied to with, which is taken or not, and returns
+/// how many bytes it has, if there is one.
 pub fn put_empty_reply(
     kind: Type4,
     id: u16,
@@ -26,8 +26,8 @@ pub fn put_empty_reply(
     }
 }
 
-/// Writes the Reset that bytes which spell no message are replied to with, and returns how many bytes it has, if there is
-/// one.
+/// Writes the Reset that bytes which spell no message are replied to with, and returns how many bytes it has, if there
+/// is one.
 pub fn put_rejection(bytes: &[u8], out: &mut [u8; LONGEST_MESSAGE]) -> Option<usize>
     ensures { IsReplied (rejection_of bytes.now) result out.old out.new }
 {

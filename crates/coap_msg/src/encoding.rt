@@ -1,4 +1,4 @@
-//! Writing a message.
+//! The message to write, and its bytes written into a caller's slice.
 
 ghost use Rattle.std.specs.Prelude.{◌≡◌, ◌≤◌, ◌<◌, ◌+◌, ◌/◌, ◌^◌, ◌++◌, length, take, drop, IfOk, OnErr};
 ghost use Rattle.coap_msg.specs.Grammar.{CoapMessage, header, payload_spelling, spelling};
@@ -10,7 +10,7 @@ use crate::message::PAYLOAD_MARKER;
 use crate::{NoRoom, Opts, Type4};
 use servient_base::put_bytes;
 
-/// A message that is to be written.
+/// A message to write.
 #[derive(Drop)]
 pub struct Plain<'a> {
     /// Whether it is confirmable, non-confirmable, an acknowledgement or a reset.

@@ -26,11 +26,11 @@
 //! }
 //! ```
 //!
-//! The grammar is `specs/Grammar.antt`, and what can be wrong with bytes `specs/Faults.antt`. The contract in a sentence:
-//! `decode` gives exactly the one message that its bytes spell, or else the first fault that they have, and `encode`
-//! writes exactly the spelling of the message that it is given. Their clauses `unique` say that the two are inverse.
-//! The laws: a message has one spelling, bytes spell at most one message, those of a message have no fault, and other
-//! bytes have at most one.
+//! The grammar is `specs/Grammar.antt`, and what can be wrong with bytes `specs/Faults.antt`. The contract in a
+//! sentence: `decode` gives exactly the one message that its bytes spell, or else the first fault that they have, and
+//! `encode` writes exactly the spelling of the message that it is given. Their clauses `unique` say that the two are
+//! inverse. The laws: a message has one spelling, bytes spell at most one message, those of a message have no fault,
+//! and other bytes have at most one.
 #![tactic(auto)]
 
 mod bounded;

@@ -74,8 +74,8 @@ impl RequestType {
     }
 }
 
-/// Why bytes are no message (RFC 7252, section 3): the first of these that holds of them, where the options are judged one
-/// after another. `HasMsgFault` of `specs/Faults.antt` says when each holds.
+/// Why bytes are no message (RFC 7252, section 3): the first of these that holds of them, where the options are judged
+/// one after another. `HasMsgFault` of `specs/Faults.antt` says when each holds.
 #[derive(Clone, Copy, Debug, PartialEq, Eq, Error)]
 pub enum MsgFault {
     /// There are under 4 bytes.
@@ -87,7 +87,7 @@ pub enum MsgFault {
     /// The token length is above 8, or the token passes the end.
     #[error("the token has more than 8 bytes or passes the end")]
     TokenLength,
-    /// The code is 0.00, and something stands after the header (section 4.1).
+    /// The code is 0.00, and something comes after the header (section 4.1).
     #[error("an Empty message has more than a header")]
     EmptyCode,
     /// The class is one of the reserved 1, 3, 6 and 7 (section 12.1).
@@ -102,7 +102,7 @@ pub enum MsgFault {
     /// An option's number is above 65,535.
     #[error("an option has a number above 65535")]
     OptionNumber,
-    /// Nothing stands after the payload marker (section 3).
+    /// Nothing comes after the payload marker (section 3).
     #[error("no payload follows the payload marker")]
     NoPayload,
 }

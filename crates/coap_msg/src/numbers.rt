@@ -6,7 +6,7 @@ ghost use Rattle.coap_msg.specs.Opts.{last_number, PutsOptions};
 
 use crate::{NoRoom, Opts};
 
-/// The number that up to three bytes say, in network byte order.
+/// The number that up to three bytes say, in network byte order. A caller has asked how many there are.
 pub fn number_of(value: &[u8]) -> u32
     requires { length value.now ≤ 3 }
     ensures { result ≡ number_of value.now }

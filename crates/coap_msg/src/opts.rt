@@ -46,7 +46,7 @@ impl<'r> Opts<'r> {
         }
     }
 
-    /// Writes an option after those that were written.
+    /// Writes an option after those that were written: every one that the format can say.
     pub fn push(&mut self, number: u16, value: &[u8]) -> Result<(), NoRoom>
         requires order { last_number 0 self.old.list ≤ number }
         requires value { length value.now ≤ largest_number }
@@ -73,7 +73,8 @@ impl<'r> Opts<'r> {
     }
 }
 
-/// Writes an option of this number for one segment of a path.
+/// Writes an option of this number for one segment of a path. The loop over a path is the caller's, because `Segments`
+/// isn't known here.
 #[tactic(auto, using(crate::proofs::OptionParts::last_written))]
 pub fn put_segment(options: &mut Opts<'_>, number: u16, segment: &[u8]) -> Result<(), NoRoom>
     requires order { last_number 0 options.old.list ≤ number }

@@ -1,4 +1,4 @@
--- The first value of an option, and what stands after it.
+-- The first value of an option, and what comes after it.
 use Rattle.std.proofs.Common.{◌≡◌, ◌∙◌, ℕ, Bool, true, false, Option, Some, None, List, [], ◌∷◌, ◌++◌, map, refl, sym, ap, append_assoc}
 use Rattle.std.specs.Prelude.{◌==◌, slice_get, if◌then◌else◌}
 use Rattle.std.specs.List.{filter}

@@ -25,7 +25,7 @@ is_proxy number = (number == PROXY_URI) || (number == PROXY_SCHEME)
 abbrev pub is_critical : ℕ → Bool
 is_critical number = number % 2 == 1
 
--- What is wrong with an option after one of the number before. A critical one that may not stand there is bad, an
+-- What is wrong with an option after one of the number before. A critical one that may not be there is bad, an
 -- elective one is ignored (section 5.4.1).
 abbrev pub fault_of : Option ℕ → CoapOption → Option AskFault
 fault_of before o =
@@ -47,7 +47,8 @@ faults_after before (o ∷ os) = and_then_these (fault_of before o) (faults_afte
 abbrev pub faults_of : List CoapOption → List AskFault
 faults_of os = faults_after None os
 
--- A request is refused for this: the first fault of its options; or memory is out, and nothing is wrong with them.
+-- A request is refused for this: the first fault of its options; or being out of memory, and nothing is wrong
+-- with them.
 abbrev pub IsRefusal : List CoapOption → AskFault → Type 0
 IsRefusal os e = (slice_get (faults_of os) 0 ≡ Some e) ⊎ ((faults_of os ≡ []) × (e ≡ fault.NoMemory))
 

@@ -1,5 +1,5 @@
--- The options that are known (RFC 7252, section 5.10; RFC 7641, section 2): the least and the most bytes of a value, and
--- whether the option may stand more than once.
+-- The options that are known (RFC 7252, section 5.10; RFC 7641, section 2): the least and the most bytes of a value,
+-- and whether the option may come more than once.
 use Rattle.std.specs.Prelude.{ℕ, List, [], ◌∷◌, length, Bool, true, false, not, ◌==◌, ◌&&◌, ◌||◌, nat_le, Option, Some, None, slice_get}
 use Rattle.std.specs.List.{filter}
 use Rattle.std.specs.Option.{option_map_or}
@@ -41,8 +41,8 @@ abbrev pub stands_again : Option ℕ → ℕ → Bool
 stands_again None number = false
 stands_again (Some before) number = before == number
 
--- The option may stand after one of the number before: it is known, its value is neither too short nor too long, and it
--- repeats or the one before it has another number. (Options are in the order of their numbers: one that stands again
+-- The option may come after one of the number before: it is known, its value is neither too short nor too long, and it
+-- repeats or the one before it has another number. (Options are in the order of their numbers: one that comes again
 -- does so right after the last.)
 abbrev pub may_stand : Option ℕ → CoapOption → Bool
 may_stand before o = option_map_or (λ k. has_length k o.1 && (k.repeats || not (stands_again before o.0))) (known_of o.0) false

@@ -1,4 +1,4 @@
-//! Reading a request.
+//! What a CoAP request asks for, read from its message.
 
 ghost use Rattle.std.specs.Prelude.{◌≡◌, ◌<◌, ◌⊎◌, [], ◌∷◌, Some, IfOk, IfErr, OnOk, slice_get};
 ghost use Rattle.coap_msg.specs.MessageOf.{message_of};
@@ -18,7 +18,7 @@ use thing_ops::{Accept, Format, Request, Segments, Verb};
 pub struct CoapAsk<'a> {
     /// The request; its query is empty.
     pub request: Request<'a>,
-    /// The value of Observe (RFC 7641, section 2), where that stands and counts.
+    /// The value of Observe (RFC 7641, section 2), where the request has it and it counts.
     pub observe: Option<u32>,
 }
 
@@ -30,10 +30,11 @@ pub fn request_of<'a>(alloc: Global, message: &Message<'a>) -> Result<CoapAsk<'a
     ensures ok { IfOk result (λ ask. (faults_of message.now.options ≡ []) ×
         (plain_ask ask ≡ asked (message_of message.now))) }
 
-    // Memory is out only where nothing is wrong with the options.
+    // It is out of memory only where nothing is wrong with the options.
     ensures fault { IfErr result (λ e. IsRefusal message.now.options e) }
 {
-    // The bytes of all options are room enough for those of the path.
+    // The bytes of all options are room enough for those of the path, so the options are gone over once. Out of memory
+    // they are gone over again, because a wrong option is named even then.
     let path = match Segments::with_capacity(alloc, message.options.as_bytes().len()) {
         Ok(path) => path,
         Err(_) => return Err(refusal(&message.options)),

@@ -1,4 +1,4 @@
-//! Why a request isn't read.
+//! What can be wrong with the options of a request.
 
 use std::alloc::AllocError;
 use thiserror::Error;
@@ -6,7 +6,7 @@ use thiserror::Error;
 /// What is wrong with the options of a request, the first in their order.
 #[derive(Clone, Copy, Debug, PartialEq, Eq, Drop, Error)]
 pub enum AskFault {
-    /// A critical option of this number isn't known, has a value of a wrong length, or stands again (RFC 7252,
+    /// A critical option of this number isn't known, has a value of a wrong length, or comes again (RFC 7252,
     /// section 5.4.1).
     #[error("the option {0} is unknown, of a wrong length or repeated")]
     BadOption(u16),

@@ -16,7 +16,7 @@ pub struct Known {
     pub shortest: usize,
     /// The most bytes in its value.
     pub longest: usize,
-    /// It may stand more than once.
+    /// It may come more than once.
     pub repeats: bool,
 }
 

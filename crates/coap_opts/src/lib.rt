@@ -1,6 +1,6 @@
 //! What a CoAP request asks for: its options (RFC 7252, section 5.10, and RFC 7641, section 2) as a `Request`, which is
-//! what HTTP gives too, and the value of Observe beside it. `request_of` judges the options in their order, by one table
-//! of those that are known. Nothing here sends or answers.
+//! what HTTP gives too, and the value of Observe. `request_of` judges the options in their order, by one
+//! table of those that are known. Nothing here sends or answers.
 //!
 //! ```text
 //! // GET /lamp, which is to be observed and answered in JSON.
@@ -13,7 +13,7 @@
 //! ```
 //!
 //! The contract in a sentence: the answer is `asked` of `specs/Reading.antt`, or else the first fault of
-//! `faults_of`, or memory is out. Memory is taken by the path alone.
+//! `faults_of`, or is out of memory. Memory is taken by the path alone.
 #![tactic(auto)]
 
 mod ask;

@@ -82,7 +82,8 @@ row_of_value name value = record { id = name; values = value ∷ []; count = Non
 abbrev pub held : List Row → Option (Text × List Text) → Held
 held rows pending = record { rows = rows; pending = pending; skip = 0 }
 
--- An argument of this name is among the rules. Its one value is refused where it has a value already, and becomes a row; and it needs one.
+-- An argument of this name is among the rules. Its one value is refused where it has a value already, and becomes a
+-- row; and it needs one.
 pub record Serves (rules : List Rule) (name : Text) : Type 0 where
   pub settles : (value : Text) (rows : List Row) → settle_fault rules false (held rows (Some (name, value ∷ []))) ≡ repeat_fault false name rows
   pub gives : (value : Text) (rows : List Row) → settled_rows rules (Some (name, value ∷ [])) rows ≡ used (option_named name) (value ∷ []) rows

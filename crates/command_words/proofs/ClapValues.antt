@@ -183,7 +183,7 @@ at_place rules options left rows pending now waiting position trailing word word
     (with_row rules _ words now place word _
     (next (Some (place, word ∷ [])) _ places (one_more rules now place word hold.1 fresh) (after_place now options places left place word free) hold.3)))
 
--- behind `--`
+-- after `--`
 ends_behind : (rules : List Rule) (options left : List Text) (rows : List Row) (pending : Option (Text × List Text)) (now : List Row) (waiting : Waiting)
     (position : ℕ) (words places : List Text) → Clean rules (held rows pending) now → Left now options places left → Places rules position places
     → Ends rules (walk_at (held rows pending) waiting position true) words now (given places left (Some (map word_given words)))
@@ -230,7 +230,7 @@ again_fails rules options knows now position name (word ∷ words) places is_kno
         (fails_before rules options knows now (Some (name, word ∷ [])) position words now _ _ places (All-drop IsUtf8 1 (word ∷ words) text) hold
         (serves.settles word now ∙ repeats name now there))
 
--- Where the walk stands: nothing waits for a value, or an option does that has none yet.
+-- Where the walk is: nothing waits for a value, or an option does that has none yet.
 pub data Stands (rules : List Rule) (now : List Row) (left : List Text) : Held → Waiting → Option Text → Type 0 where
   at_rest : (rows : List Row) (pending : Option (Text × List Text)) → Clean rules (held rows pending) now → Stands rules now left (held rows pending) idle None
   at_option : (name : Text) → has_name name left ≡ true → Stands rules now left (held now (Some (name, []))) (waits_for name) (Some name)

@@ -1,5 +1,5 @@
--- `clap`'s walk over the words against the arguments that they are: it ends without a fault exactly where they give values, and its
--- rows are then those values.
+-- `clap`'s walk over the words against the arguments that they are: it ends without a fault exactly where they give
+-- values, and its rows are then those values.
 use Rattle.std.proofs.Common.{◌≡◌, ◌<◌, ◌+◌, ◌∙◌, ◌++◌, ℕ, Bool, true, false, List, [], ◌∷◌, map, min, Option, Some, None, is_some, refl, sym, ap, ◌⊎◌, inl, inr, subst, arith, append_assoc}
 use Rattle.std.specs.Prelude.{fold, slice_get}
 use Rattle.std.specs.List.{All}
@@ -89,12 +89,12 @@ with_row rules w words rows name value (Some values) h = (h.0, h.1 ∙ append_as
 
 -- ---- one word
 
--- what is held has no fault, and comes to these rows
+-- what is held has no fault, and gives these rows
 pub record Clean (rules : List Rule) (h : Held) (rows : List Row) : Type 0 where
   pub passes : settle_fault rules false h ≡ []
   pub comes_to : (settled rules h).rows ≡ rows
 
--- `--`, wherever it stands
+-- `--`, at any place
 pub end_passes : (rules : List Rule) (h : Held) (waiting : Waiting) (position : ℕ) (word : Text) → IsDashes word true
     → (waiting ≡ idle) ⊎ ((name : Text) × (waiting ≡ waits_for name))
     → (turn_fault (shape_with rules) [] (walk_at h waiting position false) word ≡ [])
@@ -172,7 +172,7 @@ bundle_refused rules rows pending waiting position word b rest begins text dashe
     go (Some x) e there (inl is) = rw is (rw (dashes, long, short, e, none x) refl)
     go (Some x) e there (inr (other, is)) = rw is (rw (dashes, long, short, e, none x) refl)
 
--- a word goes to a place: any word behind `--`, and a plain word where no option waits for its value
+-- a word goes to a place: any word after `--`, and a plain word where no option waits for its value
 pub data GoesToPlace (word : Text) : Waiting → Bool → Type 0 where
   behind : (waiting : Waiting) → GoesToPlace word waiting true
   before : IsDashes word false → long_of word ≡ None → short_of word ≡ None → GoesToPlace word idle false

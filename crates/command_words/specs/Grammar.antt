@@ -1,4 +1,5 @@
--- The grammar of the command line: what the words after the program's name mean.
+-- The grammar of the command line: what the words after the program's name mean. It says nothing of `clap`, because a
+-- reader would have to know that parser; proofs/ shows once, for every form with different names, that `clap` agrees.
 --
 --     replay SCRIPT [PLAN] [--events N]
 --     serve PLAN [--events N] [--idle SECONDS]
@@ -25,8 +26,8 @@ with_part part next = option_and_then next part
 
 -- ---- values
 
--- The number from `least` to `most` that a text writes in decimal digits, with no sign and no leading zero: the text is the spelling of its
--- own value.
+-- The number from `least` to `most` that a text writes in decimal digits, with no sign and no leading zero: the text is
+-- the spelling of its own value.
 abbrev pub number_between : ℕ → ℕ → List ℕ → Option ℕ
 number_between least most text =
     let value = digits_value 10 text in
@@ -43,7 +44,8 @@ number_or default name least most values = option_map_or (number_between least m
 abbrev pub events_in : Values → Option ℕ
 events_in = number_or 100000 (codes "events") 1 1000000
 
--- An option that names a file: its value isn't empty and doesn't begin with a hyphen (45). No number and no scheme does either.
+-- An option that names a file: its value isn't empty and doesn't begin with a hyphen (45), which `clap` itself would
+-- take. No number and no scheme does either.
 abbrev pub is_file_name : List ℕ → Bool
 is_file_name [] = false
 is_file_name (b ∷ bytes) = not (b == 45)
@@ -73,7 +75,7 @@ operation_of text =
     else if bytes_eq text (codes "observeproperty") then Some operation.ObserveProperty
     else None
 
--- all properties have no name, for which `-` stands
+-- all properties have no name, and `-` is written in its place
 abbrev pub name_of : Operation → List ℕ → Option (List ℕ)
 name_of operation.ReadAllProperties name = if bytes_eq name (codes "-") then Some name else None
 name_of _ name = Some name

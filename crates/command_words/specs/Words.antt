@@ -1,4 +1,4 @@
--- What stands on a command line after the name of the command: its plain words and its options, and the names that they give
+-- The words of a command line after the name of the command: plain words and options, and the names that they give
 -- values to. A word is the list of its bytes.
 use Rattle.std.specs.Prelude.{◌==◌, ℕ, Bool, List, [], ◌∷◌, map, Option, Some, None, option_map, option_and_then, if◌then◌else◌, find, not}
 use Rattle.std.specs.List.{list_any, filter, before_first, after_first}
@@ -14,7 +14,7 @@ pub data WordKind : Type 0 where
   option : List ℕ → Option (List ℕ) → WordKind
   -- another word that begins with `-`, as `-x`: no option is called so
   unknown : WordKind
-  -- any other word, and `-` alone
+  -- any other word, also an empty one, and `-` alone
   plain : WordKind
 
 abbrev pub is_equals_sign : ℕ → Bool
@@ -52,8 +52,8 @@ Arguments = List Argument
 abbrev pub with_argument : Argument → Option Arguments → Option Arguments
 with_argument argument = option_map (λ arguments. argument ∷ arguments)
 
--- the arguments that a word and the words after it are, by what it is; `next` gives those of the words after it, where an option of this
--- name still has no value
+-- the arguments that a word and the words after it are, by what it is; `next` gives those of the words after it, where
+-- an option of this name still has no value
 abbrev pub from_word : WordKind → List ℕ → List (List ℕ) → (Option (List ℕ) → Option Arguments) → Option Arguments
 from_word options_end word words next = Some (map word_given words)
 from_word (option name (Some value)) word words next = with_argument (option_given name value) (next None)
@@ -70,8 +70,8 @@ abbrev pub from_either : Option (List ℕ) → List ℕ → List (List ℕ) → 
 from_either None word words next = from_word (word_kind word) word words next
 from_either (Some name) word words next = from_value name (word_kind word) word next
 
--- The arguments that these words are, in order, after an option that has no value yet, or after none. An option has a value: what follows
--- its `=`, or else the next word, if that is plain. Behind `--` each word is plain.
+-- The arguments that these words are, in order, after an option that has no value yet, or after none. An option has a
+-- value: what follows its `=`, or else the next word, if that is plain. After `--` each word is plain.
 abbrev pub arguments_after : List (List ℕ) → Option (List ℕ) → Option Arguments
 arguments_after [] None = Some []
 arguments_after [] (Some name) = None
@@ -98,7 +98,8 @@ has_name name names = list_any (λ other. bytes_eq other name) names
 abbrev pub names_without : List ℕ → List (List ℕ) → List (List ℕ)
 names_without name = filter (λ other. not (bytes_eq other name))
 
--- The values that the arguments give: each plain word to the next place, as long as there is one, and each option to its own name, once.
+-- The values that the arguments give: each plain word to the next place, as long as there is one, and each option to
+-- its own name, once.
 abbrev pub values_of : Arguments → List (List ℕ) → List (List ℕ) → Option Values
 values_of [] places options = Some []
 values_of (word_given word ∷ arguments) [] options = None

@@ -1,15 +1,15 @@
 //! The words of the command line.
 //!
-//! `Command::read` gives the command that the words after the program's name say, or refuses them. The grammar is `meaning_of` of
-//! `specs/Grammar.antt`: a function on all lists of words, which the code is proved to compute.
+//! `Command::read` gives the command that the words after the program's name say, or refuses them. The grammar is
+//! `meaning_of` of `specs/Grammar.antt`: a function on all lists of words, which the code is proved to compute.
 //!
 //! ```text
 //! let words = ["replay", "s.txt", "--events=5", "p.json"];
 //! // Command::Replay { script: "s.txt", plan: Some("p.json"), events: 5 }
 //! ```
 //!
-//! `clap` reads the words after the name of the command, by one command of its own for each (`values.rt`); numbers and other
-//! values are read here (`parts.rt`).
+//! `clap` reads the words after the name of the command, by one command of its own for each (`values.rt`); numbers and
+//! other values are read here (`parts.rt`).
 #![tactic(auto)]
 
 mod command;

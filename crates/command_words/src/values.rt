@@ -1,7 +1,8 @@
 //! The values that the words after the name of a command give, read with `clap`.
 //!
-//! A plain word is a positional argument of the `clap` command, and an option is an argument with a long name. All of them are optional to
-//! `clap`: which of them a command needs is the command's own question.
+//! A plain word is a positional argument of the `clap` command, and an option is an argument with a long name. All of
+//! them are optional to `clap`: which of them a command needs is the command's own question, because it takes each
+//! value apart anyway.
 
 ghost use Rattle.std.specs.Prelude.{◌≡◌, ◌++◌, [], List, map, IfOk, IsTrue};
 ghost use Rattle.clap.specs.Words.{Rule, app_of, new_rule};
@@ -63,7 +64,8 @@ impl<'a> Given<'a> {
     }
 }
 
-/// The `clap` command of these places and options, with no program's name before its words, no help and no version.
+/// The `clap` command of these places and options, with no program's name before its words, no help and no version. It
+/// serves all commands, so that the walk over `clap` is proved once.
 fn clap_command<'a>(
     alloc: Global,
     places: &'a [&'a str],
@@ -94,7 +96,7 @@ fn with_places<'a>(
     Ok(command)
 }
 
-/// A command with positional arguments takes options with these long names besides.
+/// A command with positional arguments, with options of these long names as well.
 fn with_options<'a>(
     alloc: Global,
     command: Command<'a>,

@@ -21,8 +21,8 @@ struct Listening {
     coap: u16,
 }
 
-/// A network that listens at two ports that were free, and stops after so many milliseconds without traffic. A port may be taken
-/// meanwhile, and then two others are tried.
+/// A network that listens at two ports that were free, and stops after n milliseconds without traffic. A port may be
+/// taken meanwhile, and then two others are tried.
 fn on_free_ports(rt: &HostRuntime, idle: u64) -> Result<Listening, Fail> {
     for _ in 0..TRIES {
         if let Some(listening) = tried(rt, idle)? {
@@ -73,7 +73,7 @@ fn next(net: &mut MioNet<HostRuntime>, buffer: &mut [u8; 4096]) -> Result<What, 
 /// How many ticks in turn show that nothing more is opened.
 const QUIET: u32 = 3;
 
-/// How many connections are opened until so many ticks come in turn.
+/// How many connections are opened until n ticks come in turn.
 fn opened(net: &mut MioNet<HostRuntime>, buffer: &mut [u8; 4096]) -> u32 {
     let mut count: u32 = 0;
     let mut ticks: u32 = 0;

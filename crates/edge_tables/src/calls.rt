@@ -67,7 +67,7 @@ pub fn answer_of(alloc: Global, words: &str) -> Answer {
     }
 }
 
-/// Writes a value behind a word.
+/// Writes a value after a word.
 fn put_tree(text: &mut String, alloc: Global, word: &str, value: &Tree) -> Result<(), AllocError> {
     text.push_str(word)?;
     put_bytes(text, text_of(alloc, value)?.as_slice())

@@ -1,4 +1,5 @@
-//! Handlers in words: `cell VALUE`, `job TURNS`, `pulse PERIOD`, `shipped SLOT`, or `scripted KIND` and answers with `; ` between them.
+//! Handlers in words: `cell VALUE`, `job TURNS`, `pulse PERIOD`, `shipped SLOT`, or `scripted KIND` and answers with
+//! `; ` between them.
 
 use crate::calls::{answer_of, tree_of};
 use crate::lines::size_of;

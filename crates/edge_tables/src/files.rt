@@ -1,5 +1,5 @@
-//! Files in memory: lines `file NAME BYTES` with the files, lines `fails N` with the calls that fail; and steps: `read NAME LIMIT`, or
-//! `reads` for the reads so far.
+//! Files in memory: lines `file NAME BYTES` with the files, lines `fails N` with the calls that fail; and steps:
+//! `read NAME LIMIT`, or `reads` for the reads so far.
 
 use crate::lines::{fails_of, put_given, put_words, size_of};
 use crate::runs;

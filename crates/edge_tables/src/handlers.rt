@@ -1,5 +1,5 @@
-//! Handlers in a rack: lines `slot ..` with the handlers, by slots from 0; and steps: `kinds` of all slots, a call of a slot (the turns are
-//! counted from 0), or the `turns` of a slot so far.
+//! Handlers in a rack: lines `slot ..` with the handlers, by slots from 0; and steps: `kinds` of all slots, a call of a
+//! slot (the turns are counted from 0), or the `turns` of a slot so far.
 
 use crate::calls::{call_of, put_answer, put_call};
 use crate::devices::{Device, devices_of};

@@ -1,5 +1,5 @@
-//! Files of the machine, which lie in the folder that the program runs in: `write NAME BYTES` writes one there, `read NAME LIMIT` reads one
-//! as the product does.
+//! Files of the machine, which lie in the folder that the program runs in: `write NAME BYTES` writes one there,
+//! `read NAME LIMIT` reads one as the product does.
 
 use crate::files::put_read;
 use crate::lines::{put_given, put_words};

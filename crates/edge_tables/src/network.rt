@@ -1,5 +1,6 @@
-//! The network in memory: lines `event MOMENT ..` with what comes, lines `fails N` with the calls that fail; and steps: `next`, `listen ..`,
-//! `datagram ..`, `send ..`, `close ..`, `dial ..`, `find ..`, and `acts` for all that was done to it.
+//! The network in memory: lines `event MOMENT ..` with what comes, lines `fails N` with the calls that fail; and steps:
+//! `next`, `listen ..`, `datagram ..`, `send ..`, `close ..`, `dial ..`, `find ..`, and `acts` for all that was done to
+//! it.
 
 ghost use Rattle.std.specs.Prelude.{◌<◌, IfOk, IfSome};
 ghost use Rattle.servient_outside.specs.Network.{IsWithinBounds, MayCome};
@@ -29,7 +30,7 @@ fn connection_of(word: &str) -> u32
     }
 }
 
-/// What comes by these words, with so many bytes; a tick where that can't come.
+/// What comes by these words, with n bytes; a tick where that can't come.
 fn what_of(word: &str, place: &str, count: usize) -> What
     ensures { MayCome result }
 {
@@ -183,7 +184,7 @@ fn put_act(text: &mut String, act: &Act) -> Result<(), AllocError> {
     }
 }
 
-/// Writes what was done, and how much of it found no memory.
+/// Writes what was done, and how much of it was lost out of memory.
 fn put_acts(text: &mut String, net: &NetMemory) -> Result<(), AllocError> {
     for act in net.acts().iter() {
         put_act(text, act)?;

@@ -124,7 +124,7 @@ refuses_lead c status bytes b d put said has =
     let written : bytes ≡ fault_reply status = said ∙ ap (λ (t : Bool). cond t continue_reply (fault_head status) ++ fault_body status) isnt in
     subst (Leads (Refuses c status bytes) b) (sym same) (leads_at c b None (Refuses c status bytes) (λ s holds. (None, tt, (written, refl))))
 
--- a connection goes on, or isn't open any more
+-- a connection stays open, or isn't open any more
 pub others_stay : (c : ℕ) (b d : Slots) (t : Bool) → d ≡ cond t b (with_held c None b) → OthersStay c b d
 others_stay c b d true put = (held_at c b, put ∙ sym (same_held c b))
 others_stay c b d false put = (None, put)

@@ -1,4 +1,4 @@
--- Each fault at the front of a stream has a word.
+-- Each fault at the front of a stream has a status with a word.
 use Rattle.std.proofs.Common.{◌≡◌, ℕ, zero, suc, ◌+◌, ◌-◌, Bool, true, false, List, [], ◌∷◌, length, take, drop, refl, sym, ap, subst, ◌∙◌, cond}
 use Rattle.std.specs.Prelude.{Option, Some, None, Result, Ok, Err, not, nat_le, nat_lt, nat_eq, IsSome, codes}
 use Rattle.std.specs.List.{starts_with}
@@ -121,7 +121,7 @@ lined_said : (sum : ℕ) (bytes : List ℕ) (status : ℕ) (o : Option ℕ) (r :
 lined_said sum bytes status None r is err = unlined_said (nat_le 64 (length bytes)) 400 status r said_400 is err
 lined_said sum bytes status (Some n) r is err = sized_said sum bytes n status (chunk_size (take (n - 2) bytes)) r is err
 
--- a fault behind a chunk is a fault of the whole
+-- a fault after a chunk is a fault of the whole
 behind_said : (piece : List ℕ) (n status : ℕ) (rest : BodyFront) → (rest ≡ faulty status → IsSaid status) → with_chunk piece n rest ≡ faulty status → IsSaid status
 behind_said piece n status unfinished by is = absurd cc
 behind_said piece n status (faulty s) by is = by is

@@ -10,7 +10,7 @@ use Rattle.http_wire.specs.Stream.{plain_head_of, Front, short, message, fault, 
 use Rattle.http_bind.specs.Streams.{asks, wants_continue, is_faulty, to_take, bytes_used, asks_to_close}
 use Rattle.http_bind.proofs.Skipping.{skipped_twice}
 
--- a front behind so many bytes more
+-- a front after n bytes more
 pub later : ℕ → Front → Front
 later d (short expect) = short expect
 later d (message head body used expect) = message head body (d + used) expect
@@ -40,7 +40,7 @@ front_later d before bytes f (one_end n r found judged is) =
     one_end n r found judged
     (ap (later d) is ∙ sym (head_later d (before + n) r (drop n bytes)) ∙ ap (λ (k : ℕ). with_head k r (drop n bytes)) sum)
 
--- What is at the front without the pairs is at the front of the stream, behind them.
+-- What is at the front without the pairs is at the front of the stream, after them.
 pub front_of_all : (all : List ℕ) (f : Front) → IsFront (skipped all) f → IsFront all (later (length all - length (skipped all)) f)
 front_of_all all f front =
     let d : ℕ = length all - length (skipped all) in
@@ -50,7 +50,7 @@ front_of_all all f front =
     let none : d + (length (skipped all) - length (skipped all)) ≡ d = omega arith in
     subst (λ (k : ℕ). IsFrontAfter k (skipped all) (later d f)) none (front_later d _ (skipped all) f alone)
 
--- the same is to be taken there
+-- the same can be taken there
 pub to_take_later : (d : ℕ) (continued : Bool) (f : Front) → to_take continued (later d f) ≡ to_take continued f
 unfolding later
 to_take_later d continued (short expect) = refl
@@ -71,7 +71,7 @@ isnt_asked_of_fault : (t : Bool) (status : ℕ) (q : PlainRequest) → cond t (S
 isnt_asked_of_fault true status q is = cc
 isnt_asked_of_fault false status q is = cc
 
--- and a message takes those bytes besides
+-- and a message takes those bytes as well
 pub used_later : (d : ℕ) (continued : Bool) (f : Front) (q : PlainRequest) → to_take continued f ≡ Some (asks q) → bytes_used (later d f) ≡ d + bytes_used f
 unfolding later
 used_later d continued (short expect) q is = absurd (isnt_asked (expect && not continued) q is)

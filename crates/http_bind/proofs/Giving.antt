@@ -27,7 +27,7 @@ held_after c [] x within = absurd (omega arith)
 held_after zero (h ∷ b) x within = refl
 held_after (suc c) (h ∷ b) x within = held_after c b x (omega arith)
 
--- where nothing is to be taken, the next message isn't whole
+-- where nothing can be taken, the next message isn't whole
 none_is_short : (continued : Bool) (f : Front) (bytes : List ℕ) → to_take continued f ≡ None → IsFront bytes f → length (skipped bytes) < 28672
 none_is_short continued (short expect) bytes none front = short_front (length bytes - length (skipped bytes)) (skipped bytes) expect front
 none_is_short continued (message head body used expect) bytes none front = absurd (isnt_none (expect && not continued) (read_as (asked head body)) none)

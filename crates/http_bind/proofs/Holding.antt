@@ -29,7 +29,7 @@ holds_longer h x piece now a = record {
 pub holds_less : (h : Held) (x : Connection) → Holds h x → Holds (without_pairs h) x
 holds_less h x a = record { rest = skipped_twice h.rest ∙ a.rest; within = a.within; continued = a.continued; closes = a.closes; active = a.active }
 
--- the front of the stream behind what was taken, by that of what is left
+-- the front of the stream after what was taken, by that of what is left
 pub record FrontOf (h : Held) (x : Connection) (f : Front) : Type 0 where
   pub place : ℕ
   pub place_is : place ≡ length (rest_of x) - length (skipped h.rest)

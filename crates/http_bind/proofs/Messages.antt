@@ -30,12 +30,12 @@ message_step h body n q bodiless is head = record {
   closes = refl;
 }
 
--- what stands, is something
+-- what is there, is something
 pub something : {A : Type 0} (r : Option A) → is_some r ≡ true → (x : A) × (r ≡ Some x)
 something None is = absurd cc
 something (Some x) is = (x, refl)
 
--- what a whole message is taken for is what is to be taken where it is at the front
+-- what a whole message is taken for is what can be taken where it is at the front
 pub shows_message : (continued : Bool) (h : PlainHead) (body : List ℕ) (used : ℕ) (expect : Bool) (what : Found) (room : List ℕ) →
     to_take continued (message h body used expect) ≡ found (message h body used expect) → ShowsMessage h body used what room →
     Fits continued (message h body used expect) what room

@@ -32,7 +32,7 @@ skipped_twice [] = refl
 skipped_twice (a ∷ []) = refl
 skipped_twice (a ∷ b ∷ bytes) = twice_by a b bytes ((a == 13) && (b == 10)) refl (skipped_twice bytes)
 
--- more bytes behind what is left, and behind all
+-- more bytes after what is left, and after all
 more_by : (a b : ℕ) (bytes more : List ℕ) (t : Bool) → ((a == 13) && (b == 10)) ≡ t → skipped (bytes ++ more) ≡ skipped (skipped bytes ++ more) →
     cond t (skipped (bytes ++ more)) (a ∷ b ∷ (bytes ++ more)) ≡ skipped (cond t (skipped bytes) (a ∷ b ∷ bytes) ++ more)
 more_by a b bytes more true is later = later

@@ -1,15 +1,15 @@
--- The requests of a whole stream, one after another, and those that are taken from a connection while its stream comes in
--- pieces (RFC 9112, section 9.3).
+-- The requests of a whole stream, one after another, and those that are taken from a connection while its stream comes
+-- in pieces (RFC 9112, section 9.3).
 use Rattle.std.specs.Prelude.{◌≡◌, ℕ, ◌+◌, List, [], ◌∷◌, ◌++◌, drop, Option, Some, None}
 use Rattle.thing_ops.specs.Requests.{PlainRequest}
 use Rattle.http_wire.specs.Stream.{Front, IsFront}
 use Rattle.http_bind.specs.Streams.{Connection, opened_at, lengthened, LetsTake, HasNothing, Taken, asks, wants_continue, is_faulty, found, bytes_used}
 
--- a whole message at the front asks for this, and has so many bytes
+-- a whole message at the front asks for this, and has n bytes
 abbrev pub IsFirst : List ℕ → PlainRequest → ℕ → Type 0
 IsFirst bytes request used = (f : Front) × IsFront bytes f × (found f ≡ Some (asks request)) × (bytes_used f ≡ used)
 
--- these are the first requests, and their messages have so many bytes
+-- these are the first requests, and their messages have n bytes
 abbrev pub AreFirst : List ℕ → List PlainRequest → ℕ → Type 0
 AreFirst bytes [] n = n ≡ 0
 AreFirst bytes (request ∷ requests) n =

@@ -7,7 +7,7 @@ use Rattle.http_bind.specs.Replying.{fault_word}
 use Rattle.http_bind.specs.Streams.{Streams, Takes, IsDry, asks, wants_continue, is_faulty}
 use Rattle.http_bind.specs.Slots.{Slots, Leads, HasRoom, IsOpen, IsAskedBy}
 
--- nothing is to be taken, and the streams stay
+-- nothing can be taken, and the streams stay
 abbrev pub StaysDry : ℕ → Streams → Streams → Type 0
 StaysDry c s t = (t ≡ s) × IsDry c t
 

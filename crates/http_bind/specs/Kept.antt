@@ -9,7 +9,7 @@ use Rattle.std.specs.Prelude.{List, ℕ}
 abbrev pub held_with : List ℕ → State → Held
 held_with rest st = record { rest = rest; continued = st.continued; bodiless = st.bodiless; closes = st.closes; active = st.active }
 
--- what is seen: the bytes behind those that were taken
+-- what is seen: the bytes after those that were taken
 abbrev pub seen : Inside → Option Held
 seen x = option_map (held_with (drop x.start x.bytes.items)) x.state
 

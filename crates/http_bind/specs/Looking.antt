@@ -19,7 +19,7 @@ pub record IsStep (f : Front) (q : PlainRequest) (step : Step) : Type 0 where
   pub bodiless : step.bodiless ≡ is_head q.verb
   pub closes : step.closes ≡ asks_to_close f
 
--- what was found is what is to be taken at this front
+-- what was found is what can be taken at this front
 abbrev pub Fits : Bool → Front → Found → List ℕ → Type 0
 Fits continued f seen.Nothing room = to_take continued f ≡ None
 Fits continued f seen.Continue room = to_take continued f ≡ Some wants_continue
@@ -27,7 +27,7 @@ Fits continued f (seen.Fault status) room = (to_take continued f ≡ Some (is_fa
 Fits continued f (seen.Message step parts) room =
     (q : PlainRequest) × (to_take continued f ≡ Some (asks q)) × IsStep f q step × IfSome parts (AreParts q room)
 
--- what was found is what is to be taken at the front of these bytes
+-- what was found is what can be taken at the front of these bytes
 abbrev pub Shows : Bool → List ℕ → Found → List ℕ → Type 0
 Shows continued bytes what room = (f : Front) × IsFront bytes f × Fits continued f what room
 
@@ -38,7 +38,7 @@ IsWithin n seen.Continue = Unit {0}
 IsWithin n (seen.Fault status) = Unit {0}
 IsWithin n (seen.Message step parts) = step.used ≤ n
 
--- a step takes a message with this head and so many bytes, which asks for this
+-- a step takes a message with this head and n bytes, which asks for this
 pub record IsMessageStep (h : PlainHead) (n : ℕ) (q : PlainRequest) (step : Step) : Type 0 where
   pub used : step.used ≡ n
   pub bodiless : step.bodiless ≡ is_head q.verb

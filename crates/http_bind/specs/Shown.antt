@@ -28,7 +28,7 @@ after_finding seen.Continue h = record h { continued = true }
 after_finding (seen.Fault status) h = h
 after_finding (seen.Message step parts) h = record h { rest = drop step.used h.rest; continued = false; bodiless = step.bodiless; closes = step.closes }
 
--- what is at the front, behind CR LF pairs, was found and taken
+-- what is at the front, after CR LF pairs, was found and taken
 abbrev pub Passes : Option Held → Found → Option Held → List ℕ → Type 0
 Passes None what after room = (what ≡ seen.Nothing) × (after ≡ None)
 Passes (Some h) what after room =

@@ -15,7 +15,7 @@ longest_piece = 4096
 
 -- What is held of an open connection: the bytes of its stream that weren't taken, but for CR LF pairs that are skipped;
 -- whether the 100 reply was sent for the message at their front; whether the message taken last is a HEAD request, and
--- whether it asks to close the connection; and the moment of its last activity.
+-- whether it asks to close the connection, because its reply asks for both; and the moment of its last activity.
 pub record Held : Type 0 where
   pub rest : List ℕ
   pub continued : Bool
@@ -60,7 +60,7 @@ StandsFor [] (x ∷ s) = ⊥
 StandsFor (h ∷ b) [] = ⊥
 StandsFor (h ∷ b) (x ∷ s) = HoldsIfOpen h x × StandsFor b s
 
--- Whatever streams were stood for before, afterwards it is some to which this leads.
+-- For all streams that what is held stood for before, it stands afterwards for some to which this leads.
 abbrev pub Leads : (Streams → Streams → Type 0) → Slots → Slots → Type 0
 Leads Does b d = (s : Streams) → StandsFor b s → (t : Streams) × StandsFor d t × Does s t
 
@@ -83,7 +83,7 @@ abbrev pub is_idle : ℕ → Option Held → Bool
 is_idle now None = false
 is_idle now (Some h) = nat_le 120000 (now - h.active)
 
--- there is room for so many bytes more
+-- there is room for n bytes more
 abbrev pub HasRoomFor : ℕ → Option Held → Type 0
 HasRoomFor n None = Unit {0}
 HasRoomFor n (Some h) = length h.rest + n ≤ longest_rest
@@ -108,7 +108,8 @@ left_in (Some h) = 2 * length h.rest + (if h.continued then 1 else 2)
 abbrev pub left_at : ℕ → Slots → ℕ
 left_at c b = left_in (held_at c b)
 
--- a reply to this request is what the message taken last asks for
+-- A reply to this request is what the message taken last asks for. `answered` is said of the requests that fit, because
+-- whether that message is HEAD the code alone keeps.
 abbrev pub AwaitsReply : PlainRequest → Option Held → Type 0
 AwaitsReply request None = ⊥
 AwaitsReply request (Some h) = h.bodiless ≡ is_head request.verb

@@ -1,5 +1,6 @@
--- The connections of an HTTP server, each with its whole stream since its opening, and what is done with them (RFC 9112,
--- sections 9.3 and 9.6). Bytes come in any pieces; the messages of a stream are taken from its front, one after another.
+-- The connections of an HTTP server, each with its whole stream since its opening, and what is done with them (RFC
+-- 9112, sections 9.3 and 9.6). Bytes come in any pieces; the messages of a stream are taken from its front, one after
+-- another.
 use Rattle.std.specs.Prelude.{◌≡◌, ℕ, ◌+◌, ◌-◌, Bool, true, false, ◌&&◌, not, nat_le, List, [], ◌++◌, drop, replicate, slice_index_or, slice_set, position, Option, Some, None, option_map, if◌then◌else◌}
 use Rattle.thing_ops.specs.declared.outcome.Outcome.{Outcome}
 use Rattle.thing_ops.specs.Requests.{PlainRequest}
@@ -7,9 +8,10 @@ use Rattle.http_wire.specs.Stream.{Front, short, message, fault, IsFront}
 use Rattle.http_wire.specs.Reading.{asked}
 use Rattle.http_bind.specs.Replying.{reply, continue_reply, fault_reply}
 
--- An open connection: all bytes that came since its opening; how many of them the messages taken so far have, with the CR
--- LF pairs that were skipped before those; whether the 100 reply to the message behind them was sent; whether the message
--- taken last asks that the connection be closed after its reply; and the moment of its last activity, in milliseconds.
+-- An open connection: all bytes that came since its opening; how many of them the messages taken so far have, with the
+-- CR LF pairs that were skipped before those; whether the 100 reply to the message after them was sent; whether the
+-- message taken last asks that the connection be closed after its reply; and the moment of its last activity, in
+-- milliseconds.
 pub record Connection : Type 0 where
   pub stream : List ℕ
   pub taken : ℕ
@@ -57,8 +59,8 @@ Lengthened c piece now s t = t ≡ with_connection c (option_map (lengthened pie
 
 -- ---- messages
 
--- What is taken from a connection: a request; or that the message at the front asks for a 100 reply, which wasn't sent yet
--- (RFC 9110, section 10.1.1); or a fault with its status.
+-- What is taken from a connection: a request; or that the message at the front asks for a 100 reply, which wasn't sent
+-- yet (RFC 9110, section 10.1.1); or a fault with its status.
 pub data Taken : Type 0 where
   asks : (request : PlainRequest) → Taken
   wants_continue : Taken
@@ -80,8 +82,8 @@ found (short expect) = None
 found (message head body used expect) = Some (read_as (asked head body))
 found (fault status expect) = Some (is_faulty status)
 
--- What is to be taken at a front, where the 100 reply was sent or wasn't. That reply goes out as soon as the head is whole
--- that asks for it, and once.
+-- What can be taken at a front, where the 100 reply was sent or wasn't. That reply goes out as soon as the head is
+-- whole that asks for it, and once.
 abbrev pub to_take : Bool → Front → Option Taken
 to_take continued f = if expected f && not continued then Some wants_continue else found f
 
@@ -96,7 +98,7 @@ asks_to_close (short expect) = false
 asks_to_close (message head body used expect) = head.close
 asks_to_close (fault status expect) = false
 
--- the bytes behind the messages taken
+-- the bytes after the messages taken
 abbrev pub rest_of : Connection → List ℕ
 rest_of x = drop x.taken x.stream
 
@@ -113,7 +115,7 @@ LetsTake taken x y = (f : Front) × IsFront (rest_of x) f × (to_take x.continue
 abbrev pub Takes : ℕ → Taken → Streams → Streams → Type 0
 Takes c taken s t = (x : Connection) × (y : Connection) × (connection_at c s ≡ Some x) × LetsTake taken x y × (t ≡ with_connection c (Some y) s)
 
--- nothing is to be taken: it isn't open, or its next message isn't whole
+-- nothing can be taken: it isn't open, or its next message isn't whole
 abbrev pub HasNothing : Option Connection → Type 0
 HasNothing None = Unit {0}
 HasNothing (Some x) = (f : Front) × IsFront (rest_of x) f × (to_take x.continued f ≡ None)
@@ -145,7 +147,8 @@ Refuses c status bytes s t = (bytes ≡ fault_reply status) × (t ≡ with_conne
 
 -- ---- idle connections
 
--- the last activity was 120 seconds ago or longer
+-- The last activity was 120 seconds ago or longer. Moments may fall: the last activity is the moment that was handed in
+-- last, and the difference stops at 0.
 abbrev pub is_idle : ℕ → Option Connection → Bool
 is_idle now None = false
 is_idle now (Some x) = nat_le 120000 (now - x.active)

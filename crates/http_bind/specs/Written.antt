@@ -1,4 +1,4 @@
--- Heads as they are written.
+-- Heads of replies as they are written into a room.
 use Rattle.std.specs.Prelude.{◌≡◌, ◌<◌, ◌≤◌, ◌⊎◌, ◌^◌, ℕ, Bool, List, length, take, Option, Some, None, IfSome}
 use Rattle.thing_ops.specs.declared.outcome.Outcome.{Outcome}
 use Rattle.http_wire.specs.Writing.{PlainReply, http_reply}

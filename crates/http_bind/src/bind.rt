@@ -1,4 +1,4 @@
-//! The connections of a server.
+//! The connections of an HTTP server: bytes come in, requests come out, replies are written.
 
 ghost use Rattle.std.specs.Prelude.{◌≡◌, ◌≤◌, ◌<◌, ◌++◌, ◌⊎◌, ℕ, [], length, position, None, not, ◌==◌, IfOk, IfSome, IsSome, if◌then◌else◌};
 ghost use Rattle.thing_ops.specs.Requests.{PlainRequest};
@@ -22,8 +22,8 @@ const CONNECTIONS: usize = 64;
 pub const ROOM: usize = 24576;
 
 /// The connections of an HTTP server, numbered from 0 to 63. Contracts see what is held of each (`Slots` of
-/// specs/Slots.antt). A connection is given up by `ended`, by the reply to a message that asks for it, and by the reply to
-/// a fault. Moments are milliseconds.
+/// specs/Slots.antt). A connection is given up by `ended`, by the reply to a message that asks for it, and by the reply
+/// to a fault. Moments are milliseconds, and may fall.
 #[derive(Drop)]
 pub struct HttpBind {
     alloc: Global,
@@ -88,9 +88,10 @@ impl HttpBind {
         self.slots[c as usize].free();
     }
 
-    /// What is to be done next on a connection. A message is taken, also where there is no memory for its path. The query
-    /// and the body of a request are written into `room` and lent from there. What is taken leaves less to take, so a
-    /// connection is dry after finitely many calls.
+    /// What to do next on a connection. A message is taken, also where its path is out of memory. The query and the
+    /// body of a request are written into `room` and lent from there, because a caller would know nothing of `self` if
+    /// a result that owns a path were lent from it (docs/DECISIONS.md, "What the kit can't give"). What is taken leaves
+    /// less to take, so a connection is dry after finitely many calls.
     pub fn next<'a>(&mut self, c: u32, room: &'a mut [u8]) -> HttpNext<'a>
         requires connection { c < 64 }
         requires room { ROOM ≤ length room.old }
@@ -102,8 +103,9 @@ impl HttpBind {
         lend(found, room)
     }
 
-    /// The reply to the message that was taken last from a connection. Its head is in `out`; its payload is the outcome's
-    /// text, or its word in `word`.
+    /// The reply to the message that was taken last from a connection. Its head is in `out`; its payload is the
+    /// outcome's text, or its word in `word`. It asks that the connection is open and no more: that follows from what
+    /// `next` ensures.
     pub fn answered<'a>(
         &mut self,
         c: u32,
@@ -130,8 +132,8 @@ impl HttpBind {
         }
     }
 
-    /// The 100 reply, where the status is 100, or the reply to a fault with this status. Its head is in `out` and its word in
-    /// `word`.
+    /// The 100 reply, where the status is 100, or the reply to a fault with this status. Its head is in `out` and its
+    /// word in `word`.
     pub fn refused<'a>(
         &mut self,
         c: u32,

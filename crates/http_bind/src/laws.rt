@@ -2,9 +2,9 @@
 
 ghost use Rattle.http_bind.specs.Cutting.{TakesTheFirst, TakesAll, HasOneList};
 
-/// The requests that are taken from a connection are the first ones of its whole stream, in their order; where nothing is
-/// left to take, they are all of them up to a message that isn't whole or a fault; and a stream has one list of these. So
-/// the pieces in which a stream comes decide only when a request is taken.
+/// The requests that are taken from a connection are the first ones of its whole stream, in their order; where nothing
+/// is left to take, they are all of them up to a message that isn't whole or a fault; and a stream has one list of
+/// these. So the pieces in which a stream comes decide only when a request is taken.
 pub fn each_connection_takes_its_stream()
     ensures first { TakesTheFirst }
     ensures all { TakesAll }

@@ -1,6 +1,7 @@
-//! The connections of an HTTP/1.1 server (RFC 9112, sections 9.3 and 9.6): what has come of each stream and wasn't taken
-//! yet, which message is at its front, and how an outcome is replied. There is no socket and no clock here: pieces of bytes
-//! and moments are handed in, requests and replies are handed out. `HttpBind` and `HttpNext` carry everything.
+//! The connections of an HTTP/1.1 server (RFC 9112, sections 9.3 and 9.6): what has come of each stream and wasn't
+//! taken yet, which message is at its front, and how an outcome is replied. There is no socket and no clock here:
+//! pieces of bytes and moments are handed in, requests and replies are handed out. `HttpBind` and `HttpNext` carry
+//! everything.
 //!
 //! ```text
 //! let mut http = HttpBind::new(alloc)?;
@@ -19,11 +20,11 @@
 //! }
 //! ```
 //!
-//! `specs/Streams.antt` says what is done with connections that have their whole streams; the code holds the rest of each
-//! stream, at most 32,768 bytes of it, and stands for them (`StandsFor` of `specs/Slots.antt`). The contract in a sentence:
-//! whatever streams it stood for before a call, it stands afterwards for some to which the relation of that call leads,
-//! and what it writes are the bytes of that relation. The law: the requests taken from a connection are those of its whole
-//! stream, one after another, whatever pieces it came in. All memory is taken by `new` and
+//! `specs/Streams.antt` says what is done with connections that have their whole streams; the code holds the rest of
+//! each stream, at most 32,768 bytes of it, and stands for them (`StandsFor` of `specs/Slots.antt`). The contract in a
+//! sentence: for all streams that it stood for before a call, it stands afterwards for some to which the relation of
+//! that call leads, and what it writes are the bytes of that relation. The law: the requests taken from a connection
+//! are those of its whole stream, one after another, in any pieces that it came in. All memory is taken by `new` and
 //! `new_room`, but for the paths of requests.
 #![tactic(auto)]
 

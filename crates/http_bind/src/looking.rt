@@ -59,7 +59,7 @@ pub fn look(alloc: Global, bytes: &[u8], continued: bool, room: &mut [u8]) -> Fo
     }
 }
 
-/// Whether the 100 reply is to be sent.
+/// Whether the 100 reply goes out.
 fn wants_continue(scanned: &Scanned<'_>, continued: bool) -> bool
     ensures { result ≡ (expected (front_of scanned.now) && not continued) }
 {

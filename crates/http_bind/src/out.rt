@@ -1,6 +1,6 @@
-//! What is to be sent.
+//! A reply as it is sent: its head, and its payload.
 
-/// What is to be sent on a connection: the bytes of `head`, and after them those of `body`.
+/// What to send on a connection: the bytes of `head`, and after them those of `body`.
 #[derive(Debug, Drop)]
 pub struct HttpOut<'a> {
     /// The status line, the header lines and the empty line.

@@ -29,7 +29,7 @@ pub fn put_entry(id: &[u8], out: &mut [u8]) -> Option<usize>
     put_segment(id, out, at)
 }
 
-/// Writes the segment with this number behind a slash.
+/// Writes the segment with this number after a slash.
 fn put_segment_at(path: &Segments, index: usize, out: &mut [u8], at: usize) -> Option<usize>
     requires index { index < length path.now }
     requires place { at ≤ length out.old }
@@ -41,7 +41,7 @@ fn put_segment_at(path: &Segments, index: usize, out: &mut [u8], at: usize) -> O
     }
 }
 
-/// Writes a segment behind a slash.
+/// Writes a segment after a slash.
 fn put_segment(segment: &[u8], out: &mut [u8], at: usize) -> Option<usize>
     requires { at ≤ length out.old }
     ensures { PutsIfRoom (segment_text segment.now) at out.old out.new result }

@@ -1,4 +1,4 @@
-//! What is held of one connection.
+//! What is held of one connection: the rest of its stream, and what is known of its last message.
 
 ghost use Rattle.std.specs.Prelude.{◌≡◌, ◌≤◌, length, drop, option_map, vec_capacity, IfOk};
 
@@ -14,7 +14,7 @@ pub const LONGEST_REST: usize = 32768;
 /// How long a connection may be without activity before it is idle, in milliseconds.
 const IDLE_AFTER: u64 = 120_000;
 
-/// What is known of an open connection beside its bytes.
+/// What is known of an open connection besides its bytes.
 #[derive(Clone, Copy, Drop)]
 pub struct State {
     /// The 100 reply was sent for the message at the front.
@@ -39,10 +39,10 @@ impl State {
     }
 }
 
-/// What is held of a connection, if it is open. Contracts see the bytes that weren't taken and what is known beside them
-/// (`Held` of specs/Slots.antt).
+/// What is held of a connection, if it is open. Contracts see the bytes that weren't taken and what is known besides
+/// them (`Held` of specs/Slots.antt).
 ///
-/// Taking a message moves no bytes: `start` is behind it. The bytes in front of `start` go when more come.
+/// Taking a message moves no bytes: `start` is after it. The bytes in front of `start` go when more come.
 #[derive(Drop)]
 pub struct Slot {
     bytes: Vec<u8>,

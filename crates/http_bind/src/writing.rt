@@ -1,4 +1,4 @@
-//! How replies are written.
+//! The head and the payload of replies, written into a caller's room.
 
 ghost use Rattle.std.specs.Prelude.{◌≡◌, ◌≤◌, ◌⊎◌, ◌∷◌, [], codes, length, option_map, take, Some, None, IsSome};
 ghost use Rattle.thing_ops.specs.Outcomes.{payload_of};
@@ -32,8 +32,8 @@ pub fn payload<'a>(outcome: &'a Outcome, out: &'a mut [u8; LONGEST_WORD]) -> &'a
     }
 }
 
-/// Writes the head of the reply of an outcome to the beginning of `out`, and returns its length. The payload has this many
-/// bytes.
+/// Writes the head of the reply of an outcome to the beginning of `out`, and returns its length. The payload has this
+/// many bytes.
 pub fn put_answer(
     outcome: &Outcome,
     size: usize,
@@ -153,7 +153,7 @@ fn put_short(reply: &Reply<'_>, out: &mut [u8]) -> usize
     put_reply(reply, out).unwrap()
 }
 
-/// The status of an outcome. Nothing waits yet: what is to wait is answered as if there was nothing at its path.
+/// The status of an outcome. Nothing waits yet: what would wait is answered as if there was nothing at its path.
 fn status(outcome: &Outcome) -> u16
     ensures status { result ≡ status_of outcome.now }
     ensures phrase { IsSome (phrase_of result) }

@@ -70,7 +70,7 @@ last_read l trailers rest sum short none through =
     ∙ ap (trailers_to (length line - 2)) found
     ∙ ap chunk.Last place
 
--- chunks and what is behind them
+-- chunks and what is after them
 abbrev print_from : List DataChunk → ChunkLine → List ℕ → List ℕ
 print_from cs l trailers = flat_map print_chunk cs ++ (print_chunk_line l ++ trailers)
 
@@ -255,7 +255,7 @@ lined_last bytes sum used (Some n) found is = sized_last bytes sum n used (chunk
 
 -- ---- bodies
 
--- bytes that were read as a body, after so many bytes of data
+-- bytes that were read as a body, after n bytes of data
 pub record IsSpelledFrom (bytes body : List ℕ) (used sum : ℕ) : Type 0 where
   pub chunks : List DataChunk
   pub last : ChunkLine

@@ -31,7 +31,7 @@ begins (b ∷ c ∷ bytes) is =
     let other = both (nat_eq 10 c) true one.1 in
     λ i. sym (eqb-true 13 b one.0) i ∷ sym (eqb-true 10 c other.0) i ∷ bytes
 
--- what stands in front of the first CR LF
+-- what is in front of the first CR LF
 abbrev SplitsAt : List ℕ → ℕ → Type 0
 SplitsAt bytes n = bytes ≡ take (n - 2) bytes ++ (13 ∷ 10 ∷ drop n bytes)
 
@@ -66,7 +66,7 @@ line_splits bytes n is =
     through_splits bytes n
     (subst (λ (xs : List ℕ). length_through line_end xs ≡ Some n) (take-append-drop 64 bytes) (through_stays line_end (take 64 bytes) (drop 64 bytes) n is))
 
--- bytes without CR end before the CR LF behind them
+-- bytes without CR end before the CR LF after them
 ends_by : (t : Bool) (k : ℕ) (r : Option ℕ) → t ≡ false → r ≡ Some k → cond t (Some 2) (option_map (λ j. j + 1) r) ≡ Some (k + 1)
 ends_by true k r is found = absurd (true≢false is)
 ends_by false k r is found = ap (option_map (λ j. j + 1)) found
@@ -105,7 +105,7 @@ after_more b text isnt =
 place_here : (b : ℕ) (text : List ℕ) → (b == 59) ≡ true → position_or_len (λ c. c == 59) (b ∷ text) ≡ 0
 place_here b text is = rw is refl
 
--- a text is what stands before the mark, or that with the mark and what stands after it
+-- a text is what is before the mark, or that with the mark and what is after it
 abbrev IsCutAtMark : List ℕ → Type 0
 IsCutAtMark text =
     (text ≡ before_first (λ b. b == 59) text)
@@ -210,7 +210,7 @@ extension_plain : (extension : Option (List ℕ)) → IsExtension extension → 
 extension_plain None is = refl
 extension_plain (Some text) is = list_all-from_AllPass is_extension_byte text is
 
--- the digits stand before the mark
+-- the digits are before the mark
 pub record IsCut (digits : List ℕ) (extension : Option (List ℕ)) : Type 0 where
   pub before : before_first (λ b. b == 59) (digits ++ print_extension extension) ≡ digits
   pub after : list_all is_extension_byte (after_first (λ b. b == 59) (digits ++ print_extension extension)) ≡ true

@@ -25,14 +25,14 @@ pub chunks_last : (sum : ℕ) (bytes : List ℕ) (used : ℕ) → chunk_at sum b
 chunks_last sum [] used is = absurd cc
 chunks_last sum (b ∷ bytes) used is = ap (λ c. follow c (b ∷ bytes) (λ size skip. chunks skip (sum + size) bytes)) is
 
--- the place behind a chunk, counted from its second byte
+-- the place after a chunk, counted from its second byte
 behind : (b place size : ℕ) (bytes : List ℕ) → drop (place + size + 2) (b ∷ bytes) ≡ drop (place + size + 1) bytes
 behind b place size bytes = ap (λ n. drop n (b ∷ bytes)) (one_more (place + size))
   where
     one_more : (n : ℕ) → n + 2 ≡ suc (n + 1)
     one_more n = omega arith
 
--- a chunk with data, and those behind it
+-- a chunk with data, and those after it
 pub chunks_more : (sum : ℕ) (bytes : List ℕ) (place size : ℕ) → chunk_at sum bytes ≡ chunk.More place size →
     chunks 0 sum bytes
     ≡ with_chunk (take size (drop place bytes)) (place + size + 2) (chunks 0 (sum + size) (drop (place + size + 2) bytes))
@@ -60,7 +60,7 @@ with_two_chunks a b m n (whole body used) = cc (append_assoc a b body, sums m n 
     sums : (m n k : ℕ) → m + (n + k) ≡ m + n + k
     sums m n k = omega arith
 
--- what comes behind a chunk of a whole body is whole
+-- what comes after a chunk of a whole body is whole
 pub record IsWholeBehind (done : List ℕ) (taken : ℕ) (rest : BodyFront) (body : List ℕ) : Type 0 where
   pub others : List ℕ
   pub used : ℕ
@@ -73,7 +73,7 @@ whole_behind done taken unfinished body used is = absurd cc
 whole_behind done taken (faulty status) body used is = absurd cc
 whole_behind done taken (whole others n) body used is = record { others = others; used = n; rest_is = refl; body_is = cc }
 
--- What was read of a body so far: its chunks up to a place, with so much data.
+-- What was read of a body so far: its chunks up to a place, with n bytes of data.
 pub record IsRead (bytes : List ℕ) (done : List ℕ) (place sum : ℕ) : Type 0 where
   pub sum_is : length done ≡ sum
   pub rest_is : chunks 0 0 bytes ≡ with_chunk done place (chunks 0 sum (drop place bytes))

@@ -1,4 +1,4 @@
--- Hexadecimal digits, one after another.
+-- Hexadecimal digits, one after another, as the sizes of chunks are read.
 use Rattle.std.proofs.Common.{◌≡◌, ℕ, ◌+◌, ◌*◌, ◌^◌, ◌<◌, ◌≤◌, arith}
 use Rattle.std.proofs.Math.Nat.{pow-le-pow_right}
 use Rattle.std.proofs.lemmas.Nat.{pow-add}

@@ -1,4 +1,4 @@
--- A whole body in chunks is whole without the bytes behind it.
+-- A whole body in chunks is whole without the bytes after it.
 use Rattle.std.proofs.Common.{◌≡◌, ℕ, zero, suc, ◌+◌, ◌-◌, ◌<◌, ◌≤◌, Bool, true, false, List, [], ◌∷◌, ◌++◌, length, take, drop, refl, sym, ap, subst, ◌∙◌, arith, cond, length-append}
 use Rattle.std.specs.Prelude.{Option, Some, None, option_map, nat_eq, nat_le, nat_lt}
 use Rattle.std.specs.List.{starts_with}
@@ -13,7 +13,7 @@ use Rattle.http_wire.proofs.MoreBytes.{same_begin, is_through, take_grows, throu
 
 -- ---- marks
 
--- where a mark isn't at the front, it is behind the first byte
+-- where a mark isn't at the front, it is after the first byte
 found_behind : (t : Bool) (m n : ℕ) (r s : Option ℕ) → ((j : ℕ) → j + 1 ≡ n → r ≡ Some j → s ≡ Some j) →
     cond t (Some m) (option_map (λ k. k + 1) r) ≡ Some n → cond t (Some m) (option_map (λ k. k + 1) s) ≡ Some n
 found_behind true m n r s later is = is
@@ -32,7 +32,7 @@ through_alone mark (x ∷ xs) ys n some is within =
     (λ j next found. through_alone mark xs ys j some found (omega (arith, next, within)))
     (subst (λ (t : Bool). cond t (Some (length mark)) (option_map (λ k. k + 1) (length_through mark (xs ++ ys))) ≡ Some n) same is)
 
--- the same where only so many bytes are looked at
+-- the same where only n bytes are looked at
 through_first_alone : (mark : List ℕ) (k : ℕ) (xs ys : List ℕ) (n : ℕ) → 0 < length mark → length_through mark (take k (xs ++ ys)) ≡ Some n →
     n ≤ length xs → length_through mark (take k xs) ≡ Some n
 through_first_alone mark k xs ys n some is within =
@@ -43,7 +43,7 @@ through_first_alone mark k xs ys n some is within =
 
 -- ---- chunks
 
--- a chunk that is whole ends within so many bytes
+-- a chunk that is whole ends within n bytes
 abbrev EndsBy : Chunk → ℕ → Type 0
 EndsBy chunk.Cut n = ⊥
 EndsBy (chunk.Wrong status) n = ⊥
@@ -89,7 +89,7 @@ sized_alone sum n xs ys (Some zero) within ends =
     trailers_alone (n - 2) xs ys (length_through empty_line (drop (n - 2) (xs ++ ys))) (omega arith) refl ends
 sized_alone sum n xs ys (Some (suc m)) within ends = large_alone sum n m xs ys (nat_lt longest_body (sum + suc m)) refl ends
 
--- a chunk ends behind its line
+-- a chunk ends after its line
 trailers_behind : (place : ℕ) (bytes : List ℕ) (r : Option ℕ) (k : ℕ) → length_through empty_line bytes ≡ r → EndsBy (trailers_to place r) k → place + 4 ≤ k
 trailers_behind place bytes None k is ends = absurd ends
 trailers_behind place bytes (Some m) k is ends = let bounds = is_through empty_line bytes m is in omega (arith, bounds.long, ends)
@@ -155,7 +155,7 @@ takes_some zero sum (b ∷ bytes) body used is =
     lined_some sum used (b ∷ bytes) (length_through line_end (take 64 (b ∷ bytes))) refl
     (first_ends (chunk_at sum (b ∷ bytes)) (b ∷ bytes) (λ size skip. chunks skip (sum + size) bytes) body used used is (omega arith))
 
--- the chunks behind the first, in fewer bytes
+-- the chunks after the first, in fewer bytes
 followed_alone : (c : Chunk) (xs ys : List ℕ) (f g : ℕ → ℕ → BodyFront) (body : List ℕ) (used : ℕ) → used ≤ length xs →
     ((size skip : ℕ) (others : List ℕ) (count : ℕ) → f size skip ≡ whole others count → suc (skip + count) ≤ length xs → g size skip ≡ whole others count) →
     follow c (xs ++ ys) f ≡ whole body used → follow c xs g ≡ whole body used

@@ -71,7 +71,7 @@ one_line_more done line = λ i. record {
     test_with : (name : List ℕ) (p : List ℕ → Bool) → list_any p (values_of name (done ++ line ∷ [])) ≡ or_if (has_name name line) p line.1 (list_any p (values_of name done))
     test_with name p = ap (list_any p) (values_more name done line) ∙ passes (has_name name line) p (values_of name done) line.1
 
--- lines that are read behind others
+-- lines that are read after others
 lines_more : (done rest : List Line) → with_lines (said_by done) rest ≡ said_by (done ++ rest)
 lines_more done [] = ap said_by (sym (append-nil done))
 lines_more done (line ∷ rest) =

@@ -1,4 +1,4 @@
--- The front of a stream, put together from its head and what is behind that.
+-- The front of a stream, put together from its head and what is after that.
 use Rattle.std.proofs.Common.{◌≡◌, ◌≤◌, ℕ, ◌+◌, ◌-◌, arith, List, length, take, drop, sym, ap, subst, ◌∙◌}
 use Rattle.std.specs.Prelude.{Some, Result, Ok, Err, Bool, false, not, ◌&&◌, ◌||◌}
 use Rattle.thing_ops.specs.declared.request.Accept.{Accept}
@@ -47,7 +47,7 @@ front_of_head head after taken j f found is = by_case found.0 found.1 found.2
       is h.head same.0 ∙ ap (λ (x : Framing). with_body h.head taken (expects h.head x) (body_front x after)) (sym same.1),
     )
 
--- what is at the front by what was found behind a head
+-- what is at the front by what was found after a head
 pub short_with_body : (h : RequestHead) (j : Judged) (taken : ℕ) (e : Bool) (b : BodyFront) → unfinished ≡ b →
     e ≡ (j.head.newer && has_body j.framing && (said_in j.head.fields).continues) → AreHeadParts h j.head → short e ≡ with_body h taken (expects h j.framing) b
 short_with_body h j taken e b is asks parts =

@@ -1,4 +1,4 @@
--- Heads as code reads and judges them.
+-- Heads as code reads and judges them: their lines, their parts, and their first fault.
 use Rattle.std.proofs.Common.{◌≡◌, ◌≢◌, ◌≤◌, ◌<◌, ℕ, ◌&&◌, ◌||◌, Bool, true, false, List, [], length, map, take, drop, refl, sym, ap, subst, ◌∙◌, arith}
 use Rattle.std.specs.Prelude.{◌==◌, not, Some, None, Result, Ok, Err, IfOk, IfErr}
 use Rattle.std.proofs.lemmas.List.{drop_all, append-nil, length-map, length-take}
@@ -16,7 +16,7 @@ use Rattle.http_wire.specs.Judging.{IsJudged, too_many_lines, bare_line_end, no_
 use Rattle.http_wire.specs.Found.{said_in, with_lines, AreHeadParts, IsReadAs, IsJudgedAs}
 use Rattle.http_wire.proofs.FieldLines.{all_lines}
 
--- what is said of the parts of a head that stands at some spans
+-- what is said of the parts of a head at some spans
 pub record StandsAt (bytes : List ℕ) (headers : List HeaderSpan) (r : RequestSpans) (p : HeadParts) : Type 0 where
   pub method : p.method.now ≡ span_bytes bytes r.method
   pub target : p.target.now ≡ span_bytes bytes r.path

@@ -1,4 +1,4 @@
--- What is found in some bytes stays old it is where more bytes come behind them: marks, chunks and bodies.
+-- What is found in some bytes stays as it is where more bytes come after them: marks, chunks and bodies.
 use Rattle.std.proofs.Common.{◌≡◌, ◌≢◌, ℕ, zero, suc, ◌+◌, ◌-◌, ◌≤◌, ◌&&◌, Bool, true, false, List, [], ◌∷◌, ◌++◌, length, take, drop, refl, sym, ap, subst, ◌∙◌, arith, cond, length-append}
 use Rattle.std.specs.Prelude.{Option, Some, None, option_map, nat_eq, nat_le, nat_lt}
 use Rattle.std.specs.List.{starts_with}
@@ -16,18 +16,18 @@ use Rattle.http_wire.proofs.Places.{begun}
 
 -- ---- marks
 
--- bytes that are old long old a mark begin with it or not, whatever comes behind them
+-- bytes that are as long as a mark begin with it or not, with any bytes after them
 pub same_begin : (mark xs ys : List ℕ) → length mark ≤ length xs → starts_with nat_eq (xs ++ ys) mark ≡ starts_with nat_eq xs mark
 same_begin [] xs ys fits = refl
 same_begin (m ∷ mark) [] ys fits = absurd (omega arith)
 same_begin (m ∷ mark) (x ∷ xs) ys fits = ap (λ t. nat_eq m x && t) (same_begin mark xs ys (omega arith))
 
--- a mark ends behind its own length and within the bytes
+-- a mark ends after its own length and within the bytes
 pub record IsThrough (mark xs : List ℕ) (n : ℕ) : Type 0 where
   pub long : length mark ≤ n
   pub within : n ≤ length xs
 
--- the same behind the first byte
+-- the same after the first byte
 through_later : (mark : List ℕ) (x : ℕ) (xs : List ℕ) (r : Option ℕ) (n : ℕ) → ((j : ℕ) → r ≡ Some j → IsThrough mark xs j) →
     option_map (λ k. k + 1) r ≡ Some n → IsThrough mark (x ∷ xs) n
 through_later mark x xs None n later is = absurd cc
@@ -48,7 +48,7 @@ is_through mark [] n is = absurd cc
 is_through mark (x ∷ xs) n is =
     through_here mark x xs n (starts_with nat_eq (x ∷ xs) mark) (λ j found. is_through mark xs j found) refl is
 
--- where a mark isn't at the front, it stays behind the first byte
+-- where a mark isn't at the front, it stays after the first byte
 stays_behind : (t : Bool) (m n : ℕ) (r s : Option ℕ) → ((j : ℕ) → r ≡ Some j → s ≡ Some j) →
     cond t (Some m) (option_map (λ k. k + 1) r) ≡ Some n → cond t (Some m) (option_map (λ k. k + 1) s) ≡ Some n
 stays_behind true m n r s later is = is
@@ -68,7 +68,7 @@ through_stays mark (x ∷ xs) ys n is =
     (stays_behind (starts_with nat_eq (x ∷ xs) mark) (length mark) n (length_through mark xs) (length_through mark (xs ++ ys))
     (λ j found. through_stays mark xs ys j found) is)
 
--- the first bytes of more bytes are the first bytes, and perhaps some behind them
+-- the first bytes of more bytes are the first bytes, and perhaps some after them
 pub take_grows : (k : ℕ) (xs ys : List ℕ) → (zs : List ℕ) × (take k (xs ++ ys) ≡ take k xs ++ zs)
 take_grows zero xs ys = ([], refl)
 take_grows (suc k) [] ys = (take (suc k) ys, refl)
@@ -198,13 +198,13 @@ chunk_stays sum xs ys isnt = lined_stays sum xs ys (length_through line_end (tak
 
 -- ---- bodies
 
--- the chunks behind one that is whole are settled where all are
+-- the chunks after one that is whole are settled where all are
 behind_isnt : (done : List ℕ) (taken : ℕ) (rest : BodyFront) → with_chunk done taken rest ≢ unfinished → rest ≢ unfinished
 behind_isnt done taken unfinished isnt = isnt
 behind_isnt done taken (faulty status) isnt = λ is. cc
 behind_isnt done taken (whole body used) isnt = λ is. cc
 
--- a chunk that stays, and those behind it that stay
+-- a chunk that stays, and those after it that stay
 followed_stay : (c : Chunk) (xs ys : List ℕ) (f g : ℕ → ℕ → BodyFront) → c ≢ chunk.Cut →
     ((place size : ℕ) → c ≡ chunk.More place size → place + size + 2 ≤ length xs) →
     ((size skip : ℕ) → f size skip ≢ unfinished → g size skip ≡ f size skip) → follow c xs f ≢ unfinished →
@@ -225,7 +225,7 @@ followed_stay (chunk.More place size) xs ys f g isnt fits later settled =
 cut_follows : (c : Chunk) (xs : List ℕ) (f : ℕ → ℕ → BodyFront) → follow c xs f ≢ unfinished → c ≢ chunk.Cut
 cut_follows c xs f settled = λ is. settled (ap (λ d. follow d xs f) is)
 
--- chunks that are settled stay old they are
+-- chunks that are settled stay as they are
 pub chunks_stay : (skip sum : ℕ) (xs ys : List ℕ) → chunks skip sum xs ≢ unfinished → chunks skip sum (xs ++ ys) ≡ chunks skip sum xs
 chunks_stay skip sum [] ys settled = absurd (settled refl)
 chunks_stay (suc skip) sum (x ∷ xs) ys settled = chunks_stay skip sum xs ys settled
@@ -275,7 +275,7 @@ chunked_stays xs ys unfinished is settled = long_stays xs ys (nat_le longest_cod
 chunked_stays xs ys (faulty status) is settled = ap (within_longest (xs ++ ys)) (short_stays xs ys (faulty status) is (λ cut. cc))
 chunked_stays xs ys (whole body used) is settled = ap (within_longest (xs ++ ys)) (short_stays xs ys (whole body used) is (λ cut. cc))
 
--- a body that is settled stays old it is
+-- a body that is settled stays as it is
 pub body_stays : (f : Framing) (xs ys : List ℕ) → body_front f xs ≢ unfinished → body_front f (xs ++ ys) ≡ body_front f xs
 body_stays (framing.Stated n) xs ys settled = stated_stays n xs ys (nat_le n (length xs)) refl settled
 body_stays framing.Chunked xs ys settled = chunked_stays xs ys (chunks 0 0 (take longest_coded xs)) refl settled

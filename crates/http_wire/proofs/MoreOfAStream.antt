@@ -1,4 +1,4 @@
--- The front of a stream stays old it is where more bytes come behind it, once it is a whole message or a fault.
+-- The front of a stream stays as it is where more bytes come after it, once it is a whole message or a fault.
 use Rattle.std.proofs.Common.{◌≡◌, ◌≢◌, ℕ, ◌+◌, ◌-◌, ◌≤◌, ◌&&◌, Bool, true, false, List, [], ◌∷◌, ◌++◌, length, take, drop, refl, sym, ap, subst, ◌∙◌, arith, cond, length-append}
 use Rattle.std.specs.Prelude.{Some, None, Result, Ok, Err, nat_le, ◌==◌}
 use Rattle.std.proofs.lemmas.Bool.{leb-true, le-leb}
@@ -54,7 +54,7 @@ front_after_stays before bytes more f (no_end none is) settled =
     (without_head_stays before bytes more (nat_le longest_head (length bytes)) refl none (subst IsSettled is settled))
 front_after_stays before bytes more f (one_end n r found judged is) settled = one_head_stays before n r bytes more f found judged is settled
 
--- a front that is settled has bytes behind the skipped pairs
+-- a front that is settled has bytes after the skipped pairs
 settled_has_bytes : (bytes : List ℕ) (t : Bool) → nat_le longest_head (length bytes) ≡ t → IsSettled (without_head bytes) → 2 ≤ length bytes
 settled_has_bytes bytes false few settled = absurd (rw few at settled)
 settled_has_bytes bytes true many settled = let all : longest_head ≤ length bytes = leb-true _ _ many in omega (arith, all)
@@ -64,7 +64,7 @@ front_has_bytes before bytes f (no_end none is) settled = settled_has_bytes byte
 front_has_bytes before bytes f (one_end n r found judged is) settled =
     let bounds = through_first_within empty_line longest_head bytes n found in omega (arith, bounds.long, bounds.within)
 
--- the pairs in front are the same where two bytes or more stand behind them
+-- the pairs in front are the same where two bytes or more come after them
 skipped_by : (a b : ℕ) (bytes more : List ℕ) (t : Bool) → (2 ≤ length (skipped bytes) → skipped (bytes ++ more) ≡ skipped bytes ++ more) →
     2 ≤ length (cond t (skipped bytes) (a ∷ b ∷ bytes)) →
     cond t (skipped (bytes ++ more)) (a ∷ b ∷ (bytes ++ more)) ≡ cond t (skipped bytes) (a ∷ b ∷ bytes) ++ more
@@ -77,7 +77,7 @@ skipped_grows (a ∷ []) more two = absurd (omega arith)
 skipped_grows (a ∷ b ∷ bytes) more two =
     skipped_by a b bytes more ((a == 13) && (b == 10)) (λ later. skipped_grows bytes more later) two
 
--- the front of a stream that is settled stays old it is
+-- the front of a stream that is settled stays as it is
 pub front_stays : (bytes more : List ℕ) (f : Front) → IsFront bytes f → IsSettled f → IsFront (bytes ++ more) f
 front_stays bytes more f front settled =
     let two = front_has_bytes _ (skipped bytes) f front settled in

@@ -29,7 +29,7 @@ place_of_none byte bytes found =
     sym (position_or_len_is (λ b. b == byte) bytes (length bytes) 0 (omega arith)
     (λ k below. isnt_true _ (λ is. found k (omega arith) below is)) (λ within. absurd (omega arith)))
 
--- where no such byte stands, all bytes are one piece
+-- where there is no such byte, all bytes are one piece
 pub one_piece : (byte : ℕ) (bytes : List ℕ) → length bytes ≤ position_or_len (λ b. b == byte) bytes →
     slice_split (λ b. b == byte) bytes ≡ bytes ∷ []
 one_piece byte bytes none =
@@ -73,7 +73,7 @@ begun (m ∷ mark) (b ∷ bytes) is =
     begun_at m b mark bytes zero below same later = sym same
     begun_at m b mark bytes (suc j) below same later = later j (omega arith)
 
--- a place behind the first byte is a place in the bytes after it
+-- a place after the first byte is a place in the bytes after it
 occurs_later : (mark : List ℕ) (b : ℕ) (bytes : List ℕ) (k : ℕ) → OccursAt bytes mark k → OccursAt (b ∷ bytes) mark (suc k)
 occurs_later mark b bytes k at = record {
   fits = omega (arith, at.fits);
@@ -112,7 +112,7 @@ here_begins mark bytes at =
 suc_plus : (k n : ℕ) → suc k + n ≡ k + n + 1
 suc_plus k n = omega arith
 
--- where the mark ends that is found first, by what is found behind the first byte
+-- where the mark ends that is found first, by what is found after the first byte
 through_by_test : (mark : List ℕ) (b : ℕ) (bytes : List ℕ) →
     ((r : Option ℕ) → FindsNeedle bytes mark 0 r → option_map (λ k. k + length mark) r ≡ length_through mark bytes) →
     (t : Bool) (r : Option ℕ) → starts_with nat_eq (b ∷ bytes) mark ≡ t → FindsNeedle (b ∷ bytes) mark 0 r →
@@ -141,7 +141,7 @@ through_first mark [] (Some k) some found = absurd (omega (arith, found.1.fits))
 through_first mark (b ∷ bytes) r some found =
     through_by_test mark b bytes (λ q f. through_first mark bytes q some f) (starts_with nat_eq (b ∷ bytes) mark) r refl found
 
--- where such a byte stands, the bytes before it are the first piece
+-- where there is such a byte, the bytes before it are the first piece
 pub further_pieces : (byte : ℕ) (bytes : List ℕ) (place : ℕ) → place ≡ position_or_len (λ b. b == byte) bytes → place < length bytes →
     slice_split (λ b. b == byte) bytes
     ≡ take place bytes ∷ slice_split (λ b. b == byte) (take (length bytes - (place + 1)) (drop (place + 1) bytes))

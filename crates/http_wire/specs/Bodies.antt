@@ -1,4 +1,4 @@
--- Whole bodies.
+-- The decoded bytes of a whole body, in chunks or of a stated length.
 use Rattle.std.specs.Prelude.{◌≡◌, ℕ, List, [], length, Bool, true, false}
 use Rattle.http_wire.specs.Chunks.{BodyFront, unfinished, faulty, whole, chunks}
 

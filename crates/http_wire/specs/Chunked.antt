@@ -1,5 +1,5 @@
--- A body in chunks as it is spelled (RFC 9112, section 7.1): chunks, a last one, trailers. A chunk line and its print are
--- those of the grammar of `httparse`.
+-- A body in chunks as it is spelled (RFC 9112, section 7.1): chunks, a last one, trailers. A chunk line and its print
+-- are those of the grammar of `httparse`.
 use Rattle.std.specs.Prelude.{◌≡◌, ◌≤◌, ◌<◌, ℕ, List, [], ◌++◌, length, Some}
 use Rattle.std.specs.List.{flat_map, AllByRecursion}
 use Rattle.httparse.specs.Grammar.{ChunkLine, print_chunk_line, IsChunkLine, chunk_size}
@@ -7,7 +7,7 @@ use Rattle.http_wire.specs.Heads.{line_end, empty_line, length_through}
 use Rattle.http_wire.specs.Judging.{longest_body}
 use Rattle.http_wire.specs.Chunks.{whole, chunks}
 
--- A chunk line as it is taken: 1 to 8 digits, no white space behind them, at most 64 bytes with its CR LF.
+-- A chunk line as it is taken: 1 to 8 digits, no white space after them, at most 64 bytes with its CR LF.
 pub record IsShortLine (l : ChunkLine) : Type 0 where
   pub line : IsChunkLine l
   pub digits : length l.digits ≤ 8
@@ -28,8 +28,8 @@ pub record IsDataChunk (c : DataChunk) : Type 0 where
   pub size : chunk_size c.line ≡ length c.bytes
   pub some : 0 < length c.bytes
 
--- chunked-body = *chunk last-chunk trailer-section CRLF: the chunks, the line of the last one, and what follows up to the
--- first empty line and with it
+-- chunked-body = *chunk last-chunk trailer-section CRLF: the chunks, the line of the last one, and what follows up to
+-- the first empty line and with it
 pub record ChunkedBody : Type 0 where
   pub chunks : List DataChunk
   pub last : ChunkLine

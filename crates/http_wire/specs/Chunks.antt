@@ -1,6 +1,6 @@
--- Bodies at the front of bytes, and how those in chunks are read from their front, with the places at which their faults
--- are seen (RFC 9112, section 7.1). What such a body is, Chunked.antt says as a grammar; that what is read is what is spelled
--- there, is the law `chunked_bodies_are_spelled`.
+-- Bodies at the front of bytes, and how those in chunks are read from their front, with the places at which their
+-- faults are seen (RFC 9112, section 7.1). What such a body is, Chunked.antt says as a grammar; that what is read is
+-- what is spelled there, is the law `chunked_bodies_are_spelled`.
 use Rattle.std.specs.Prelude.{ℕ, zero, suc, ◌+◌, ◌-◌, ◌==◌, List, [], ◌∷◌, ◌++◌, length, take, drop, ◌&&◌, nat_lt, nat_le, nat_eq, Option, Some, None, if◌then◌else◌}
 use Rattle.std.specs.List.{list_all, starts_with, before_first, after_first}
 use Rattle.std.specs.Char.{is_ascii_hexdigit}
@@ -11,15 +11,15 @@ use Rattle.http_wire.specs.declared.chunks.Chunk.TheVariants as chunk
 use Rattle.http_wire.specs.Heads.{line_end, empty_line, length_through}
 use Rattle.http_wire.specs.Judging.{longest_body}
 
--- What stands at the front of the bytes after a head: the body isn't whole yet, or has a fault with its status, or is
+-- What is at the front of the bytes after a head: the body isn't whole yet, or has a fault with its status, or is
 -- whole, with its decoded bytes and how many coded ones it has.
 pub data BodyFront : Type 0 where
   unfinished : BodyFront
   faulty : (status : ℕ) → BodyFront
   whole : (body : List ℕ) (used : ℕ) → BodyFront
 
--- The size that a chunk line says: 1 to 8 hexadecimal digits, and perhaps an extension after `;`, which isn't read. It has
--- no CR and no LF: where one stands in it, another reader may see the line end there (section 2.2).
+-- The size that a chunk line says: 1 to 8 hexadecimal digits, and perhaps an extension after `;`, which isn't read. It
+-- has no CR and no LF: where one is in it, another reader may see the line end there (section 2.2).
 abbrev pub size_of_digits : List ℕ → Option ℕ
 size_of_digits digits =
     if nat_lt 0 (length digits) && nat_le (length digits) 8 && list_all is_ascii_hexdigit digits
@@ -41,7 +41,7 @@ data_before place size after =
     else if starts_with nat_eq after line_end then chunk.More place size
     else chunk.Wrong 400
 
--- a chunk whose line, of n bytes with its CR LF, says this size, after so many bytes of data
+-- a chunk whose line, of n bytes with its CR LF, says this size, after n bytes of data
 abbrev pub sized_chunk : ℕ → List ℕ → ℕ → Option ℕ → Chunk
 sized_chunk sum bytes n None = chunk.Wrong 400
 sized_chunk sum bytes n (Some zero) = trailers_to (n - 2) (length_through empty_line (drop (n - 2) bytes))
@@ -54,7 +54,7 @@ abbrev pub lined_chunk : ℕ → List ℕ → Option ℕ → Chunk
 lined_chunk sum bytes None = if nat_le 64 (length bytes) then chunk.Wrong 400 else chunk.Cut
 lined_chunk sum bytes (Some n) = sized_chunk sum bytes n (chunk_size (take (n - 2) bytes))
 
--- the chunk at the front of bytes, after so many bytes of data
+-- the chunk at the front of bytes, after n bytes of data
 abbrev pub chunk_at : ℕ → List ℕ → Chunk
 chunk_at sum bytes = lined_chunk sum bytes (length_through line_end (take 64 bytes))
 
@@ -64,15 +64,15 @@ with_chunk piece used unfinished = unfinished
 with_chunk piece used (faulty status) = faulty status
 with_chunk piece used (whole body others) = whole (piece ++ body) (used + others)
 
--- what comes of a chunk at the front of bytes, where `rest size skip` is what comes behind it
+-- what comes of a chunk at the front of bytes, where `rest size skip` is what comes after it
 abbrev pub follow : Chunk → List ℕ → (ℕ → ℕ → BodyFront) → BodyFront
 follow chunk.Cut bytes rest = unfinished
 follow (chunk.Wrong status) bytes rest = faulty status
 follow (chunk.Last used) bytes rest = whole [] used
 follow (chunk.More place size) bytes rest = with_chunk (take size (drop place bytes)) (place + size + 2) (rest size (place + size + 1))
 
--- The chunks of the bytes from the place `skip` on, after so many bytes of data. Each of them has a byte or more, so
--- that the next begins behind the first byte of this one.
+-- The chunks of the bytes from the place `skip` on, after n bytes of data. Each of them has a byte or more, so
+-- that the next begins after the first byte of this one.
 abbrev pub chunks : ℕ → ℕ → List ℕ → BodyFront
 chunks skip sum [] = unfinished
 chunks (suc skip) sum (b ∷ bytes) = chunks skip sum bytes

@@ -25,7 +25,8 @@ has_name name line = str_eq_ignore_ascii_case line.0 name
 abbrev pub values_of : List ℕ → List Line → List (List ℕ)
 values_of name lines = map (λ line. line.1) (filter (has_name name) lines)
 
--- how often a field stands that may stand once: not at all, once with this value, or more often
+-- How often a field comes that may come once: not at all, once with this value, or more often. Nothing is asked of the
+-- values of one that comes more often.
 pub data Standing : Type 0 where
   absent : Standing
   once : (value : List ℕ) → Standing
@@ -38,8 +39,8 @@ standing (value ∷ next ∷ values) = often
 
 -- ---- lists and types
 
--- The bytes without the white space at both ends. In a value that is spaces and tabs (RFC 9110, section 5.6.3): no other
--- white space stands in one.
+-- The bytes without the white space at both ends. In a value that is spaces and tabs (RFC 9110, section 5.6.3): it
+-- has no other white space.
 abbrev pub trimmed : List ℕ → List ℕ
 trimmed bytes =
     let rest = drop (prefix_len is_ascii_whitespace bytes) bytes in

@@ -31,7 +31,7 @@ said_in f = record {
 
 -- ---- header lines that are read one after another
 
--- a field that stands once more
+-- a field that comes once more
 abbrev pub once_more : List ℕ → Standing → Standing
 once_more value absent = once value
 once_more value (once before) = often
@@ -56,7 +56,8 @@ taken_if named value before = if named then Some (both_taken before (types_in va
 abbrev pub or_if : Bool → (List ℕ → Bool) → List ℕ → Bool → Bool
 or_if named test value before = before || (if named then test value else false)
 
--- what is said with one line more
+-- What is said with one line more. The lines are read in one pass, because a pass for each field took four times as
+-- long.
 abbrev pub with_line : Line → Said → Said
 with_line line said = record {
   host = more_if (has_name (codes "host") line) line.1 said.host;

@@ -8,7 +8,7 @@ use Rattle.httparse.specs.Grammar.{ReadsRequest, RequestHead}
 abbrev pub line_end : List ℕ
 line_end = 13 ∷ 10 ∷ []
 
--- The bytes after the CR LF pairs that stand in front of a message (section 2.2).
+-- The bytes after the CR LF pairs in front of a message (section 2.2).
 abbrev pub skipped : List ℕ → List ℕ
 skipped [] = []
 skipped (a ∷ []) = a ∷ []
@@ -30,7 +30,7 @@ abbrev pub line_feeds : List ℕ → ℕ
 line_feeds [] = 0
 line_feeds (b ∷ bytes) = (if b == 10 then 1 else 0) + line_feeds bytes
 
--- a byte may stand after this one: a line feed after each carriage return, and after no other byte
+-- a byte may come after this one: a line feed after each carriage return, and after no other byte
 abbrev pub may_follow : ℕ → ℕ → Bool
 may_follow before b = if before == 13 then b == 10 else not (b == 10)
 
@@ -39,7 +39,9 @@ abbrev pub are_paired : ℕ → List ℕ → Bool
 are_paired before [] = not (before == 13)
 are_paired before (b ∷ bytes) = may_follow before b && are_paired b bytes
 
--- The bytes are exactly this request head, of at most 64 header lines, by the grammar of `httparse` in its default settings.
+-- The bytes are exactly this request head, of at most 64 header lines, by the grammar of `httparse` in its default
+-- settings. That takes more than RFC 9112 does, as bare line feeds, and so is asked after `has_pairs_alone`. A head has
+-- one tree by it, whose parts are its method, its target, its version, and its names and values.
 abbrev pub IsHead : List ℕ → RequestHead → Type 0
 IsHead bytes h = ReadsRequest bytes h [] × (length h.fields ≤ 64)
 

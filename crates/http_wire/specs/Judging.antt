@@ -25,7 +25,8 @@ stated_framing value =
     else if nat_lt longest_body (digits_value 10 value) then Err 413
     else Ok (framing.Stated (digits_value 10 value))
 
--- the framing of a body in this coding: there is none in HTTP/1.0, and none but `chunked` is known (RFC 9112, section 6.1)
+-- the framing of a body in this coding: there is none in HTTP/1.0, and none but `chunked` is known (RFC 9112, section
+-- 6.1)
 abbrev pub coded_framing : Bool → List ℕ → Result Framing ℕ
 coded_framing newer value =
     if not newer then Err 400
@@ -40,19 +41,20 @@ framing_by newer (once value) absent = stated_framing value
 framing_by newer absent (once value) = coded_framing newer value
 framing_by newer lengths codings = Err 400
 
--- a field stands just once
+-- a field comes just once
 abbrev pub is_once : Standing → Bool
 is_once absent = false
 is_once (once value) = true
 is_once often = false
 
--- a field stands more than once
+-- a field comes more than once
 abbrev pub is_often : Standing → Bool
 is_often absent = false
 is_often (once value) = false
 is_often often = true
 
--- HTTP/1.1 asks for exactly one `Host` (RFC 9112, section 3.2), and a body has at most one type (RFC 9110, section 8.3).
+-- HTTP/1.1 asks for exactly one `Host` (RFC 9112, section 3.2), and a body has at most one type (RFC 9110, section
+-- 8.3).
 abbrev pub has_right_counts : Bool → Said → Bool
 has_right_counts newer said = (not newer || is_once said.host) && not (is_often said.content_type)
 
@@ -70,9 +72,9 @@ abbrev pub with_framing : RequestHead → Result Framing ℕ → Result FramedHe
 with_framing h (Err status) = Err status
 with_framing h (Ok f) = Ok (record { head = h; framing = f })
 
--- How bytes are judged that end as a head does, rule by rule: too many header lines are 431, where a head has as many as
--- line feeds but two; a CR or LF that isn't part of CR LF is 400, and so is what isn't one head by the grammar; then the
--- fields of the head are judged.
+-- How bytes are judged that end as a head does, rule by rule: too many header lines are 431, where a head has as many
+-- as line feeds but two; a CR or LF that isn't part of CR LF is 400, and so is what isn't one head by the grammar; then
+-- the fields of the head are judged.
 pub data IsJudged (bytes : List ℕ) (r : Result FramedHead ℕ) : Type 0 where
   too_many_lines : 66 < line_feeds bytes → r ≡ Err 431 → IsJudged bytes r
   bare_line_end : line_feeds bytes ≤ 66 → are_paired 0 bytes ≡ false → r ≡ Err 400 → IsJudged bytes r

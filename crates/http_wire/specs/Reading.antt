@@ -20,7 +20,7 @@ verb_of method =
     else if bytes_eq method (codes "DELETE") then verb.Delete
     else verb.Other
 
--- what is behind the `?` of a target
+-- what is after the `?` of a target
 abbrev pub query_of : List ℕ → List ℕ
 query_of target = drop (query_place target) target
 

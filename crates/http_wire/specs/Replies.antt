@@ -4,7 +4,7 @@ use Rattle.http_wire.specs.declared.reply.Reply.{Reply}
 use Rattle.http_wire.specs.declared.reply.Field.{Field}
 use Rattle.http_wire.specs.Writing.{PlainReply, field_line}
 
--- what is to be replied
+-- the reply to write
 abbrev pub plain_reply : Reply → PlainReply
 plain_reply r = record {
   status = r.status;

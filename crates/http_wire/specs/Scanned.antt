@@ -16,12 +16,12 @@ front_of (scanned.Short expect) = short expect
 front_of (scanned.Whole head body used expect) = message (plain_head head) body used expect
 front_of (scanned.Fault status expect) = fault status expect
 
--- what is at the front where this head ends after so many bytes
+-- what is at the front where this head ends after n bytes
 abbrev pub IsHeadFront : List ℕ → ℕ → List ℕ → Front → Type 0
 IsHeadFront head taken after f = (r : Result FramedHead ℕ) × IsJudged head r × (f ≡ with_head taken r after)
 
--- a whole message takes from low to high bytes, its target is no longer than a head may be, and its body no longer than a
--- body may be
+-- a whole message takes from low to high bytes, its target is no longer than a head may be, and its body no longer than
+-- a body may be
 abbrev pub TakesBetween : ℕ → ℕ → Scanned → Type 0
 TakesBetween low high (scanned.Short expect) = Unit {0}
 TakesBetween low high (scanned.Whole head body used expect) =

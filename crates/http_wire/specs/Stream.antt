@@ -1,5 +1,7 @@
--- The front of a stream of requests (RFC 9112, sections 2, 6 and 7): whatever pieces a stream comes in, this speaks of the
--- bytes that have come. Each fault has a place, the number of bytes after which it is seen, and the least place counts.
+-- The front of a stream of requests (RFC 9112, sections 2, 6 and 7): a stream comes in any pieces, and this speaks of
+-- the bytes that have come. It is a relation, because `httparse` states what a head is as one; all else in it is a
+-- function, and a law says that bytes have one front. Each fault has a place, the number of bytes after which it is
+-- seen, and the least place counts.
 use Rattle.std.specs.Prelude.{◌≡◌, ℕ, ◌+◌, ◌-◌, List, length, take, drop, Bool, false, nat_le, Option, Some, None, Result, Ok, Err, if◌then◌else◌}
 use Rattle.thing_ops.specs.declared.request.Accept.{Accept}
 use Rattle.thing_ops.specs.declared.request.Format.{Format}
@@ -37,7 +39,7 @@ plain_head_of h = record {
   accept = accept_of (said_by (lines_of h)).accept;
 }
 
--- What stands at the front of a stream: a message that isn't whole yet, a whole one with its decoded body and how many
+-- What is at the front of a stream: a message that isn't whole yet, a whole one with its decoded body and how many
 -- bytes of the stream it takes, or a fault with its status; each with whether a 100 reply is asked for.
 pub data Front : Type 0 where
   short : (expect : Bool) → Front
@@ -48,7 +50,8 @@ pub data Front : Type 0 where
 abbrev pub stated_body : ℕ → List ℕ → BodyFront
 stated_body n bytes = if nat_le n (length bytes) then whole (take n bytes) n else unfinished
 
--- a body in chunks that isn't whole where all bytes stand that it may have is too long
+-- A body in chunks that isn't whole where all bytes are there that it may have is too long: they are read in order, and
+-- the first fault is the one that is seen after the fewest bytes.
 abbrev pub within_longest : List ℕ → BodyFront → BodyFront
 within_longest bytes unfinished = if nat_le longest_coded (length bytes) then faulty 413 else unfinished
 within_longest bytes (faulty status) = faulty status
@@ -59,7 +62,7 @@ abbrev pub body_front : Framing → List ℕ → BodyFront
 body_front (framing.Stated n) bytes = stated_body n bytes
 body_front framing.Chunked bytes = within_longest bytes (chunks 0 0 (take longest_coded bytes))
 
--- a head and the body after it, where the head takes so many bytes of the stream
+-- a head and the body after it, where the head takes n bytes of the stream
 abbrev pub with_body : RequestHead → ℕ → Bool → BodyFront → Front
 with_body h taken expect unfinished = short expect
 with_body h taken expect (faulty status) = fault status expect
@@ -78,7 +81,7 @@ without_head bytes = if nat_le longest_head (length bytes) then fault 431 false 
 abbrev pub head_length : List ℕ → Option ℕ
 head_length bytes = length_through empty_line (take longest_head bytes)
 
--- what stands at the front of bytes behind `before` skipped ones
+-- what is at the front of bytes after `before` skipped ones
 pub data IsFrontAfter (before : ℕ) (bytes : List ℕ) (f : Front) : Type 0 where
   no_end : head_length bytes ≡ None → f ≡ without_head bytes → IsFrontAfter before bytes f
   one_end : (n : ℕ) (r : Result FramedHead ℕ) → head_length bytes ≡ Some n → IsJudged (take n bytes) r →

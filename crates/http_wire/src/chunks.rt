@@ -24,7 +24,7 @@ const LONGEST_CODED: usize = 20480;
 /// The most bytes of a chunk line, with its CR LF.
 const LONGEST_LINE: usize = 64;
 
-/// What stands at the front of the bytes after a head.
+/// What is at the front of the bytes after a head.
 #[derive(Drop)]
 pub enum BodyScan<'a> {
     /// The body isn't whole yet.
@@ -40,7 +40,7 @@ pub enum BodyScan<'a> {
     },
 }
 
-/// What stands at the front of bytes where a chunk begins.
+/// What is at the front of bytes where a chunk begins.
 #[derive(Clone, Copy, Drop)]
 pub enum Chunk {
     /// It isn't whole yet.
@@ -130,7 +130,7 @@ fn chunks_at_front(bytes: &[u8]) -> BodyScan<'_>
     }
 }
 
-/// The chunk at the front of bytes, after so many bytes of data.
+/// The chunk at the front of bytes, after `sum` bytes of data.
 fn chunk_at(sum: usize, bytes: &[u8]) -> Chunk
     requires { sum ≤ longest_body }
     ensures ok { result ≡ chunk_of sum bytes.now }
@@ -268,7 +268,7 @@ pub fn copy_chunks(coded: &[u8], out: &mut [u8])
     }
 }
 
-/// So many bytes from a place on.
+/// `size` bytes from a place on.
 fn part(bytes: &[u8], place: usize, size: usize) -> &[u8]
     requires { place + size ≤ length bytes.now }
     ensures { result.now ≡ take size (drop place bytes.now) }

@@ -11,7 +11,7 @@ use crate::lines::{cut, cut_at_each};
 use httparse::spans::HeaderSpan;
 use thing_ops::{Accept, Format};
 
-/// How often a field stands that may stand once, with its value.
+/// How often a field comes that may come once, with its value.
 #[derive(Clone, Copy, Drop)]
 pub enum Found<'a> {
     /// There is no such line.
@@ -87,7 +87,7 @@ fn with_field<'a>(fields: Fields<'a>, name: &[u8], value: &'a [u8]) -> Fields<'a
     }
 }
 
-/// How often a field stands, where a further line has its name or hasn't.
+/// How often a field comes, where a further line has its name or hasn't.
 fn more<'a>(before: Found<'a>, is_named: bool, value: &'a [u8]) -> Found<'a>
     ensures { standing_of result ≡ more_if is_named value.now (standing_of before.entry) }
 {

@@ -75,21 +75,21 @@ fn judge_fields(newer: bool, fields: &Fields<'_>) -> Result<Framing, u16>
     }
 }
 
-/// Whether `Host` and `Content-Type` stand as often as they may.
+/// Whether `Host` and `Content-Type` come as often as they may.
 fn has_counts(newer: bool, fields: &Fields<'_>) -> bool
     ensures { result ≡ has_right_counts newer (said_in fields.now) }
 {
     (!newer || stands_once(fields.host)) && !stands_often(fields.content_type)
 }
 
-/// Whether a field stands just once.
+/// Whether a field comes just once.
 fn stands_once(found: Found<'_>) -> bool
     ensures { result ≡ is_once (standing_of found.entry) }
 {
     matches!(found, Found::Once(_))
 }
 
-/// Whether a field stands more than once.
+/// Whether a field comes more than once.
 fn stands_often(found: Found<'_>) -> bool
     ensures { result ≡ is_often (standing_of found.entry) }
 {

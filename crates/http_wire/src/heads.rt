@@ -27,7 +27,7 @@ pub fn skip_pairs(bytes: &[u8]) -> &[u8]
     rest
 }
 
-/// The first bytes, at most so many of them.
+/// The first bytes, at most `most` of them.
 pub fn front(bytes: &[u8], most: usize) -> &[u8]
     ensures ok { result.now ≡ take most bytes.now }
     ensures bound { length result.now ≤ length bytes.now }
@@ -74,7 +74,7 @@ pub fn count_line_feeds(bytes: &[u8]) -> usize
     count
 }
 
-/// Whether a byte may stand after another.
+/// Whether a byte may come after another.
 fn follows(before: u8, byte: u8) -> bool
     ensures { result ≡ may_follow before byte }
 {
@@ -125,7 +125,7 @@ pub fn read_head(head: &[u8]) -> Option<HeadParts<'_>>
     }
 }
 
-/// The parts of a head that stand there.
+/// The parts of a head, which are at these spans.
 fn parts_at<'a>(head: &'a [u8], found: &RequestSpans, headers: &[HeaderSpan]) -> HeadParts<'a>
     requires method { IsWithin (length head.now) found.now.method }
     requires path { IsWithin (length head.now) found.now.path }

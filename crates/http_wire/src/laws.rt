@@ -9,14 +9,14 @@ pub fn one_front()
     ensures { (bytes : List ℕ) (f g : Front) → IsFront bytes f → IsFront bytes g → f ≡ g }
 {}
 
-/// A front that is a whole message or a fault stays the same, whatever bytes come behind it. So the pieces in which a
+/// A front that is a whole message or a fault stays the same when more bytes come after it. So the pieces in which a
 /// stream comes decide only when a message is there.
 pub fn front_is_stable()
     ensures { (bytes more : List ℕ) (f : Front) → IsFront bytes f → IsSettled f → IsFront (bytes ++ more) f }
 {}
 
-/// A whole body in chunks is read exactly where one is spelled (RFC 9112, section 7.1): what is read as one is the print of
-/// chunks, a last one and trailers, and each such print is read, with the data of its chunks.
+/// A whole body in chunks is read exactly where one is spelled (RFC 9112, section 7.1): what is read as one is the
+/// print of chunks, a last one and trailers, and each such print is read, with the data of its chunks.
 pub fn chunked_bodies_are_spelled()
     ensures whole { EachWholeIsSpelled }
     ensures spelled { EachSpelledIsRead }

@@ -1,6 +1,7 @@
 //! HTTP/1.1 requests at the front of a stream (RFC 9112), and the heads of replies, as bytes. Nothing here knows a
 //! connection or a Thing: `scan` judges the bytes that have come, however they were cut, and says whether a message is
-//! whole, is to be awaited or has a fault; `segments` reads a request target, and `put_reply` writes the head of a reply.
+//! whole, isn't yet, or has a fault; `segments` reads a request target, and `put_reply` writes the head of a
+//! reply.
 //!
 //! ```text
 //! let bytes = b"PUT /lamp/properties/status HTTP/1.1\r\nHost: h\r\nContent-Length: 1\r\n\r\n9";
@@ -22,10 +23,10 @@
 //!
 //! The contract in a sentence: `scan` says of any bytes exactly what `IsFront` of `specs/Stream.antt` does, `segments`
 //! gives exactly `segments_of` and `query_place` of `specs/Targets.antt`, `request_of` the request that `asked` of
-//! `specs/Reading.antt` is, and `put_reply` writes exactly `http_reply` of `specs/Writing.antt`. The laws: bytes have one
-//! front at most, and one that is a whole message or a fault stays the same whatever comes behind it; a body in chunks is
-//! read exactly where one is spelled by the grammar of `specs/Chunked.antt`. What a request head is and what its lines are,
-//! the grammar of `httparse` says. Memory is taken for paths alone.
+//! `specs/Reading.antt` is, and `put_reply` writes exactly `http_reply` of `specs/Writing.antt`. The laws: bytes have
+//! one front at most, and one that is a whole message or a fault stays the same when more comes after it; a body in
+//! chunks is read exactly where one is spelled by the grammar of `specs/Chunked.antt`. What a request head is and what
+//! its lines are, the grammar of `httparse` says. Memory is taken for paths alone.
 #![tactic(auto)]
 
 mod chunks;

@@ -1,4 +1,4 @@
-//! Writing the head of a reply.
+//! The head of a reply, written into a caller's slice.
 
 ghost use Rattle.std.specs.Prelude.{◌≡◌, ◌≤◌, ◌++◌, ◌↔◌, length, option_map, IsSome, IsTrue};
 ghost use Rattle.std.specs.List.{flat_map};
@@ -28,7 +28,7 @@ pub struct Reply<'a> {
     pub close: bool,
 }
 
-/// A field, and its value if it is to be written.
+/// A field, and its value if it is written.
 #[derive(Clone, Copy, Drop)]
 pub struct Field<'a> {
     /// The name, with a colon and a space.
@@ -70,7 +70,8 @@ pub fn put_reply(reply: &Reply<'_>, out: &mut [u8]) -> Option<usize>
     put_head(phrase, &fields, out)
 }
 
-/// Whether a status has a reason, so that its reply can be written.
+/// Whether a status has a reason, so that its reply can be written: the test for callers whose status comes from
+/// elsewhere.
 pub fn has_reason(status: u16) -> bool
     ensures { IsTrue result ↔ IsSome (phrase_of status) }
 {

@@ -30,7 +30,8 @@ pub struct RequestParts {
     pub body_length: usize,
 }
 
-/// The request of a message. Its query and its body are written to the beginning of `room`, one after the other.
+/// The request of a message. Its query and its body are written to the beginning of `room`, one after the other; the
+/// caller asks that there is room and that both are as short as `scan` says.
 pub fn request_of(
     alloc: Global,
     head: &Head<'_>,

@@ -1,4 +1,4 @@
-//! What stands at the front of a stream.
+//! The front of a stream as code has it: a head, a body, or a fault.
 
 ghost use Rattle.std.specs.Prelude.{◌≡◌, true, length};
 ghost use Rattle.http_wire.specs.Bodies.{decoded, AreOneBody};
@@ -26,7 +26,7 @@ pub enum Scanned<'a> {
         /// A 100 reply is asked for.
         expect: bool,
     },
-    /// A fault, which is to be answered with this status.
+    /// A fault, which is answered with this status.
     Fault {
         /// The status.
         status: u16,
@@ -42,7 +42,7 @@ pub struct Head<'a> {
     pub method: &'a [u8],
     /// The request target (RFC 9112, section 3.2).
     pub target: &'a [u8],
-    /// The connection is to be closed after the reply.
+    /// The connection is closed after the reply.
     pub close: bool,
     /// The media type of the body.
     pub format: Format,
@@ -50,7 +50,8 @@ pub struct Head<'a> {
     pub accept: Accept,
 }
 
-/// A whole body, over the bytes of the stream that it was read from. Contracts see its decoded bytes.
+/// A whole body, over the bytes of the stream that it was read from. Contracts see its decoded bytes, which `copy_to`
+/// decodes: nothing else is public of it.
 #[derive(Drop)]
 pub struct Body<'a> {
     coded: &'a [u8],
@@ -70,7 +71,7 @@ impl<'a> Model for Body<'a> {
 }
 
 impl<'a> Body<'a> {
-    /// The body that these bytes are as they stand.
+    /// The body that these bytes are as they come.
     pub(crate) fn stated(bytes: &'a [u8]) -> Body<'a>
         ensures ok { result ≡ bytes.now }
         ensures size { length result ≡ length bytes.now }

@@ -1,4 +1,4 @@
-//! The front of a stream.
+//! `scan`: what is at the front of a stream.
 
 ghost use Rattle.std.specs.Prelude.{◌≡◌, ◌≤◌, ◌<◌, ◌+◌, ◌^◌, length};
 ghost use Rattle.httparse.specs.Grammar.{RequestHead};
@@ -49,7 +49,7 @@ fn without_head<'a>(bytes: &[u8]) -> Scanned<'a>
     }
 }
 
-/// What is at the front where this head ends after so many bytes.
+/// What is at the front where this head ends after n bytes.
 #[tactic(auto, using(crate::proofs::Fronts::front_of_fault, crate::proofs::Fronts::front_of_head))]
 fn scan_head<'a>(head: &'a [u8], taken: usize, after: &'a [u8]) -> Scanned<'a>
     requires fits { taken + length after.now < 2 ^ 64 }

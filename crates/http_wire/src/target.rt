@@ -1,4 +1,4 @@
-//! The path and the query of a request target.
+//! The path and the query of a request target, cut into segments and decoded.
 
 ghost use Rattle.std.specs.Prelude.{◌≡◌, ◌<◌, ◌++◌, ◌∷◌, ◌⊎◌, [], length, Some, None, IsSome, IfSome, IfOk, IfErr, OnOk, option_map};
 ghost use Rattle.percent_encoding.specs.Percent.{percent_decode as decoded_part};
@@ -76,7 +76,7 @@ fn path(target: &[u8]) -> Option<&[u8]>
     }
 }
 
-/// The path behind an authority.
+/// The path after an authority.
 fn behind_authority(bytes: &[u8]) -> Option<&[u8]>
     ensures ok { option_map (λ p. p.now) result ≡ path_behind_authority bytes.now }
     ensures begins { IfSome result (λ p. 0 < length p.now) }
@@ -89,7 +89,7 @@ fn behind_authority(bytes: &[u8]) -> Option<&[u8]>
     }
 }
 
-/// The segments behind the first `/` of a path.
+/// The segments after the first `/` of a path.
 fn decoded(alloc: Global, path: &[u8]) -> Result<Segments, NoMemory>
     ensures { IfOk result (λ s. s ≡ segments_behind path.now) }
 {

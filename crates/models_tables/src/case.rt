@@ -150,7 +150,7 @@ impl Case {
         Ok(())
     }
 
-    /// Takes a line: what it makes, or what comes of it, is said behind `said`.
+    /// Takes a line: what it makes, or what comes of it, is said after `said`.
     pub fn take(&mut self, said: &mut String, line: &str) -> Result<(), AllocError> {
         let line = expanded(self.alloc, line)?;
         match line.as_str().strip_prefix("each ") {

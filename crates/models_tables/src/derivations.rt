@@ -27,7 +27,7 @@ fn choices_of(alloc: Global, words: &str) -> Result<Choices, AllocError> {
     Ok(choices)
 }
 
-/// The Things of a model with choices behind its URL.
+/// The Things of a model with choices after its URL.
 fn derived(case: &Case, frame: &Frame, rest: &str) -> Result<Things, DeriveFault> {
     let (url, words) = word_of(rest);
     let choices = choices_of(case.alloc, words)?;

@@ -1,5 +1,6 @@
-//! Texts that are too long to be written out: `repeat(N,TEXT)` stands for the text N times, and `repeat(A..B,TEXT)` once for each number
-//! from A on and below B. In it as many `$` as there are in a row stand for the number, with so many digits at least.
+//! Texts that are too long to be written out: `repeat(N,TEXT)` stands for the text N times, and `repeat(A..B,TEXT)`
+//! once for each number from A on and below B. In it as many `$` as there are in a row stand for the number, with as
+//! many digits at least.
 
 use std::alloc::{AllocError, Global};
 use std::fmt::Write;

@@ -1,5 +1,6 @@
-//! Tables of Thing Models. Each word names a file of cases, which are separated by empty lines; `case.rt` has their lines. The
-//! program prints each line as it is, and behind ` => ` what comes of it in place of what is to come: so it prints its files, if all is right.
+//! Tables of Thing Models. Each word names a file of cases, which are separated by empty lines; `case.rt` has their
+//! lines. The program prints each line as it is, and after ` => ` what comes of it in place of what is to come: so it
+//! prints its files, if all is right.
 #![tactic(auto)]
 
 mod case;

@@ -1,6 +1,6 @@
-//! A stored run over sockets. The program starts itself as a child that serves a plan, writes and reads a property of the
-//! shipped rack over TCP and UDP, and prints what came, and how the child ended once no traffic came for five seconds. Then a child
-//! checks a Thing Description without a `title`, which ends with a status that isn't 0.
+//! A stored run over sockets. The program starts itself as a child that serves a plan, writes and reads a property of
+//! the shipped rack over TCP and UDP, and prints what came, and how the child ended once no traffic came for five
+//! seconds. Then a child checks a Thing Description without a `title`, which ends with a status that isn't 0.
 //!
 //! With words of its own it is the servient; without any it is the run.
 #![tactic(auto)]

@@ -1,4 +1,4 @@
--- Laws of moves: once for every move, whatever it is.
+-- Laws of moves, proved once for all of them.
 use Rattle.std.proofs.Common.{◌≡◌, List, [], ◌∷◌, ◌++◌, refl, sym, subst, append_assoc}
 use Rattle.std.proofs.lemmas.List.{append-nil}
 use Rattle.servient_base.specs.Moves.{Stays, Then, Passing, Each, Until, is_done, goes_on, ShowsInOrder, Makes, Refines}

@@ -1,7 +1,8 @@
 -- Moves of a machine over any state, what is seen of them from outside, and code that makes them.
 --
 -- A move relates the state before it, the trace of it, and the state after it. A trace is the list of what is seen, in
--- the order in which it came about.
+-- the order in which it came about. Moves are over any state and any trace, because the machine of Things and those of
+-- the bindings are put together by the same words.
 use Rattle.std.specs.Prelude.{◌≡◌, List, [], ◌∷◌, ◌++◌}
 
 -- ---- moves

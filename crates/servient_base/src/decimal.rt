@@ -16,7 +16,7 @@ pub fn parse_decimal(text: &str, most: u64) -> Option<u64>
     }
 }
 
-/// A plus (43) or a leading zero (48) stands at the front; `parse` takes those, and a number has none.
+/// A plus (43) or a leading zero (48) is at the front; `parse` takes those, and a number has none.
 fn has_sign_or_leading_zero(text: &str) -> bool
     ensures { result ≡ ((slice_index text.now 0 == 43)
         || ((slice_index text.now 0 == 48) && nat_lt 1 (length text.now))) }

@@ -2,9 +2,9 @@
 //!
 //! Being out of memory has one name, `NoMemory`. A count of faults that rose is `Rose` in `specs/Count.antt`.
 //! `put_bytes`, and `put_piece` where there may be no room, are how every writer of this repository fills a caller's
-//! slice: they take no memory and change nothing but the bytes that they write. `put_encoded` and `push_encoded` are how
-//! a segment is written into the path of a URL. `parse_decimal` is how every number that a person writes is read, and
-//! `join` how every text is joined to a URL.
+//! slice: they take no memory and change nothing but the bytes that they write. `put_encoded` and `push_encoded` are
+//! how a segment is written into the path of a URL. `parse_decimal` is how every number that a person writes is read,
+//! and `join` how every text is joined to a URL.
 //!
 //! ```
 //! use servient_base::{join, parse_decimal, put_bytes, put_encoded, put_piece};

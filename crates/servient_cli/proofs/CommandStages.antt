@@ -99,7 +99,7 @@ pub command_comes : (held : Option (List HeldFile)) (kinds : List Kind) (words :
 command_comes held kinds words before now command (Ok ending) meaning built p = record { seen = p.seen; stage = is_command command meaning built p.stage; shows = p.shows; text_is = p.text_is }
 command_comes held kinds words before now command (Err e) meaning built p = record { seen = p.seen; stage = is_command command meaning built p.stage; shows = p.shows; text_is = p.text_is }
 
--- or none, or there was no memory for them
+-- or none, or it was out of memory for them
 pub no_command_comes : (held : Option (List HeldFile)) (kinds : List Kind) (words : List (List ℕ)) (a : Around) (fault : WordsFault) (e : Ended) → TakesWords words (Err fault) → EndsAs fault e → EndsBy (Commands held kinds words) a a (Err e)
 no_command_comes held kinds words a Usage e none is =
     subst (λ (x : Ended). EndsBy (Commands held kinds words) a a (Err x)) (sym is)

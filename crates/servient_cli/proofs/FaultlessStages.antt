@@ -35,7 +35,7 @@ use Rattle.servient_cli.specs.Deriving.{ReadsPlan, is_plan, is_no_plan, plan_mem
 use Rattle.servient_cli.specs.Deriving as plans
 use Rattle.servient_cli.specs.Command.{HoldsFaultless, IsPlannedBy, IsFaultlessReplay}
 
--- a stage goes on with such a value, or is out of memory
+-- a stage gives such a value, or is out of memory
 abbrev pub GoesOn : {A : Type 0} → (A → Type 0) → Outcome A → Type 0
 GoesOn {A} Good o = ((value : A) × Good value × (o ≡ goes_on value)) ⊎ (o ≡ ends 9)
 
@@ -101,7 +101,7 @@ what_trouble (did_see (at_network (broke call)) ∷ a) trouble = inr (omega arit
 what_trouble (did_see (at_handler call) ∷ a) trouble = what_trouble a trouble
 what_trouble (did_write text ∷ a) trouble = what_trouble a trouble
 
--- a count that rose by so much rose
+-- a count that rose by one or more rose
 pub rose_some : (more before now : ℕ) → 1 ≤ more → RoseBy more before now → Rose before now
 rose_some more before now some rose = omega (arith, some, rose)
 
@@ -139,7 +139,7 @@ then_goes P Q Good Fine seen o quiet p q (goes_further (value, both)) =
       | inr nine ↦ absurd (end_no_on value 9 nine)
     ]
 
--- what is told of the files
+-- what is said of the files
 pub told : (held : Option (List HeldFile)) (files : List HeldFile) (P : List HeldFile → Type 0) → held ≡ Some files → IfSome held P → P files
 told held files P is known = subst (λ (h : Option (List HeldFile)). IfSome h P) is known
 
@@ -197,7 +197,7 @@ plan_well name tree v plan seen o same it (is_plan other is saw goes) = inl (oth
 plan_well name tree v plan seen o same it (is_no_plan pointer is end) = absurd (not_both plan pointer (sym it ∙ ap plan_of (sym same) ∙ is))
 plan_well name tree v plan seen o same it (plan_memory end) = inr end.1
 
--- a model that may stand there is put there
+-- a model that may be there is put there
 missing : (o : Option Json) → o ≡ None → IsSome o → ⊥
 missing o none some = cc
 

@@ -143,7 +143,7 @@ none_left number by_slot (t ∷ more) merged none =
     let at = found_at (begins_with number) by_slot t.slot within (place_of_next number 0 t.slot t more by_slot merged.numbered merged.split (omega arith) within) in
     absurd cc
 
--- ---- the slots behind references
+-- ---- the slots that references lead to
 
 place_in_map : {X Y : Type 0} (p : Y → Bool) (f : X → Y) (xs : List X) → position_or_len p (map f xs) ≡ position_or_len (λ x. p (f x)) xs
 place_in_map p f [] = refl

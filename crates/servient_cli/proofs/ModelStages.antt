@@ -94,7 +94,7 @@ taken_no_tree held model models file content bytes a b e is same p tree =
     (error_performs (ReadsTree model.1 content) (AddsModel models model.0 model.1) b b e
     (subst (λ (c : List ℕ). Performs {A = Tree} (ReadsTree model.1 c) b b (Err e)) same (subst (λ (f : List ℕ). Performs {A = Tree} (ReadsTree f bytes) b b (Err e)) is tree)))
 
--- it has one, and is put beside the others or not
+-- it has one, and is put with the others or not
 pub taken_tree : (held : Option (List HeldFile)) (model : List ℕ × List ℕ) (models : Models) (url file content bytes : List ℕ) (tree : Tree) (a b : Around) (r : Result Models Ended) → url ≡ model.0 → file ≡ model.1 → bytes ≡ content
     → ComesOut (ReadsFile held longest_json file) a b (goes_on content) [] → ComesOut (ReadsTree file bytes) b b (goes_on tree) [] → Performs (AddsModel models url file tree) b b r → Performs (TakesModel held model models) a b r
 taken_tree held model models url file content bytes tree a b r url_is is same p read adds =
@@ -105,7 +105,7 @@ taken_tree held model models url file content bytes tree a b r url_is is same p 
 
 -- ---- the root
 
--- it has a fault, or memory is out
+-- it has a fault, or is out of memory
 pub refused_ends : (p : Planned) (a : Around) (r : Result Ending AllocError) (e : DeriveFault) (ended_so : Ended) → IfOk r (λ x. (x.status ≡ 5) × (x.text ≡ refused_line e)) → OnOk r (e ≢ NoMemory) → MatchResult r (λ x. ended_so ≡ ended.With x) (λ _. ended_so ≡ ended.NoMemory)
     → (e ≡ NoMemory) ⊎ (derived_of p ≡ Err e) → Performs {A = List (List ℕ × Json)} (Derives p) a a (Err ended_so)
 refused_ends p a (Err none) e ended_so line known comes why =
@@ -152,7 +152,7 @@ same_planned plan other library models url place v model same added at is none =
 abbrev pub inputs : Planned → List EventWithBytes → Inputs
 inputs p events = record { planned = p; events = events }
 
--- its Things don't fit the rack, or memory is out
+-- its Things don't fit the rack, or it is out of memory
 pub misfit_ends : (name : List ℕ) (kinds : List Kind) (slots : Slots) (things : List (List ℕ × Json)) (a : Around) (r : Result Ending AllocError) (fault : ExposeFault) (ended_so : Ended) → IfOk r (λ x. (x.status ≡ 4) × (x.text ≡ input_line name (misfit_text fault))) → OnOk r (fault ≢ misfit.NoMemory)
     → MatchResult r (λ x. ended_so ≡ ended.With x) (λ _. ended_so ≡ ended.NoMemory) → IsFirst (expose_faults kinds slots things) fault → Performs {A = Site} (Exposes name kinds slots things) a a (Err ended_so)
 misfit_ends name kinds slots things a (Err none) fault ended_so line known comes first =

@@ -195,7 +195,7 @@ fewer_taken coming took ends going next =
       never_past ends.body ends.stop took ends.stops going (subst (λ (es : List EventWithBytes). AreNext es took) ends.whole next),
     )
 
--- ---- what serving over a script comes to
+-- ---- how serving over a script ends
 
 -- Serving over the events of a script, on a network that knows them.
 pub record IsServed (events : List EventWithBytes) (budget : ℕ) (result : Served) (site : Site) (s t : State) (seen : List Sighting) : Type 0 where
@@ -268,7 +268,7 @@ still_known events budget result site s t seen left now known leaves r =
     left_known (happened_in seen) (with_stop events) now (subst (λ (o : Option (List EventWithBytes)). Leaves (happened_in seen) o now) known leaves) r.unbroken
     (omega (arith, ap (λ (es : List EventWithBytes). length es) r.hears, r.few, no_longer events))
 
--- what a network tells that told nothing before is what happened
+-- what a network shows that showed nothing before is what happened
 pub all_told : (before now : Option (List Happening)) (happened : List Happening) → before ≡ Some [] → Continues before now happened → IfSome now (λ all. all ≡ happened)
 all_told before None happened none continues = tt
 all_told before (Some all) happened none continues =

@@ -149,7 +149,7 @@ first_line_is e line more after lacks is same =
 
 -- ---- after some lines
 
--- These events were read and this rest is left: every script of the bytes goes on with it.
+-- These events were read and this rest is left: every script of the bytes continues with it.
 pub record HasRead (bytes : List ℕ) (events : List EventWithBytes) (rest : List ℕ) : Type 0 where
   pub text : bytes ≡ script_text events ++ rest
   pub each : AllByRecursion IsScriptEvent events

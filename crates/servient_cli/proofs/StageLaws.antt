@@ -31,7 +31,7 @@ failed_before (did_fail file ∷ a) b failed = inl tt
 failed_before (did_see sighting ∷ a) b failed = failed_before a b failed
 failed_before (did_write text ∷ a) b failed = failed_before a b failed
 
--- a count that rose goes on having risen
+-- a count that rose has still risen later
 rose_then : (a b c : ℕ) → Rose a b → b ≤ c → Rose a c
 rose_then a b c rose more = omega (arith, rose, more)
 
@@ -215,7 +215,7 @@ shows_network n m slots happened shows = record {
   rack = subst (λ (calls : List HandlerCall). RackShows slots slots calls) (sym (no_calls happened)) (rack_shows_none slots);
 }
 
--- and then the stage goes on
+-- and then the stage gives a value
 pub happens_goes : {A : Type 0} (P : List Deed → Outcome A → Type 0) (files : FilesSeen) (n m : NetSeen) (slots : List Seen) (happened : List Happening) (value : A) → NetShows n m happened → P (sees (map (λ h. at_network h) happened)) (goes_on value)
     → ComesOut P (around files (outside n slots)) (around files (outside m slots)) (goes_on value) []
 happens_goes P files n m slots happened value shows stage =

@@ -1,4 +1,5 @@
--- No stage of a command that is built ends with status 2, so that this status is left to words that are no such command.
+-- No stage of a command that is built ends with status 2, so that this status is left to words that are no such
+-- command.
 use Rattle.std.proofs.Common.{◌≡◌, ◌*◌, ◌⊎◌, ◌∙◌, ℕ, true, false, List, [], ◌∷◌, Option, Some, None, ap, arith, inl, inr, sym}
 use Rattle.command_words.specs.declared.command.Command.{Command}
 use Rattle.command_words.specs.declared.command.Command.TheVariants.{Replay, Serve, Derive, Check, Consume, Storm}
@@ -172,7 +173,7 @@ does_not_end_so held kinds (Serve plan events idle) seen o stage =
 does_not_end_so held kinds (Consume consumption) seen o stage = absurd stage
 does_not_end_so held kinds (Storm seed events) seen o stage = absurd stage
 
--- the words lead to status 2 exactly where they are no command, unless there is no memory for them
+-- the words lead to status 2 exactly where they are no command, unless it is out of memory for them
 two_is_no_command : (held : Option (List HeldFile)) (kinds : List Kind) (words : List (List ℕ)) (seen : List Deed) (status : ℕ) → Commands held kinds words seen (ends status)
     → (status ≡ 2 → IsNoCommand words) × (IsNoCommand words → (status ≡ 2) ⊎ (status ≡ 9))
 two_is_no_command held kinds words seen status (is_no_command none e) = (λ two. none, λ n. inl (ap status_of e.1))

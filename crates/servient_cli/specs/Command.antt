@@ -1,10 +1,11 @@
 -- The commands, and what the program reports of them.
 --
--- What the words mean is the grammar's, `meaning_of` of `command_words`. Four of its commands are built so far. `replay SCRIPT
--- [PLAN]` reads the plan and its models, if a plan is named, and the script, runs its events, and prints the acts and the turns.
--- `serve PLAN` reads a plan and its models, listens at the plan's place, and serves what comes there. `check TD` reads a Thing
--- Description and says whether it is valid, or its first fault. `derive PLAN` reads a plan and its models, and prints the
--- descriptions of its Things, or the first fault. Each is a row of stages, in a file of its own.
+-- What the words mean is the grammar's, `meaning_of` of `command_words`. Four of its commands are built so far.
+-- `replay SCRIPT [PLAN]` reads the plan and its models, if a plan is named, and the script, runs its events, and prints
+-- the acts and the turns. `serve PLAN` reads a plan and its models, listens at the plan's place, and serves what comes
+-- there. `check TD` reads a Thing Description and says whether it is valid, or its first fault. `derive PLAN` reads a
+-- plan and its models, and prints the descriptions of its Things, or the first fault. Each is a row of stages, in a
+-- file of its own. A further command adds its file and a row.
 use Rattle.std.specs.Prelude.{◌≡◌, ◌≤◌, ◌⊎◌, ℕ, Bool, true, false, List, [], ◌++◌, Option, Some, None, Ok, IfSome, length}
 use Rattle.servient_base.specs.Count.{Rose}
 use Rattle.wot_json.specs.Tree.{Json}
@@ -37,7 +38,8 @@ is_built (Check description) = true
 is_built (Derive plan) = true
 is_built command = false
 
--- What each of them does, where the files hold this, so far as that is recorded, and the rack has handlers of these kinds.
+-- What each of them does, where the files hold this, so far as that is recorded, and the rack has handlers of these
+-- kinds.
 abbrev pub Does : Option (List HeldFile) → List Kind → Command → List Deed → Outcome (Unit {0}) → Type 0
 Does held kinds (Replay script plan events) = Replays held kinds script plan events
 Does held kinds (Serve plan events idle) = ServesPlan held kinds plan events idle
@@ -62,16 +64,16 @@ pub data Commands (held : Option (List HeldFile)) (kinds : List Kind) (words : L
 
 -- ---- the whole call
 
--- The text was written and the status is its own; or the output failed, which its count records, a prefix of the text was
--- written, and the status is 7.
+-- The text was written and the status is its own; or the output failed, which its count records, a prefix of the text
+-- was written, and the status is 7.
 abbrev pub IsReported : ℕ → List ℕ → OutSeen → OutSeen → ℕ → Type 0
 IsReported status text out out_now result =
     (result ≡ status) × Continues out.written out_now.written text
     ⊎ (result ≡ 7) × Rose out.faults out_now.faults
     × (prefix : List ℕ) × (rest : List ℕ) × (text ≡ prefix ++ rest) × Continues out.written out_now.written prefix
 
--- What the top call did: the command of its words ended with a status, the files, the network and the handlers show what it
--- did, and the output shows what it wrote.
+-- What the top call did: the command of its words ended with a status, the files, the network and the handlers show
+-- what it did, and the output shows what it wrote.
 pub record Ends (words : List (List ℕ)) (before now : Around) (out out_now : OutSeen) (result : ℕ) : Type 0 where
   pub seen : List Deed
   pub status : ℕ
@@ -86,12 +88,14 @@ pub record HoldsFaultless (files : List HeldFile) (limit : ℕ) (name : List ℕ
   pub short : length content ≤ limit
   pub good : Good content
 
--- This plan with its models is that of the file, with which nothing is wrong, or the built-in Thing where no plan is named.
+-- This plan with its models is that of the file, with which nothing is wrong, or the built-in Thing where no plan is
+-- named.
 abbrev pub IsPlannedBy : List HeldFile → Option (List ℕ) → Planned → Type 0
 IsPlannedBy files None p = p ≡ built_in
 IsPlannedBy files (Some name) p = HoldsFaultless files longest_json name (IsFaultlessPlan files p)
 
--- Nothing is wrong with a replay: its root is derived, its Things fit the rack, and the budget is enough for the script.
+-- Nothing is wrong with a replay: its root is derived, its Things fit the rack, and the budget is enough for the
+-- script.
 pub record IsFaultlessReplay (files : List HeldFile) (kinds : List Kind) (script : List ℕ) (plan : Option (List ℕ)) (budget : ℕ) : Type 0 where
   pub planned : Planned
   pub things : List (List ℕ × Json)
@@ -123,7 +127,8 @@ HasFaultlessFiles files kinds (Check description) = HoldsFaultless files longest
 HasFaultlessFiles files kinds (Derive plan) = IsFaultlessDerivation files plan
 HasFaultlessFiles files kinds command = ⊥
 
--- Nothing is wrong with the words, the files and the rack: the words mean a command that is built, and nothing is wrong with it.
+-- Nothing is wrong with the words, the files and the rack: the words mean a command that is built, and nothing is wrong
+-- with it.
 pub record IsFaultless (words : List (List ℕ)) (held : Option (List HeldFile)) (kinds : List Kind) : Type 0 where
   pub command : Command
   pub meaning : meaning_of words ≡ Some command

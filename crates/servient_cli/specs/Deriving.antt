@@ -43,12 +43,12 @@ pub data AddsModel (models : Models) (url file : List ℕ) (tree : Tree) (seen :
       → AddsModel models url file tree seen o
   add_memory : RunsOut [] seen o → AddsModel models url file tree seen o
 
--- One model of a plan: its file is read and judged, and it is put beside those before it.
+-- One model of a plan: its file is read and judged, and it is put with those before it.
 abbrev pub TakesModel : Option (List HeldFile) → List ℕ × List ℕ → Models → List Deed → Outcome Models → Type 0
 TakesModel held model models =
     AndThen (ReadsFile held longest_json model.1) (λ content. AndThen (ReadsTree model.1 content) (AddsModel models model.0 model.1))
 
--- All of them, in the plan's order, each judged before the next is read.
+-- All of them, in the plan's order, each judged before the next is read; so a file that two models name is read twice.
 abbrev pub TakesModels : Option (List HeldFile) → List (List ℕ × List ℕ) → Models → List Deed → Outcome Models → Type 0
 TakesModels held [] models seen o = (seen ≡ []) × (o ≡ goes_on models)
 TakesModels held (model ∷ left) models seen o = AndThen (TakesModel held model models) (TakesModels held left) seen o
@@ -93,7 +93,7 @@ DerivesAndPrints p = AndThen (Derives p) Prints
 
 -- ---- a plan with which nothing is wrong
 
--- the files hold these models, and they can stand beside one another; and all of them
+-- the files hold these models, and they can be in one library; and all of them
 abbrev pub AreFaultlessModels : List HeldFile → List (List ℕ × List ℕ) → Models → Models → Type 0
 AreFaultlessModels files [] models all = all ≡ models
 AreFaultlessModels files (model ∷ left) models all =

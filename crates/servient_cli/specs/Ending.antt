@@ -1,4 +1,4 @@
--- How a stage of the code comes out.
+-- How a stage of the code ends: with a value, or with a status and a text.
 use Rattle.std.specs.Prelude.{◌≡◌, ℕ, List, [], Result, Ok, Err}
 use Rattle.std.specs.declared.alloc.AllocError.{AllocError}
 use Rattle.servient_cli.specs.declared.ending.Ending.{Ending}
@@ -8,7 +8,7 @@ use Rattle.servient_cli.specs.Lines.{usage_line, network_line, spent_line, memor
 use Rattle.servient_cli.specs.Stages.{Deed, Outcome, goes_on, ends, text_in, Around, ShowsDeeds}
 
 -- A stage came out so, and the outside shows what it did. One that goes on has written nothing; one that ends has the
--- text that is to be written.
+-- text to write.
 pub record ComesOut {A : Type 0} (P : List Deed → Outcome A → Type 0) (before now : Around) (o : Outcome A) (text : List ℕ) : Type 0 where
   pub seen : List Deed
   pub stage : P seen o

@@ -1,4 +1,4 @@
--- The lines that the program writes beside what it prints. Names and pointers in them are JSON texts.
+-- The lines that the program writes besides what it prints. Names and pointers in them are JSON texts.
 use Rattle.std.specs.Prelude.{ℕ, List, ◌++◌, codes, decimal}
 use Rattle.wot_json.specs.Json.{json_string}
 

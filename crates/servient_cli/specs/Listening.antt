@@ -25,11 +25,12 @@ happens happened = sees (map (λ h. at_network h) happened)
 pub data Listens (place : Place) (seen : List Deed) (o : Outcome (Unit {0})) : Type 0 where
   is_listening : seen ≡ happens (listens_as place listened.Ready) → o ≡ goes_on tt → Listens place seen o
   cannot_listen : EndsWith (happens (listens_as place listened.Failed)) 6 network_line seen o → Listens place seen o
-  -- there was no memory for the place, and for listening there
+  -- the place, or listening there, was out of memory
   place_memory : RunsOut [] seen o → Listens place seen o
   listen_memory : RunsOut (happens (listens_as place listened.NoMemory)) seen o → Listens place seen o
 
--- how serving ends the command: the status, and the line
+-- how serving ends the command: the status, and the line; 8 is no fault, because how many events come is the network's
+-- business
 abbrev pub status_after : Served → ℕ
 status_after served.Stopped = 0
 status_after served.Failed = 6
@@ -40,12 +41,12 @@ line_after served.Stopped = []
 line_after served.Failed = network_line
 line_after served.Spent = spent_line
 
--- Serving at most so many events, where so many exchanges may live: what the machine does with those that come, from its start.
+-- Serving at most n events, where m exchanges may live: what the machine does with those that come, from its start.
 pub data ServesEvents (budget exchanges : ℕ) (site : Site) (seen : List Deed) (o : Outcome (Unit {0})) : Type 0 where
   has_served : (result : Served) (ran : List Sighting) (end : State) → Serves site budget result (start site exchanges) ran end
       → EndsWith (sees ran) (status_after result) (line_after result) seen o → ServesEvents budget exchanges site seen o
 
--- what is done once the plan is read, where serving ends after so many seconds without traffic, or never for 0
+-- what is done once the plan is read, where serving ends after n seconds without traffic, or never for 0
 abbrev pub ServesPlanned : List ℕ → List Kind → ℕ → ℕ → Planned → List Deed → Outcome (Unit {0}) → Type 0
 ServesPlanned name kinds budget idle p =
     AndThen (Opens name kinds p) (λ site. AndThen (Listens (place_of p.plan (idle * 1000))) (λ _. ServesEvents budget p.plan.exchanges site))

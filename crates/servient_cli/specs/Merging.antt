@@ -25,14 +25,14 @@ begins_with number (t ∷ turns) = t.number == number
 abbrev pub counts_of : List Seen → List ℕ
 counts_of = map (λ h. length h.turns)
 
--- each handler has kept so many at least
+-- each handler has kept n at least
 abbrev pub HaveKept : List ℕ → List Seen → Type 0
 HaveKept [] [] = Unit {0}
 HaveKept (count ∷ counts) (h ∷ slots) = (count ≤ length h.turns) × HaveKept counts slots
 HaveKept [] (h ∷ slots) = ⊥
 HaveKept (count ∷ counts) [] = ⊥
 
--- the turns that each has kept after so many
+-- the turns that each has kept after n
 abbrev pub turns_after : List ℕ → List Seen → List (List Turn)
 turns_after [] slots = []
 turns_after (count ∷ counts) [] = []

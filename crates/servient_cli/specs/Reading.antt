@@ -23,7 +23,7 @@ longest_json = 1048576
 abbrev pub file_read : ℕ → List ℕ → FileRead
 file_read limit name = record { name = name; limit = limit }
 
--- the reads that may come before memory was out: none, or one that ended somehow
+-- the reads that may come before it was out of memory: none, or one that ended somehow
 pub data IsRead (file : FileRead) (first : List Deed) : Type 0 where
   is_not_read : first ≡ [] → IsRead file first
   has_been_read : first ≡ did_read file ∷ [] → IsRead file first
@@ -42,7 +42,7 @@ pub data ReadsFile (held : Option (List HeldFile)) (limit : ℕ) (name : List �
   -- it is longer than the limit
   is_long : IfSome held (λ files. IsSomeAnd (content_of files name) (λ content. limit < length content))
       → EndsWith (did_read (file_read limit name) ∷ []) 4 (input_line name (codes "long")) seen o → ReadsFile held limit name seen o
-  -- there was no memory for it, or for the line
+  -- it, or the line, was out of memory
   file_memory : (first : List Deed) → IsRead (file_read limit name) first → RunsOut first seen o → ReadsFile held limit name seen o
 
 -- ---- JSON texts

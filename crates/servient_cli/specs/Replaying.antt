@@ -1,5 +1,5 @@
--- `replay SCRIPT [PLAN]`: the events of a script are run on the Things of a plan, or on the built-in Thing, and the acts and
--- the turns are printed.
+-- `replay SCRIPT [PLAN]`: the events of a script are run on the Things of a plan, or on the built-in Thing, and the
+-- acts and the turns are printed.
 use Rattle.std.specs.Prelude.{◌≡◌, ◌<◌, ◌≤◌, ℕ, List, [], ◌∷◌, ◌++◌, map, take, length, codes, decimal, Option, Some, None, if◌then◌else◌}
 use Rattle.tm_parts.specs.Library.{with_model}
 use Rattle.wot_terms.specs.declared.kind.Kind.{Kind}
@@ -38,7 +38,7 @@ abbrev pub Plans : Option (List HeldFile) → Option (List ℕ) → List Deed �
 Plans held None = TakesBuiltIn
 Plans held (Some name) = ReadsPlanned held name
 
--- how a line on the fit to the rack names the plan
+-- how a line on the fit to the rack names the plan: its file, or `builtin`
 abbrev pub plan_name : Option (List ℕ) → List ℕ
 plan_name None = codes "builtin"
 plan_name (Some name) = name
@@ -65,7 +65,8 @@ pub data HasRead (p : Planned) (events : List EventWithBytes) (seen : List Deed)
 abbrev pub ReadsInputs : Option (List HeldFile) → Option (List ℕ) → List ℕ → List Deed → Outcome Inputs → Type 0
 ReadsInputs held plan script = AndThen (Plans held plan) (λ p. AndThen (ReadsEvents held script) (HasRead p))
 
--- The events of a run: those of the script, and a Stop after them where none of them is one.
+-- The events of a run: those of the script, and a Stop after them where none of them is one, which counts as an event
+-- in either case.
 abbrev pub run_events : List EventWithBytes → List EventWithBytes
 run_events events = if has_stop events then events else with_stop events
 
@@ -85,7 +86,7 @@ calls_of_run ran = sees (map (λ call. at_handler call) (calls_in ran))
 abbrev pub print_of_run : List Sighting → List ℕ
 print_of_run ran = print_text (acts_in (happened_in ran)) (turns_in (calls_in ran))
 
--- Running the events of a script, of which there may be so many, where so many exchanges may live.
+-- Running the events of a script, of which there may be n, where m exchanges may live.
 pub data RunsScript (budget : ℕ) (events : List EventWithBytes) (exchanges : ℕ) (site : Site) (seen : List Deed) (o : Outcome (Unit {0})) : Type 0 where
   -- all of them were taken
   is_whole : (ran : List Sighting) (end : State) → length (run_events events) ≤ budget → Run site (run_events events) (start site exchanges) ran end
@@ -93,7 +94,8 @@ pub data RunsScript (budget : ℕ) (events : List EventWithBytes) (exchanges : �
   -- they are more than the budget, and the first of them were taken
   is_spent : (ran : List Sighting) (end : State) → budget < length (run_events events) → Run site (take budget (run_events events)) (start site exchanges) ran end
       → EndsWith (calls_of_run ran ++ did_write (print_of_run ran) ∷ []) 8 spent_line seen o → RunsScript budget events exchanges site seen o
-  -- there was no memory, before the run or after so many events
+  -- It was out of memory, before the run or after n events: nothing is printed then, and the handlers were called as in
+  -- a run over those.
   run_memory : (ran : List Sighting) (end : State) (count : ℕ) → Run site (take count (run_events events)) (start site exchanges) ran end
       → RunsOut (calls_of_run ran) seen o → RunsScript budget events exchanges site seen o
 

@@ -9,10 +9,11 @@
 --     MOMENT tick              time goes by
 --     MOMENT stop              the run ends; nothing follows it
 --
--- One blank is between two fields, and nothing else is in a line. Numbers are decimal, with no sign and no leading zero.
--- MOMENT is in milliseconds, at most 10 ^ 15; C is below 64; H, the number of the host, is below 2 ^ 32; P, its UDP
--- port, is below 2 ^ 16. HEX has each byte as two lower-case hexadecimal digits: 1 to 4,096 bytes on a connection, and
--- in a datagram 1 to 2,048, or `-` for none.
+-- One blank is between two fields, and nothing else is in a line. Numbers are decimal, with no sign and no leading
+-- zero. MOMENT is in milliseconds, at most 10 ^ 15; C is below 64; H, the number of the host, is below 2 ^ 32; P, its
+-- UDP port, is below 2 ^ 16. HEX has each byte as two lower-case hexadecimal digits: 1 to 4,096 bytes on a connection,
+-- and in a datagram 1 to 2,048, or `-` for none. There are no comments and no empty lines, so that each script has one
+-- reading and each list of events one script. Moments may fall; the machine's moment doesn't.
 use Rattle.std.specs.Prelude.{◌≡◌, ◌≢◌, ◌<◌, ◌+◌, ◌^◌, ℕ, Bool, true, false, List, [], ◌∷◌, ◌++◌, All, codes, decimal, length, Option, Some, IfSome}
 use Rattle.std.specs.List.{AllByRecursion, flat_map, list_any}
 use Rattle.hex.specs.Hex.{encode_lower}
@@ -58,7 +59,7 @@ pub record IsScriptEndpoint (e : Endpoint) : Type 0 where
   pub host : e.host < 2 ^ 32
   pub port : e.port < 2 ^ 16
 
--- the bounds of what a line says, beside those of the network
+-- the bounds of what a line says, besides those of the network
 abbrev pub IsScriptWhat : What → Type 0
 IsScriptWhat (Opened c) = Unit {0}
 IsScriptWhat (Bytes c count) = Unit {0}

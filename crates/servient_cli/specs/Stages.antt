@@ -1,5 +1,6 @@
 -- Stages of a command: each goes on with a value, or ends the command with a status. What is seen of a stage is a list
--- of what it reads, does at the network, calls and writes, in order, and a command is one stage after another.
+-- of what it reads, does at the network, calls and writes, in order, and a command is one stage after another. So
+-- reads, calls and status are said once, and not for each cause of an end.
 use Rattle.std.specs.Prelude.{◌≡◌, ◌≤◌, ℕ, List, [], ◌∷◌, ◌++◌, map, Option, Some, None}
 use Rattle.std.specs.List.{filter_map, flat_map}
 use Rattle.servient_base.specs.Count.{Rose}
@@ -14,9 +15,10 @@ use Rattle.servient_cli.specs.Lines.{memory_line}
 pub data Deed : Type 0 where
   -- a file was read, or was absent or too long
   did_read : FileRead → Deed
-  -- a read of a file failed
+  -- a read of a file failed: a deed, so that a stage speaks of what the files hold and not of counts before and after
   did_fail : FileRead → Deed
-  -- something happened at the network, or a device handler was called
+  -- something happened at the network, or a device handler was called: what the machine sees, as it is; of the network
+  -- of a replay, which is its own, only the calls of handlers are deeds
   did_see : Sighting → Deed
   -- a text was written
   did_write : List ℕ → Deed
@@ -72,12 +74,12 @@ pub data Outcome (A : Type 0) : Type 0 where
 abbrev pub EndsWith : {A : Type 0} → List Deed → ℕ → List ℕ → List Deed → Outcome A → Type 0
 EndsWith before status line seen o = (seen ≡ before ++ did_write line ∷ []) × (o ≡ ends status)
 
--- there was no memory after these deeds
+-- it was out of memory after these deeds
 abbrev pub RunsOut : {A : Type 0} → List Deed → List Deed → Outcome A → Type 0
 RunsOut before seen o = EndsWith before 9 memory_line seen o
 
--- One stage, and where it goes on the next, which takes its value: two moves with a value that is passed on. What a stage
--- reads is constant, so these moves have no state.
+-- One stage, and where it goes on the next, which takes its value: two moves with a value that is passed on. What a
+-- stage reads is constant, so these moves have no state; a stage that ends has no value, and is a case of its own.
 pub data AndThen {A B : Type 0} (P : List Deed → Outcome A → Type 0) (Q : A → List Deed → Outcome B → Type 0) (seen : List Deed) (o : Outcome B) : Type 0 where
   ends_first : (status : ℕ) → P seen (ends status) → o ≡ ends status → AndThen P Q seen o
   goes_further : Passing {S = Unit {0}} (λ value s first t. P first (goes_on value)) (λ value s second t. Q value second o) tt seen tt → AndThen P Q seen o
@@ -92,8 +94,8 @@ pub record Around : Type 0 where
 abbrev pub around : FilesSeen → Outside → Around
 around files outside = record { files = files; outside = outside }
 
--- From one time to another the files show these reads, and the network and the handlers what was seen of them, and nothing
--- else. Where a read failed, the count of failures rose; it never falls.
+-- From one time to another the files show these reads, and the network and the handlers what was seen of them, and
+-- nothing else. Where a read failed, the count of failures rose; it never falls.
 pub record ShowsDeeds (before now : Around) (seen : List Deed) : Type 0 where
   pub reads : Continues before.files.reads now.files.reads (reads_in seen)
   pub faults : before.files.faults ≤ now.files.faults

@@ -1,4 +1,4 @@
--- How the words are taken.
+-- How the words of a command line are taken, or refused.
 use Rattle.std.specs.Prelude.{◌≡◌, ℕ, true, List, Some, Result, Ok, Err}
 use Rattle.command_words.specs.Grammar.{meaning_of}
 use Rattle.command_words.specs.declared.command.Command.{Command}

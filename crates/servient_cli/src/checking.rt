@@ -1,4 +1,4 @@
-//! The check of a Thing Description.
+//! `check TD`: whether the content of a file is a valid Thing Description, or its first fault.
 
 ghost use Rattle.servient_cli.specs.Stages.{Around};
 ghost use Rattle.servient_cli.specs.Checking.{Checks, Judges};

@@ -1,4 +1,4 @@
-//! The commands that are built.
+//! Which commands are built: the words of all others are refused.
 
 ghost use Rattle.std.specs.Prelude.{◌≡◌};
 ghost use Rattle.servient_cli.specs.Command.{is_built as built};

@@ -82,6 +82,7 @@ fn take_models<F: Files>(
     ensures held { (F.seen files.new).held ≡ (F.seen files.old).held }
 {
     let mut library = Library::new(alloc);
+    // The loop keeps what comes of the models that are left: however it comes out with those, all come out so.
     for model in models.as_slice() {
         library = take_model(alloc, model, library, files)?;
     }

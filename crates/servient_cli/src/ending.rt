@@ -21,7 +21,8 @@ pub struct Ending {
     pub text: Bytes,
 }
 
-/// Why a stage of a command doesn't go on.
+/// Why a stage of a command gives no value. The lines of the last four are fixed, so that nothing is allocated where
+/// they are written.
 #[derive(Drop)]
 pub enum Ended {
     /// The command ends so.
@@ -32,7 +33,7 @@ pub enum Ended {
     Network,
     /// The budget of events was taken.
     Spent,
-    /// There was no memory.
+    /// Out of memory.
     NoMemory,
 }
 
@@ -60,7 +61,7 @@ impl From<NoMemory> for Ended {
     }
 }
 
-/// How a command ends that is to end so, where there was memory for its text.
+/// How a command ends that should end so, unless its text is out of memory.
 pub fn end_with(ending: Result<Ending, NoMemory>) -> Ended
     ensures { MatchResult ending (λ e. result ≡ Ended.With e) (λ _. result ≡ Ended.NoMemory) }
 {

@@ -1,7 +1,8 @@
 //! The commands: words, scripts, the print, and the top call.
 //!
 //! `servient_main` is what the program does. Its contract, `Ends` of `specs/Command.antt`, says for each
-//! exit status why it came and what was written.
+//! exit status why it came and what was written. The whole output is one call of `Out::put`, so at status 7 what was
+//! written is a prefix of the text that the other status would have had.
 //!
 //! ```
 //! use servient_cli::servient_main;

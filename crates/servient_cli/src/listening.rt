@@ -29,7 +29,7 @@ pub struct Request<'a> {
     pub plan: &'a str,
     /// How many events are taken at most.
     pub events: u32,
-    /// After how many seconds without traffic serving ends; 0 if it never does for want of traffic.
+    /// After how many seconds without traffic serving ends; 0 if it never does for lack of traffic.
     pub idle: u32,
 }
 
@@ -67,7 +67,7 @@ fn serve_planned<N: Net, R: Handlers>(
     serve_events(alloc, &mut servient, request.events, net, rack)
 }
 
-/// Listens at the place of a plan, for so many seconds without traffic.
+/// Listens at the place of a plan, until `idle` seconds pass without traffic.
 fn listen<N: Net>(alloc: Global, plan: &Plan, idle: u32, net: &mut N) -> Result<(), Ended>
     ensures { (files : FilesSeen) → (slots : List Seen) → Performs (Listens (place_of plan.now (idle * 1000)))
         (around files (outside (N.seen net.old) slots)) (around files (outside (N.seen net.new) slots)) result }
@@ -80,7 +80,7 @@ fn listen<N: Net>(alloc: Global, plan: &Plan, idle: u32, net: &mut N) -> Result<
     }
 }
 
-/// Serves at most so many events.
+/// Serves at most `budget` events.
 fn serve_events<N: Net, R: Handlers>(
     alloc: Global,
     servient: &mut Servient,

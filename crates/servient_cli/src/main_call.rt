@@ -40,8 +40,8 @@ pub fn servient_main<F: Files, N: Net, R: Handlers, O: Out>(
         (around (F.seen files.new) (outside (N.seen net.new) (R.slots rack.new)))
         (O.seen out.old)
         (O.seen out.new) result }
-    // Where nothing is wrong and nothing failed, the command does what it is for, unless it is out of memory; and serving may
-    // spend its budget.
+    // Where nothing is wrong and nothing failed, the command does what it is for, unless it is out of memory; and
+    // serving may spend its budget.
     ensures complete { IsFaultless words.now (F.seen files.old).held (kinds_of (R.slots rack.old))
         → NothingFailed
         (around (F.seen files.old) (outside (N.seen net.old) (R.slots rack.old)))
@@ -49,7 +49,8 @@ pub fn servient_main<F: Files, N: Net, R: Handlers, O: Out>(
         (O.seen out.old)
         (O.seen out.new)
         → IsWell words.now result }
-    // Status 2 says that the words are no command that is built, and nothing else does, unless the output failed or there was no memory.
+    // Status 2 says that the words are no command that is built, and nothing else does, unless the output failed or
+    // it was out of memory, which may come before anything is read: reading the words takes memory too.
     ensures usage { (result ≡ 2 → IsNoCommand words.now) × (IsNoCommand words.now → (result ≡ 2) ⊎ (result ≡ 7) ⊎ (result ≡ 9)) }
     // Where no plan is served, nothing is done to the network.
     ensures net { is_serving (meaning_of words.now) ≡ false → net.new ≡ net.old }

@@ -1,4 +1,4 @@
-//! The print of acts and turns.
+//! The lines that a replay prints: one for each act and each turn.
 
 ghost use Rattle.std.specs.Prelude.{◌≡◌, ◌++◌, codes, map, OnOk};
 ghost use Rattle.std.specs.List.{flat_map};

@@ -1,4 +1,4 @@
-//! Reading files, and the JSON texts in them.
+//! Files that a command reads, and the JSON texts in them.
 
 ghost use Rattle.std.specs.Prelude.{◌≡◌, ◌≤◌, List, length, IfOk};
 ghost use Rattle.servient_core.specs.Trace.{Outside};

@@ -96,7 +96,7 @@ fn connection_of(text: &str) -> Option<u32>
     Some(number as u32)
 }
 
-/// The bytes that HEX writes, at most so many: at least two lower-case digits, or `-` for none.
+/// The bytes that HEX writes, at most `most`: at least two lower-case digits, or `-` for none.
 fn bytes_of(alloc: Global, text: &str, most: usize) -> Result<Option<Bytes>, NoMemory>
     requires { most ≤ 4096 }
     ensures ok { IfOk result (λ o. IfSome o (λ bytes. text.now ≡ hex_text bytes)) }

@@ -22,7 +22,7 @@ pub fn turn_counts<R: Handlers>(alloc: Global, rack: &R) -> Result<Vec<usize>, N
     Ok(counts)
 }
 
-/// The turns that each handler has kept after so many.
+/// The turns that each handler has kept since these counts.
 pub fn turns_since<'a, R: Handlers>(
     alloc: Global,
     rack: &'a R,
@@ -58,7 +58,7 @@ pub fn put_turns(alloc: Global, out: &mut Bytes, by_slot: &mut [&[Turn]]) -> Res
     Err(AllocError)
 }
 
-/// The slot whose next turn has this number.
+/// The slot whose next turn has this number. It is looked for over all slots, which costs little on a rack of 64.
 fn slot_of(by_slot: &[&[Turn]], number: u64) -> Option<usize>
     ensures { result ≡ position (λ left. begins number left.now) by_slot.now }
 {

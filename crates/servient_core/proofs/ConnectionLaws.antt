@@ -89,7 +89,7 @@ takes_request site c q done o k b d e n m before after leads made comes sends =
     (refines_http (λ now. Replies c q done.outcome now reply.0 reply.1) two d (outside n after) replies)
     (refines_acts three n m after (acts_of_reply c reply) sends.shows)))
 
--- there is no memory to read it
+-- reading it is out of memory
 pub takes_unread : (site : Site) (c : ℕ) (q : PlainRequest) (k : Parts) (b d : Slots) (n m : NetSeen) (slots : List Seen)
     → Leads (Takes c (asks q)) k.http b → SendsReply c q outcome.Memory k.moment b d n m
     → Refines StandsFor Shows (TakesNextMessage site c) k (record k { http = d }) (outside n slots) (outside m slots)
@@ -136,7 +136,7 @@ takes_fault site c status k b d n m slots leads sends =
     (refines_http (λ now. Refuses c status sends.bytes) one d w sends.leads)
     (refines_acts two n m slots (acts_of_reply c (sends.bytes, true)) sends.shows))
 
--- nothing is to be taken
+-- nothing can be taken
 pub takes_nothing : (c : ℕ) (k : Parts) (d : Slots) (w : Outside) → Leads (StreamStaysDry c) k.http d → Refines StandsFor Shows (StaysDry c) k (record k { http = d }) w w
 takes_nothing c k d w leads = λ s stands.
     let to = leads s.http stands.http in (
@@ -147,7 +147,7 @@ takes_nothing c k d w leads = λ s stands.
 
 -- ---- one message after another
 
--- what holds while messages are taken: whatever is taken from here on, was taken since the first
+-- what holds while messages are taken: all that is taken from here on, was taken since the first
 pub record Taking (c : ℕ) (first k : Parts) (w v : Outside) : Type 0 where
   pub onward : (e : Parts) (x : Outside) → Refines StandsFor Shows (TakesEveryMessage first.exposed.site c) k e v x
       → Refines StandsFor Shows (TakesEveryMessage first.exposed.site c) first e w x

@@ -1,4 +1,4 @@
--- What a request comes to can be sent by CoAP.
+-- The outcome of a request can be sent by CoAP.
 use Rattle.std.proofs.Common.{◌≡◌, ℕ, ◌<◌, ◌≤◌, ◌^◌, List, [], ◌∷◌, ◌++◌, length, refl, sym, ap, subst, ◌∙◌, arith, inl, inr, length-append}
 use Rattle.std.specs.Prelude.{Option, Some, None, Result, Ok, Err, decimal, codes}
 use Rattle.std.specs.List.{All}
@@ -238,7 +238,7 @@ performs_sendable (cancels p id) q inputs done s seen t short few r = cancels_se
 performs_sendable (reads_event p) q inputs done s seen t short few r = outcome_is done _ r.0 (event_sendable (last_of p.slot s.last))
 performs_sendable (waits p) q inputs done s seen t short few r = outcome_is done _ r.0 (refl, tt)
 
--- What a request comes to can be sent by CoAP.
+-- The outcome of a request can be sent by CoAP.
 pub acts_sendable : (site : Site) (q : PlainRequest) (done : Done) (s : State) (seen : List HandlerCall) (t : State) → All (λ segment. length segment ≤ 255) q.path
     → s.next_invocation < 2 ^ 64 → Acts site q done s seen t → IsSendable done.outcome
 acts_sendable site q done s seen t short few (refuses o refused answers) =

@@ -159,7 +159,7 @@ until_holds k history now P IsDone each s t seen (goes_on s' mid t' seen' first 
 
 -- ---- events
 
--- the history goes on by the requests of what comes
+-- the history has the requests of what comes more
 record GoesOn (k : ℕ) (history : List Arrival) (now : ℕ) (w : What) (bytes : List ℕ) (t : State) : Type 0 where
   new : List Arrival
   requests : AreRequestsOf w bytes now new

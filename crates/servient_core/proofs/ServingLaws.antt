@@ -1,4 +1,4 @@
--- How serving goes on, and how it ends.
+-- What holds in each round of serving, and how it ends.
 use Rattle.std.proofs.Common.{◌≡◌, ◌≢◌, ℕ, ◌+◌, ◌<◌, List, [], ◌∷◌, ◌++◌, length, take, refl, subst, ◌∙◌, arith, length-append}
 use Rattle.servient_base.specs.Moves.{Then, Becomes, Refines}
 use Rattle.servient_base.proofs.MovesLaws.{refines_then, refines_as, refines_each_more, refines_stays}

@@ -12,8 +12,8 @@ use Rattle.servient_outside.specs.Network.{NetSeen, NetShows, did}
 use Rattle.servient_core.specs.Machine.{Move, TakesNextMessage, acts_of_reply}
 use Rattle.servient_core.specs.declared.parts.Parts.{Parts}
 
--- While the messages of a connection are taken: no emission waits to be handed out, the exchanges are at no later moment,
--- and the rack is the Things'.
+-- While the messages of a connection are taken: no emission waits to be handed out, the exchanges are at no later
+-- moment, and the rack is the Things'.
 pub record IsOn (c : ℕ) (kept : Parts) (slots : List Seen) : Type 0 where
   pub connection : c < 64
   pub pending : kept.exposed.pending ≡ []
@@ -38,7 +38,7 @@ pub record SendsRefusal (c status : ℕ) (b d : Slots) (n m : NetSeen) : Type 0 
   pub leads : Leads (Refuses c status bytes) b d
   pub shows : NetShows n m (map did (acts_of_reply c (bytes, true)))
 
--- nothing is to be taken from it
+-- nothing can be taken from it
 abbrev pub StaysDry : ℕ → Move
 StaysDry c s seen t = IsDry c s.http × Stays s seen t
 

@@ -15,17 +15,18 @@ use Rattle.servient_core.specs.Machine.{Move}
 use Rattle.servient_core.specs.Serving.{StandsFor, IsReady}
 use Rattle.servient_core.specs.declared.parts.Parts.{Parts}
 
--- Code makes this move, whatever state it stands for, and is ready for another.
+-- Code makes this move, from every state that it stands for, and is ready for another.
 pub record DoesMove (move : Move) (old new : Parts) (before after : Outside) : Type 0 where
   pub refines : Refines StandsFor Shows move old new before after
   pub ready : IsReady new
   pub site : new.exposed.site ≡ old.exposed.site
 
--- an outcome can be sent by CoAP: it has a code, and its place is short
+-- An outcome can be sent by CoAP: it has a code, and its place is short. The place of an invocation is: its action's
+-- segments have at most 255 bytes each, because they came by CoAP, and then comes its id.
 abbrev pub IsSendable : Outcome → Type 0
 IsSendable o = HasCode o × HasShortPlace o
 
--- A request to the Things came to this, and its emissions were let go.
+-- A request to the Things had this outcome, and its emissions were discarded.
 pub record IsPerformed (old new : Kept) (q : PlainRequest) (o : Outcome) (before after : List Seen) : Type 0 where
   pub done : Done
   pub outcome : done.outcome ≡ o
@@ -33,7 +34,7 @@ pub record IsPerformed (old new : Kept) (q : PlainRequest) (o : Outcome) (before
   pub pending : new.pending ≡ []
   pub site : new.site ≡ old.site
 
--- All events were polled, and their emissions let go.
+-- All events were polled, and their emissions discarded.
 pub record ArePolled (old new : Kept) (before after : List Seen) : Type 0 where
   pub emissions : List Emission
   pub made : Makes RackShows (Polls old.site emissions) old.state new.state before after

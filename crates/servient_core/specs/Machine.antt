@@ -1,11 +1,12 @@
 -- The servient as one abstract machine: what it does to the network and which calls it makes of device handlers, event
--- by event. It knows no byte of a message, no exchange and no affordance: what these mean is said by the layers that it names.
+-- by event. It knows no byte of a message, no exchange and no affordance: what these mean is said by the layers that it
+-- names. So what a layer does may change without a change of this page.
 --
 -- A move relates the state before it, the list of what is seen of it in order, and the state after it. `Becomes`,
 -- `Stays`, `Then`, `Passing`, `Each` and `Until` put moves together (servient_base/specs/Moves.antt). A run is the last
 -- definition of this page: one event after another comes and is followed by its step.
 --
--- A reader may go on behind the imports, which only say where each word of a layer stands.
+-- A reader may go on after the imports, which only say where each word of a layer stands.
 
 -- ---- imports
 
@@ -31,19 +32,19 @@ use Rattle.servient_core.specs.Trace.{Sighting, at_network, at_handler}
 
 -- ---- the state
 
--- what is constant in a run: the Things, each affordance with the slot of its handler
+-- What is constant in a run, and so no part of the state: the Things, each affordance with the slot of its handler.
 abbrev pub Site : Type 0
 Site = Things
 
--- The machine's state: the greatest moment so far in milliseconds; the connections with their whole streams; the CoAP server
--- with its exchanges and the id of its next message; what the Things don't leave to their devices.
+-- The machine's state: the greatest moment so far in milliseconds; the connections with their whole streams; the CoAP
+-- server with its exchanges and the id of its next message; what the Things don't leave to their devices.
 pub record State : Type 0 where
   pub moment : ℕ
   pub http : Streams
   pub coap : Server
   pub thing : ThingState
 
--- before the first event, where so many exchanges may live
+-- before the first event, where n exchanges may live
 abbrev pub start : Site → ℕ → State
 start site exchanges = record { moment = 0; http = none_open; coap = nothing_came exchanges; thing = no_request_yet site }
 

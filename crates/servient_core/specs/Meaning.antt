@@ -14,8 +14,8 @@ use Rattle.servient_outside.specs.declared.net.Act.TheVariants as act
 use Rattle.servient_core.specs.Trace.{Sighting, calls_in}
 use Rattle.servient_core.specs.Machine.{Site, State, Move, OnHttp, OnCoap, Does, Performs, AnswersDatagram, Sends, AnswersTaken}
 
--- A message that was read as a request: by CoAP from an endpoint, where it asks for this and is to be answered, or by HTTP on a
--- connection.
+-- A message that was read as a request: by CoAP from an endpoint, where it asks for this and has to be answered, or by
+-- HTTP on a connection.
 pub data Message : Type 0 where
   by_coap : Endpoint → PlainAsk → OpenRequest → Message
   by_http : ℕ → PlainRequest → Message
@@ -30,24 +30,24 @@ abbrev pub Handled : Site → Message → Move
 Handled site (by_coap from ask request) = AnswersDatagram site from (asked ask request)
 Handled site (by_http c q) = AnswersTaken site c (asks q)
 
--- what it came to is written as its binding writes that, and sent
+-- its outcome is written as its binding writes that, and sent
 abbrev pub Writes : Message → Done → Move
 Writes (by_coap from ask request) done =
     Passing (λ bytes. OnCoap (λ now. Answers request done.outcome bytes)) (λ bytes. Does (act.Datagram from bytes ∷ []))
 Writes (by_http c q) done =
     Passing (λ (reply : List ℕ × Bool). OnHttp (λ now. Replies c q done.outcome now reply.0 reply.1)) (Sends c)
 
--- the request is performed, comes to this, and that is written and sent
+-- the request is performed, has this outcome, and that is written and sent
 abbrev pub ComesTo : Site → Message → Done → Move
 ComesTo site m done = Then (Performs site (request_of m) done) (Writes m done)
 
--- Whatever the machine does with a message: its request comes to something, and that is what is written.
+-- All that the machine does with a message: its request has some outcome, and that is what is written.
 abbrev pub IsWritten : Site → Message → Type 0
 IsWritten site m = (s t : State) (seen : List Sighting) → Handled site m s seen t → (done : Done) × ComesTo site m done s seen t
 
--- Two messages, of either binding, are read as the same request. Where the Things are in the same state, the handlers give the
--- same answers, and memory isn't out, they have the same calls, come to the same with the same emissions, and leave the
--- Things in the same state.
+-- Two messages, of either binding, are read as the same request. Where the Things are in the same state, the handlers
+-- give the same answers, and nothing is out of memory, they have the same calls, the same outcome and the same
+-- emissions, and leave the Things in the same state.
 abbrev pub HaveOneMeaning : Site → Message → Message → Type 0
 HaveOneMeaning site m n =
     (answers : ℕ → Answer) (done other : Done) (s t r u : State) (seen shown : List Sighting)

@@ -28,8 +28,8 @@ AreRequestsFrom moment (e ∷ es) history =
     (new rest : List Arrival) × AreRequestsOf e.event.what e.bytes (max moment e.event.moment) new
     × AreRequestsFrom (max moment e.event.moment) es rest × (history ≡ new ++ rest)
 
--- A state has the history of these events: after the requests that came in them the CoAP server, in which so many exchanges may
--- live, holds what it holds now; and it is at no later moment than the machine.
+-- A state has the history of these events: after the requests that came in them the CoAP server, in which n exchanges
+-- may live, holds what it holds now; and it is at no later moment than the machine.
 pub record HasHistory (exchanges : ℕ) (took : List EventWithBytes) (t : State) : Type 0 where
   pub history : List Arrival
   pub requests : AreRequestsFrom 0 took history
@@ -49,12 +49,15 @@ ServingHasAHistory =
     (serves : Serves site budget result (start site exchanges) seen t) → HasHistory exchanges serves.took t
 
 -- ---- misses
+--
+-- A miss is an entry of the trace. So the polls that are left out and the operations that stop at a handler are at most
+-- as many as its count rose by, with no law of its own.
 
 -- how often the handler in a slot was out of memory, in what was seen
 abbrev pub misses_of : ℕ → List Sighting → ℕ
 misses_of slot seen = times slot (misses_in (calls_in seen))
 
--- A count rose by exactly so much, or is at the last value of 64 bits.
+-- A count rose by exactly `more`, or is at the last value of 64 bits.
 abbrev pub RoseExactly : ℕ → ℕ → ℕ → Type 0
 RoseExactly more before now = (now ≡ before + more) ⊎ (2 ^ 64 - 1 ≤ now)
 

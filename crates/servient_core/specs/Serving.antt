@@ -16,13 +16,15 @@ use Rattle.servient_core.specs.declared.servient.OpenFault.TheVariants.{Expose, 
 use Rattle.servient_core.specs.declared.serving.Served.{Served}
 use Rattle.servient_core.specs.declared.serving.Served.TheVariants as served
 
--- What the code of a servient keeps is `Parts` of src/parts.rt: a part for each layer.
+-- What the code of a servient keeps is `Parts` of src/parts.rt: a part for each layer, of which contracts see each by
+-- its own view.
 
 -- the Things that it exposes
 abbrev pub site_of_parts : Parts → Site
 site_of_parts kept = kept.exposed.site
 
--- What is kept stands for a state: each part for that of its layer, and what is held of a connection for its whole stream.
+-- What is kept stands for a state: each part for that of its layer, and what is held of a connection for its whole
+-- stream.
 pub record StandsFor (kept : Parts) (s : State) : Type 0 where
   pub moment : s.moment ≡ kept.moment
   pub http : ConnectionsStandFor kept.http s.http
@@ -30,13 +32,13 @@ pub record StandsFor (kept : Parts) (s : State) : Type 0 where
   pub thing : s.thing ≡ kept.exposed.state
 
 -- Between two events: no emission waits to be handed out, the exchanges are at no later moment, and each connection has
--- room for another piece.
+-- room for another piece. It is an invariant of `Servient`, so that `step` and `serve` ask only that the rack fits.
 pub record IsReady (kept : Parts) : Type 0 where
   pub pending : kept.exposed.pending ≡ []
   pub moment : kept.coap.exchanges.moment ≤ kept.moment
   pub room : AllByRecursion (HasRoomFor longest_piece) kept.http
 
--- the fault of exposing, or that memory was out
+-- the fault of exposing, or being out of memory
 abbrev pub IsOpenFault : List ExposeFault → OpenFault → Type 0
 IsOpenFault faults (Expose fault) = IsFirst faults fault
 IsOpenFault faults NoMemory = Unit {0}

@@ -1,4 +1,5 @@
--- What is seen of the servient from outside: what happens at the network, and the calls of device handlers.
+-- What is seen of the servient from outside: what happens at the network, and the calls of device handlers, in one
+-- list. With events and acts in two, a server could take two events before it answers the first.
 use Rattle.std.specs.Prelude.{List, Option, Some, None}
 use Rattle.std.specs.List.{filter_map}
 use Rattle.thing_handler.specs.Handler.{Seen}
@@ -10,7 +11,8 @@ pub data Sighting : Type 0 where
   at_network : Happening → Sighting
   at_handler : HandlerCall → Sighting
 
--- what happened at the network, in order
+-- What happened at the network, in order: std's `filter_map` of what one entry shows, which has its one law on traces
+-- one after another.
 abbrev pub happening_in : Sighting → Option Happening
 happening_in (at_network h) = Some h
 happening_in (at_handler call) = None
@@ -35,7 +37,8 @@ abbrev pub outside : NetSeen → List Seen → Outside
 outside net slots = record { net = net; slots = slots }
 
 -- From one time to another this was seen and nothing else. The network shows what happened there, and the handlers show
--- their calls, each in order. How the two are interleaved neither of them shows.
+-- their calls, each in order. How the two are interleaved neither of them shows, because they are two objects that know
+-- nothing of one another: that a handler is called after its event was heard, the machine alone says.
 pub record Shows (before now : Outside) (seen : List Sighting) : Type 0 where
   pub net : NetShows before.net now.net (happened_in seen)
   pub rack : RackShows before.slots now.slots (calls_in seen)

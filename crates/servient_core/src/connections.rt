@@ -1,4 +1,5 @@
-//! What a servient does on its connections (RFC 9112): the messages of each stream are taken and answered, one after another.
+//! What a servient does on its connections (RFC 9112): the messages of each stream are taken and answered, one after
+//! another.
 
 ghost use Rattle.std.specs.Prelude.{◌≡◌, ◌≤◌, ◌<◌, ◌++◌, List, map, length, true, false, IsSome};
 ghost use Rattle.thing_handler.specs.Handler.{Seen};
@@ -27,7 +28,8 @@ const HEAD_BYTES: usize = 4096;
 /// The most bytes of the word of an outcome or of a fault.
 const WORD_BYTES: usize = 32;
 
-/// Room for a message of HTTP and for the reply to it, which is taken once and used for all.
+/// Room for a message of HTTP and for the reply to it, which is taken once and used for all, because one message is
+/// handled at a time.
 #[derive(Drop)]
 pub struct Rooms {
     /// The query and the body of a message.
@@ -80,7 +82,8 @@ impl Parts {
         self.take_all(net, rack, c, rooms);
     }
 
-    /// Takes the messages of a connection that are whole, one after another.
+    /// Takes the messages of a connection that are whole, one after another. A loop, so that a piece with any number of
+    /// them needs no recursion: each leaves less to take (`left_at`). One that closes its connection leaves nothing.
     fn take_all<N: Net, R: Handlers>(
         &mut self,
         net: &mut N,
@@ -99,7 +102,7 @@ impl Parts {
         while self.take(net, rack, c, rooms) {}
     }
 
-    /// Takes what is next on a connection and handles it; false: nothing is to be taken.
+    /// Takes what is next on a connection and handles it; false: nothing can be taken.
     fn take<N: Net, R: Handlers>(
         &mut self,
         net: &mut N,
@@ -177,7 +180,7 @@ impl ReplyRoom {
         send(net, c, &out);
     }
 
-    /// Sends the 100 reply, after which the connection goes on.
+    /// Sends the 100 reply, after which the connection stays open.
     fn go_on<N: Net>(&mut self, http: &mut HttpBind, net: &mut N, c: u32)
         requires { c < 64 }
         ensures continued { SendsContinue c http.old http.new (N.seen net.old) (N.seen net.new) }

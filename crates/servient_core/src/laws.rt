@@ -1,4 +1,4 @@
-//! What follows from the machine, whatever the network and the rack: contracts of functions that no code needs to call.
+//! What follows from the machine, for every network and rack: contracts of functions that no code needs to call.
 
 ghost use Rattle.std.specs.Prelude.{◌≡◌, ◌↔◌, ℕ, List};
 ghost use Rattle.thing_handler.specs.Turns.{AreNumberedFrom, turns_in};
@@ -27,13 +27,13 @@ pub fn turns_are_numbered()
         → Serves site budget result s seen t → AreNumberedFrom s.thing.turns (turns_in (calls_in seen)) }
 {}
 
-/// Whatever a servient keeps stands for some state of the machine.
+/// All that a servient keeps stands for some state of the machine.
 pub fn each_stands_for_a_state()
     ensures { (kept : Parts) → (s : State) × StandsFor kept s }
 {}
 
-/// A duplicate of a request that was admitted and lives makes no turn and changes nothing of the Things (RFC 7252, section
-/// 4.5).
+/// A duplicate of a request that was admitted and lives makes no turn and changes nothing of the Things (RFC 7252,
+/// section 4.5).
 pub fn duplicates_act_on_nothing()
     ensures { DuplicatesActOnNothing }
 {}
@@ -43,9 +43,9 @@ pub fn full_table_acts_on_nothing()
     ensures { FullTableActsOnNothing }
 {}
 
-/// By either binding an operation has one meaning: two messages that are read as the same request, where the Things are in the
-/// same state, the handlers give the same answers and memory isn't out, have the same calls, outcome and emissions, and what
-/// is written is that outcome.
+/// By either binding an operation has one meaning: two messages that are read as the same request, where the Things are
+/// in the same state, the handlers give the same answers and nothing is out of memory, have the same calls, outcome and
+/// emissions, and what is written is that outcome.
 pub fn one_meaning()
     ensures written { (site : Site) → (m : Message) → IsWritten site m }
     ensures same { (site : Site) → (m n : Message) → HaveOneMeaning site m n }

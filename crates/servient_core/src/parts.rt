@@ -88,7 +88,7 @@ impl Parts {
     }
 }
 
-/// Does what a request asks. Nobody watches or waits yet, so what it emits is let go.
+/// Does what a request asks. Nobody watches or waits yet, so what it emits is discarded.
 pub fn perform<R: Handlers>(exposed: &mut Exposed, rack: &mut R, request: &Request<'_>) -> Outcome
     requires pending { exposed.old.pending ≡ [] }
     requires fits { Fits exposed.old.site (R.slots rack.old) }
@@ -102,7 +102,7 @@ pub fn perform<R: Handlers>(exposed: &mut Exposed, rack: &mut R, request: &Reque
     outcome
 }
 
-/// Polls all events. What they emit is let go.
+/// Polls all events. What they emit is discarded.
 pub fn poll<R: Handlers>(exposed: &mut Exposed, rack: &mut R)
     requires pending { exposed.old.pending ≡ [] }
     requires fits { Fits exposed.old.site (R.slots rack.old) }
@@ -112,7 +112,7 @@ pub fn poll<R: Handlers>(exposed: &mut Exposed, rack: &mut R)
     let_go(exposed);
 }
 
-/// Lets go what was emitted.
+/// Discards what was emitted.
 fn let_go(exposed: &mut Exposed)
     ensures pending { exposed.new.pending ≡ [] }
     ensures site { exposed.new.site ≡ exposed.old.site }

@@ -71,8 +71,8 @@ impl From<AllocError> for OpenFault {
 }
 
 impl Servient {
-    /// The servient of a plan and of the Things that were derived from it, before its first event. Every buffer that later
-    /// steps use is taken here.
+    /// The servient of a plan and of the Things that were derived from it, before its first event. Every buffer that
+    /// later steps use is taken here.
     pub fn new<R: Handlers>(
         alloc: Global,
         plan: &Plan,

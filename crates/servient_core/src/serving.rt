@@ -1,4 +1,4 @@
-//! Serving a network, event by event.
+//! `serve`: the events of a network are taken one by one, up to a Stop, a failure or a budget.
 
 ghost use Rattle.std.specs.Prelude.{◌≡◌};
 ghost use Rattle.servient_base.specs.Moves.{Refines};

@@ -17,7 +17,7 @@ Appends-append (Some p) None third xs ys a b = absurd a
 Appends-append (Some p) (Some q) None xs ys a b = absurd b
 Appends-append (Some p) (Some q) (Some r) xs ys a b = b ∙ ap (λ (zs : List ℕ). zs ++ ys) a ∙ append_assoc p xs ys
 
--- a piece of which a front is written, and then so many bytes of the rest
+-- a piece of which a front is written, and then n bytes of the rest
 pub piece-after_turn : (piece front rest : List ℕ) (count : ℕ) → piece ≡ front ++ rest → piece ≡ (front ++ take count rest) ++ take (length rest - count) (drop count rest)
 piece-after_turn piece front rest count parts =
     parts

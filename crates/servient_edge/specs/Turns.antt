@@ -1,4 +1,4 @@
--- What the turns of sockets come to.
+-- What the turns of sockets give.
 use Rattle.std.specs.Prelude.{◌≤◌}
 use Rattle.servient_outside.specs.Network.{MayCome}
 use Rattle.servient_edge.specs.declared.turns.Took.{Took}

@@ -9,10 +9,10 @@ use std::alloc::Global;
 use std::io::{self, ErrorKind, IoSlice, Read};
 use std::net::Shutdown;
 
-// A peer that leaves more than so many bytes unread is given up.
+// A peer that leaves more than this many bytes unread is given up.
 const MOST_KEPT: usize = 4_194_304;
 
-// So many milliseconds a closed connection waits for its peer.
+// For how many milliseconds a closed connection waits for its peer.
 const LINGER: u64 = 2000;
 
 /// A connection.
@@ -70,7 +70,7 @@ impl Connection {
         }
     }
 
-    /// What a read of so many bytes came to; 0 is the end of what the peer sends.
+    /// What a read of n bytes means; 0 is the end of what the peer sends.
     fn took(&self, count: usize) -> Took
         requires { count ≤ 4096 }
         ensures { TookWithin result }
@@ -88,7 +88,7 @@ impl Connection {
         }
     }
 
-    /// What the end of the connection comes to.
+    /// What the end of the connection means.
     fn gone(&self) -> Took
         ensures { TookWithin result }
     {
@@ -142,7 +142,7 @@ impl Connection {
         Ok(())
     }
 
-    /// Lets what was taken go, where that is half of all or more.
+    /// Discards what was taken, where that is half of all or more.
     fn forget_taken(&mut self) {
         if self.taken >= self.kept.len() - self.taken {
             let left = self.kept.len() - self.taken;
@@ -169,7 +169,7 @@ impl Connection {
     }
 }
 
-/// What comes after so many bytes.
+/// What comes after n bytes.
 fn after(bytes: &[u8], count: usize) -> &[u8] {
     match bytes.get(count..) {
         Some(rest) => rest,

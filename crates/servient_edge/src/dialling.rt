@@ -1,4 +1,4 @@
-//! A connection that is opened from here.
+//! A connection that is opened from here, and the wait until it is there.
 
 use mio::net::TcpStream;
 use mio::{Events, Interest, Poll, Token};
@@ -8,13 +8,13 @@ use std::net::{Net, SocketAddr};
 use std::rt::Clock;
 use std::time::{Duration, Instant};
 
-// So many seconds a peer has to answer.
+// How many seconds a peer has to answer.
 const LIMIT: u64 = 10;
 
 // The system may return early, but not without end.
 const ASKS: u32 = 1024;
 
-/// Connects to an address, and waits until the connection stands.
+/// Connects to an address, and waits until the connection is there.
 pub fn connect<R: Net + Clock>(
     rt: &R,
     alloc: Global,

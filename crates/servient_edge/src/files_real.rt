@@ -29,7 +29,8 @@ impl<R: rt::Files + Drop> FilesReal<R> {
     }
 }
 
-/// Reads to the end, where a read gives no byte, but not past the limit. What a reader has left is recorded
+/// Reads to the end, where a read gives no byte, but not past the limit, in a loop of its own: std says too little of a
+/// reader after an error. What a reader has left is recorded
 /// of readers in memory alone.
 fn read_whole<F: Read>(alloc: Global, file: &mut F, limit: usize, into: &mut Bytes) -> Got
     ensures present { result ≢ Got.Absent }
@@ -67,7 +68,7 @@ fn read_pieces<F: Read>(file: &mut F, limit: usize, bytes: &mut Bytes) -> Got
     Got::Failed
 }
 
-/// Puts a piece behind the bytes that were read before, where all of them are within the limit.
+/// Puts a piece after the bytes that were read before, where all of them are within the limit.
 fn push_piece(bytes: &mut Bytes, piece: &[u8], limit: usize) -> Result<(), Got>
     requires { length bytes.old ≤ limit }
     ensures ok { OnOk result (bytes.new ≡ bytes.old ++ piece.now) }

@@ -1,6 +1,6 @@
 //! The adapters of the outside to the machine that the servient runs on: sockets, files, and a writer.
 //!
-//! The traits that they meet, and their versions in memory, stand in `servient_outside` and are exported here too. An
+//! The traits that they meet, and their versions in memory, are those of `servient_outside`, exported here too. An
 //! adapter records nothing of what happened but its count of faults: no contract says what a socket or a file gives.
 //!
 //! ```

@@ -1,5 +1,5 @@
-//! The network over the sockets of the machine, in one thread. What happened isn't recorded, nor is it known what is still to
-//! come: it counts what fails.
+//! The network over the sockets of the machine, in one thread. What happened isn't recorded, nor is it known what is
+//! still to come: it counts what fails.
 
 ghost use Rattle.std.specs.Prelude.{◌≡◌, ◌≤◌, ◌<◌, ◌^◌, IfOk, IfSome, length};
 ghost use Rattle.servient_base.specs.Count.{Rose};
@@ -19,14 +19,15 @@ use std::time::Instant;
 
 const LAST_MOMENT: u64 = 1_000_000_000_000_000;
 
-// The system is asked so many times for one event. A report that comes to nothing is no event, and it is asked again.
+// The system is asked this many times for one event. A report of which nothing comes is no event, and it is asked
+// again.
 const ASKS: u32 = 64;
 
 /// The network over sockets.
 #[derive(Drop)]
 pub struct MioNet<R: net::Net + Clock + Drop> {
     rt: R,
-    // When it was made, if the clock told it.
+    // When it was made, if the clock said it.
     start: Option<Instant>,
     // The last moment that was read.
     moment: u64,
@@ -124,7 +125,8 @@ impl<R: net::Net + Clock + Drop> MioNet<R> {
         }
     }
 
-    /// What a turn gives, if anything. It is traffic. What fails for one peer is counted, and asked again at the next tick.
+    /// What a turn gives, if anything. It is traffic. What fails for one peer is counted, and asked again at the next
+    /// tick.
     fn take(&mut self, buffer: &mut [u8]) -> Option<What>
         requires { length buffer.old ≡ 4096 }
         ensures what { IfSome result MayCome }
@@ -248,7 +250,7 @@ impl<R: net::Net + Clock + Drop> Net for MioNet<R> {
         }
     }
 
-    /// Failed where it doesn't listen, and where the system doesn't tell what is ready or what time it is.
+    /// Failed where it doesn't listen, and where the system doesn't say what is ready or what time it is.
     fn next(&mut self, buffer: &mut [u8]) -> Next
         requires { length buffer.old ≡ 4096 }
         ensures answer { IsAnswer result }
@@ -293,8 +295,8 @@ impl<R: net::Net + Clock + Drop> Net for MioNet<R> {
         }
     }
 
-    /// Waits until it is connected, and for 10 seconds at most. Failed where it isn't, where the host has no IPv4 address and
-    /// where no number is free.
+    /// Waits until it is connected, and for 10 seconds at most. Failed where it isn't, where the host has no IPv4
+    /// address and where no number is free.
     fn dial(&mut self, alloc: Global, host: &str, port: u16) -> Dialled
         ensures answer { IsConnection result }
         ensures shows { NetShows (counted_only self.old.faults) (counted_only self.new.faults) (dials_as host.now port result) }

@@ -25,7 +25,8 @@ impl<W: Write + Drop> OutReal<W> {
     }
 }
 
-/// Writes until the writer has taken all. What a writer holds is recorded of writers in memory alone.
+/// Writes until the writer has taken all, in a loop of its own: std says too little of a writer after an error. What a
+/// writer holds is recorded of writers in memory alone.
 fn write_whole<W: Write>(writer: &mut W, piece: &[u8]) -> Put
     ensures done { result ≡ Put.Done → Appends (W.contents writer.old) (W.contents writer.new) piece.now }
     ensures front { result ≡ Put.Failed

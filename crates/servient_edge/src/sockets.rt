@@ -21,15 +21,15 @@ use std::time::Duration;
 // The token of the socket for datagrams; the listener's is its place among the turns, and a connection's its number.
 const DATAGRAMS: usize = 65;
 
-// So many events of the system are taken at once.
+// How many events of the system are taken at once.
 const REPORTS: usize = 128;
 
-// So many turns are taken before the system is asked again, so that one that always has something hides no other.
+// How many turns are taken before the system is asked again, so that one that always has something hides no other.
 const TURNS: u32 = 128;
 
 const MOST_DATAGRAM_BYTES: usize = 2048;
 
-/// What a number stands for.
+/// What has a number.
 #[derive(Drop)]
 enum Number {
     Free,
@@ -93,7 +93,7 @@ impl Sockets {
         })
     }
 
-    /// Listens for connections and for datagrams. A socket for datagrams that was bound before is let go.
+    /// Listens for connections and for datagrams. A socket for datagrams that was bound before is given up.
     pub fn listen<R: Net>(&mut self, rt: &R, http: SocketAddr, coap: SocketAddr) -> io::Result<()> {
         let mut listener = TcpListener::bind(rt, http)?;
         self.poll
@@ -214,8 +214,8 @@ impl Sockets {
         }
     }
 
-    /// Takes the next datagram. The system cuts what doesn't fit, so the buffer has more room than a datagram may have; one
-    /// that is longer is dropped.
+    /// Takes the next datagram. The system cuts what doesn't fit, so the buffer has more room than a datagram may have;
+    /// one that is longer is dropped.
     fn receive(&mut self, buffer: &mut [u8]) -> Turn
         requires { length buffer.old ≡ 4096 }
         ensures { IsTurn result }
@@ -313,7 +313,7 @@ impl Sockets {
         }
     }
 
-    /// Asks the system what is ready. Where none waits for a turn, it waits for so many milliseconds at most.
+    /// Asks the system what is ready. Where none waits for a turn, it waits for at most `time` milliseconds.
     pub fn ask(&mut self, time: u64) -> io::Result<()> {
         self.turns_left = TURNS;
         let time = if self.is_waiting() { 0 } else { time };
@@ -330,8 +330,8 @@ impl Sockets {
         Ok(())
     }
 
-    /// Ends the connections that were closed and are over, and asks again for what failed before, since the system reports it
-    /// once.
+    /// Ends the connections that were closed and are over, and asks again for what failed before, since the system
+    /// reports it once.
     pub fn tick(&mut self, moment: u64) {
         end_those_over(&mut self.numbers, moment);
         self.turns.add(LISTENER);
@@ -339,7 +339,7 @@ impl Sockets {
     }
 }
 
-/// A turn of what a number stands for.
+/// A turn of what has a number.
 fn turn_of(number: &mut Number, buffer: &mut [u8], moment: u64) -> Took
     requires { length buffer.old ≡ 4096 }
     ensures { TookWithin result }

@@ -1,10 +1,10 @@
-//! When the network is to give a tick, and when it ends for want of traffic. All moments are in milliseconds.
+//! When the network gives a tick, and when it ends for lack of traffic. All moments are in milliseconds.
 
 ghost use Rattle.std.specs.Prelude.{◌≡◌, ◌≤◌, ◌^◌};
 
 const TICK: u64 = 1000;
 
-/// What is to be given when nothing else comes.
+/// What is due when nothing else comes.
 #[derive(Clone, Copy, Debug, PartialEq, Eq)]
 pub enum Due {
     Nothing,
@@ -15,7 +15,7 @@ pub enum Due {
 /// When something was given last.
 #[derive(Drop)]
 pub struct Timing {
-    /// The run ends after so much time without traffic, unless it is 0.
+    /// The run ends after this time without traffic, unless it is 0.
     pub idle: u64,
     /// When the last event that is traffic was given.
     pub traffic: u64,

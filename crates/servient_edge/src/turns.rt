@@ -1,4 +1,4 @@
-//! Whose turn it is, and what a turn comes to: the connections and the listener wait in a circle, each at most once.
+//! Whose turn it is, and what a turn gives: the connections and the listener wait in a circle, each at most once.
 
 ghost use Rattle.std.specs.Prelude.{◌<◌, IfSome};
 
@@ -12,7 +12,7 @@ pub const LISTENER: usize = 64;
 
 const PLACES: usize = 65;
 
-/// What a turn came to.
+/// What a turn gave.
 #[derive(Clone, Copy, Debug, PartialEq, Eq)]
 pub enum Turn {
     Came(What),
@@ -21,7 +21,7 @@ pub enum Turn {
     Fault,
 }
 
-/// What a turn of a connection came to.
+/// What a turn of a connection gave.
 #[derive(Clone, Copy, Debug, PartialEq, Eq)]
 pub enum Took {
     Bytes(usize),

@@ -79,7 +79,7 @@ all_counted fails events given since uncounted now none counted reached within f
     let below : since < 2 ^ 64 - 1 = omega (arith, reached none within) in
     same below ∙ counted
 
--- what is recorded where nothing is lost goes on as it did
+-- what is recorded where nothing is lost continues as it was
 pub continues_told : {A : Type 0} (untold : ℕ) (old new more : List A) → new ≡ old ++ more → Continues (told_at_zero untold old) (told_at_zero untold new) more
 continues_told zero old new more grown = (old, refl, grown)
 continues_told (suc untold) old new more grown = tt
@@ -104,7 +104,7 @@ pub none_fails : (fails later : List ℕ) (number : ℕ) → later ≡ fails →
 none_fails [] later number same none is = let never : false ≡ true = is in absurd cc
 none_fails (f ∷ fails) later number same none is = let never : f ∷ fails ≡ [] = sym same ∙ none in absurd cc
 
--- what happened goes on by a call of `next`, where it was counted
+-- what happened has a call of `next` more, where it was counted
 pub history_called : (gaps : List ℕ) (acts : List Act) (fails later : List ℕ) (events : List EventWithBytes) (stop : EventWithBytes) (made uncounted now lost since since_now : ℕ) (h : Happening)
     → (now ≡ 0 → (uncounted ≡ 0) × (since < 2 ^ 64 - 1)) → since_now ≡ one_more since → later ≡ fails → length gaps ≡ length acts
     → (uncounted ≡ 0 → lost ≡ 0 → made ≡ made_by (steps gaps acts since) 0)
@@ -148,7 +148,7 @@ given_called gaps acts fails later made since since_now few same next placed =
     ∙ given_by-append fails (steps gaps acts since) (asked ∷ []) 0 0
     ∙ ap (λ (n : ℕ). given_after fails n (given_by fails (steps gaps acts since) 0 0)) (sym placed)
 
--- what happened goes on by an act that was kept
+-- what happened has an act more, which was kept
 pub history_did : (gaps later : List ℕ) (acts more : List Act) (fails : List ℕ) (events : List EventWithBytes) (stop : EventWithBytes) (made uncounted lost now since since_now : ℕ) (act : Act)
     → (uncounted ≡ 0 → lost ≡ 0 → made ≡ made_by (steps gaps acts since) 0) → length gaps ≡ length acts → later ≡ gaps ++ since ∷ [] → more ≡ acts ++ act ∷ [] → now ≡ lost → since_now ≡ 0
     → Continues (told_at_zero (uncounted + lost) (happened_by fails events stop (steps gaps acts since) 0 0)) (told_at_zero (uncounted + now) (happened_by fails events stop (steps later more since_now) 0 0)) (did act ∷ breaks_after fails made act)

@@ -34,7 +34,7 @@ steps_acted (gap ∷ gaps) (a ∷ acts) since act few =
     rw (steps_acted gaps acts since act (omega arith))
     (sym (append_assoc (asks gap) (acted a ∷ steps gaps acts since) (acted act ∷ [])))
 
--- ---- what one more step comes to
+-- ---- what one more step does
 
 pub made_by-append : (a b : List Step) (made : ℕ) → made_by (a ++ b) made ≡ made_by b (made_by a made)
 made_by-append [] b made = refl
@@ -116,7 +116,7 @@ pub acts_in-told : (gaps : List ℕ) (acts : List Act) (since : ℕ) (fails : Li
 acts_in-told gaps acts since fails events stop few =
     acts_in-happened fails events stop (steps gaps acts since) 0 0 ∙ acts_of-steps gaps acts since few
 
--- ---- what the next call comes to
+-- ---- what the next call does
 
 pub given_failed : (fails : List ℕ) (made given : ℕ) → is_failing fails (one_more made) ≡ true → given_after fails made given ≡ given
 given_failed fails made given is = rw is refl

@@ -12,7 +12,7 @@ pub record AddsAct (before now : ActLog) (act : Act) : Type 0 where
   pub since : now.since ≡ 0
   pub lost : now.lost ≡ before.lost
 
--- there was no memory for the act: it is counted, and all else is as it was
+-- keeping the act was out of memory: it is counted, and all else is as it was
 pub record LosesAct (before now : ActLog) : Type 0 where
   pub acts : now.acts.items ≡ before.acts.items
   pub gaps : now.gaps.items ≡ before.gaps.items

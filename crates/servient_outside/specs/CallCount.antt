@@ -1,4 +1,4 @@
--- The calls of an object in memory.
+-- The calls of an object in memory: how many were made, and which fail.
 use Rattle.std.specs.Prelude.{ℕ, Bool, nat_eq, IsTrue, List, [], ◌∷◌, Option, None}
 use Rattle.std.specs.List.{list_any}
 use Rattle.servient_base.specs.Count.{one_more}

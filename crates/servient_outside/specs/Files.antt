@@ -1,4 +1,4 @@
--- What is seen of files.
+-- What is seen of files: a read, and what the files record of it.
 use Rattle.std.specs.Prelude.{◌≡◌, ◌≤◌, ◌<◌, ℕ, List, [], ◌∷◌, Option, Some, None, IfSome, IsSomeAnd, length, if◌then◌else◌}
 use Rattle.std.specs.Str.{bytes_eq}
 use Rattle.servient_outside.specs.declared.files.Got.{Got}
@@ -24,7 +24,7 @@ AnswersRead held name limit TooLong into =
 AnswersRead held name limit Failed into = Unit {0}
 AnswersRead held name limit NoMemory into = Unit {0}
 
--- the reads that a call adds to the list of them: itself, but not where there was no memory
+-- the reads that a call adds to the list of them: itself, but not where it was out of memory
 abbrev pub added_reads : List ℕ → ℕ → Got → List FileRead
 added_reads name limit NoMemory = []
 added_reads name limit Whole = record { name = name; limit = limit } ∷ []
@@ -32,15 +32,15 @@ added_reads name limit Absent = record { name = name; limit = limit } ∷ []
 added_reads name limit TooLong = record { name = name; limit = limit } ∷ []
 added_reads name limit Failed = record { name = name; limit = limit } ∷ []
 
--- What is seen of files at one time: what they hold and which reads were made, where they record it, and how often a read
--- failed.
+-- What is seen of files at one time: what they hold and which reads were made, where they record it, and how often a
+-- read failed.
 pub record FilesSeen : Type 0 where
   pub held : Option (List HeldFile)
   pub reads : Option (List FileRead)
   pub faults : ℕ
 
--- From one time to another there was one call, which was answered so: the files hold what they held, the read comes after
--- those before it, and the count of failures never falls, and rose where the read failed.
+-- From one time to another there was one call, which was answered so: the files hold what they held, the read comes
+-- after those before it, and the count of failures never falls, and rose where the read failed.
 pub record FilesShow (before now : FilesSeen) (name : List ℕ) (limit : ℕ) (got : Got) : Type 0 where
   pub held : now.held ≡ before.held
   pub reads : Continues before.reads now.reads (added_reads name limit got)

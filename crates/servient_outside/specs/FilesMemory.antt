@@ -1,4 +1,4 @@
--- What is seen of files in memory.
+-- What is seen of files in memory. A read is recorded before it is answered; one that can't be recorded is none.
 use Rattle.std.specs.Prelude.{ℕ, List, Some}
 use Rattle.servient_outside.specs.declared.calls.CallCount.{CallCount}
 use Rattle.servient_outside.specs.declared.files.HeldFile.{HeldFile}
@@ -14,7 +14,7 @@ calls_of f = f.calls
 abbrev pub held_files : FilesMemory → List HeldFile
 held_files f = f.held
 
--- the reads so far, but those for which there was no memory
+-- the reads so far, but those that were out of memory
 abbrev pub listed_reads : FilesMemory → List FileRead
 listed_reads f = f.reads.items
 

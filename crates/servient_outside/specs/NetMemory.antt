@@ -1,4 +1,6 @@
--- What is seen of a network in memory.
+-- What is seen of a network in memory. It keeps how many calls of `next` came before each act, and what happened
+-- follows from that, its events and the numbers of the calls that fail (Order.antt), because a second list would take
+-- memory. So it records what happened wherever no act was lost, also where calls fail.
 use Rattle.std.specs.Prelude.{◌≡◌, ◌<◌, ◌+◌, ◌-◌, ◌^◌, ℕ, suc, nat_lt, List, [], ◌∷◌, ◌++◌, ◌⊎◌, Option, Some, None, IsSome, drop, if◌then◌else◌}
 use Rattle.coap_msg.specs.declared.endpoint.Endpoint.{Endpoint}
 use Rattle.servient_base.specs.Count.{one_more}
@@ -41,11 +43,11 @@ stop_of n = record { event = stop_event (stop_moment_of n); bytes = [] }
 abbrev pub connected_count : NetMemory → ℕ
 connected_count n = n.connected
 
--- the acts that found memory
+-- the acts that were kept
 abbrev pub kept_acts : NetMemory → List Act
 kept_acts n = n.log.acts.items
 
--- how many acts found no memory
+-- how many acts were lost out of memory
 abbrev pub lost_acts : NetMemory → ℕ
 lost_acts n = n.log.lost
 
@@ -110,7 +112,7 @@ pub record KeepsEvents (before now : NetMemory) : Type 0 where
   pub connected : connected_count now ≡ connected_count before
   pub faults : fault_count now ≡ fault_count before
 
--- The act is kept after the others; or there is no memory for it, and it is counted.
+-- The act is kept after the others; or keeping it is out of memory, and it is counted.
 abbrev pub KeepsOrCounts : NetMemory → NetMemory → Act → Type 0
 KeepsOrCounts before now act =
     (kept_acts now ≡ kept_acts before ++ act ∷ []) × (lost_acts now ≡ lost_acts before)
@@ -134,7 +136,7 @@ IsCall (act.Listened place) = Unit {0}
 IsCall (act.Dialled host port c) = Unit {0}
 IsCall (act.Looked host port to) = Unit {0}
 
--- What is recorded goes on by this act, and by what follows it where it failed.
+-- What is recorded has this act more, and what follows it where it failed.
 abbrev pub GoesOnBy : NetMemory → NetMemory → Act → Type 0
 GoesOnBy before now act =
     Continues (told_history before) (told_history now) (did act ∷ breaks_after before.calls.fails before.calls.made act)
@@ -145,7 +147,7 @@ GoesOnBy before now act =
 abbrev pub listen_answer : CallCount → Listened
 listen_answer calls = if is_failing calls.fails (one_more calls.made) then listened.Failed else listened.Ready
 
--- the next of 64 numbers, unless the next call fails
+-- the next of 64 numbers, how many were dialled before, unless the next call fails; nothing comes on it
 abbrev pub dial_answer : CallCount → ℕ → Dialled
 dial_answer calls connected =
     if is_failing calls.fails (one_more calls.made) then dialled.Failed else if nat_lt connected 64 then dialled.Connected connected else dialled.Failed

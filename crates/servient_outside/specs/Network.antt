@@ -1,4 +1,4 @@
--- What is known of a network.
+-- What is known of a network: what may come, what happens, and what it shows of that.
 use Rattle.std.specs.Prelude.{◌≡◌, ◌≤◌, ◌<◌, ◌^◌, ℕ, suc, List, [], ◌∷◌, Option, Some, None, take, length}
 use Rattle.std.specs.List.{filter_map}
 use Rattle.servient_base.specs.Count.{RoseBy}
@@ -30,8 +30,8 @@ byte_count (Datagram from count) = count
 byte_count Tick = 0
 byte_count Stop = 0
 
--- What may come: of one of 64 connections, no more bytes at once than a buffer takes, but some; and a datagram of no more
--- bytes than are taken.
+-- What may come: of one of 64 connections, no more bytes at once than a buffer takes, but some; and a datagram of no
+-- more bytes than are taken.
 abbrev pub MayCome : What → Type 0
 MayCome (Opened c) = c < 64
 MayCome (Bytes c count) = (c < 64) × (1 ≤ count) × (count ≤ 4096)
@@ -63,7 +63,7 @@ pub data NetCall : Type 0 where
   dialling : NetCall
   looking : NetCall
 
--- One thing that happens between the servient and the network. A call that acts is one act, whatever it answers; where
+-- One thing that happens between the servient and the network. A call that acts is one act, for every answer; where
 -- it failed, a break follows that names it.
 pub data Happening : Type 0 where
   -- an event was given
@@ -107,7 +107,7 @@ pub record NetSeen : Type 0 where
   pub left : Option (List EventWithBytes)
   pub faults : ℕ
 
--- the call may fail while events are known to come: only dialling, for want of a number that is free
+-- the call may fail while events are known to come: only dialling, where no number is free
 abbrev pub MayStillFail : NetCall → Type 0
 MayStillFail next_event = ⊥
 MayStillFail listening = ⊥
@@ -126,8 +126,8 @@ Leaves (broke call ∷ happened) (Some (first ∷ rest)) now = MayStillFail call
 Leaves (broke call ∷ happened) (Some []) now = Unit {0}
 Leaves (broke call ∷ happened) None now = Unit {0}
 
--- From one time to another this happened and nothing else: it comes after what was recorded before; the events to come are
--- those that are left by it; and each failure was counted.
+-- From one time to another this happened and nothing else: it comes after what was recorded before; the events to come
+-- are those that are left by it; and each failure was counted.
 pub record NetShows (before now : NetSeen) (happened : List Happening) : Type 0 where
   pub history : Continues before.history now.history happened
   pub left : Leaves happened before.left now.left

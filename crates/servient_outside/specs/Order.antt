@@ -17,20 +17,20 @@ pub data Step : Type 0 where
   -- this was done
   acted : Act → Step
 
--- so many calls of `next`
+-- n calls of `next`
 abbrev pub asks : ℕ → List Step
 asks zero = []
 asks (suc count) = asked ∷ asks count
 
--- acts, each so many calls of `next` after the act before it, and so many such calls after the last
+-- acts, each by its number of calls of `next` after the act before it, and then the calls after the last
 abbrev pub steps : List ℕ → List Act → ℕ → List Step
 steps [] acts since = asks since
 steps (gap ∷ gaps) [] since = asks since
 steps (gap ∷ gaps) (act ∷ acts) since = asks gap ++ acted act ∷ steps gaps acts since
 
--- ---- what they come to
+-- ---- what happens by them
 
--- how many calls that may fail were made after this act, where so many were made before it
+-- how many calls that may fail were made after this act, where n were made before it
 abbrev pub made_after : Act → ℕ → ℕ
 made_after (act.Sent c bytes) made = made
 made_after (act.Closed c) made = made
@@ -39,7 +39,7 @@ made_after (act.Listened place) made = one_more made
 made_after (act.Dialled host port c) made = one_more made
 made_after (act.Looked host port to) made = one_more made
 
--- What follows this act, where so many calls were made before it: a break, if it failed. In memory nothing is connected and
+-- What follows this act, where n calls were made before it: a break, if it failed. In memory nothing is connected and
 -- nothing is found by that alone.
 abbrev pub breaks_after : List ℕ → ℕ → Act → List Happening
 breaks_after fails made (act.Sent c bytes) = []
@@ -51,11 +51,11 @@ breaks_after fails made (act.Dialled host port None) = broke dialling ∷ []
 breaks_after fails made (act.Looked host port (Some to)) = []
 breaks_after fails made (act.Looked host port None) = broke looking ∷ []
 
--- how many events were given after a call of `next`, where so many calls were made before it and so many events were given
+-- how many events were given after a call of `next`, where n calls were made before it and m events were given
 abbrev pub given_after : List ℕ → ℕ → ℕ → ℕ
 given_after fails made given = if is_failing fails (one_more made) then given else suc given
 
--- what that call comes to: a failure, the next of the events, or the Stop once more
+-- what happens by that call: a failure, the next of the events, or the Stop once more
 abbrev pub call_result : List ℕ → List EventWithBytes → EventWithBytes → ℕ → ℕ → Happening
 call_result fails events stop made given =
     if is_failing fails (one_more made) then broke next_event else heard (unwrap_or (slice_get events given) stop)

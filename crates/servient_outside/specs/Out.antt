@@ -1,4 +1,4 @@
--- What is seen of an output.
+-- What is seen of an output: the answer to a write, and what was written.
 use Rattle.std.specs.Prelude.{◌≡◌, ◌≤◌, ℕ, List, ◌++◌, Option}
 use Rattle.servient_base.specs.Count.{Rose}
 use Rattle.servient_outside.specs.declared.out.Put.{Put}
@@ -16,8 +16,8 @@ pub record OutSeen : Type 0 where
   pub written : Option (List ℕ)
   pub faults : ℕ
 
--- From one time to another a piece was to be written, which was answered so. The count of failures never falls, and rose
--- where the write failed.
+-- From one time to another a piece was to be written, which was answered so. The count of failures never falls, and
+-- rose where the write failed.
 pub record OutShows (before now : OutSeen) (put : Put) (piece : List ℕ) : Type 0 where
   pub writes : Writes before.written now.written put piece
   pub faults : before.faults ≤ now.faults

@@ -1,4 +1,4 @@
--- What is seen of an output in memory.
+-- What is seen of an output in memory, whose room is fixed.
 use Rattle.std.specs.Prelude.{ℕ, ◌+◌, ◌≤◌, List, Some, length}
 use Rattle.servient_outside.specs.declared.calls.CallCount.{CallCount}
 use Rattle.servient_outside.specs.declared.out_memory.OutMemory.{OutMemory}

@@ -13,7 +13,7 @@ pub struct ActLog {
     pub gaps: Vec<u64>,
     /// How many calls of `next` came after the last act.
     pub since: u64,
-    /// How many acts found no memory. At its last value, 2^64 - 1, it stays.
+    /// How many acts were lost out of memory. At its last value, 2^64 - 1, it stays.
     pub lost: u64,
     ghost gap_for_each: { length gaps.items ≡ length acts.items },
 }
@@ -36,7 +36,7 @@ impl ActLog {
         }
     }
 
-    /// Keeps an act, or counts it where there is no memory for it.
+    /// Keeps an act, or counts it where that is out of memory.
     pub fn keep(&mut self, act: Result<Act, NoMemory>)
         ensures { KeepsIfMade self.old self.new act }
     {
@@ -49,7 +49,7 @@ impl ActLog {
         }
     }
 
-    /// Counts an act for which there is no memory.
+    /// Counts an act that is lost out of memory.
     fn lose(&mut self)
         ensures { LosesAct self.old self.new }
     {

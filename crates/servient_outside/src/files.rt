@@ -32,7 +32,7 @@ pub struct HeldFile {
 #[derive(Debug, Drop)]
 pub struct FileRead {
     pub name: Text,
-    /// The most bytes that were wanted.
+    /// The most bytes that it may have.
     pub limit: usize,
 }
 
@@ -98,8 +98,8 @@ impl Held {
 pub trait Files {
     ghost use Rattle.servient_outside.specs.Files.{AnswersRead, FilesSeen, FilesShow};
 
-    /// What is seen of them: what each file holds, the reads so far, and how often one failed. A read for which there was no
-    /// memory isn't among them.
+    /// What is seen of them: what each file holds, the reads so far, and how often one failed. A read for which there
+    /// was no memory isn't among them.
     ghost seen: { Self → FilesSeen };
 
     /// Reads a whole file of at most `limit` bytes. After any answer but `Whole` what is in

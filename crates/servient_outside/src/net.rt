@@ -10,15 +10,15 @@ use wot_json::{Bytes, Text};
 pub enum What {
     /// A peer opened the connection of this number.
     Opened(u32),
-    /// So many bytes came on this connection: at least one, and at most 4,096.
+    /// This many bytes came on this connection: at least one, and at most 4,096.
     Bytes(u32, usize),
     /// This connection has ended. Nothing more comes of it.
     Ended(u32),
-    /// A datagram from an endpoint, of so many bytes: at most 2,048.
+    /// A datagram from an endpoint, of this many bytes: at most 2,048.
     Datagram(Endpoint, usize),
     /// Nothing but that time goes by.
     Tick,
-    /// The run is to end.
+    /// The end of the run.
     Stop,
 }
 

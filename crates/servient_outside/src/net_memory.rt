@@ -1,5 +1,5 @@
-//! A network in memory: it gives a list of events and a Stop, and keeps what is done to it. It records all that happened,
-//! in order, as long as there was memory for each act.
+//! A network in memory: it gives a list of events and a Stop, and keeps what is done to it. It records all that
+//! happened, in order, as long as there was memory for each act.
 
 ghost use Rattle.std.specs.Prelude.{◌≡◌, ◌≤◌, ◌<◌, ◌+◌, ◌-◌, ◌^◌, ◌++◌, ℕ, [], ◌∷◌, Some, IfOk, IfSome, length, min};
 ghost use Rattle.servient_outside.specs.Ending.{last_moment as moment_of_last, with_stop};
@@ -18,7 +18,7 @@ use wot_json::Bytes;
 
 /// A network in memory. It gives its events in order, and after the last one a `Stop` at the last event's moment, or at
 /// 0 where there is none. From then on it gives that `Stop` again and again. The connections that are dialled have the
-/// numbers 0, 1, .. whatever its events open, and every host is found at the address 1.
+/// numbers 0, 1, .. with no regard to what its events open, and every host is found at the address 1.
 #[derive(Drop)]
 pub struct NetMemory {
     alloc: Global,
@@ -55,7 +55,7 @@ fn last_moment(events: &Events) -> u64
     }
 }
 
-/// How many calls weren't counted after one more, where so many were counted before.
+/// How many calls weren't counted after one more, where n were counted before.
 fn uncounted_after(since: u64, uncounted: u64) -> u64
     ensures counted { result ≡ 0 → (uncounted ≡ 0) × (since < 2 ^ 64 - 1) }
     ensures unchanged { since < 2 ^ 64 - 1 → result ≡ uncounted }
@@ -115,7 +115,7 @@ impl NetMemory {
         self.log.acts.as_slice()
     }
 
-    /// How many acts found no memory. At its last value, 2^64 - 1, it stays.
+    /// How many acts were lost out of memory. At its last value, 2^64 - 1, it stays.
     pub fn lost(&self) -> u64
         ensures { result ≡ lost_acts self.now }
     {
@@ -193,7 +193,7 @@ impl Net for NetMemory {
         ensures counted { result ≡ Next.Failed → fault_count self.new ≡ one_more (fault_count self.old) }
         ensures no_fault { result ≢ Next.Failed → fault_count self.new ≡ fault_count self.old }
 
-        // Whatever calls fail, the list is given in order.
+        // With any calls that fail, the list is given in order.
         ensures takes { TakesFrom (rest_of self.old) (rest_of self.new) (stop_moment_of self.old)
             result buffer.new }
         ensures stop_moment { stop_moment_of self.new ≡ stop_moment_of self.old }
@@ -220,7 +220,7 @@ impl Net for NetMemory {
         })
     }
 
-    /// An act for which there is no memory isn't kept, and counts as lost.
+    /// An act whose keeping is out of memory isn't kept, and counts as lost.
     fn send(&mut self, c: u32, head: &[u8], body: &[u8])
         ensures shows { NetShows (net_seen self.old) (net_seen self.new)
             (did (Act.Sent c (head.now ++ body.now)) ∷ []) }

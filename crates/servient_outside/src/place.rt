@@ -9,6 +9,6 @@ pub struct Place {
     pub http_port: u16,
     pub coap_host: Text,
     pub coap_port: u16,
-    /// The run stops after so many milliseconds without traffic; 0 if it never does for want of traffic.
+    /// The run stops after this many milliseconds without traffic; 0 if it never does for lack of traffic.
     pub idle: u64,
 }

@@ -5,7 +5,8 @@ use Rattle.wot_json.specs.Reading.{tree_of}
 use Rattle.thing_site.specs.Site.{Slots}
 use Rattle.servient_plan.specs.declared.plan.Plan.{Plan}
 
--- the URL and the text of its model
+-- The URL and the text of its model, which is read when it is needed. No clause rules out that it is no JSON, so the
+-- answer then is out of memory; a test shows that it is read and taken.
 abbrev pub built_in_url : List ℕ
 built_in_url = codes "https://models.example/builtin.tm.json"
 

@@ -1,5 +1,6 @@
--- The plan: an object that says which Things a servient exposes, where, and with which handlers. Its format is the product's
--- own; docs/PROFILE.md retells it.
+-- The plan: an object that says which Things a servient exposes, where, and with which handlers. Its format is the
+-- product's own; docs/PROFILE.md retells it. It is a table of rows, each a value or the pointer to its member, and the
+-- first row without a value is the fault: so a wrong entry of a list is a fault of the list, and one pass reads all.
 use Rattle.std.specs.Prelude.{◌≡◌, ◌≤◌, ℕ, pos, ◌==◌, ◌&&◌, ◌||◌, not, nat_le, nat_lt, Bool, true, false, List, [], ◌∷◌, ◌++◌, length, drop, codes, decimal, Option, Some, None, is_some, unwrap_or, option_map, option_and_then, Result, Ok, Err, if◌then◌else◌}
 use Rattle.std.specs.Char.{is_ascii_alphanumeric}
 use Rattle.std.specs.List.{list_all, position_or_len, before_first, after_first, starts_with}
@@ -21,8 +22,8 @@ use Rattle.servient_plan.specs.declared.texts.TextRow.TheVariants as row
 
 -- ---- members that are texts
 
--- the segment of the root: 1 to 64 of A-Z a-z 0-9 . _ -, but none that is taken or that a URL would lose (RFC 3986, section
--- 5.2.4)
+-- the segment of the root: 1 to 64 of A-Z a-z 0-9 . _ -, but none that is taken or that a URL would lose (RFC 3986,
+-- section 5.2.4)
 abbrev pub is_reserved : List ℕ → Bool
 is_reserved text =
     bytes_eq text (codes "things") || bytes_eq text (codes ".well-known") || bytes_eq text (codes ".") || bytes_eq text (codes "..")
@@ -37,7 +38,8 @@ is_host_byte b = is_ascii_alphanumeric b || b == 46 || b == 45
 abbrev pub is_host : List ℕ → Bool
 is_host text = list_all is_host_byte text && nat_lt 0 (length text) && nat_le (length text) 253
 
--- a port: a number from 1 to 65,535 in decimal digits with no leading zero, which is to say the spelling of its own value
+-- a port: a number from 1 to 65,535 in decimal digits with no leading zero, which is to say the spelling of its own
+-- value
 abbrev pub is_port : List ℕ → Bool
 is_port text =
     nat_le 1 (digits_value 10 text) && nat_le (digits_value 10 text) 65535 && bytes_eq text (decimal (digits_value 10 text))
@@ -54,7 +56,8 @@ point_in text =
     if nat_lt (position_or_len is_colon text) (length text) && is_host (before_first is_colon text)
     then option_map (λ port. (before_first is_colon text, port)) (port_in (after_first is_colon text)) else None
 
--- those of a base: a scheme with `://`, and then HOST:PORT
+-- those of a base: a scheme with `://`, and then HOST:PORT; the port is always there, because forms are built from a
+-- base as it is written
 abbrev pub base_point : List ℕ → List ℕ → Option (List ℕ × ℕ)
 base_point scheme text = if starts_with (λ a b. a == b) text scheme then point_in (drop (length scheme) text) else None
 
@@ -165,8 +168,8 @@ Reads (Ok value) r = r ≡ Ok value
 Reads (Err (At pointer)) r = r ≡ Err pointer
 Reads (Err NoMemory) r = Unit {0}
 
--- The table: the rows in the order in which they are judged, and the plan that they make. First come who the root Thing is, where it is
--- served, and the URL of its model;
+-- The table: the rows in the order in which they are judged, and the plan that they make. First come who the root Thing
+-- is, where it is served, and the URL of its model;
 abbrev pub names_in : List (List ℕ × Json) → Result Names (List ℕ)
 names_in ms =
     then_row (text_row row.Name ms) (λ segment.
@@ -176,7 +179,7 @@ names_in ms =
     then_row (text_row row.Root ms) (λ root.
     Ok (record { segment = segment; id = id; bases = record { http = http; coap = coap }; root = root }))))))
 
--- then what the Things are derived from besides;
+-- then what else the Things are derived from;
 abbrev pub lists_in : List (List ℕ × Json) → Result Lists (List ℕ)
 lists_in ms =
     then_row (member_row (codes "models") models_in ms) (λ models.
@@ -216,11 +219,12 @@ HasFewExchanges plan = (16 ≤ plan.exchanges) × (plan.exchanges ≤ 65536)
 
 -- ---- where it listens
 
--- the host and the port of a base; no host and port 0 where it has none, which no plan that was read has
+-- The host and the port of a base; no host and port 0 where it has none, which no plan that was read has. Instead of a
+-- condition on plans that each caller would carry.
 abbrev pub point_of : List ℕ → List ℕ → List ℕ × ℕ
 point_of scheme base = unwrap_or (base_point scheme base) ([], 0)
 
--- at its bases, for so many milliseconds without traffic
+-- its bases, and how many milliseconds without traffic
 abbrev pub place_of : Plan → ℕ → Place
 place_of plan idle = record {
   http_host = (point_of (codes "http://") plan.frame.bases.http).0;

@@ -23,7 +23,8 @@ use wot_json::{NoMemory, Text, Tree};
 /// A plan (docs/PROFILE.md, "The plan").
 #[derive(Debug, Drop)]
 pub struct Plan {
-    /// The segment and the `id` of the root Thing, what its URLs begin with, and the `instance` of its version.
+    /// The segment and the `id` of the root Thing, what its URLs begin with, and the `instance` of its version: just
+    /// what `derive` takes.
     pub frame: Frame,
     /// The text of the URL of the root's model.
     pub root: Text,
@@ -31,9 +32,9 @@ pub struct Plan {
     pub models: ModelFiles,
     /// What placeholders are bound to.
     pub bindings: Bindings,
-    /// The optional affordances that are wanted.
+    /// The optional affordances that are chosen.
     pub choices: Choices,
-    /// The slots of the handlers.
+    /// The slots of the handlers, as exposing takes them.
     pub slots: Slots,
     /// How many CoAP exchanges may live at a time.
     pub exchanges: u32,
@@ -89,8 +90,8 @@ impl ModelFiles {
 /// Why a tree is no plan.
 #[derive(Debug, Drop, Error)]
 pub enum PlanFault {
-    /// The pointer to the first member that isn't as a plan has it, in the order of the table in docs/PROFILE.md; the empty
-    /// one where the tree is no object.
+    /// The pointer to the first member that isn't as a plan has it, in the order of the table in docs/PROFILE.md; the
+    /// empty one where the tree is no object.
     #[error("the plan is not as it must be at {0:?}")]
     At(Text),
     /// Out of memory.
@@ -169,7 +170,7 @@ impl Plan {
         })
     }
 
-    /// Where a servient of this plan listens: at its bases, for so many milliseconds without traffic.
+    /// Where a servient of this plan listens: at its bases, until `idle` milliseconds pass without traffic.
     pub fn place(&self, alloc: Global, idle: u64) -> Result<Place, NoMemory>
         ensures { IfOk result (λ place. place ≡ place_of self.now idle) }
     {

@@ -194,7 +194,7 @@ fn choices_of(alloc: Global, pairs: Vec<(Text, Text)>) -> Result<Choices, NoMemo
     Ok(choices)
 }
 
-/// The optional affordances that are wanted.
+/// The optional affordances that are chosen.
 fn choices_in(alloc: Global, value: Option<&Tree>) -> Result<Option<Choices>, NoMemory>
     ensures { IfOk result (λ o. o ≡ spec.entries_in spec.choice_entry (option_map (λ t. json_of t.now) value.entry)) }
 {

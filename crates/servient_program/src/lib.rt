@@ -1,5 +1,5 @@
-//! The whole program below `main`: it makes the real files, the network over sockets, the output and the shipped rack, and
-//! does what the program's words say.
+//! The whole program below `main`: it makes the real files, the network over sockets, the output and the shipped rack,
+//! and does what the program's words say.
 //!
 //! It is a library so that each program crate is this one call: `servient`, and each stored run of it with
 //! words and an exit status of its own.
@@ -60,7 +60,7 @@ fn words(rt: &HostRuntime) -> Result<Vec<Text>, NoMemory> {
     }
 }
 
-/// Says that there was no memory to begin with.
+/// Says that it was out of memory to begin with.
 fn out_of_memory(rt: &HostRuntime) -> ExitCode {
     let mut out = OutReal::new(io::writer(rt));
     match out.put(b"servient: memory\n") {

@@ -4,12 +4,12 @@
 //! # TEXT                 says what the case is
 //! = NAME                 a file; the lines after it are its text
 //! < NAME                 a script in words, as `spelling.rt` has them; then what is printed is written in words too
-//! repeat N TEXT          within a file: these bytes so many times, and no end of a line
+//! repeat N TEXT          within a file: these bytes N times, and no end of a line
 //! ! read|put|net N       the Nth read, output or call of the network fails
 //! ! net memory           the network is out of memory
 //! + EVENT                an event of the network, in words; then what is printed is written in words too
 //! @ KIND ANSWERS         a device of this kind in the next slot, with these answers, `; ` between them
-//! % N                    the rack has so many slots
+//! % N                    the rack has N slots
 //! cut once|twice TEXT    the case is run for each way to cut these bytes, as `cuts.rt` says
 //! $ WORDS                the command; what it prints, what it did to the network and its status follow
 //! ```
@@ -95,7 +95,7 @@ impl Case {
         file.bytes.push(b'\n')
     }
 
-    /// Bytes in the file that was begun, so many times.
+    /// Bytes in the file that was begun, n times.
     fn repeat(&mut self, line: &str) -> Result<(), AllocError> {
         let Some(file) = &mut self.file else {
             return Ok(());

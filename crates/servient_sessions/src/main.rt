@@ -1,7 +1,7 @@
-//! Sessions of the servient on files, a network and devices in memory. Each word names a file. `scripts` and `faults` are files of rows: what is
-//! given, ` => `, and what comes of it. The others have cases, which are separated by empty lines; `case.rt` has the lines of a case. The
-//! program prints each case with what its command prints, what it does to the network, and the status that it ends with: so it prints its
-//! files, if all is right.
+//! Sessions of the servient on files, a network and devices in memory. Each word names a file. `scripts` and `faults`
+//! are files of rows: what is given, ` => `, and what comes of it. The others have cases, which are separated by empty
+//! lines; `case.rt` has the lines of a case. The program prints each case with what its command prints, what it does to
+//! the network, and the status that it ends with: so it prints its files, if all is right.
 #![tactic(auto)]
 
 mod acts;
@@ -17,7 +17,7 @@ mod spelling;
 use std::alloc::{AllocError, Global};
 use std::{env, fs, io};
 
-/// Writes what a file of this name comes to.
+/// Writes the cases of the file of this name, with their results.
 fn put_file(text: &mut String, alloc: Global, name: &str, lines: &str) -> Result<(), AllocError> {
     match name {
         "scripts" | "faults" => scripts::put_rows(text, alloc, name, lines),
@@ -25,7 +25,7 @@ fn put_file(text: &mut String, alloc: Global, name: &str, lines: &str) -> Result
     }
 }
 
-/// What a file of this name comes to.
+/// The cases of the file of this name, with their results.
 fn page(alloc: Global, name: &str, lines: &str) -> Result<String, AllocError> {
     let mut text = String::new(alloc);
     put_file(&mut text, alloc, name, lines)?;

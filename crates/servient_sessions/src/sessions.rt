@@ -1,4 +1,4 @@
-//! Cases one after another. A case without a command is read behind the lines of each later case of its file.
+//! Cases one after another. A case without a command is read after the lines of each later case of its file.
 
 use crate::case::Case;
 use crate::{cuts, running};

@@ -5,7 +5,8 @@
 //! 0 bytes 0 GET /lamp HTTP/1.1\r\nHost: h\r\n\r\n
 //! ```
 //!
-//! A datagram is a message in words and the bytes of a connection are bytes as text, both as `case_notation` has them; any other line is itself.
+//! A datagram is a message in words and the bytes of a connection are bytes as text, both as `case_notation` has them;
+//! any other line is itself.
 
 use case_notation::{bytes_of, digit, message_of, put, put_digits, put_message};
 use std::alloc::{AllocError, Global};

@@ -1,4 +1,4 @@
-//! What stands before the steps of a case of `exposing` and `acts`:
+//! What comes before the steps of a case of `exposing` and `acts`:
 //!
 //! ```text
 //! = SEGMENT              the Thing, by the segment of its path; the lines after it are its description
@@ -6,7 +6,7 @@
 //! @ KIND ANSWERS         a device of this kind in the next slot, with these answers, `; ` between them; without any the rack is the shipped one
 //! ```
 //!
-//! A case without a step is read behind the lines of each later case of its file.
+//! A case without a step is read after the lines of each later case of its file.
 
 use crate::devices::{Device, device_of};
 use std::alloc::{AllocError, Global};

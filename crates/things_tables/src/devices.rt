@@ -1,4 +1,4 @@
-//! Devices that answer from a list. Values are JSON texts, in which `\*N;` lets the byte before it stand N times.
+//! Devices that answer from a list. Values are JSON texts, in which `\*N;` repeats the byte before it N times.
 
 use case_notation::bytes_of;
 use std::alloc::{AllocError, Global};

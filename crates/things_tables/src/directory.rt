@@ -11,7 +11,8 @@
 //! fill N                 creates as many without further members: the id of the last
 //! ```
 //!
-//! Ids are bytes in text, `-` for the empty one. The members come behind those of a valid description; of several of one name the last counts.
+//! Ids are bytes in text, `-` for the empty one. The members come after those of a valid description; of several of one
+//! name the last counts.
 
 ghost use Rattle.std.specs.Prelude.{◌≤◌};
 
@@ -26,7 +27,7 @@ use wot_json::{Tree, read, text_of};
 const START: &str =
     r#"{"@context":"https://www.w3.org/2022/wot/td/v1.1","security":"n","securityDefinitions":{"n":{"scheme":"nosec"}},"title":"T""#;
 
-/// The tree of a JSON text; what is none is as good as no memory.
+/// The tree of a JSON text; what is none counts as out of memory.
 fn tree_of(alloc: Global, text: &str) -> Result<Tree, AllocError> {
     match read(alloc, text.as_bytes()) {
         Ok(tree) => Ok(tree),
@@ -51,7 +52,7 @@ fn id_of(alloc: Global, written: &str) -> Result<String, AllocError> {
     String::from_str(alloc, str::from_utf8(bytes.as_slice()).unwrap_or("no text"))
 }
 
-/// Writes what a call without a value comes to.
+/// Writes the answer of a call without a value.
 fn put_done(text: &mut String, outcome: Result<(), DirFault>) -> Result<(), AllocError> {
     match outcome {
         Ok(()) => text.push_str("done"),

@@ -14,7 +14,7 @@ use thing_handler::{Handler, Rack, SHIPPED_SLOTS, Scripted, shipped_in};
 use wot_json::{Text, read};
 use wot_terms::{Things, check};
 
-/// The Thing of a case; where its description isn't valid, that is as good as no memory.
+/// The Thing of a case; where its description isn't valid, that counts as out of memory.
 fn things_of(alloc: Global, segment: &str, description: &str) -> Result<Things, AllocError>
     ensures { IfOk result (λ things. AllByRecursion (λ t. IsValid t.1) things) }
 {
@@ -43,7 +43,7 @@ fn put_fault(text: &mut String, fault: &ExposeFault) -> Result<(), AllocError> {
     write!(text, "; {fault}")
 }
 
-/// Writes a case whose Things don't fit: each step comes to that.
+/// Writes a case whose Things don't fit: each step says that.
 fn put_unfit(text: &mut String, fault: &ExposeFault, block: &str) -> Result<(), AllocError> {
     for line in block.lines() {
         match line.split_once(" => ") {

@@ -1,12 +1,12 @@
-//! Histories of Things as they are exposed, and the steps beside requests:
+//! Histories of Things as they are exposed, and the steps besides requests:
 //!
 //! ```text
 //! METHOD PATH ..         status, code and payload; how often handlers were called; the slots whose values were emitted
-//! repeat N METHOD ..     the same request so many times: how many answers have the status and the code of the last
+//! repeat N METHOD ..     the same request N times: how many answers have the status and the code of the last
 //! tick                   polls all events
 //! last SLOT              the text of the last emission of this slot
 //! target PATH            the slot of the emissions of a path
-//! accounts               how many invocations stand, all calls of handlers, and the id of the next invocation
+//! accounts               how many invocations there are, all calls of handlers, and the id of the next invocation
 //! expose                 the Things fit the rack
 //! ```
 
@@ -40,7 +40,7 @@ fn put_emissions(text: &mut String, exposed: &mut Exposed) -> Result<(), AllocEr
     Err(AllocError)
 }
 
-/// Writes how often handlers were called since there were so many calls.
+/// Writes how often handlers were called since there were n calls.
 fn put_calls(text: &mut String, exposed: &Exposed, before: u64) -> Result<(), AllocError> {
     write!(
         text,
@@ -49,7 +49,7 @@ fn put_calls(text: &mut String, exposed: &Exposed, before: u64) -> Result<(), Al
     )
 }
 
-/// Makes a request, and writes what it comes to.
+/// Makes a request, and writes its outcome.
 fn put_performed<R: Handlers>(
     text: &mut String,
     exposed: &mut Exposed,
@@ -134,7 +134,7 @@ fn make_counted<R: Handlers>(
     counted.count(answer.as_str())
 }
 
-/// Makes a request so many times, and writes how many were answered as the last.
+/// Makes a request n times, and writes how many were answered as the last.
 fn put_repeated<R: Handlers>(
     text: &mut String,
     alloc: Global,

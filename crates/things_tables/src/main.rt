@@ -1,7 +1,7 @@
-//! Tables of Things: routes, verbs, outcomes, the directory, and Things as they are exposed. Each word names a file. A row is what is given,
-//! ` => `, and what comes of it; in `directory`, `exposing` and `acts` the rows between two empty lines are a history, one after another on
-//! the same directory or the same Things. The program prints each row with what does come of it, and each other line as it is: so it
-//! prints its files, if all is right.
+//! Tables of Things: routes, verbs, outcomes, the directory, and Things as they are exposed. Each word names a file. A
+//! row is what is given, ` => `, and what comes of it; in `directory`, `exposing` and `acts` the rows between two empty
+//! lines are a history, one after another on the same directory or the same Things. The program prints each row with
+//! what does come of it, and each other line as it is: so it prints its files, if all is right.
 #![tactic(auto)]
 
 mod asking;
@@ -64,7 +64,7 @@ fn put_histories(
     Ok(())
 }
 
-/// What a file of this name comes to.
+/// The cases of the file of this name, with their results.
 fn page(alloc: Global, table: &str, lines: &str) -> Result<String, AllocError> {
     let mut text = String::new(alloc);
     match table {

@@ -1,4 +1,5 @@
-//! How outcomes are answered: HTTP status, CoAP code, and the payload, which is the text that an outcome carries or its word.
+//! How outcomes are answered: HTTP status, CoAP code, and the payload, which is the text that an outcome carries or its
+//! word.
 
 use crate::paths::{path_of, put_path};
 use crate::routes::put_line;
@@ -128,7 +129,7 @@ fn put_word(text: &mut String, outcome: &Outcome) -> Result<(), AllocError> {
     put(text, out.get(..count).unwrap_or(b"too long"))
 }
 
-/// Writes what an outcome says beside its payload.
+/// Writes what an outcome says besides its payload.
 fn put_further(text: &mut String, outcome: &Outcome) -> Result<(), AllocError> {
     match outcome {
         Outcome::Started(place, _) => {

@@ -1,4 +1,5 @@
-//! Paths: `/lamp//on` are the segments `lamp`, an empty one and `on`, as bytes in text; `/` is one empty segment, and `-` none.
+//! Paths: `/lamp//on` are the segments `lamp`, an empty one and `on`, as bytes in text; `/` is one empty segment, and
+//! `-` none.
 
 ghost use Rattle.std.specs.Prelude.{◌<◌};
 
@@ -45,7 +46,7 @@ pub fn put_path(text: &mut String, path: &Segments) -> Result<(), AllocError> {
     Ok(())
 }
 
-/// Puts bytes behind the last segment, if there is one.
+/// Puts bytes after the last segment, if there is one.
 fn extend(path: &mut Segments, bytes: &[u8]) -> Result<(), AllocError> {
     if path.is_empty() {
         return Ok(());
@@ -63,7 +64,7 @@ fn take(path: &mut Segments, alloc: Global, step: &str) -> Result<(), AllocError
     }
 }
 
-/// A path with room for so many bytes, if the first step says so.
+/// A path with room for n bytes, if the first step says so.
 fn begun(alloc: Global, steps: &str) -> Result<Segments, AllocError> {
     match steps.split_once("; ") {
         Some((first, _steps)) if first.starts_with("room ") => {
@@ -74,7 +75,7 @@ fn begun(alloc: Global, steps: &str) -> Result<Segments, AllocError> {
     }
 }
 
-/// Writes the path after these steps, how many segments it has, and the one behind its last.
+/// Writes the path after these steps, how many segments it has, and the one after its last.
 ///
 /// # Errors
 ///

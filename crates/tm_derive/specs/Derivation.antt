@@ -1,5 +1,6 @@
--- What a Thing Model is derived into (Thing Description 1.1, section "Thing Model"): the descriptions of a Thing and of all
--- Things that it is composed of, or the first fault.
+-- What a Thing Model is derived into (Thing Description 1.1, section "Thing Model"): the descriptions of a Thing and of
+-- all Things that it is composed of, or the first fault. It is a list of outcomes in preorder, each with all faults of
+-- its Thing, and the answer is the head of all faults, because a list can be read without a walk that stops.
 use Rattle.std.specs.Prelude.{ℕ, zero, suc, List, [], ◌∷◌, ◌++◌, map, codes, Option, Some, None, Result, Ok, Err}
 use Rattle.std.specs.List.{flat_map}
 use Rattle.wot_json.specs.Tree.{Json}
@@ -39,8 +40,9 @@ children given place = children_from place 1 (submodels given place)
 abbrev pub optionals : Given → Place → List (List ℕ)
 optionals given place = optional_texts most_below given.sources place.model
 
--- A description with these texts of what is optional and these parts, from the value of its model: without what is optional
--- and not chosen, finished, and with the links to its own model, its parent and its parts in place of those to other models.
+-- A description with these texts of what is optional and these parts, from the value of its model: without what is
+-- optional and not chosen, finished, and with the links to its own model, its parent and its parts in place of those to
+-- other models.
 abbrev pub thing_with : Given → Place → List (List ℕ) → List Place → Json → Json
 thing_with given place texts parts value =
     description given.frame place
@@ -78,8 +80,8 @@ invalid_faults segment tree = map (invalid_fault segment) (faults_of tree)
 abbrev pub tree_faults : List ℕ → Json → List DeriveFault
 tree_faults segment tree = unbound_faults segment tree ++ invalid_faults segment tree
 
--- The faults of a Thing below Things of these models: that of its model alone where that has no value; else those of what
--- is optional, of its links to submodels, and of its description.
+-- The faults of a Thing below Things of these models: that of its model alone where that has no value; else those of
+-- what is optional, of its links to submodels, and of its description.
 abbrev pub thing_faults : Given → List (List ℕ) → Place → Result Json ResolveFault → List DeriveFault
 thing_faults given above place (Err e) = fault.Resolve place.segment e ∷ []
 thing_faults given above place (Ok value) =
@@ -111,8 +113,8 @@ abbrev pub unless_faulty : List DeriveFault → List Outcome → List Outcome
 unless_faulty [] outcomes = outcomes
 unless_faulty (e ∷ es) outcomes = []
 
--- The outcomes of a Thing and of those that it is composed of, in preorder, below Things of these models, where so many
--- more may stand one below another.
+-- The outcomes of a Thing and of those that it is composed of, in preorder, below Things of these models, where n more
+-- may be one below another.
 abbrev pub outcomes_within : ℕ → Given → List (List ℕ) → Place → List Outcome
 outcomes_within zero given above place = []
 outcomes_within (suc room) given above place =
@@ -122,8 +124,8 @@ outcomes_within (suc room) given above place =
 
 -- ---- the whole
 
--- The place of the root. Its expansion counts the chains of all Things, so where it isn't too large no more of them stand
--- one below another than `most_below`.
+-- The place of the root. Its expansion counts the chains of all Things, so where it isn't too large at most
+-- `most_below` of them are one below another.
 abbrev pub root_place : Frame → List ℕ → Place
 root_place frame root = record { segment = frame.segment; id = frame.id; model = root; parent = None }
 

@@ -1,5 +1,5 @@
--- What a Thing Model's value becomes as the description of a Thing that this servient serves (Thing Description 1.1, section
--- "Thing Model", derivation): merge patches (RFC 7396) on it, and the forms that the servient generates.
+-- What a Thing Model's value becomes as the description of a Thing that this servient serves (Thing Description 1.1,
+-- section "Thing Model", derivation): merge patches (RFC 7396) on it, and the forms that the servient generates.
 use Rattle.std.specs.Prelude.{◌+◌, ◌==◌, not, Bool, ℕ, List, [], ◌∷◌, ◌++◌, map, filter, codes, Option, Some, None, is_none, option_and_then, if◌then◌else◌}
 use Rattle.std.specs.List.{list_any, list_all}
 use Rattle.wot_json.specs.Tree.{Json, null, string, array, object, elements_of, members_of}
@@ -58,7 +58,8 @@ new_links bases place parts =
 abbrev pub is_at : ℕ → List ℕ → Bool
 is_at index indices = list_any (λ i. i == index) indices
 
--- the links that stay, of links counted from this index on: all but those at these indices
+-- The links that stay, of links counted from this index on: all but those at these indices among the model's own. So
+-- one that came in by `tm:ref` stays.
 abbrev pub staying_links : List ℕ → ℕ → List Json → List Json
 staying_links leaving index [] = []
 staying_links leaving index (v ∷ vs) = (if is_at index leaving then [] else v ∷ []) ++ staying_links leaving (index + 1) vs
@@ -100,12 +101,13 @@ security_definitions =
 abbrev pub security_names : Json
 security_names = array (elements_of (string security_name ∷ []))
 
--- a patch that takes away the security definitions of the model, so that none of them is merged with the new one
+-- A patch that takes away the security definitions of the model, so that none of them is merged with the new one: it
+-- comes before the patch that has that one.
 abbrev pub clearing_patch : List (List ℕ × Json)
 clearing_patch = change_of (codes "securityDefinitions") (Some null)
 
--- The patch that makes a description of the value, with this version of the instance, this id and this change of its links:
--- `@type`, `base`, `id`, `links`, security and `version`.
+-- The patch that makes a description of the value, with this version of the instance, this id and this change of its
+-- links: `@type`, `base`, `id`, `links`, security and `version`.
 abbrev pub patch_with : Option (List ℕ) → List ℕ → Option Json → Json → List (List ℕ × Json)
 patch_with instance id links value =
     change_of (codes "@type") (option_and_then type_change (part_under (codes "@type") value))

@@ -30,8 +30,8 @@ abbrev pub Resolves : Given → Place → Result Tree DeriveFault → Type 0
 Resolves given place (Ok t) = resolved_from given.sources place.model ≡ Ok (json_of t)
 Resolves given place (Err fault) = (fault ≡ NoMemory) ⊎ IsNoValue given place fault
 
--- A Thing whose model has this value, or no value, is made with the Things that it is composed of, and has no faults; or the
--- call is refused.
+-- A Thing whose model has this value, or no value, is made with the Things that it is composed of, and has no faults;
+-- or the call is refused.
 abbrev pub MakesFrom : Given → List (List ℕ) → Place → Result Json ResolveFault → Result Made DeriveFault → Type 0
 MakesFrom given above place value (Ok made) =
     (tree_of given place value ≡ Some (json_of made.tree)) × (made.children.items ≡ children given place)
@@ -42,8 +42,8 @@ MakesFrom given above place value (Err fault) = IsRefusal fault (thing_faults gi
 abbrev pub MakesThing : Given → List (List ℕ) → Place → Result Made DeriveFault → Type 0
 MakesThing given above place result = MakesFrom given above place (resolved_from given.sources place.model) result
 
--- The call puts the Things of these outcomes after those that there were, where they have no faults; or it is refused. Then
--- each outcome has a Thing.
+-- The call puts the Things of these outcomes after those that there were, where they have no faults; or it is refused.
+-- Then each outcome has a Thing.
 abbrev pub PutsThings : Things → Things → List Outcome → Result (Unit {0}) DeriveFault → Type 0
 PutsThings before after os (Ok u) =
     (after ≡ before ++ flat_map thing_of os) × (flat_map (λ o. o.faults) os ≡ [])

@@ -1,5 +1,5 @@
--- What is optional in a model: its member `tm:optional`, a list of pointers to affordances (Thing Description 1.1, section
--- "Thing Model", optional affordances).
+-- What is optional in a model: its member `tm:optional`, a list of pointers to affordances (Thing Description 1.1,
+-- section "Thing Model", optional affordances).
 use Rattle.std.specs.Prelude.{◌+◌, ◌==◌, ◌&&◌, ◌||◌, nat_eq, not, Bool, false, ℕ, zero, suc, List, [], ◌∷◌, ◌++◌, length, drop, codes, Option, Some, None, if◌then◌else◌}
 use Rattle.std.specs.List.{flat_map, list_any, starts_with}
 use Rattle.std.specs.Str.{bytes_eq}
@@ -80,8 +80,8 @@ abbrev pub of_base : (List ℕ → List (List ℕ)) → Option (List ℕ) → Li
 of_base said None = []
 of_base said (Some base) = said base
 
--- The texts of what is optional in a model: those of the model that it extends, which are found in the same way, and then
--- its own. A text that comes twice says no more than once. So many models are gone through at most.
+-- The texts of what is optional in a model: those of the model that it extends, which are found in the same way, and
+-- then its own. A text that comes twice stays, because it says no more than once. At most n models are gone through.
 abbrev pub optional_texts : ℕ → Sources → List ℕ → List (List ℕ)
 optional_texts zero sources url = []
 optional_texts (suc room) sources url = of_base (optional_texts room sources) (base_url sources url) ++ part_texts (optional_part sources url)

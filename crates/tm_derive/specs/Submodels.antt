@@ -61,14 +61,14 @@ abbrev pub link_child : Place → ℕ → ModelLink → List Place
 link_child place number link = named_child place (child_name place.segment number link) link.target
 
 -- The faults of the name of a link: it is one that an instance may have, and none that an earlier link has. The earlier
--- Things of the same parent are told by their segments.
+-- Things of the same parent are recognised by their segments: two instances have one name exactly where those are one.
 abbrev pub name_faults : Place → List (List ℕ) → ℕ → Option (List ℕ) → List DeriveFault
 name_faults place earlier index None = Instance place.segment (link_place index) ∷ []
 name_faults place earlier index (Some name) =
     if is_among (below place.segment name) earlier then TwiceInstance place.segment (link_place index) ∷ [] else []
 
--- the kind of the fault of the model that a link leads to: it is one of the library, and not that of this Thing or of one
--- above it
+-- the kind of the fault of the model that a link leads to: it is one of the library, and not that of this Thing or of
+-- one above it
 abbrev pub target_kind : Models → List (List ℕ) → List ℕ → List ℕ → Option ResolveKind
 target_kind models above model url =
     if is_none (member_named url models) then Some MissingModel

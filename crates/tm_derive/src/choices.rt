@@ -1,4 +1,4 @@
-//! What of the optional affordances is wanted.
+//! The choices of optional affordances that a derivation is given.
 
 ghost use Rattle.std.specs.Prelude.{◌≡◌, ◌++◌, [], ◌∷◌, map, OnErr, OnOk};
 

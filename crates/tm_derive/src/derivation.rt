@@ -24,18 +24,19 @@ use tm_resolve::Resolver;
 use wot_json::Text;
 use wot_terms::{Thing, Things};
 
-/// Derives a Thing Model: makes the description of its Thing and of each Thing that it is composed of, the root first, and
-/// each before those below it.
+/// Derives a Thing Model: makes the description of its Thing and of each Thing that it is composed of, the root first,
+/// and each before those below it.
 ///
-/// Each model has the bound values in the places of its placeholders. A Thing goes through these steps, of which each may
-/// have a fault, before the Things below it: its model is resolved, together with all that it brings in; its optional
-/// affordances are those that are chosen; its links to submodels lead to models of the library, each with an instance name
-/// of its own, and to none that is that of this Thing or of one above it; its description is finished, with links among the
-/// Things and with generated forms; no placeholder is left in it; it meets the conditions on descriptions. Then the choices
-/// are judged for whose segments there is no Thing. `TooLarge` of the root comes before all other faults.
+/// Each model has the bound values in the places of its placeholders. A Thing goes through these steps, of which each
+/// may have a fault, before the Things below it: its model is resolved, together with all that it brings in; its
+/// optional affordances are those that are chosen; its links to submodels lead to models of the library, each with an
+/// instance name of its own, and to none that is that of this Thing or of one above it; its description is finished,
+/// with links among the Things and with generated forms; no placeholder is left in it; it meets the conditions on
+/// descriptions. Then the choices are judged for whose segments there is no Thing. `TooLarge` of the root comes before
+/// all other faults.
 ///
-/// Each Thing costs what resolving its model costs, once for itself and once for each Thing above it, and some copies of its
-/// description.
+/// Each Thing costs what resolving its model costs, once for itself and once for each Thing above it, and some copies
+/// of its description.
 pub fn derive(
     alloc: Global,
     library: &Library,
@@ -113,7 +114,7 @@ fn judge_elsewhere(
     Ok(())
 }
 
-/// Puts a Thing and those that it is composed of at the end, below Things of these models, where so many more may stand
+/// Puts a Thing and those that it is composed of at the end, below Things of these models, where `room` more may be
 /// one below another.
 #[cycle(put_thing)]
 fn put_thing(

@@ -12,8 +12,8 @@ pub enum DeriveFault {
     /// Its model has no value, or a link of its model leads to no submodel that it may have.
     #[error("{0}: {1}")]
     Resolve(Text, ResolveFault),
-    /// The pointer to an entry of `tm:optional` that is none, or to the whole where that is no list; or a choice of what isn't
-    /// optional there.
+    /// The pointer to an entry of `tm:optional` that is none, or to the whole where that is no list; or a choice of
+    /// what isn't optional there.
     #[error("{0}: {1} is not optional")]
     Optional(Text, Text),
     /// The pointer to a link of its model with no name that an instance may have.

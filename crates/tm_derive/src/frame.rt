@@ -1,4 +1,4 @@
-//! What a derivation is given beside the models.
+//! What a derivation is given besides the models: names, ids and addresses of its Things.
 
 use wot_forms::Bases;
 use wot_json::Text;

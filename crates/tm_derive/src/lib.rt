@@ -23,10 +23,10 @@
 //! }
 //! ```
 //!
-//! `derive` makes the description of a Thing of its model, and of each Thing that it is composed of by links to submodels:
-//! resolved, with the optional affordances that are chosen, with links among the Things and with the forms that a servient
-//! serves. Where anything is wrong it names the first fault and the Thing that has it. The contract in a sentence: it answers
-//! what `derived` of specs/Derivation.antt says, or is out of memory.
+//! `derive` makes the description of a Thing of its model, and of each Thing that it is composed of by links to
+//! submodels: resolved, with the optional affordances that are chosen, with links among the Things and with the forms
+//! that a servient serves. Where anything is wrong it names the first fault and the Thing that has it. The contract in
+//! a sentence: it answers what `derived` of specs/Derivation.antt says, or is out of memory.
 #![tactic(auto)]
 
 mod changes;

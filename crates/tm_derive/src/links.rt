@@ -16,8 +16,8 @@ use tm_resolve::Link;
 use wot_forms::Bases;
 use wot_json::{Items, Members, Text, Tree, copy};
 
-/// The change of `links`, with these after those that stay: all but those at some indices. None where the links aren't a list
-/// of objects.
+/// The change of `links`, with these after those that stay: all but those at some indices. None where the links aren't
+/// a list of objects.
 pub(crate) fn links_change(
     alloc: Global,
     leaving: &[usize],
@@ -114,7 +114,7 @@ pub(crate) fn push_indices(indices: &mut Vec<usize>, links: &[Link]) -> Result<(
     Ok(())
 }
 
-/// The links that a description has besides: to its model, to the Thing of which it is a part, and to its parts.
+/// The links that a description gets: to its model, to the Thing of which it is a part, and to its parts.
 pub(crate) fn new_links(
     alloc: Global,
     bases: &Bases,

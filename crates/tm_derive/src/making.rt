@@ -117,7 +117,7 @@ fn choose(common: &Common<'_>, place: &Place) -> Result<Vec<Text>, DeriveFault>
     choose_for(common, place.segment.as_str(), place.model.as_str(), room)
 }
 
-/// The same, for the Thing of this segment and model, where so many models are gone through at most.
+/// The same, for the Thing of this segment and model, where at most `room` models are gone through.
 fn choose_for(
     common: &Common<'_>,
     segment: &str,

@@ -58,7 +58,7 @@ pub(crate) fn is_among(text: &str, texts: &[Text]) -> bool
 }
 
 /// Puts the texts of what is optional in a model at the end: those of the model that it extends, and then its own.
-/// So many models are gone through at most.
+/// At most `room` models are gone through.
 #[cycle(push_optional)]
 pub(crate) fn push_optional(
     common: &Common<'_>,

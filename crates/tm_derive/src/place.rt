@@ -1,4 +1,4 @@
-//! Where one Thing stands among those of a derivation.
+//! The place of one Thing among those of a derivation.
 
 use wot_json::Text;
 

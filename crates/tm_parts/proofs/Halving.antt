@@ -1,4 +1,4 @@
--- What a search by halving finds among values whose names ascend.
+-- What a binary search finds among values whose names ascend.
 use Rattle.std.proofs.Common.{◌≡◌, ℕ, zero, suc, ◌+◌, ◌<◌, List, [], ◌∷◌, length, get_or, map, refl, sym, ap, inl, inr, ◌∙◌, arith, cond}
 use Rattle.std.specs.Prelude.{Option, Some, None, false}
 use Rattle.std.specs.Str.{bytes_eq}
@@ -49,7 +49,7 @@ earlier_before name_of (x ∷ xs) ascend (suc i) (suc j) d below within = earlie
 abbrev pub order_of : {X : Type 0} → (X → List ℕ) → List ℕ → X → Ordering
 order_of name_of name x = slice_cmp nat_cmp (name_of x) name
 
--- the comparisons rise, as a search by halving asks
+-- the comparisons rise, as a binary search asks
 comparisons_rise : {X : Type 0} (name_of : X → List ℕ) (xs : List X) (name : List ℕ) → Ascend name_of xs → IsNonDecreasingBy (λ x. ordering_index (order_of name_of name x)) xs
 comparisons_rise name_of xs name ascend = searchable_from_sorted nat_list_cmp_total name_of xs name
     (λ k d low within. ap is_lt (nat_list_cmp_total.antisymm (name_of (get_or xs (k + 1) d)) (name_of (get_or xs k d)) ∙ ap ordering_reverse (earlier_before name_of xs ascend k (k + 1) d (omega arith) within)))

@@ -1,4 +1,4 @@
--- Which model a search by halving finds among those whose URLs ascend.
+-- Which model a binary search finds among those whose URLs ascend.
 use Rattle.std.proofs.Common.{◌≡◌, ℕ, ◌<◌, List, [], ◌∷◌, length, get_or, refl, ap, ◌∙◌, cond}
 use Rattle.std.specs.Prelude.{Option, Some, None, Result}
 use Rattle.std.specs.Str.{bytes_eq}

@@ -22,12 +22,13 @@ placeholder_at text =
     let name = take_while is_name_byte (drop 2 text) in
     if is_name name && bytes_eq (take (length name + 4) text) (placeholder_text name) then Some name else None
 
--- a piece of a text: one byte as it is, or a placeholder with its name
+-- A piece of a text: one byte as it is, or a placeholder with its name. Bytes will do, because names and braces are
+-- ASCII and no other character has such a byte.
 pub data Piece : Type 0 where
   plain : ℕ → Piece
   placeholder : List ℕ → Piece
 
--- The pieces of a text after its first bytes, of which so many are skipped: where a placeholder begins it is
+-- The pieces of a text after its first n bytes, which are skipped: where a placeholder begins it is
 -- taken whole, and else one byte is plain.
 abbrev pub pieces_after : ℕ → List ℕ → List Piece
 pieces_after skipped [] = []

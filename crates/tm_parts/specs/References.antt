@@ -1,5 +1,5 @@
--- References from one Thing Model to a part of another, the values of `tm:ref` (Thing Description 1.1, section "Thing Model"):
--- the location of a model, `#`, and a JSON Pointer (RFC 6901) as the fragment.
+-- References from one Thing Model to a part of another, the values of `tm:ref` (Thing Description 1.1, section "Thing
+-- Model"): the location of a model, `#`, and a JSON Pointer (RFC 6901) as the fragment.
 use Rattle.std.specs.Prelude.{◌==◌, ◌&&◌, nat_lt, ℕ, Bool, List, [], ◌∷◌, length, Option, Some, None, option_map, option_and_then, if◌then◌else◌}
 use Rattle.std.specs.List.{position_or_len, before_first, after_first}
 use Rattle.std.specs.Result.{result_ok}

@@ -11,8 +11,8 @@ use servient_base::NoMemory;
 use std::alloc::Global;
 use wot_json::{Items, Members, Text, Tree, copy};
 
-/// The model with the values in place of its placeholders. A text that is exactly one placeholder becomes the value, of any
-/// type, and into a longer text go texts alone. What a value brings in isn't read again.
+/// The model with the values in place of its placeholders. A text that is exactly one placeholder becomes the value, of
+/// any type, and into a longer text go texts alone. What a value brings in isn't read again.
 #[cycle(built)]
 pub(crate) fn built(alloc: Global, tree: &Tree, values: &Values<'_>) -> Result<Tree, NoMemory>
     ensures { IfOk result (λ t. json_of t ≡ substituted_value (json_of tree.now) values.now) }

@@ -12,7 +12,8 @@ use std::alloc::Global;
 use wot_json::{Items, Members, Text, Tree, through_element, through_member};
 
 /// The name of the first placeholder in a text of this value, and the pointer to that text (RFC 6901).
-/// The order is preorder, in one text from the left. Names of members aren't looked at. Its time is in proportion
+/// The order is preorder, in one text from the left. Names of members aren't looked at, because
+/// a name with a placeholder is a fault of `substitute`. Its time is in proportion
 /// to the value.
 #[cycle(first_hole)]
 pub fn first_hole(alloc: Global, tree: &Tree) -> Result<Option<(Text, Text)>, NoMemory>

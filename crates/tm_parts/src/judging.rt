@@ -43,9 +43,9 @@ impl PartFault {
     }
 }
 
-/// Finds the first fault of a model with these values, in preorder: a member's name that holds a placeholder is one, and an
-/// object's names are judged before its members. It takes memory for the fault alone. Its time is in proportion to the
-/// model, and for each placeholder to the logarithm of the number of values; how long values are doesn't matter.
+/// Finds the first fault of a model with these values, in preorder: a member's name that holds a placeholder is one,
+/// and an object's names are judged before its members. It takes memory for the fault alone. Its time is in proportion
+/// to the model, and for each placeholder to the logarithm of the number of values; how long values are doesn't matter.
 #[cycle(judge)]
 pub(crate) fn judge(alloc: Global, tree: &Tree, values: &Values<'_>) -> Result<(), PartFault>
     ensures ok { OnOk result (faults_of (json_of tree.now) values.now ≡ []) }

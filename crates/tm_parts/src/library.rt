@@ -94,7 +94,7 @@ impl Library {
         self.keep(url, model)
     }
 
-    /// Judges whether a model may stand under the text of a URL.
+    /// Judges whether a model may be put under the text of a URL.
     fn judge(&self, url: &str, model: &Tree) -> Result<(), AddFault>
         ensures ok { OnOk result (MayAdd url.now (json_of model.now) self.now) }
         ensures fault { IfErr result (λ e. HasAddFault e url.now (json_of model.now) self.now) }

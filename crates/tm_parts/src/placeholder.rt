@@ -75,7 +75,7 @@ pub(crate) fn first_piece(text: &str) -> (Piece<'_>, &str)
     }
 }
 
-/// How many bytes stand before the first that is this one.
+/// How many bytes are before the first that is this one.
 pub(crate) fn length_before(stop: u8, text: &[u8]) -> usize
     ensures { result ≡ position_or_len (λ b. b == stop) text.now }
 {

@@ -23,7 +23,8 @@ pub struct Reference {
 /// Why a text leads nowhere.
 #[derive(Debug, Drop, Error)]
 pub enum RefFault {
-    /// The text has no `#`, can't be joined, or has no pointer after the `#`.
+    /// The text has no `#`, can't be joined, or has no pointer after the `#`. Which of these isn't said, because both
+    /// halves are read before either is looked up.
     #[error("no reference to a part of a model")]
     BadRef,
     /// Out of memory.

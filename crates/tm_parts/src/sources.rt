@@ -8,8 +8,8 @@ struct Prepared<'a> {
     fault: Option<PartFault>,
 }
 
-/// The models of a library with values in place of their placeholders. Contracts see the list of URLs, each with the model
-/// that it leads to or the first fault of that, in the byte order of the URLs.
+/// The models of a library with values in place of their placeholders. Contracts see the list of URLs, each with the
+/// model that it leads to or the first fault of that, in the byte order of the URLs.
 #[derive(Drop)]
 pub struct Sources<'a> {
     models: Vec<Prepared<'a>>,
@@ -68,8 +68,9 @@ pub struct Source<'a> {
 }
 
 impl<'a> Sources<'a> {
-    /// Parses the URL of each model, and judges it with the values, once. Its time is in proportion to the library and the
-    /// bindings, and for each placeholder to the logarithm of the number of bindings; how long values are doesn't matter.
+    /// Parses the URL of each model, and judges it with the values, once: a step into a model is then a look-up. Its
+    /// time is in proportion to the library and the bindings, and for each placeholder to the logarithm of the number
+    /// of bindings; how long values are doesn't matter.
     pub fn new(
         alloc: Global,
         library: &'a Library,
@@ -82,7 +83,7 @@ impl<'a> Sources<'a> {
         Ok(Sources { models, values })
     }
 
-    /// The model under this URL, found by halving.
+    /// The model under this URL, found by binary search.
     pub fn get(&self, url: &str) -> Option<Source<'_>>
         ensures model { option_map kept_source result ≡ source_named url.now self.now }
         ensures location { IfSome result (λ s. s.location.now ≡ url.now) }

@@ -42,8 +42,8 @@ impl From<AllocError> for PartFault {
 /// and what a value brings in isn't read again. The fault is the first in preorder, where a member name with a
 /// placeholder is one, and an object's names are judged before its members.
 ///
-/// Its time is in proportion to the model and to the bindings, and for each placeholder and each binding to the logarithm of
-/// the number of bindings, with what the values add.
+/// Its time is in proportion to the model and to the bindings, and for each placeholder and each binding to the
+/// logarithm of the number of bindings, with what the values add.
 pub fn substitute(alloc: Global, tree: &Tree, bindings: &Bindings) -> Result<Tree, PartFault>
     ensures ok { IfOk result (λ t. (json_of t ≡ substituted_value (json_of tree.now) bindings.now)
         × (faults_of (json_of tree.now) bindings.now ≡ [])) }

@@ -1,4 +1,4 @@
-//! The values of bindings, found by halving.
+//! The values of bindings, found by binary search.
 
 ghost use Rattle.std.specs.Cmp.Lexicographic.{slice_cmp};
 ghost use Rattle.std.specs.Ordering.{nat_cmp};
@@ -48,6 +48,8 @@ impl<'a> Values<'a> {
     pub fn new(alloc: Global, bindings: &'a Bindings) -> Result<Self, NoMemory>
         ensures { IfOk result (λ values. BindAlike values bindings.now) }
     {
+        // A vector, because the check of borrows doesn't let a `BTreeMap` of references be lent for less time than they
+        // live.
         let map = bound_map(alloc, bindings)?;
         let mut list = Vec::with_capacity(alloc, map.len())?;
         for entry in map {

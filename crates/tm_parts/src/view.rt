@@ -1,4 +1,5 @@
-//! A model with values in place of its placeholders, seen without building it.
+//! A model with values in place of its placeholders, seen without building it: nothing is built before its size is
+//! known.
 
 ghost use Rattle.std.specs.Prelude.{◌≡◌, ◌<◌, ◌≤◌, ◌++◌, ℕ, List, length, IfOk, IfSome, IsNone, ◌↔◌, option_map, option_and_then};
 ghost use Rattle.std.specs.Str.{bytes_eq};
@@ -20,11 +21,12 @@ use servient_base::NoMemory;
 use std::alloc::Global;
 use wot_json::{Members, Text, Tree, copy, pointer, quoted_length};
 
-/// A node of a model as it is with values in place of its placeholders, or a node of such a value. It reads placeholders as
-/// it is asked, and builds nothing.
+/// A node of a model as it is with values in place of its placeholders, or a node of such a value. It reads
+/// placeholders as it is asked, and builds nothing. Its fields are public and it has no Model, because all that can be
+/// said of it is `seen`.
 #[derive(Clone, Copy)]
 pub struct View<'a> {
-    /// The node as it stands in the model, or in the value.
+    /// The node as it is in the model, or in the value.
     pub tree: &'a Tree,
     /// What takes the places of placeholders; nothing does within a value, which isn't read again.
     pub values: Option<&'a Values<'a>>,
@@ -55,7 +57,7 @@ pub struct ListView<'a> {
     pub values: Option<&'a Values<'a>>,
 }
 
-/// An object whose members are seen with values in place of their placeholders. Its names are as they stand.
+/// An object whose members are seen with values in place of their placeholders. Its names are as they are written.
 #[derive(Clone, Copy)]
 pub struct ObjectView<'a> {
     pub members: &'a Members,
@@ -63,7 +65,9 @@ pub struct ObjectView<'a> {
 }
 
 impl<'a> View<'a> {
-    /// What the node is. A text that is exactly one bound placeholder is what the value is.
+    /// What the node is. A text that is exactly one bound placeholder is what the value is. A text is read each time
+    /// that it is visited, so counting takes a time in proportion to the model as it is written, and not to its weight
+    /// alone.
     pub fn node(self) -> Node<'a>
         ensures { node_value result ≡ seen self.entry }
     {
@@ -84,7 +88,8 @@ impl<'a> View<'a> {
         }
     }
 
-    /// The node itself, or the value where it is a text that is exactly one bound placeholder. A text that is left is none.
+    /// The node itself, or the value where it is a text that is exactly one bound placeholder. A text that is left is
+    /// none.
     fn followed(self) -> View<'a>
         ensures same { seen result ≡ seen self.entry }
         ensures text { (text : List ℕ) → json_of result.tree.now ≡ string text
@@ -183,8 +188,8 @@ fn bound<'a>(name: &str, values: Option<&'a Values<'a>>) -> Option<&'a Tree>
 }
 
 impl<'a> TextView<'a> {
-    /// The length of the JSON text of the text (RFC 8259, section 7), where it is at most `most`. It stops as soon as `most` is
-    /// passed.
+    /// The length of the JSON text of the text (RFC 8259, section 7), where it is at most `most`. It stops as soon as
+    /// `most` is passed.
     pub fn quoted_length(self, most: usize) -> Option<usize>
         ensures ok { IfSome result (λ n. n ≡ length (json_string (seen_text self.entry))) }
         ensures no_room { IsNone result ↔ (most < length (json_string (seen_text self.entry))) }

@@ -48,7 +48,7 @@ more_moved name members others left grown next m grown' so_far split first push 
   moved = push ∙ ap (λ (xs : List Field). xs ++ m ∷ []) so_far.moved ∙ append_assoc others so_far.before (m ∷ []);
 }
 
--- the members behind a part of some that are in order
+-- the members after a part of some that are in order
 ordered_behind : (before left : List Field) → AreOrdered (before ++ left) → AreOrdered left
 ordered_behind [] left ordered = ordered
 ordered_behind (m ∷ before) left ordered = ordered_behind before left (rest_ordered m (before ++ left) ordered)
@@ -100,7 +100,7 @@ none_left (m ∷ ms) none = absurd (omega (arith, none))
 pub pushed : (old new more : List Named) → new ≡ old ++ more → json_members new ≡ json_members old ++ json_members more
 pushed old new more is = ap json_members is ∙ map-append json_member old more
 
--- no changes are left, and what is left of the members is put behind what is done: that is the whole
+-- no changes are left, and what is left of the members is put after what is done: that is the whole
 pub all_merged : (rest done left all changes : List Named) (whole : List Field) → json_members done ++ merged_members (json_members rest) (members_of (json_members changes)) ≡ whole → length changes ≡ 0 → left ≡ rest → all ≡ done ++ left → json_members all ≡ whole
 all_merged rest done left all changes whole so_far none same is =
     pushed done all left is

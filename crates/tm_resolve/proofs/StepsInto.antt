@@ -23,7 +23,7 @@ use Rattle.tm_resolve.proofs.Outcomes.{refused_before}
 
 -- ---- whether a step can be made
 
--- what is said of a step whatever comes inside
+-- what is said of a step, for all that comes inside
 abbrev pub StepFaults : Sources → Reference → List Reference → Reference → (Json → List ResolveFault) → List ResolveFault
 StepFaults sources from chain target inside = step_faults inside from chain target (source_named target.url sources)
 
@@ -50,7 +50,7 @@ entered_there sources from chain target part enters inside =
 
 -- ---- a step, where the chain has room and where it hasn't
 
--- a refusal whatever comes inside is one at any room
+-- a refusal for all that comes inside is one at any room
 pub refused_step : (room : ℕ) (sources : Sources) (from : Reference) (chain : List Reference) (target : Reference) (e : ResolveFault) → ((inside : Json → List ResolveFault) → IsRefusal e (StepFaults sources from chain target inside))
     → IsRefusal e (faults_within room sources from chain target)
 refused_step zero sources from chain target e refused = refused (λ part. [])

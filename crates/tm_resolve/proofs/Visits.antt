@@ -63,7 +63,7 @@ weighs_stop_before vs ws left NoMemory stops = tt
 
 -- ---- loops
 
--- whatever counting says of the visits that are left, it says of all
+-- what counting says of the visits that are left, it says of all
 abbrev pub CountsOn : List Visit → ℕ → List Visit → ℕ → Type 0
 CountsOn all before rest left = (r : Result ℕ Stop) → Weighs rest left r → Weighs all before r
 
@@ -101,7 +101,8 @@ pub loop_end : {X : Type 0} (visits : List X → List Visit) (list : List X) (in
 loop_end {X} visits list index before left none past so_far =
     counts_end (visits list) before (visits (drop index list)) left (ap visits (drop_all index list past) ∙ none) so_far
 
--- the visits of links, of the elements of a list and of the members of an object, by the code's values and what they mean
+-- the visits of links, of the elements of a list and of the members of an object, by the code's values and what they
+-- mean
 abbrev pub submodels_list : (Tree → Json) → Sources → List ℕ → List Reference → List Tree → List Visit
 submodels_list meaning sources url chain links = flat_map (submodel_visits (step_from sources chain) url chain) (map meaning links)
 
@@ -128,7 +129,7 @@ elements_counted : (values : Values) (ts : List Tree) → length (element_list (
 elements_counted values [] = refl
 elements_counted values (t ∷ ts) = ap suc (elements_counted values ts)
 
--- names are as they stand
+-- names are as they are written
 names_seen : (values : Values) (ms : List (List ℕ × Json)) → sum_by name_weight (member_list (substituted_members (members_of ms) values)) ≡ sum_by name_weight ms
 names_seen values [] = refl
 names_seen values (m ∷ ms) =

@@ -20,7 +20,7 @@ next_step sources chain = step_from sources.models chain
 abbrev pub Spends : ℕ → ℕ → Option ℕ → Type 0
 Spends amount left rest = MatchOption rest (left < amount) (λ n. n + amount ≡ left)
 
--- What counting these visits says, where so much was left before: what is left after them, none of which went too far;
+-- What counting these visits says, by what was left before: what is left after them, none of which went too far;
 -- or that they weigh more, or that one of them goes too far.
 abbrev pub Weighs : List Visit → ℕ → Result ℕ Stop → Type 0
 Weighs visits left (Ok rest) = (rest + weight_of visits ≡ left) × (list_any is_too_far visits ≡ false)

@@ -1,5 +1,6 @@
--- The faults of a part of a Thing Model, all of them in order: those of an extension come before those of the model, those
--- of a `tm:ref` before those of the members beside it, and those of elements and members in the order of the value.
+-- The faults of a part of a Thing Model, all of them in order: those of an extension come before those of the model,
+-- those of a `tm:ref` before those of the members beside it, and those of elements and members in the order of the
+-- value.
 use Rattle.std.specs.Prelude.{◌+◌, Bool, true, false, ℕ, zero, suc, List, [], ◌∷◌, ◌++◌, Option, Some, None, Result, Ok, Err, if◌then◌else◌}
 use Rattle.std.specs.Str.{bytes_eq}
 use Rattle.wot_json.specs.Tree.{Json, null, boolean, integer, string, array, object, Elements, no_elements, element, Members, no_members, member}
@@ -34,8 +35,8 @@ fault_in url part.NoMemory = NoMemory
 abbrev pub part_below : Reference → List ℕ → Reference
 part_below from step = reference from.url (from.pointer ++ step)
 
--- What a step gives: the value of its target, and the faults on the way, by the part that leads to the target, the chain
--- before the step and its target.
+-- What a step gives: the value of its target, and the faults on the way, by the part that leads to the target, the
+-- chain before the step and its target.
 pub record Steps : Type 0 where
   pub value : ValueStep
   pub faults : Reference → List Reference → Reference → List ResolveFault
@@ -45,7 +46,8 @@ abbrev pub is_object : Json → Bool
 is_object (object ms) = true
 is_object v = false
 
--- the faults of a `tm:ref` whose target has this value and these faults: a value without faults is to be an object
+-- the faults of a `tm:ref` whose target has this value and these faults: only a value without faults of its
+-- own has to be an object
 abbrev pub import_faults : Reference → Json → List ResolveFault → List ResolveFault
 import_faults from value (fault ∷ faults) = fault ∷ faults
 import_faults from value [] = if is_object value then [] else fault_at NotObject from ∷ []
@@ -99,7 +101,8 @@ target_faults steps chain target part =
     (if is_whole target then extension_faults steps chain target.url (extensions part) else [])
     ++ part_faults steps chain target part
 
--- the faults of a step whose target's model is this one: there is a part at the pointer, in the model without its extension
+-- the faults of a step whose target's model is this one: there is a part at the pointer, in the model without its
+-- extension
 abbrev pub model_faults : (Json → List ResolveFault) → Reference → Reference → Result Json PartFault → List ResolveFault
 model_faults inside from target (Err fault) = fault_in target.url fault ∷ []
 model_faults inside from target (Ok whole) = elim (part_of target.pointer whole) [ None ↦ fault_at MissingNode from ∷ [] | Some part ↦ inside part ]
@@ -110,7 +113,7 @@ abbrev pub step_faults : (Json → List ResolveFault) → Reference → List Ref
 step_faults inside from chain target None = fault_at MissingModel from ∷ []
 step_faults inside from chain target (Some source) = if is_in_chain target chain then fault_at Circular from ∷ [] else model_faults inside from target source
 
--- The faults of a step, where the chain has room for so many more targets. Beyond that room nothing is looked at, and the
+-- The faults of a step, where the chain has room for n more targets. Beyond that room nothing is looked at, and the
 -- expansion is too large.
 abbrev pub faults_within : ℕ → Sources → Reference → List Reference → Reference → List ResolveFault
 faults_within zero sources from chain target = step_faults (λ part. []) from chain target (source_named target.url sources)

@@ -41,7 +41,7 @@ abbrev pub elements_under : Json → List Json
 elements_under (array es) = element_list es
 elements_under v = []
 
--- all links of a model, whatever their relation
+-- all links of a model, of every relation
 abbrev pub links_under : Json → List Json
 links_under model = elim (member_named (codes "links") (members_under model)) [ None ↦ [] | Some links ↦ elements_under links ]
 
@@ -74,6 +74,6 @@ located_url from text = elim (joined_url (Some from) text) [ Ok parts ↦ Some (
 abbrev pub linked_model : List ℕ → Json → Option Reference
 linked_model from link = option_map whole_of (option_and_then (located_url from) (option_and_then text_under (member_named (codes "href") (members_under link))))
 
--- a model as it is extended: its members but for its links
+-- a model as it is extended: its members but for its links, because those of a resolved model are to be its own
 abbrev pub without_links : Json → Json
 without_links model = object (members_of (without_member (codes "links") (members_under model)))

@@ -16,8 +16,8 @@ PartsAreOrdered sources = (chain : List Reference) → (target : Reference) → 
 abbrev pub HasLinks : Json → List Json → Type 0
 HasLinks value links = member_named (codes "links") (members_under value) ≡ Some (array (elements_of links))
 
--- The links of a target with a list of them are its own, each with its references brought in, at its own index. Those of a
--- model that it extends, or of what a `tm:ref` of the model itself leads to, are not among them.
+-- The links of a target with a list of them are its own, each with its references brought in, at its own index. Those
+-- of a model that it extends, or of what a `tm:ref` of the model itself leads to, are not among them.
 abbrev pub LinksAreOwn : Sources → ℕ → List Reference → Reference → Type 0
 LinksAreOwn sources room chain target =
     (part : Json) → (links : List Json) → entered_part sources chain target ≡ Some part → HasLinks part links

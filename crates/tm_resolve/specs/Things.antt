@@ -1,5 +1,5 @@
--- The Things that a Thing Model is derived into: its own and those of its submodels (Thing Description 1.1, section "Thing
--- Model").
+-- The Things that a Thing Model is derived into: its own and those of its submodels (Thing Description 1.1, section
+-- "Thing Model").
 use Rattle.std.specs.Prelude.{◌++◌, ℕ, zero, suc, List, [], ◌∷◌, codes, Some, None, if◌then◌else◌}
 use Rattle.std.specs.List.{flat_map}
 use Rattle.wot_json.specs.Tree.{Json}
@@ -20,7 +20,7 @@ link_things step url chain link =
     then elim (linked_model url link) [ None ↦ [] | Some model ↦ step chain model ]
     else []
 
--- The Things of a model in preorder, where the chain has room for so many more targets, each by its model.
+-- The Things of a model in preorder, where the chain has room for n more targets, each by its model.
 abbrev pub things_within : ℕ → Sources → ThingStep
 things_within zero sources chain target = elim (entered_part sources chain target) [ None ↦ [] | Some whole ↦ target ∷ [] ]
 things_within (suc room) sources chain target =

@@ -1,6 +1,9 @@
 -- What a part of a Thing Model becomes once the models that it extends and the parts that it refers to are brought in
 -- (Thing Description 1.1, section "Thing Model"). All parts are of models that have values in place of their
--- placeholders. The value is said of each part, also of one with faults, whose value nobody asks for.
+-- placeholders.
+--
+-- The value is said of each part, also of one with faults, whose value nobody asks for: value and faults are then two
+-- functions, and neither repeats the walk of the other.
 use Rattle.std.specs.Prelude.{ℕ, zero, suc, List, [], ◌∷◌, ◌++◌, Option, Some, None, if◌then◌else◌}
 use Rattle.std.specs.Str.{bytes_eq}
 use Rattle.wot_json.specs.Tree.{Json, null, boolean, integer, string, array, object, Elements, no_elements, element, Members, no_members, member}
@@ -61,8 +64,8 @@ target_value step chain target part =
     let own = part_value step target.url chain part in
     if is_whole target then extended_value step target.url chain (extensions part) own else own
 
--- The value of the target of a step, where the chain has room for so many more targets. Beyond that room nothing is
--- brought in, and the expansion is too large.
+-- The value of the target of a step, where the chain has room for n more targets. Beyond that room nothing is
+-- brought in, and the value is null: the expansion is then too large, and nobody asks.
 abbrev pub value_within : ℕ → Sources → ValueStep
 value_within zero sources chain target = null
 value_within (suc room) sources chain target =

@@ -1,6 +1,7 @@
 -- How large a Thing Model grows where the models that it extends, the parts that it refers to and its submodels are
--- brought in (Thing Description 1.1, section "Thing Model"). This is said of the visits of its expansion, which is never
--- built: each node of the model is visited, and each node of what is brought in, as often as it is.
+-- brought in (Thing Description 1.1, section "Thing Model"). This is said of the visits of its expansion, which is
+-- never built: each node of the model is visited, and each node of what is brought in, as often as it is. It isn't said
+-- of the walk that makes the value, because submodels are visited and not brought in.
 use Rattle.std.specs.Prelude.{◌+◌, ◌==◌, ◌||◌, Bool, ℕ, zero, suc, nat_lt, List, [], ◌∷◌, ◌++◌, length, codes, Option, Some, None, option_and_then, if◌then◌else◌}
 use Rattle.std.specs.List.{list_any, flat_map, sum_by}
 use Rattle.wot_json.specs.Tree.{Json, null, boolean, integer, string, array, object, Elements, no_elements, element, Members, no_members, member}
@@ -37,8 +38,8 @@ own_weight (object ms) = 2 + sum_by name_weight (member_list ms)
 
 -- ---- the visits of an expansion
 
--- What a step visits, by what it leads to, the model of a Thing or a part of one, the depth at which it leads there, the
--- chain before it, and its target.
+-- What a step visits, by what it leads to, the model of a Thing or a part of one, the depth at which it leads there,
+-- the chain before it, and its target.
 abbrev pub Step : Type 0
 Step = Role → ℕ → List Reference → Reference → List Visit
 
@@ -86,7 +87,7 @@ extension_visits step url chain links = []
 abbrev pub submodel_visits : Step → List ℕ → List Reference → Json → List Visit
 submodel_visits step url chain link = if is_link (codes "tm:submodel") link then link_visits step Thing url chain link else []
 
--- visits that are made from the model of a Thing alone
+-- visits that are made from the model of a Thing alone: a model that is extended or referred to isn't one there
 abbrev pub of_thing : Role → List Visit → List Visit
 of_thing Thing visits = visits
 of_thing Part visits = []
@@ -101,7 +102,8 @@ links_visits step role url chain whole =
 abbrev pub is_whole : Reference → Bool
 is_whole target = length target.pointer == 0
 
--- the visits of a target whose part this is, with it in the chain: those of the part, and for a whole model of its links
+-- the visits of a target whose part this is, with it in the chain: those of the part, and for a whole model of its
+-- links
 abbrev pub target_visits : Step → Role → ℕ → List Reference → Reference → Json → List Visit
 target_visits step role depth chain target part =
     part_visits step target.url chain depth part
@@ -111,7 +113,7 @@ target_visits step role depth chain target part =
 abbrev pub entered_part : Sources → List Reference → Reference → Option Json
 entered_part sources chain target = option_and_then (part_of target.pointer) (entered_model sources chain target)
 
--- The visits of a step, where the chain has room for so many more targets. A step beyond that room visits its part
+-- The visits of a step, where the chain has room for n more targets. A step beyond that room visits its part
 -- alone, which is enough to make the expansion too large.
 abbrev pub visits_within : ℕ → Sources → Step
 visits_within zero sources role depth chain target =

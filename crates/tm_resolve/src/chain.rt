@@ -1,4 +1,7 @@
 //! The way to a part: the targets that were stepped into, and the pieces of the pointer to it.
+//!
+//! A target is put in before a step and taken out after it, so that what was brought in beside a place doesn't count
+//! there. That the chain is bounded is why each walk ends.
 
 ghost use Rattle.std.specs.Prelude.{◌≡◌, ◌++◌, [], ◌∷◌, ◌<◌, ◌^◌, length, OnOk, IfOk};
 ghost use Rattle.wot_json.specs.Places.{step_text, element_step_text};
@@ -25,7 +28,8 @@ pub(crate) fn is_in_chain(target: &Reference, chain: &[Reference]) -> bool
     false
 }
 
-/// The two lead to one part of one model.
+/// The two lead to one part of one model: their texts are the same, because a pointer that was decoded has one text for
+/// each place.
 fn is_target(target: &Reference, entry: &Reference) -> bool
     ensures { result ≡ spec.is_target target.now entry.now }
 {

@@ -13,8 +13,8 @@ use wot_json::Text;
 /// The kind of a fault in a model.
 #[derive(Debug, Clone, Copy, PartialEq, Eq, Error)]
 pub enum ResolveKind {
-    /// The model with all that it brings in, and its submodels, is too much, too deep, or has too long a chain of models
-    /// and parts.
+    /// The model with all that it brings in, and its submodels, is too much, too deep, or has too long a chain of
+    /// models and parts.
     #[error("too large")]
     TooLarge,
     /// The value of `tm:ref` is no text, or refers to no part of a model.

@@ -1,4 +1,4 @@
-//! What the definition of a resolved model comes to, as contracts of functions that no code needs to call.
+//! Laws of the definition of a resolved model, as contracts of functions that no code needs to call.
 
 ghost use Rattle.std.specs.Prelude.{◌≡◌, ◌↔◌, ◌≤◌, ℕ, List, [], true, false, length, Err};
 ghost use Rattle.tm_parts.specs.Library.{Models};
@@ -21,15 +21,15 @@ pub fn too_large_is_exact()
         ↔ ((is_too_large (expansion (sources_of models values) root) ≡ true) × (url ≡ root) × (place ≡ [])) }
 {}
 
-/// The value of a model that isn't too large and its faults don't depend on the limit on chains: with more room they are
-/// the same.
+/// The value of a model that isn't too large and its faults don't depend on the limit on chains: with more room they
+/// are the same.
 pub fn room_is_enough()
     ensures { (sources : Sources) → (root : List ℕ) → is_too_large (expansion sources root) ≡ false
         → (room : ℕ) → most_entries ≤ room → SaysTheSame sources root room }
 {}
 
-/// The links of a resolved model that has a list of them are its own, each at its own index, with its references brought
-/// in. So what is known of a model's links by their indices is known of those of its value.
+/// The links of a resolved model that has a list of them are its own, each at its own index, with its references
+/// brought in. So what is known of a model's links by their indices is known of those of its value.
 pub fn links_are_the_models_own()
     ensures { (sources : Sources) → PartsAreOrdered sources → (room : ℕ) → (chain : List Reference)
         → (target : Reference) → LinksAreOwn sources room chain target }

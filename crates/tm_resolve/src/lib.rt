@@ -21,8 +21,8 @@
 //!
 //! `resolve` puts bound values in the places of a model's placeholders, brings in what its `tm:extends` link and the
 //! `tm:ref` members of its objects lead to, in models of a library, and says what the result is, or the first fault.
-//! Before all that it counts how much would come, and refuses a model that grows too large. The contract in a sentence: it
-//! answers what `resolved_model` of specs/Resolution.antt says, or is out of memory.
+//! Before all that it counts how much would come, and refuses a model that grows too large. The contract in a sentence:
+//! it answers what `resolved_model` of specs/Resolution.antt says, or is out of memory.
 #![tactic(auto)]
 
 mod chain;

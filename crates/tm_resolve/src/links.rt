@@ -52,7 +52,7 @@ pub(crate) fn extensions_of(model: View<'_>) -> Extensions<'_>
     }
 }
 
-/// All links of a model, whatever their relation.
+/// All links of a model, of every relation.
 pub(crate) fn links_under(model: View<'_>) -> ListView<'_>
     ensures { seen_items result ≡ spec.links_under (seen model.entry) }
 {
@@ -199,7 +199,8 @@ fn text_under(alloc: Global, value: View<'_>) -> Result<Option<Text>, NoMemory>
     }
 }
 
-/// The URL of the model that a text locates from the model `from`, where it can be joined.
+/// The URL of the model that a text locates from the model `from`, where it can be joined. The empty text is joined
+/// too; in a `tm:ref` the empty location is the model itself.
 fn located_url(alloc: Global, from: &Location, text: &str) -> Result<Option<Text>, NoMemory>
     ensures { IfOk result (λ found. found ≡ located_url from.now text.now) }
 {

@@ -1,4 +1,5 @@
-//! Merge patch (RFC 7396) on trees that are given away: the result is put together of their parts, none of which is copied.
+//! Merge patch (RFC 7396) on trees that are given away: the result is put together of their parts, none of which is
+//! copied, because both were made for it. `wot_json::merge_patch` is lent both, and copies.
 
 ghost use Rattle.std.specs.Prelude.{◌≡◌, ◌++◌, ◌∷◌, ◌↔◌, length, option_map, unwrap_or, Some, None, IfOk, OnOk, IsTrue, MatchOption};
 ghost use Rattle.wot_json.specs.Cutting.{IsBefore, with_first};
@@ -57,7 +58,7 @@ fn merge_members(alloc: Global, members: Members, changes: Members) -> Result<Me
     Ok(Members::from_vec(done))
 }
 
-/// Puts what a member of the patch makes of that of the target at the end, if anything.
+/// Puts what a member of the patch makes of that of the target at the end, if anything is left.
 #[cycle(merging)]
 fn push_change(
     alloc: Global,

@@ -41,8 +41,8 @@ impl Relation {
 pub struct Link {
     /// Its index among all links of the model, from 0.
     pub index: usize,
-    /// The URL of the model that it leads to, without a fragment. None where `href` is no text or can't be joined to the
-    /// URL of the model.
+    /// The URL of the model that it leads to, without a fragment. None where `href` is no text or can't be joined to
+    /// the URL of the model.
     pub target: Option<Text>,
     /// The value of `instanceName`, where the link has it.
     pub instance_name: Option<Tree>,

@@ -17,7 +17,8 @@ use tm_parts::{Bindings, Library, Reference};
 use wot_json::{Text, Tree};
 
 /// The models of a library with values in the places of their placeholders, prepared once for all that is asked of
-/// them. Contracts see the models by their URLs, each with its values or with the first fault of the substitution.
+/// them, because a derivation asks for many. It has no Model, because some of the models are faults. Contracts see the
+/// models by their URLs, each with its values or with the first fault of the substitution.
 #[derive(Drop)]
 pub struct Resolver<'a> {
     sources: Sources<'a>,
@@ -27,8 +28,8 @@ impl<'a> Resolver<'a> {
     ghost use Rattle.tm_resolve.specs.Resolver.{resolver_models};
     ghost use Rattle.tm_resolve.specs.ModelLinks.{relation_text, kept_links, optional_part, model_links as links_under_url, whole_model as whole_model_under};
 
-    /// Judges each model of the library with the values, parses its URL, and puts the bindings in order, all once. No value is
-    /// put in.
+    /// Judges each model of the library with the values, parses its URL, and puts the bindings in order, all once. No
+    /// value is put in.
     pub fn new(
         alloc: Global,
         library: &'a Library,
@@ -46,21 +47,21 @@ impl<'a> Resolver<'a> {
 
     /// The value of the model under the URL `root`, or the first fault.
     ///
-    /// Each model has values in the places of its placeholders before anything in it is looked at; a fault of that comes
-    /// alone. A model with one link `tm:extends` is a merge patch (RFC 7396) on the model that the link leads to, which
-    /// comes with its own extension and without its links. An object with `tm:ref` is one on the part that `tm:ref`
-    /// refers to, with its own references brought in first. What leads back to a part on the way to it
-    /// is circular; what is brought in twice side by side is not.
+    /// Each model has values in the places of its placeholders before anything in it is looked at; a fault of that
+    /// comes alone. A model with one link `tm:extends` is a merge patch (RFC 7396) on the model that the link leads to,
+    /// which comes with its own extension and without its links. An object with `tm:ref` is one on the part that
+    /// `tm:ref` refers to, with its own references brought in first. What leads back to a part on the way to it is
+    /// circular; what is brought in twice side by side is not.
     ///
-    /// `TooLarge` comes before all other faults, at the root and with the empty pointer: the model with all that it brings
-    /// in, and its submodels, weighs more than 262,144, is deeper than 64, or has a chain of more than 16 models and parts.
-    /// The order of the others is preorder: those of an extension before those of the model, those of a `tm:ref` before
-    /// those of the members beside it, and members in the byte order of their names. Of what comes after the first fault
-    /// nothing is looked at.
+    /// `TooLarge` comes before all other faults, at the root and with the empty pointer: the model with all that it
+    /// brings in, and its submodels, weighs more than 262,144, is deeper than 64, or has a chain of more than 16 models
+    /// and parts. The order of the others is preorder: those of an extension before those of the model, those of a
+    /// `tm:ref` before those of the members beside it, and members in the byte order of their names. Of what comes
+    /// after the first fault nothing is looked at.
     ///
-    /// Counting reads each node that it visits once, builds none, and stops where a limit is passed. For each step it joins a
-    /// text to the URL of a model, and finds a model by halving. Only what isn't too large is built; what is brought in twice
-    /// is made twice, and merged again at each step that brings it in.
+    /// Counting reads each node that it visits once, builds none, and stops where a limit is passed. For each step it
+    /// joins a text to the URL of a model, and finds a model by binary search. Only what isn't too large is built; what
+    /// is brought in twice is made twice, and merged again at each step that brings it in.
     pub fn resolve(&self, root: &str) -> Result<Tree, ResolveFault>
         ensures ok { IfOk result (λ t. resolved_from (resolver_models self.now) root.now ≡ Ok (json_of t)) }
         ensures fault { IfErr result (λ e. (e ≡ ResolveFault.NoMemory)
@@ -79,7 +80,8 @@ impl<'a> Resolver<'a> {
     }
 
     /// The links with this relation of the model under the URL that count, in their order: objects in its list `links`
-    /// without `tm:ref`. There are none where the library doesn't have the model or its substitution has a fault.
+    /// without `tm:ref`. There are none where the library doesn't have the model or its substitution has a fault,
+    /// because `resolve` reports that.
     pub fn links(&self, url: &str, relation: Relation) -> Result<Vec<Link>, NoMemory>
         ensures { IfOk result (λ links. kept_links links.items
             ≡ links_under_url (resolver_models self.now) url.now (relation_text relation)) }
@@ -90,8 +92,8 @@ impl<'a> Resolver<'a> {
         }
     }
 
-    /// The `tm:optional` of the model under the URL. None where it has none, where the library doesn't have the model, or
-    /// where its substitution has a fault.
+    /// The `tm:optional` of the model under the URL. None where it has none, where the library doesn't have the model,
+    /// or where its substitution has a fault.
     pub fn optional(&self, url: &str) -> Result<Option<Tree>, NoMemory>
         ensures { IfOk result (λ part. option_map json_of part ≡ optional_part (resolver_models self.now) url.now) }
     {

@@ -1,6 +1,6 @@
 //! The walk through the parts of models that makes values, or finds the first fault.
 //!
-//! Each function goes on with the chain that it was given, and with the pieces of the pointer to its part, and leaves
+//! Each function is handed the chain so far, and with the pieces of the pointer to its part, and leaves
 //! both as they were. Where it finds a fault the whole walk ends, so the first fault that is met is the first in order,
 //! and only then is the text of a pointer made.
 
@@ -265,7 +265,7 @@ fn object_value(
     Ok(merged(sources.alloc, imported, changes)?)
 }
 
-/// The value of what the value of a `tm:ref` leads to, which is to be an object.
+/// The value of what the value of a `tm:ref` leads to, which has to be an object.
 #[cycle(walk)]
 fn imported_value(
     sources: &Sources<'_>,

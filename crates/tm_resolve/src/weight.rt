@@ -2,8 +2,8 @@
 //!
 //! The nodes of the expansion are visited one by one, and what each weighs is taken from what is left of the limit:
 //! each function is handed what is left before its visits, and answers what is left after them. Counting stops at the
-//! first visit that passes a limit. A node weighs at least 2, so no more than 131,072 are counted and one more is begun,
-//! whatever the size of the expansion.
+//! first visit that passes a limit. A node weighs at least 2, so no more than 131,072 are counted and one more is
+//! begun, however large the expansion is.
 
 ghost use Rattle.std.specs.Prelude.{◌≡◌, ◌+◌, ◌≤◌, List, [], ◌∷◌, ◌++◌, length, Some, IfOk, OnOk};
 ghost use Rattle.std.specs.List.{flat_map};
@@ -262,8 +262,8 @@ fn weigh_part(
     }
 }
 
-/// Visits the members of an object, and what it refers to. The members come first, so that the text of a reference isn't
-/// made before it is known not to be too long.
+/// Visits the members of an object, and what it refers to. The members come first, so that the text of a reference
+/// isn't made before it is known not to be too long.
 #[cycle(weigh)]
 fn weigh_object(
     sources: &Sources<'_>,

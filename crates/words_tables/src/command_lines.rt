@@ -1,5 +1,5 @@
-//! Command lines, and what they mean. The words of a line are cut at each single space, so two spaces hold an empty word; a line that is
-//! `no words` has none.
+//! Command lines, and what they mean. The words of a line are cut at each single space, so two spaces hold an empty
+//! word; a line that is `no words` has none.
 
 use command_words::{Command, Consumption, WordsFault};
 use std::alloc::{AllocError, Global};

@@ -35,7 +35,7 @@ pub fn put_decoded(said: &mut String, alloc: Global, given: &str) -> Result<(), 
     put_read(said, bytes_of(alloc, given)?.as_slice())
 }
 
-/// Writes an option behind one of the number `last`, and gives the number of the last one.
+/// Writes an option after one of the number `last`, and gives the number of the last one.
 fn push(
     said: &mut String,
     options: &mut Opts<'_>,

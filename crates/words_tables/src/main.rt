@@ -1,6 +1,7 @@
-//! Tables of the crates of words: JSON, schemas, descriptions, forms, CoAP messages and command lines. Each word names a file of rows; a
-//! row is what is given, ` => `, and what comes of it. `given TEXT` is what the rows after it are about. The program prints each row with
-//! what does come of it, and each other line as it is: so it prints its files, if all is right.
+//! Tables of the crates of words: JSON, schemas, descriptions, forms, CoAP messages and command lines. Each word names
+//! a file of rows; a row is what is given, ` => `, and what comes of it. `given TEXT` is what the rows after it are
+//! about. The program prints each row with what does come of it, and each other line as it is: so it prints its files,
+//! if all is right.
 #![tactic(auto)]
 
 mod command_lines;

@@ -78,7 +78,7 @@ placed Less before here after = refl
 placed Equal before here after = refl
 placed Greater before here after = refl
 
--- where two names compare as equal, either may stand there
+-- where two names compare as equal, either may be there
 either_name : (m n : List ℕ) (v : Json) (before after rest : List (List ℕ × Json)) → match_ordering (slice_cmp nat_cmp m n) before ((n, v) ∷ rest) after ≡ match_ordering (slice_cmp nat_cmp m n) before ((m, v) ∷ rest) after
 either_name m n v before after rest = elim (compares m n) [
   | less is test ↦ rw is
@@ -121,7 +121,7 @@ kept_ordered [] sorted = tt
 kept_ordered (e ∷ []) sorted = tt
 kept_ordered (e ∷ f ∷ es) sorted = (sorted.0.0, kept_ordered (f ∷ es) sorted.1)
 
--- as many stand in the list as in the map
+-- as many are in the list as in the map
 pub kept_length : (es : Kept) → length (kept_entries es) ≡ length es
 kept_length es = length-map es (λ entry. (string_bytes entry.0, json_of entry.1))
 
@@ -130,7 +130,7 @@ room_by true old new room len bound = omega arith
 room_by false old new (inl found) len bound = absurd (cc)
 room_by false old new (inr few) len bound = omega arith
 
--- where there was room, no more stand than may
+-- where there was room, no more are there than may be
 pub still_few : (id : List ℕ) (es : Kept) (now : ℕ) (was : Option Tree) → HasRoom id (kept_entries es) → was ≡ found_in id es → now ≡ length es + cond (is_some was) 0 1 → length es ≤ 4096 → now ≤ 4096
 still_few id es now was room is len bound =
     room_by (is_some was) (length es) now
@@ -140,7 +140,7 @@ still_few id es now was room is len bound =
     ])
     len bound
 
--- the same once a description was put: where the map took it, or where memory was out
+-- the same once a description was put: where the map took it, or was out of memory
 pub few_after : {E : Type 0} (r : Result (Option Tree) E) (k : String Global) (id : List ℕ) (es now : Kept) (d : Contents) → string_bytes k ≡ id → kept_entries es ≡ d.entries → HasRoom id d.entries → length es ≤ 4096
     → IfOk r (λ was. was ≡ found_in (string_bytes k) es) → IfOk r (λ was. length now ≡ length es + cond (is_some was) 0 1) → OnErr r (now ≡ es) → length now ≤ 4096
 few_after (Ok was) k id es now d key is room few found len same =

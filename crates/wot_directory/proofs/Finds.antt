@@ -1,4 +1,4 @@
--- What stands under an id, by what the map says.
+-- What is under an id, by what the map says.
 use Rattle.std.proofs.Common.{◌≡◌, ℕ, List, refl, sym, ap, subst, rules, ◌∙◌, true, false}
 use Rattle.std.specs.Prelude.{Option, Some, None, Result, Ok, Err, IfOk, IfErr, option_map, is_some, IsSome}
 use Rattle.wot_json.specs.Tree.{Json}

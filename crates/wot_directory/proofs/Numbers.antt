@@ -44,11 +44,11 @@ shorter name (m ∷ ms) found = elim (cases_Bool (bytes_eq name m.0)) [
       rw apart (omega arith)
 ]
 
--- the names of so many numbers from a first on differ, each from those after it
+-- the names of n numbers from a first on differ, each from those after it
 abbrev pub AreApart : (ℕ → List ℕ) → ℕ → ℕ → Type 0
 AreApart name first count = (i j : ℕ) → first ≤ i → i < j → j < first + count → bytes_eq (name j) (name i) ≡ false
 
--- where all names of so many numbers are found, there are as many entries
+-- where all names of n numbers are found, there are as many entries
 pub found_are_few : (name : ℕ → List ℕ) (count first : ℕ) (es : List Entry) → AreApart name first count → ((k : ℕ) → first ≤ k → k < first + count → IsSome (member_named (name k) es)) → count ≤ length es
 found_are_few name zero first es apart found = omega arith
 found_are_few name (suc count) first es apart found =

@@ -18,14 +18,14 @@ not_none : (r : Option Json) → IsSome r → false ≡ is_none r
 not_none None some = absurd (cc (some))
 not_none (Some v) some = refl
 
--- one stands under the id
+-- one is under the id
 pub may_replace : (id : List ℕ) (v : Json) (es : Kept) (d : Contents) → kept_entries es ≡ d.entries → IsValid v → id_of v ≡ Some (string id) → true ≡ is_some (found_in id es)
     → MayPut id v d × (false ≡ is_none (member_named id d.entries))
 may_replace id v es d is valid id_is some =
     let found : IsSome (member_named id d.entries) = subst (λ (ms : Entries). IsSome (member_named id ms)) is (some_kept id es (sym some)) in
     (record { valid = valid; id_is = id_is; room = inl found }, not_none (member_named id d.entries) found)
 
--- none stands under the id, and fewer stand than may
+-- none is under the id, and fewer are there than may be
 pub may_add : (id : List ℕ) (v : Json) (es : Kept) (d : Contents) → kept_entries es ≡ d.entries → IsValid v → id_of v ≡ Some (string id) → false ≡ is_some (found_in id es) → length es < 4096
     → MayPut id v d × (true ≡ is_none (member_named id d.entries))
 may_add id v es d is valid id_is none few =
@@ -33,7 +33,7 @@ may_add id v es d is valid id_is none few =
     let count : length d.entries ≡ length es = ap (λ (ms : Entries). length ms) (sym is) ∙ kept_length es in
     (record { valid = valid; id_is = id_is; room = inr (omega arith) }, none_by (member_named id d.entries) absent)
 
--- none stands under the id, and as many stand as may
+-- none is under the id, and as many are there as may be
 pub is_full : (id : List ℕ) (v : Json) (es : Kept) (d : Contents) → kept_entries es ≡ d.entries → IsValid v → id_of v ≡ Some (string id) → false ≡ is_some (found_in id es) → 4096 ≤ length es
     → HasPutFault Full id v d
 is_full id v es d is valid id_is none many =

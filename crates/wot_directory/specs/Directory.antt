@@ -1,5 +1,5 @@
--- The steps of a directory of Thing Descriptions (after the Things API of WoT Discovery, in outline). Each says what a call answers,
--- and when, and what stands afterwards.
+-- The steps of a directory of Thing Descriptions (after the Things API of WoT Discovery, in outline). Each says what a
+-- call answers, and when, and what is there afterwards.
 use Rattle.std.specs.Prelude.{◌≡◌, ◌≢◌, ◌≤◌, ◌<◌, ℕ, ◌+◌, ◌-◌, ◌^◌, ◌==◌, ◌++◌, ◌⊎◌, List, Option, None, Some, IsSome, Bool, is_none, slice_get, [], map, take, drop, decimal, codes, if◌then◌else◌, length}
 use Rattle.wot_json.specs.Tree.{Json, string, array, elements_of}
 use Rattle.wot_json.specs.Json.{text_of}
@@ -30,7 +30,7 @@ IsInvalid IdDiffers description = ⊥
 IsInvalid HasId description = ⊥
 IsInvalid Full description = ⊥
 
--- there is room for a description under this id: one stands there, or fewer stand than may
+-- there is room for a description under this id: one is there, or there are fewer than may be
 abbrev pub HasRoom : List ℕ → Entries → Type 0
 HasRoom id entries = IsSome (member_named id entries) ⊎ (length entries < most_entries)
 
@@ -81,7 +81,7 @@ local_id number = codes "local:" ++ decimal number
 abbrev pub last_number : ℕ
 last_number = 2 ^ 64 - 1
 
--- a description stands under the id of this number
+-- a description is under the id of this number
 abbrev pub IsUsed : ℕ → Entries → Type 0
 IsUsed number entries = IsSome (member_named (local_id number) entries)
 
@@ -96,7 +96,8 @@ pub record IsLeastUnused (first : ℕ) (entries : Entries) (number : ℕ) : Type
 abbrev pub AreAllUsed : ℕ → Entries → Type 0
 AreAllUsed first entries = (number : ℕ) → first ≤ number → number ≤ last_number → IsUsed number entries
 
--- the number of the next id: the least from the counter on that is not used, or where none is left there the least from 1 on
+-- The number of the next id: the least from the counter on that is not used, or where none is left there the least from
+-- 1 on. That search may go past the counter, from which there is none anyway.
 abbrev pub IsNextNumber : Contents → ℕ → Type 0
 IsNextNumber d number = IsLeastUnused d.next d.entries number ⊎ (AreAllUsed d.next d.entries × IsLeastUnused 1 d.entries number)
 
@@ -119,7 +120,7 @@ pub record MayCreate (description : Json) (d : Contents) : Type 0 where
   pub valid : IsValid description
   pub room : length d.entries < most_entries
 
--- It was created under this id, as it was handed in.
+-- It was created under this id, as it was handed in: it gets no `id`, because its id here is local.
 pub record Creates (description : Json) (d : Contents) (id : List ℕ) (after : Contents) : Type 0 where
   pub may : MayCreate description d
   pub number : ℕ
@@ -129,7 +130,8 @@ pub record Creates (description : Json) (d : Contents) (id : List ℕ) (after : 
 
 -- ---- `patch`: a description as a merge patch changes it (RFC 7396)
 
--- what a patch makes of a description: it is valid, and has the same `id`, or none where there was none
+-- What a patch makes of a description: it is valid, and has the same `id`, or none where there was none, because its
+-- place in the directory is that id.
 pub record IsPatched (kept patch description : Json) : Type 0 where
   pub merged : description ≡ merge kept patch
   pub valid : IsValid description
@@ -179,7 +181,7 @@ pub record Removes (id : List ℕ) (d after : Contents) : Type 0 where
 
 -- ---- `list`
 
--- the descriptions in the order of their ids, without so many at first, and at most so many
+-- the descriptions in the order of their ids, without the first n, and at most m
 abbrev pub listed : ℕ → ℕ → Entries → List Json
 listed offset limit entries = map (λ entry. entry.1) (take limit (drop offset entries))
 

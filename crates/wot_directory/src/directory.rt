@@ -1,4 +1,4 @@
-//! The directory.
+//! The directory: descriptions put, created, changed, removed and listed.
 
 ghost use Rattle.std.specs.Prelude.{◌≡◌, ◌≤◌, Some, None, is_none, option_map, MatchOption, IfOk, IfErr, OnOk, OnErr};
 ghost use Rattle.wot_json.specs.Meaning.{json_of};
@@ -117,8 +117,9 @@ impl Directory {
         Ok(())
     }
 
-    /// The text of the list of the descriptions in the byte order of their ids, after the first `offset` are left out, at
-    /// most `limit` of them. It goes over those that are left out, and copies those that it lists.
+    /// The text of the list of the descriptions in the byte order of their ids, after the first `offset` are left out,
+    /// at most `limit` of them. It goes over those that are left out, because the map has no place to begin at, and
+    /// copies those that it lists, so it takes up to twice their memory.
     pub fn list(&self, offset: u32, limit: u32) -> Result<Bytes, NoMemory>
         requires { 1 ≤ limit }
         ensures ok { IfOk result (λ b. b ≡ list_text offset limit self.now.entries) }

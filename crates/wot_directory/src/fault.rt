@@ -1,4 +1,4 @@
-//! Why a directory does not do what it is asked.
+//! The faults for which a directory does not do what it is asked.
 
 use std::alloc::AllocError;
 use thiserror::Error;
@@ -13,7 +13,7 @@ pub enum DirFault {
     /// The tree is no valid description: its first fault.
     #[error("{0}")]
     Invalid(TdFault),
-    /// The description's `id` is not the one under which it would stand.
+    /// The description's `id` is not the one under which it would be put.
     #[error("the description has another id")]
     IdDiffers,
     /// The description has an `id`, where the directory is to give one.

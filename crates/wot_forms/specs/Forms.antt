@@ -1,4 +1,5 @@
--- The forms of a Thing Description (TD 1.1 section 5.3.4.2), and the operations that they are for.
+-- The forms of a Thing Description (TD 1.1 section 5.3.4.2), and the operations that they are for. A description that
+-- has faults has forms by the same words; callers ask that it has none.
 use Rattle.std.specs.Prelude.{ℕ, List, [], ◌∷◌, ◌++◌, map, filter, Bool, Option, Some, None, option_map, unwrap_or, option_and_then, codes, if◌then◌else◌}
 use Rattle.std.specs.List.{flat_map}
 use Rattle.std.specs.Option.{option_map_or}

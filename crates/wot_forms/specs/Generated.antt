@@ -27,7 +27,8 @@ abbrev pub base_of : Bases → Protocol → List ℕ
 base_of bases Http = bases.http
 base_of bases Coap = bases.coap
 
--- the path of the affordances of a kind, and that of one affordance, each after its base
+-- The path of the affordances of a kind, and that of one affordance, each after its base. The segment of the Thing is
+-- encoded as names are, so that an `href` is a URL for every segment.
 abbrev pub holder_path : List ℕ → List ℕ → Kind → List ℕ
 holder_path base segment k = base ++ codes "/" ++ encoded segment ++ codes "/" ++ holder k
 
@@ -35,7 +36,7 @@ abbrev pub affordance_path : List ℕ → List ℕ → Kind → List ℕ → Lis
 affordance_path base segment k name = holder_path base segment k ++ codes "/" ++ encoded name
 
 -- The name can be a segment of a path of CoAP: it has at most 255 bytes, and is neither `.` nor `..` (RFC 7252
--- sections 5.10 and 5.10.1).
+-- sections 5.10 and 5.10.1). Its bytes are counted before it is encoded, because CoAP sends a segment as it is.
 abbrev pub is_coap_segment : List ℕ → Bool
 is_coap_segment name = nat_le (length name) 255 && not (bytes_eq name (codes ".")) && not (bytes_eq name (codes ".."))
 
@@ -79,7 +80,7 @@ plain_form href (o ∷ ops) = form href (o ∷ ops) None ∷ []
 abbrev pub property_ops : Json → List Op
 property_ops v = default_ops kind.Property (flag_of (codes "readOnly") v) (flag_of (codes "writeOnly") v)
 
--- the form for observing a property, which an observable one has besides
+-- the form for observing a property, which an observable one has as well
 abbrev pub observe_form : Protocol → List ℕ → Json
 observe_form p path = form (path ++ observe_path p) (op.ObserveProperty ∷ op.UnobserveProperty ∷ []) (Some (subprotocol_of p))
 

@@ -1,4 +1,4 @@
-//! Forms and lists of them.
+//! A form of a Thing Description, and lists of forms.
 
 ghost use Rattle.std.specs.Prelude.{◌≡◌, ◌++◌, [], ◌∷◌, OnOk, OnErr};
 
@@ -12,7 +12,7 @@ use wot_json::{NoMemory, Text};
 pub struct Form {
     /// Where the operations are done, as it is written: `resolve` joins it to a base.
     pub href: Text,
-    /// What the form is for.
+    /// What the form is for: its `op` as it is written, also where that names an operation twice.
     pub ops: Ops,
     /// The media type of what is sent and received.
     pub content_type: Text,

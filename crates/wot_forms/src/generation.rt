@@ -22,8 +22,8 @@ use wot_terms::{Kind, Op, flag};
 /// HTTP and CoAP. They take the place of those that it had; a value that is no affordance stays, and so does a
 /// description that is no object. In URLs, names and the segment are percent-encoded.
 ///
-/// It makes the forms alone and puts them in by one merge patch, so its time is in proportion to the sizes of the
-/// description and of the forms.
+/// It makes the forms alone and puts them in by one merge patch, because that walk is proved already; `generated`
+/// speaks of no patch. Its time is in proportion to the sizes of the description and of the forms.
 pub fn generate(alloc: Global, tree: &Tree, bases: &Bases, segment: &str) -> Result<Tree, NoMemory>
     ensures { IfOk result (λ t. json_of t ≡ generated (json_of tree.now) bases.now segment.now) }
 {

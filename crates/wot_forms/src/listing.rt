@@ -18,7 +18,7 @@ const DEFAULT_CONTENT_TYPE: &str = "application/json";
 
 /// The forms of the affordance of this kind and name in a valid description, where it has that; without a kind those
 /// of the description as a whole, and then the name says nothing. Its time is in proportion to the size of the forms;
-/// members are found by halving.
+/// members are found by binary search.
 pub fn forms_of(
     alloc: Global,
     tree: &Tree,

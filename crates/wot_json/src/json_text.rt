@@ -25,7 +25,8 @@ pub fn write(tree: &Tree, out: &mut [u8]) -> Option<usize>
     put_tree(tree, out, 0)
 }
 
-/// The text of a tree. It is written into room that is doubled until the text fits.
+/// The text of a tree. It is written into room that is doubled until the text fits, so that texts are written by one
+/// function and none has to be measured first.
 pub fn text_of(alloc: Global, tree: &Tree) -> Result<Bytes, NoMemory>
     ensures { IfOk result (λ b. b ≡ json_text tree.now) }
 {

@@ -13,7 +13,7 @@ ghost use Rattle.wot_json.specs.WellFormed.{IsWellFormed, ElementsAreWellFormed,
 
 use crate::{Items, MAX_DEPTH, Members, Tree};
 
-/// The text of a value that nests no deeper than is allowed is read as that value.
+/// The text of a well-formed value that nests no deeper than is allowed is read as that value.
 pub fn text_is_read_back()
     ensures { (v : Json) → IsWellFormed v → nesting v ≤ MAX_DEPTH → tree_of (text_of v) ≡ Some v }
 {}
@@ -35,13 +35,15 @@ pub fn merging_twice_is_merging_once()
     ensures { (target patch : Json) → IsWellFormed patch → merge (merge target patch) patch ≡ merge target patch }
 {}
 
-/// A text is a JSON Pointer exactly where it passes the test, and its tokens are those that it was written from.
+/// A text is a JSON Pointer exactly where it passes the test, and its tokens are those that it was written from. So a
+/// contract may cite either form.
 pub fn pointers_are_their_tokens()
     ensures test { (text : List ℕ) → IsTrue (is_pointer text) ↔ IsPointer text }
     ensures tokens { (tokens : List (List ℕ)) → tokens_in (place_text tokens) ≡ tokens }
 {}
 
-/// Each tree is well formed, so that the laws above hold of it. It goes through the whole tree.
+/// Each tree is well formed, so that the laws above hold of it. It goes through the whole tree, because what a type
+/// keeps can't be said of all its values at once.
 #[cycle(formed)]
 pub fn tree_is_well_formed(tree: &Tree)
     ensures { IsWellFormed (json_of tree.now) }

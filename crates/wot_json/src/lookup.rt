@@ -1,4 +1,7 @@
 //! The value at a place of a tree: JSON Pointer (RFC 6901).
+//!
+//! `serde_json` has such a look-up too, but takes `~2` as plain text. This one compares a name with a token as it is
+//! written, so it takes no memory.
 
 ghost use Rattle.std.specs.Prelude.{◌≡◌, ◌∷◌, [], ◌++◌, List, ℕ, ◌↔◌, option_map, IsTrue, IfOk, IfErr, IfSome, MatchOption, None, ◌<◌, length};
 ghost use Rattle.std.specs.Cmp.Lexicographic.{slice_cmp};

@@ -63,7 +63,7 @@ fn merge_members(
     Ok(Members { list: merged })
 }
 
-/// Puts what a member of the patch makes of that of the target at the end, if anything.
+/// Puts what a member of the patch makes of that of the target at the end, if anything is left.
 #[cycle(merge)]
 fn push_change(
     alloc: Global,

@@ -34,7 +34,8 @@ pub fn below_index(alloc: Global, place: &str, index: usize) -> Result<Text, NoM
 }
 
 /// The place that is reached through the member of this name, and from there by `rest`. A walk that finds something on
-/// its way down makes the pointer to it on its way back, one step for each value around it.
+/// its way down makes the pointer to it on its way back, one step for each value around it, because nothing is made
+/// then for a value in which nothing is found.
 pub fn through_member(alloc: Global, name: &str, rest: &str) -> Result<Text, NoMemory>
     ensures { IfOk result (λ t. t ≡ step_text name.now ++ rest.now) }
 {

@@ -29,7 +29,8 @@ pub enum ReadFault {
     /// Lists and objects nest more than `MAX_DEPTH` deep.
     #[error("lists and objects nest more than {MAX_DEPTH} deep")]
     TooDeep,
-    /// A number isn't whole or needs more than 64 bits with sign; the pointer (RFC 6901) to the first one.
+    /// A number isn't whole or needs more than 64 bits with sign; the pointer (RFC 6901) to the first one. `-0`, `1e2`
+    /// and `1.0` aren't whole here (docs/DECISIONS.md, "JSON").
     #[error("the number at `{0}` is not whole or needs more than 64 bits with sign")]
     NotInteger(Text),
     /// Out of memory.
@@ -62,6 +63,8 @@ pub fn read(alloc: Global, bytes: &[u8]) -> Result<Tree, ReadFault>
     ensures fault { IfErr result (HasReadFault bytes.now) }
 {
     let value = parse(alloc, bytes)?;
+    // The depth is judged before the numbers, in a pass of its own, because of two faults the same one is named then
+    // wherever they are.
     if !nests_within(&value, MAX_DEPTH) {
         return Err(ReadFault::TooDeep);
     }

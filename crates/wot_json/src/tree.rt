@@ -47,8 +47,8 @@ impl Model for Items {
     ghost size_decreases = { λ a h. omega (arith, most_le a.list.items) };
 }
 
-/// The members of an object, in the byte order of their names, each name once. Contracts see the list of
-/// names and values.
+/// The members of an object, in the byte order of their names, each name once, because each value then has one form and
+/// one text; `serde_json`'s map has this order too. Contracts see the list of names and values.
 #[derive(Debug, Drop)]
 #[cycle(tree)]
 pub struct Members {
@@ -164,7 +164,8 @@ impl Members {
         self.list.len()
     }
 
-    /// The members of a vector, which is taken over as it is. Their names are in byte order, each once.
+    /// The members of a vector, which is taken over as it is. Their names are in byte order, each once: a vector that
+    /// `into_vec` gave has them so, and no such caller could meet a refusal.
     pub fn from_vec(list: Vec<(Text, Tree)>) -> Self
         requires { AreOrdered (json_members list.items) }
         ensures { result ≡ json_members list.items }

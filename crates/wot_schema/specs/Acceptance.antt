@@ -1,4 +1,8 @@
 -- Which values a data schema accepts (TD 1.1 section 5.3.2, whose words are those of JSON Schema).
+--
+-- It is said of the schema's tree, member by member, because code may then compile a schema and leave out what says
+-- nothing. A member of the wrong form says nothing, and a schema that is no object accepts nothing; no schema that is
+-- read has either.
 use Rattle.std.specs.Prelude.{◌≡◌, ℕ, ℤ, pos, ◌≤ℤ◌, ◌<ℤ◌, ◌*ℤ◌, ◌⊎◌, List, IfSome, IsSome, MatchBool, ⊤, codes}
 use Rattle.std.specs.Str.{bytes_eq}
 use Rattle.wot_json.specs.Tree.{Json, null, boolean, integer, string, array, object, Elements, no_elements, element, Members, no_members, member}

@@ -54,6 +54,7 @@ fn is_multiple(number: i64, unit: Option<u64>) -> bool
 {
     match unit {
         None => true,
+        // On absolute values, because the least integer then needs no care.
         Some(unit) => number.unsigned_abs() % unit == 0,
     }
 }

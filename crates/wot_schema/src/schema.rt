@@ -1,4 +1,4 @@
-//! Data schemas.
+//! The data schema with its compiled form: read, compiled, and asked whether it accepts a value.
 
 ghost use Rattle.std.specs.Prelude.{◌≡◌, ◌⊎◌, ◌↔◌, [], IsTrue, IfOk, OnOk, IfErr};
 ghost use Rattle.wot_json.specs.Meaning.{json_of};
@@ -18,7 +18,10 @@ use wot_json::{NoMemory, Tree, copy};
 /// that tree.
 #[derive(Debug, Drop)]
 pub struct Schema {
+    // Contracts see a schema as this tree. It is kept while the program runs because the kit lets no type that is read
+    // through a reference hold a value for proofs alone.
     tree: Tree,
+    // Accepts what the tree accepts, and leaves out what says nothing.
     root: Node,
 }
 
@@ -40,7 +43,8 @@ impl Model for Schema {
 }
 
 impl Schema {
-    /// The schema of a tree, or its first fault, as `check` gives it. The time is in proportion to the size of the tree.
+    /// The schema of a tree, or its first fault, as `check` gives it. The time is in proportion to the size of the
+    /// tree.
     pub fn read(alloc: Global, tree: &Tree) -> Result<Schema, SchemaFault>
         ensures ok { IfOk result (λ s. (s ≡ json_of tree.now) × (schema_faults (json_of tree.now) ≡ [])) }
         ensures fault { IfErr result (IsSchemaRefusal (schema_faults (json_of tree.now))) }
@@ -50,7 +54,8 @@ impl Schema {
         Ok(schema)
     }
 
-    /// The schema of a tree that has no fault, as a caller knows who has checked it.
+    /// The schema of a tree that has no fault, as a caller knows who has checked it. So a tree that was checked isn't
+    /// checked again, and no refusal is left that can't come.
     pub fn compile(alloc: Global, tree: &Tree) -> Result<Schema, NoMemory>
         requires { schema_faults (json_of tree.now) ≡ [] }
         ensures { IfOk result (λ s. s ≡ json_of tree.now) }

@@ -20,6 +20,7 @@ use wot_json::{Members, Text, Tree};
 /// of the tree.
 pub fn check(alloc: Global, tree: &Tree) -> Result<(), SchemaFault>
     ensures ok { OnOk result (schema_faults (json_of tree.now) ≡ []) }
+    // Where nothing is wrong it is never out of memory: contracts can't speak of allocations.
     ensures complete { schema_faults (json_of tree.now) ≡ [] → IsOk result }
     ensures fault { IfErr result (IsSchemaRefusal (schema_faults (json_of tree.now))) }
 {

@@ -1,4 +1,6 @@
--- What may be wrong with a Thing Description (TD 1.1 section 5.3): a table of 18 conditions, and the list of all faults.
+-- What may be wrong with a Thing Description (TD 1.1 section 5.3): a table of 18 conditions, and the list of all
+-- faults. A condition on a part names the part (`/securityDefinitions/n/scheme`, `/security/1`); one on a list or an
+-- object as a whole, as that it isn't empty, names it as a whole.
 use Rattle.std.specs.Prelude.{◌≡◌, ◌≢◌, ℕ, ◌+◌, List, [], ◌∷◌, ◌++◌, Bool, true, false, Option, Some, None, is_some, slice_get, codes, map, if◌then◌else◌}
 use Rattle.std.specs.List.{flat_map}
 use Rattle.std.specs.Option.{option_map_or}
@@ -165,7 +167,7 @@ abbrev pub security_definitions : MembersJudge
 security_definitions ms =
     required_member (codes "securityDefinitions") (object_of_some (object_with (required_member (codes "scheme") (is (is_text_with (bytes_eq (codes "nosec"))))))) ms
 
--- 5: `security` (section 5.3.1.1): names of security definitions
+-- 5: `security` (section 5.3.1.1): names of security definitions, of any form, because row 4 judges that
 abbrev pub has_member : Option Json → List ℕ → Bool
 has_member (Some (object ms)) name = is_some (value_under name ms)
 has_member v name = false
@@ -299,8 +301,8 @@ table ms =
 abbrev pub row_faults : ℕ × Places → List (ℕ × List ℕ)
 row_faults row = map (λ p. (row.0, p)) row.1
 
--- All faults of a description, row by row. The first row is that it is an object (section 5.3.1.1); where it fails there
--- are no others.
+-- All faults of a description, row by row. The first row is that it is an object (section 5.3.1.1); where it fails
+-- there are no others.
 abbrev pub faults_of : Json → List (ℕ × List ℕ)
 faults_of (object ms) = flat_map row_faults (table ms)
 faults_of v = (1, []) ∷ []

@@ -26,7 +26,8 @@ pub(crate) enum AffordanceRow {
 /// The truth values of an affordance, in byte order of their names.
 const FLAGS: [&str; 5] = ["idempotent", "observable", "readOnly", "safe", "writeOnly"];
 
-/// What a row finds in the affordances of every kind.
+/// What a row finds in the affordances of every kind. One walk serves all rows of this sort; `row` says what is asked
+/// of each affordance.
 #[tactic(auto, using(crate::proofs::Findings::stops))]
 pub(crate) fn each_affordance(alloc: Global, root: &Members, row: AffordanceRow) -> Finding
     ensures { IsFinding (each_affordance_row (affordance_judge row) (members_of root.now)) result }

@@ -24,6 +24,7 @@ const ROWS: u8 = 18;
 /// no memory; else a pointer is written for the fault that is answered.
 pub fn check(alloc: Global, tree: &Tree) -> Result<(), CheckFault>
     ensures ok { OnOk result (IsValid (json_of tree.now)) }
+    // Where nothing is wrong it is never out of memory: contracts can't speak of allocations.
     ensures complete { IsValid (json_of tree.now) → IsOk result }
     ensures fault { IfErr result (IsCheckRefusal (faults_of (json_of tree.now))) }
 {
@@ -60,7 +61,7 @@ fn in_row(number: u8, fault: RowFault) -> CheckFault
     }
 }
 
-/// What the row of this number finds. Beside each are the sections of TD 1.1 that it is from.
+/// What the row of this number finds. At its end are the sections of TD 1.1 that it is from.
 fn row(alloc: Global, number: u8, root: &Members) -> Finding
     ensures { IsFinding (row_places number (members_of root.now)) result }
 {

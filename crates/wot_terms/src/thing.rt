@@ -47,7 +47,7 @@ impl Things {
         }
     }
 
-    /// The Things as they stand.
+    /// The Things as they are.
     pub fn as_slice(&self) -> &[Thing]
         ensures { seen result.now ≡ self.now }
     {

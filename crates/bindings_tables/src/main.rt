@@ -1,4 +1,4 @@
-//! Tables of the bindings: CoAP messages, what they ask for, exchanges, and the server; HTTP requests at the front of a
+//! Tables of the bindings: CoAP messages, what they ask for, exchanges, watchers, and the server; HTTP requests at the front of a
 //! stream, their targets, the heads of replies, outcomes, and the connections of an HTTP server. Each argument names a
 //! file: the table of that name.
 //!
@@ -24,6 +24,7 @@ mod runs;
 mod streams;
 mod talk;
 mod targets;
+mod watchers;
 
 use std::alloc::{AllocError, Global};
 use std::{env, fs, io};
@@ -91,6 +92,7 @@ fn put_history(
     match table {
         "exchanges" => exchanges::put(text, alloc, history),
         "datagrams" => datagrams::put(text, alloc, history),
+        "watchers" => watchers::put(text, alloc, history),
         _ => connections::put(text, alloc, history),
     }
 }
@@ -114,7 +116,9 @@ fn put_histories(
 /// The lines of a table.
 fn put_table(text: &mut String, alloc: Global, table: &str, lines: &str) -> Result<(), AllocError> {
     match table {
-        "exchanges" | "datagrams" | "connections" => put_histories(text, alloc, table, lines),
+        "exchanges" | "watchers" | "datagrams" | "connections" => put_histories(
+            text, alloc, table, lines,
+        ),
         _ => put_rows(text, alloc, table, lines),
     }
 }

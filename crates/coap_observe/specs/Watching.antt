@@ -2,6 +2,7 @@
 use Rattle.std.specs.Prelude.{◌≡◌, ◌<◌, ◌≤◌, ◌+◌, ◌%◌, ◌^◌, ◌==◌, ◌&&◌, ◌++◌, ℕ, Bool, true, false, not, List, [], ◌∷◌, length, take, map, filter, find, Option, Some, None, is_some, option_map, option_and_then, if◌then◌else◌}
 use Rattle.std.specs.List.{list_any}
 use Rattle.std.specs.Str.{bytes_eq}
+use Rattle.coap_msg.specs.declared.constants.TheConstants.{LONGEST_TOKEN}
 use Rattle.coap_msg.specs.declared.endpoint.Endpoint.{Endpoint}
 use Rattle.coap_msg.specs.Endpoints.{is_same_endpoint}
 use Rattle.coap_observe.specs.Sending.{Sent, first_sent, sent_again, is_due as is_past, is_exhausted}
@@ -75,9 +76,22 @@ Registers from token target t (New sequence) u =
     × (u ≡ record t { list = t.list ++ newcomer from token target ∷ [] })
 Registers from token target t Full u = (find (is_pair from token) t.list ≡ None) × (t.capacity ≤ length t.list) × (u ≡ t)
 
+-- the sequence number that its response says; without room for it, none
+abbrev pub sequence_of : Registered → Option ℕ
+sequence_of (New sequence) = Some sequence
+sequence_of (Replaced sequence) = Some sequence
+sequence_of Full = None
+
 -- those that fail a test stay
 abbrev pub without : (Watcher → Bool) → List Watcher → List Watcher
 without test ws = filter (λ w. not (test w)) ws
+
+abbrev pub without_watchers : (Watcher → Bool) → Watching → Watching
+without_watchers test t = record t { list = without test t.list }
+
+-- the watcher of this endpoint and token is gone (section 3.6)
+abbrev pub without_pair : Endpoint → List ℕ → Watching → Watching
+without_pair from token t = without_watchers (is_pair from token) t
 
 -- ---- what is to be sent
 
@@ -88,6 +102,18 @@ marked w = record w { is_marked = true }
 -- what was sent to it is acknowledged
 abbrev pub acknowledged : Watcher → Watcher
 acknowledged w = record w { notification = None }
+
+-- the watchers of a target that has a new value
+abbrev pub with_emission : ℕ → Watching → Watching
+with_emission target t = record t { list = map (where_so (is_of_target target) marked) t.list }
+
+-- an endpoint acknowledged the message with this ID (RFC 7252, section 4.2)
+abbrev pub with_acknowledgement : Endpoint → ℕ → Watching → Watching
+with_acknowledgement from id t = record t { list = map (where_so (is_sent_as from id) acknowledged) t.list }
+
+-- an endpoint rejected the message with this ID, which ends the observation (section 3.6)
+abbrev pub with_reset : Endpoint → ℕ → Watching → Watching
+with_reset from id t = without_watchers (is_sent_as from id) t
 
 -- what was sent to it isn't acknowledged and its timeout is over
 abbrev pub is_late : ℕ → Option Sent → Bool
@@ -135,6 +161,11 @@ pub record IsNotice (w : Watcher) (id sequence : ℕ) (fresh : Bool) (n : Notice
   pub id_is : n.id ≡ id
   pub sequence_is : n.sequence ≡ sequence
   pub fresh_is : n.fresh ≡ fresh
+
+-- A notification whose token and sequence number can be written (section 3.4; RFC 7252, section 3).
+pub record IsSendable (n : Notice) : Type 0 where
+  pub token : n.token_length ≤ LONGEST_TOKEN
+  pub sequence : n.sequence < 2 ^ 24
 
 -- ---- the order in which it is sent
 

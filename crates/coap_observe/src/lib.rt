@@ -24,6 +24,7 @@
 mod notice;
 mod notification;
 mod sending;
+mod sequence;
 mod watcher;
 mod watchers;
 

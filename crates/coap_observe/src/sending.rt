@@ -1,8 +1,8 @@
 //! What is sent next (RFC 7641, section 4.5).
 
-ghost use Rattle.std.specs.Prelude.{◌≡◌, ◌≤◌, Some, None, length, find, option_map, vec_capacity};
+ghost use Rattle.std.specs.Prelude.{◌≡◌, ◌≤◌, Some, None, IfSome, length, find, option_map, vec_capacity};
 ghost use Rattle.std.specs.List.{list_any, position};
-ghost use Rattle.coap_observe.specs.Watching.{is_due, hopeless, is_free, is_from, is_busy, without, GivesUp, Sends};
+ghost use Rattle.coap_observe.specs.Watching.{is_due, hopeless, is_free, is_from, is_busy, without, GivesUp, Sends, IsSendable};
 
 use crate::notice::Notice;
 use crate::watcher::Watcher;
@@ -48,7 +48,8 @@ fn due(list: &[Watcher], now: u64) -> Option<&Watcher>
 /// Sends at most one message, where no endpoint is to be given up.
 pub fn send(list: &mut [Watcher], now: u64, id: u16) -> Option<Notice>
     requires { hopeless now list.old ≡ None }
-    ensures { Sends now id list.old result list.new }
+    ensures sends { Sends now id list.old result list.new }
+    ensures bounds { IfSome result IsSendable }
 {
     match first_due(list, now) {
         Some(index) => Some(send_again(list, index, now, id)),
@@ -60,7 +61,8 @@ pub fn send(list: &mut [Watcher], now: u64, id: u16) -> Option<Notice>
 fn send_again(list: &mut [Watcher], index: usize, now: u64, id: u16) -> Notice
     requires index { position (is_due now) list.old ≡ Some index }
     requires served { hopeless now list.old ≡ None }
-    ensures { Sends now id list.old (Some result) list.new }
+    ensures sends { Sends now id list.old (Some result) list.new }
+    ensures bounds { IsSendable result }
 {
     let watcher = &mut list[index];
     if watcher.is_marked {
@@ -68,7 +70,7 @@ fn send_again(list: &mut [Watcher], index: usize, now: u64, id: u16) -> Notice
         watcher.renew(now, id);
         notice
     } else {
-        let notice = watcher.notice(watcher.last_id(), watcher.sequence, false);
+        let notice = watcher.notice(watcher.last_id(), watcher.sequence.number(), false);
         watcher.resend(now);
         notice
     }
@@ -77,7 +79,8 @@ fn send_again(list: &mut [Watcher], index: usize, now: u64, id: u16) -> Notice
 /// Sends the last value to the first watcher that has one to be sent and whose endpoint acknowledged all, if there is one.
 fn send_first(list: &mut [Watcher], now: u64, id: u16) -> Option<Notice>
     requires { position (is_due now) list.old ≡ None }
-    ensures { Sends now id list.old result list.new }
+    ensures sends { Sends now id list.old result list.new }
+    ensures bounds { IfSome result IsSendable }
 {
     match first_free(list) {
         Some(index) => {

@@ -1,14 +1,9 @@
 //! One watcher as it is kept.
 
-ghost use Rattle.std.specs.Prelude.{◌≡◌};
-ghost use Rattle.coap_observe.specs.Watching.{next_sequence};
-
 use crate::notice::Notice;
 use crate::notification::Notification;
+use crate::sequence::Sequence;
 use coap_msg::{BoundedBytes, Endpoint, LONGEST_TOKEN, is_same_endpoint};
-
-/// How many sequence numbers there are: they have 24 bits (RFC 7641, section 3.4).
-const SEQUENCES: u32 = 1 << 24;
 
 /// An observer of a target (RFC 7641, section 4.1).
 #[derive(Drop)]
@@ -20,7 +15,7 @@ pub struct Watcher {
     /// What it observes.
     pub target: u32,
     /// The last sequence number that was sent to it.
-    pub sequence: u32,
+    pub sequence: Sequence,
     /// Whether its target has a value that wasn't sent to it yet.
     pub is_marked: bool,
     /// What was sent to it and isn't acknowledged.
@@ -28,9 +23,9 @@ pub struct Watcher {
 }
 
 impl Watcher {
-    ghost use Rattle.std.specs.Prelude.{◌≡◌, ◌≤◌, length, false, Some};
+    ghost use Rattle.std.specs.Prelude.{◌≡◌, ◌≤◌, ◌<◌, ◌^◌, length, false, Some};
     ghost use Rattle.coap_observe.specs.Sending.{Sent};
-    ghost use Rattle.coap_observe.specs.Watching.{where_so, newcomer, replaced, marked, acknowledged, is_of_target, is_from, is_pair, is_sent_as, is_busy, is_due, is_given_up, given_up_endpoint, next_sequence, resent, renewed, notified, IsNotice};
+    ghost use Rattle.coap_observe.specs.Watching.{where_so, newcomer, replaced, marked, acknowledged, is_of_target, is_from, is_pair, is_sent_as, is_busy, is_due, is_given_up, given_up_endpoint, next_sequence, resent, renewed, notified, IsNotice, IsSendable};
 
     /// One that registers.
     pub fn new(from: Endpoint, token: &[u8], target: u32) -> Self
@@ -41,7 +36,7 @@ impl Watcher {
             from,
             token: BoundedBytes::of(token),
             target,
-            sequence: 0,
+            sequence: Sequence::first(),
             is_marked: false,
             notification: None,
         }
@@ -49,9 +44,10 @@ impl Watcher {
 
     /// The sequence number after the last one.
     pub fn sequence_after(&self) -> u32
-        ensures { result ≡ next_sequence self.now.sequence }
+        ensures ok { result ≡ next_sequence self.now.sequence }
+        ensures bound { result < 2 ^ 24 }
     {
-        next_sequence(self.sequence)
+        self.sequence.next().number()
     }
 
     /// It registers anew, if it is the one of this endpoint and token.
@@ -60,7 +56,7 @@ impl Watcher {
     {
         if self.is_pair(from, token) {
             self.target = target;
-            self.sequence = next_sequence(self.sequence);
+            self.sequence = self.sequence.next();
             self.is_marked = false;
             self.notification = None;
         }
@@ -110,7 +106,7 @@ impl Watcher {
         requires { is_given_up self.old ≡ false }
         ensures { self.new ≡ renewed now id self.old }
     {
-        self.sequence = next_sequence(self.sequence);
+        self.sequence = self.sequence.next();
         self.is_marked = false;
         self.notification = match &self.notification {
             Some(notification) => Some(notification.again(now, id)),
@@ -122,14 +118,16 @@ impl Watcher {
     pub fn notify(&mut self, now: u64, id: u16)
         ensures { self.new ≡ notified now id self.old }
     {
-        self.sequence = next_sequence(self.sequence);
+        self.sequence = self.sequence.next();
         self.is_marked = false;
         self.notification = Some(Notification::first(now, id));
     }
 
     /// The notice of a message to it.
     pub fn notice(&self, id: u16, sequence: u32, fresh: bool) -> Notice
-        ensures { IsNotice self.now id sequence fresh result }
+        requires { sequence < 2 ^ 24 }
+        ensures notice { IsNotice self.now id sequence fresh result }
+        ensures bounds { IsSendable result }
     {
         let token = self.token.as_bytes();
         let mut room = [0u8; LONGEST_TOKEN];
@@ -201,11 +199,4 @@ impl Watcher {
             None => None,
         }
     }
-}
-
-/// The sequence number after this one.
-fn next_sequence(sequence: u32) -> u32
-    ensures { result ≡ next_sequence sequence }
-{
-    sequence.wrapping_add(1) % SEQUENCES
 }

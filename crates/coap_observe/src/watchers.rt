@@ -28,9 +28,9 @@ impl Model for Watchers {
 }
 
 impl Watchers {
-    ghost use Rattle.std.specs.Prelude.{◌≡◌, ◌≤◌, length, map, IfOk};
+    ghost use Rattle.std.specs.Prelude.{◌≡◌, ◌≤◌, ◌<◌, ◌^◌, length, IfOk, IfSome};
     ghost use Rattle.std.specs.List.{list_any};
-    ghost use Rattle.coap_observe.specs.Watching.{none_watch, Registers, where_so, without, is_pair, is_sent_as, is_of_target, marked, acknowledged, Notifies};
+    ghost use Rattle.coap_observe.specs.Watching.{none_watch, Registers, sequence_of, is_pair, is_sent_as, without_pair, with_emission, with_acknowledgement, with_reset, Notifies, IsSendable};
 
     /// A list for at most `capacity` watchers. All its memory is taken here.
     pub fn new(alloc: Global, capacity: u32) -> Result<Watchers, NoMemory>
@@ -45,7 +45,8 @@ impl Watchers {
     /// Registers the watcher of this endpoint and token for a target (RFC 7641, section 4.1).
     pub fn register(&mut self, from: Endpoint, token: &[u8], target: u32) -> Registered
         requires { length token.now ≤ LONGEST_TOKEN }
-        ensures { Registers from token.now target self.old result self.new }
+        ensures ok { Registers from token.now target self.old result self.new }
+        ensures bound { IfSome (sequence_of result) (λ n. n < 2 ^ 24) }
     {
         if let Some(sequence) = sequence_after(self.list.as_slice(), from, token) {
             replace(self.list.as_mut_slice(), from, token, target);
@@ -60,7 +61,7 @@ impl Watchers {
 
     /// Ends the observation of this endpoint and token (RFC 7641, section 3.6). Whether there was one.
     pub fn cancel(&mut self, from: Endpoint, token: &[u8]) -> bool
-        ensures list { self.new ≡ record self.old { list = without (is_pair from token.now) self.old.list } }
+        ensures list { self.new ≡ without_pair from token.now self.old }
         ensures found { result ≡ list_any (is_pair from token.now) self.old.list }
     {
         let found = self.list.iter().any(|watcher| watcher.is_pair(from, token));
@@ -70,7 +71,7 @@ impl Watchers {
 
     /// A target has a new value: its watchers are to be notified.
     pub fn emit(&mut self, target: u32)
-        ensures { self.new ≡ record self.old { list = map (where_so (is_of_target target) marked) self.old.list } }
+        ensures { self.new ≡ with_emission target self.old }
     {
         mark(self.list.as_mut_slice(), target);
     }
@@ -78,7 +79,7 @@ impl Watchers {
     /// An endpoint acknowledged the message with this ID (RFC 7252, section 4.2). Whether a notification to it had that ID and
     /// wasn't acknowledged.
     pub fn acked(&mut self, from: Endpoint, id: u16) -> bool
-        ensures list { self.new ≡ record self.old { list = map (where_so (is_sent_as from id) acknowledged) self.old.list } }
+        ensures list { self.new ≡ with_acknowledgement from id self.old }
         ensures found { result ≡ list_any (is_sent_as from id) self.old.list }
     {
         let found = self.list.iter().any(|watcher| watcher.is_sent_as(from, id));
@@ -89,7 +90,7 @@ impl Watchers {
     /// An endpoint rejected the message with this ID, which ends the observation (RFC 7641, section 3.6). Whether a notification
     /// to it had that ID and wasn't acknowledged.
     pub fn reset(&mut self, from: Endpoint, id: u16) -> bool
-        ensures list { self.new ≡ record self.old { list = without (is_sent_as from id) self.old.list } }
+        ensures list { self.new ≡ with_reset from id self.old }
         ensures found { result ≡ list_any (is_sent_as from id) self.old.list }
     {
         let found = self.list.iter().any(|watcher| watcher.is_sent_as(from, id));
@@ -102,18 +103,20 @@ impl Watchers {
     pub fn next_send(&mut self, now: u64, id: u16) -> Option<Notice>
         ensures list { Notifies now id self.old.list result self.new.list }
         ensures capacity { self.new.capacity ≡ self.old.capacity }
+        ensures bounds { IfSome result IsSendable }
     {
         give_up(&mut self.list, now);
         send(self.list.as_mut_slice(), now, id)
     }
 }
 
-ghost use Rattle.std.specs.Prelude.{◌≡◌, ◌≤◌, map, find, length, option_map, vec_capacity};
+ghost use Rattle.std.specs.Prelude.{◌≡◌, ◌≤◌, ◌<◌, ◌^◌, map, find, length, option_map, vec_capacity, IfSome};
 ghost use Rattle.coap_observe.specs.Watching.{next_sequence, where_so, without, is_pair, is_sent_as, is_of_target, replaced, marked, acknowledged};
 
 /// The sequence number after the last one of the watcher of this endpoint and token, if there is one.
 fn sequence_after(list: &[Watcher], from: Endpoint, token: &[u8]) -> Option<u32>
-    ensures { result ≡ option_map (λ w. next_sequence w.sequence) (find (is_pair from token.now) list.now) }
+    ensures ok { result ≡ option_map (λ w. next_sequence w.sequence) (find (is_pair from token.now) list.now) }
+    ensures bound { IfSome result (λ n. n < 2 ^ 24) }
 {
     match list.iter().find(|watcher| watcher.is_pair(from, token)) {
         Some(watcher) => Some(watcher.sequence_after()),

@@ -16,20 +16,21 @@ resend-requires c =
     let found = first_found (is_due c.args.now) (λ (w : Watcher). w) c.args.list.now c.args.index c.index-list-index.result c.requires.index in
     not_given_up c.args.now c.args.list.now _ found.0 c.requires.served
 
-pub returns-then-watcher : goal.returns-then-watcher
-returns-then-watcher c =
+pub returns-then-watcher-clause-sends : goal.returns-then-watcher-clause-sends
+returns-then-watcher-clause-sends c =
     let found = first_found (is_due c.args.now) (renewed c.args.now c.args.id) c.args.list.now c.args.index c.index-list-index.result c.requires.index in
     let it = get_or c.args.list.now c.args.index c.index-list-index.result in
     newer it c.notice-notice.result _ found.0 c.if-watcher.true
-    (subst (λ (n : ℕ). IsNotice it c.args.id n true c.notice-notice.result) c.sequence_after.ensures c.notice-notice.ensures)
+    (subst (λ (n : ℕ). IsNotice it c.args.id n true c.notice-notice.result) c.sequence_after.ensures.ok c.notice-notice.ensures.notice)
     (ap (λ (v : Watcher). set c.args.list.now c.args.index v) c.renew.ensures ∙ found.1)
 
-pub returns-else-watcher : goal.returns-else-watcher
-returns-else-watcher c =
+pub returns-else-watcher-clause-sends : goal.returns-else-watcher-clause-sends
+returns-else-watcher-clause-sends c =
     let found = first_found (is_due c.args.now) (resent c.args.now) c.args.list.now c.args.index c.index-list-index.result c.requires.index in
     let it = get_or c.args.list.now c.args.index c.index-list-index.result in
     let place = position-Some (is_due c.args.now) c.args.list.now c.args.index c.index-list-index.result c.requires.index in
     let sent = due_was_sent c.args.now it.notification place.1 in
     same it sent.0 c.notice-notice-else-watcher.result _ found.0 c.if-watcher.false sent.1
-    (subst (λ (n : ℕ). IsNotice it n it.sequence false c.notice-notice-else-watcher.result) (c.last_id.ensures sent.0 sent.1) c.notice-notice-else-watcher.ensures)
+    (subst (λ (n : ℕ). IsNotice it sent.0.id n false c.notice-notice-else-watcher.result) c.number.ensures.ok
+    (subst (λ (n : ℕ). IsNotice it n c.number.result false c.notice-notice-else-watcher.result) (c.last_id.ensures sent.0 sent.1) c.notice-notice-else-watcher.ensures.notice))
     (ap (λ (v : Watcher). set c.args.list.now c.args.index v) c.resend.ensures ∙ found.1)

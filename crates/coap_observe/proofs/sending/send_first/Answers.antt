@@ -4,16 +4,16 @@ use Rattle.coap_observe.specs.Watching.{is_due, is_free, notified, IsNotice, fir
 use Rattle.coap_observe.proofs.Changed.{first_found, none_found}
 use Rattle.coap_observe.proofs.sending.send_first.Goals as goal
 
-pub returns-in-None : goal.returns-in-None
-returns-in-None c =
+pub returns-in-None-clause-sends : goal.returns-in-None-clause-sends
+returns-in-None-clause-sends c =
     nothing _ (none_found (is_due c.args.now) c.args.list.now c.requires)
     (none_found (is_free c.args.list.now) c.args.list.now (sym c.in-None.ensures)) refl
 
-pub returns-in-Some : goal.returns-in-Some
-returns-in-Some c =
+pub returns-in-Some-clause-sends : goal.returns-in-Some-clause-sends
+returns-in-Some-clause-sends c =
     let found = first_found (is_free c.args.list.now) (notified c.args.now c.args.id) c.args.list.now c.in-Some.index c.index-list-index.result
     (sym c.in-Some.ensures) in
     let it = get_or c.args.list.now c.in-Some.index c.index-list-index.result in
     first it c.notice-notice.result _ (none_found (is_due c.args.now) c.args.list.now c.requires) found.0
-    (subst (λ (n : ℕ). IsNotice it c.args.id n true c.notice-notice.result) c.sequence_after.ensures c.notice-notice.ensures)
+    (subst (λ (n : ℕ). IsNotice it c.args.id n true c.notice-notice.result) c.sequence_after.ensures.ok c.notice-notice.ensures.notice)
     (ap (λ (v : Watcher). set c.args.list.now c.in-Some.index v) c.notify.ensures ∙ found.1)

@@ -1,2 +1,5 @@
 mod Changed
 mod Due
+mod Counts
+mod Endpoints
+mod CallLaws

@@ -18,9 +18,12 @@
 //! assert!(watchers.acked(from, 7));
 //! ```
 //!
-//! The contract in a sentence: each call is its step of `specs/Watching.antt`, and `next_send` is `Notifies` there.
+//! The contract in a sentence: each call is its step of `specs/Watching.antt`, and `next_send` is `Notifies` there. The laws
+//! (`specs/Laws.antt`): at most one notification to an endpoint is unacknowledged, an endpoint that is given up has no
+//! watcher left, and after a Reset nothing is sent to its watcher until that registers again.
 #![tactic(auto)]
 
+mod laws;
 mod notice;
 mod notification;
 mod sending;
@@ -28,6 +31,7 @@ mod sequence;
 mod watcher;
 mod watchers;
 
+pub use laws::{given_up_leaves_none, one_is_unacknowledged, pairs_differ, reset_forgets};
 pub use notice::{Notice, Registered};
 pub use servient_base::NoMemory;
 pub use watchers::Watchers;

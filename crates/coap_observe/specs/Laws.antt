@@ -1,0 +1,72 @@
+-- Laws of watchers, over all that is done to them from the beginning (RFC 7641, sections 3.6, 4.1 and 4.5).
+use Rattle.std.specs.Prelude.{◌≡◌, ◌≤◌, ◌&&◌, ℕ, Bool, true, false, List, length, take, filter, find, Option, Some}
+use Rattle.std.specs.List.{list_any}
+use Rattle.std.specs.Str.{bytes_eq}
+use Rattle.coap_msg.specs.declared.endpoint.Endpoint.{Endpoint}
+use Rattle.coap_msg.specs.Endpoints.{is_same_endpoint}
+use Rattle.coap_observe.specs.declared.watcher.Watcher.{Watcher}
+use Rattle.coap_observe.specs.declared.notice.Registered.{Registered}
+use Rattle.coap_observe.specs.declared.notice.Notice.{Notice}
+use Rattle.coap_observe.specs.Watching.{Watching, none_watch, is_from, is_pair, is_busy, is_sent_as, Registers, without_pair, with_emission, with_acknowledgement, with_reset, hopeless, GivesUp, Notifies}
+
+-- What one call does to watchers, where a registration may be of each endpoint and token of which `May` holds.
+pub data Goes (May : Endpoint → List ℕ → Type 0) (t u : Watching) : Type 0 where
+  registers : (from : Endpoint) (token : List ℕ) (target : ℕ) (r : Registered) → May from token → Registers from token target t r u
+      → Goes May t u
+  cancels : (from : Endpoint) (token : List ℕ) → u ≡ without_pair from token t → Goes May t u
+  emits : (target : ℕ) → u ≡ with_emission target t → Goes May t u
+  acknowledges : (from : Endpoint) (id : ℕ) → u ≡ with_acknowledgement from id t → Goes May t u
+  rejects : (from : Endpoint) (id : ℕ) → u ≡ with_reset from id t → Goes May t u
+  sends : (now id : ℕ) (n : Option Notice) → u.capacity ≡ t.capacity → Notifies now id t.list n u.list → Goes May t u
+
+-- every registration
+abbrev pub Any : Endpoint → List ℕ → Type 0
+Any from token = true ≡ true
+
+-- what came of a list without watchers by such calls
+pub data Comes (capacity : ℕ) : Watching → Type 0 where
+  begins : (t : Watching) → t ≡ none_watch capacity → Comes capacity t
+  goes_on : (t u : Watching) → Comes capacity t → Goes Any t u → Comes capacity u
+
+-- how many watchers pass a test
+abbrev pub count : (Watcher → Bool) → List Watcher → ℕ
+count test ws = length (filter test ws)
+
+-- At most one notification to an endpoint is unacknowledged at a time (section 4.5.1).
+abbrev pub OneUnacknowledged : Type 0
+OneUnacknowledged = (capacity : ℕ) (t : Watching) → Comes capacity t → (from : Endpoint) → count (is_busy from) t.list ≤ 1
+
+-- At most one watcher has a given endpoint and token (section 4.1).
+abbrev pub PairsDiffer : Type 0
+PairsDiffer = (capacity : ℕ) (t : Watching) → Comes capacity t → (from : Endpoint) (token : List ℕ) → count (is_pair from token) t.list ≤ 1
+
+-- An endpoint that is given up has no watcher left (section 4.5).
+abbrev pub GivenUpLeavesNone : Type 0
+GivenUpLeavesNone =
+    (now : ℕ) (from : Endpoint) (ws us : List Watcher) → hopeless now ws ≡ Some from → GivesUp now ws us → list_any (is_from from) us ≡ false
+
+-- nobody is registered with this endpoint and token
+abbrev pub IsAbsent : Endpoint → List ℕ → Watching → Type 0
+IsAbsent from token t = list_any (is_pair from token) t.list ≡ false
+
+-- A Reset takes the watcher away to which the notification went (section 3.6).
+abbrev pub ResetForgets : Type 0
+ResetForgets =
+    (capacity : ℕ) (t : Watching) (from : Endpoint) (id : ℕ) (w : Watcher) → Comes capacity t → find (is_sent_as from id) t.list ≡ Some w
+    → IsAbsent w.from w.token (with_reset from id t)
+
+-- And it stays away until it is registered again.
+abbrev pub AbsentStays : Type 0
+AbsentStays =
+    (from : Endpoint) (token : List ℕ) (t u : Watching) → IsAbsent from token t
+    → Goes (λ end name. (is_same_endpoint from end && bytes_eq token name) ≡ false) t u → IsAbsent from token u
+
+-- a notice goes to this endpoint with this token
+abbrev pub is_for : Endpoint → List ℕ → Notice → Bool
+is_for from token n = is_same_endpoint from n.to && bytes_eq token (take n.token_length n.token)
+
+-- Nothing is sent to one that isn't registered.
+abbrev pub NothingForAbsent : Type 0
+NothingForAbsent =
+    (from : Endpoint) (token : List ℕ) (t : Watching) (now id : ℕ) (n : Notice) (us : List Watcher) → IsAbsent from token t
+    → Notifies now id t.list (Some n) us → is_for from token n ≡ false

@@ -1,0 +1,26 @@
+//! Laws of watchers, as contracts of functions that do nothing.
+
+ghost use Rattle.coap_observe.specs.Laws.{OneUnacknowledged, PairsDiffer, GivenUpLeavesNone, ResetForgets, AbsentStays, NothingForAbsent};
+
+/// At most one notification to an endpoint is unacknowledged at a time (RFC 7641, section 4.5.1).
+pub fn one_is_unacknowledged()
+    ensures { OneUnacknowledged }
+{}
+
+/// At most one watcher has a given endpoint and token (RFC 7641, section 4.1).
+pub fn pairs_differ()
+    ensures { PairsDiffer }
+{}
+
+/// An endpoint that is given up has no watcher left (RFC 7641, section 4.5).
+pub fn given_up_leaves_none()
+    ensures { GivenUpLeavesNone }
+{}
+
+/// A Reset takes the watcher away, which stays away until it is registered again, and until then nothing is sent to it (RFC 7641,
+/// section 3.6).
+pub fn reset_forgets()
+    ensures forgets { ResetForgets }
+    ensures stays { AbsentStays }
+    ensures nothing { NothingForAbsent }
+{}

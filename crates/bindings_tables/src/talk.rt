@@ -1,8 +1,8 @@
 //! What an HTTP server with one value says on its connections. The value is 7 at first: GET reads it, or gives the
 //! query where there is one, PUT writes it, POST changes nothing, and no other method is taken.
 //!
-//! The room that requests are read in is lent to all functions here, since to take it anew for each message costs more
-//! than all else.
+//! The room that requests are read in is lent to all functions here, since to take it anew for each message
+//! costs more than all else.
 
 ghost use Rattle.std.specs.Prelude.{◌≡◌, ◌<◌, ◌≤◌, ◌⊎◌, Ok, false, IsSome, OnOk, length};
 ghost use Rattle.http_bind.specs.Replying.{fault_word};

@@ -1,7 +1,7 @@
-//! Histories of a CoAP client: what it is asked, what comes to it and what is due, a step a line, and after ` => ` what
-//! it sends and its news. Each argument names a file of histories; an empty line ends one, and the next client is new.
-//! The program prints each step with what does come of it, and each other line as it is: so it prints its files, if all
-//! is right.
+//! Histories of a CoAP client: what it is asked, what comes to it and what is due, a step a line, and after ` => `
+//! what it sends and its news. Each argument names a file of histories; an empty line ends one, and the next
+//! client is new. The program prints each step with what does come of it, and each other line as it is: so it
+//! prints its files, if all is right.
 //!
 //! - `first id N`: before the first step, the id of the first message where that isn't 0;
 //! - `at MOMENT request HOST METHOD PATH`, perhaps `Content-Format=N` and a payload: asks for something;

@@ -20,8 +20,8 @@ AreArrivals from bytes now [] = (m : CoapMessage) → Spells m bytes → is_requ
 AreArrivals from bytes now (a ∷ []) = (m : CoapMessage) × Spells m bytes × (is_request m ≡ true) × (a ≡ arrival from now m)
 AreArrivals from bytes now (a ∷ b ∷ more) = ⊥
 
--- What a server in which n exchanges may live did so far: the requests that came, in their order, and what it holds
--- now.
+-- What a server in which n exchanges may live did so far: the requests that came, in their
+-- order, and what it holds now.
 pub data Did (capacity : ℕ) : List Arrival → Server → Type 0 where
   nothing : Did capacity [] (start capacity)
   -- a datagram came

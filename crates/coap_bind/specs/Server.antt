@@ -46,14 +46,14 @@ pub data Heard : Type 0 where
 
 -- ---- replies
 
--- the server after a reply to a request of this type: one that isn't an acknowledgement used the next message ID
--- (section 4.4)
+-- the server after a reply to a request of this type: one that isn't an acknowledgement used the next
+-- message ID (section 4.4)
 abbrev pub with_id_used : RequestType → Server → Server
 with_id_used Confirmable s = s
 with_id_used NonConfirmable s = record s { next_id = (s.next_id + 1) % 65536 }
 
--- the server with the reply to a Confirmable request, which is kept for its duplicates (section 4.2); that to any other
--- isn't
+-- the server with the reply to a Confirmable request, which is kept for its duplicates (section
+-- 4.2); that to any other isn't
 abbrev pub with_kept : RequestType → ℕ → List ℕ → Server → Server
 with_kept Confirmable slot bytes s = record s { exchanges = with_reply slot bytes s.exchanges }
 with_kept NonConfirmable slot bytes s = s
@@ -107,16 +107,16 @@ pub record IsMet (from : Endpoint) (bytes : List ℕ) (now : ℕ) (m : CoapMessa
 pub data Settles (from : Endpoint) (bytes : List ℕ) (now : ℕ) (heard : Heard) (s t : Server) : Type 0 where
   -- it is no message: it is rejected, and nothing else is done
   malformed : (f : MsgFault) → HasMsgFault f bytes → heard ≡ replied_at_once (rejection_of bytes) → t ≡ s → Settles from bytes now heard s t
-  -- it is a message and no request, as a response, an empty message, an acknowledgement or a Reset, for which nothing
-  -- waits
+  -- it is a message and no request, as a response, an empty message, an acknowledgement or a
+  -- Reset, for which nothing waits
   no_request : (m : CoapMessage) → Spells m bytes → is_request m ≡ false → heard ≡ replied_at_once (empty_reply m.kind m.id false) → t ≡ s
       → Settles from bytes now heard s t
   -- it is a duplicate of the request of this exchange
   duplicate : (m : CoapMessage) (kept : Option ℕ) (e : Exchange) → IsMet from bytes now m (Repeat kept) s t
       → duplicated_exchange (arrival from now m) (at_moment now s.exchanges) ≡ Some e → heard ≡ duplicate_reply (request_type m.kind) e.reply
       → Settles from bytes now heard s t
-  -- as many exchanges live as may: the reply is the server's own and isn't kept, so a copy of the request may be
-  -- admitted
+  -- as many exchanges live as may: the reply is the server's own and isn't kept, so a copy of
+  -- the request may be admitted
   full : (m : CoapMessage) (u : Server) → IsMet from bytes now m Full s u
       → heard ≡ answered_at_once (spelling (coap_reply full_reply (head_of m) s.next_id)) → t ≡ with_id_used (request_type m.kind) u
       → Settles from bytes now heard s t
@@ -127,8 +127,8 @@ pub data Settles (from : Endpoint) (bytes : List ℕ) (now : ℕ) (heard : Heard
 abbrev pub opened : CoapMessage → ℕ → OpenRequest
 opened m slot = record { head = head_of m; slot = slot }
 
--- What is done with a request that was admitted, by the first fault of its options. Out of memory is free to come where
--- there is none.
+-- What is done with a request that was admitted, by the first fault of its options. Out of memory is free to
+-- come where there is none.
 pub data Reads (m : CoapMessage) (slot : ℕ) (heard : Heard) (s t : Server) : Type 0 where
   -- A bad option: a Confirmable request gets a reply (section 5.4.1), and any other is ignored; it was admitted, so a
   -- duplicate of it is one.

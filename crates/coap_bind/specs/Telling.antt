@@ -1,5 +1,5 @@
--- How a call answers what is done with a datagram (RFC 7252, sections 4.2 to 4.5): by its result and by the bytes that
--- it writes.
+-- How a call answers what is done with a datagram (RFC 7252, sections 4.2 to 4.5): by its result and by
+-- the bytes that it writes.
 use Rattle.std.specs.Prelude.{◌≡◌, ◌≤◌, ℕ, List, length}
 use Rattle.coap_msg.specs.declared.constants.TheConstants.{LONGEST_TOKEN}
 use Rattle.coap_msg.specs.declared.endpoint.Endpoint.{Endpoint}

@@ -71,14 +71,14 @@ reply_of o = if nat_lt LONGEST_PAYLOAD (length (payload_of o)) then long_reply e
 abbrev pub head_of : CoapMessage → RequestHead
 head_of m = record { kind = request_type m.kind; id = m.id; token = m.token }
 
--- a Confirmable request is answered in its acknowledgement, any other by a Non-confirmable message (sections 5.2.1 and
--- 5.2.3)
+-- a Confirmable request is answered in its acknowledgement, any other by a Non-confirmable message
+-- (sections 5.2.1 and 5.2.3)
 abbrev pub reply_kind : RequestType → Type4
 reply_kind Confirmable = Ack
 reply_kind NonConfirmable = Non
 
--- an acknowledgement has the message ID of its request, any other reply the next one of the server (sections 4.2 and
--- 4.4)
+-- an acknowledgement has the message ID of its request, any other reply the next one of the
+-- server (sections 4.2 and 4.4)
 abbrev pub reply_id : RequestType → ℕ → ℕ → ℕ
 reply_id Confirmable id next = id
 reply_id NonConfirmable id next = next

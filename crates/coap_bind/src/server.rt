@@ -65,8 +65,8 @@ impl Server {
         }
     }
 
-    /// Answers a duplicate of a request by the reply that is kept in this slot, if it is answered: gives how many bytes
-    /// to send.
+    /// Answers a duplicate of a request by the reply that is kept in this slot, if it is answered:
+    /// gives how many bytes to send.
     fn answer_duplicate(
         &self,
         kind: RequestType,

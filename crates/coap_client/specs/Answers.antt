@@ -1,5 +1,5 @@
--- Which messages a client takes, and what each message means to it (RFC 7252, sections 4.2 and 5.3.2; RFC 7641, section
--- 3).
+-- Which messages a client takes, and what each message means to it (RFC 7252, sections 4.2 and
+-- 5.3.2; RFC 7641, section 3).
 use Rattle.std.specs.Prelude.{◌-◌, ◌/◌, ◌^◌, ◌==◌, ◌&&◌, ◌||◌, ℕ, nat_lt, nat_le, length, Bool, true, false, List, [], ◌∷◌, Option, Some, None, if◌then◌else◌}
 use Rattle.std.specs.Str.{bytes_eq}
 use Rattle.coap_msg.specs.declared.endpoint.Endpoint.{Endpoint}
@@ -95,9 +95,9 @@ meaning_taken s None = meant.Response
 meaning_taken s (Some sequence) =
     if is_newer (latest_of s.observation) s.moment sequence then meant.Value sequence else meant.Old
 
--- What any other message means, of this type: a Reset of the outstanding request, its empty acknowledgement, or nothing
--- (section 4.2). A Reset counts with every code, because its type says enough; an acknowledgement is empty by code
--- 0.00.
+-- What any other message means, of this type: a Reset of the outstanding request, its empty
+-- acknowledgement, or nothing (section 4.2). A Reset counts with every code, because its type says enough;
+-- an acknowledgement is empty by code 0.00.
 abbrev pub meaning_else : State → Endpoint → CoapMessage → Type4 → Meaning
 meaning_else s from m Rst = if is_from_server s.outstanding from m.id then meant.Reset else meant.Foreign
 meaning_else s from m Ack = if m.code == 0 && is_from_server s.outstanding from m.id then meant.Received else meant.Foreign

@@ -1,5 +1,5 @@
--- The message that asks for something: a confirmable request (RFC 7252, sections 4.2, 5.2 and 5.10; RFC 7641, section
--- 2).
+-- The message that asks for something: a confirmable request (RFC 7252, sections 4.2, 5.2 and
+-- 5.10; RFC 7641, section 2).
 use Rattle.std.specs.Prelude.{◌≢◌, ◌<◌, ◌≤◌, ℕ, Bool, true, false, List, [], ◌∷◌, ◌++◌, length, All, Option, Some, None}
 use Rattle.coap_msg.specs.declared.constants.TheConstants.{OBSERVE, URI_PATH, CONTENT_FORMAT, LONGEST_SEGMENT}
 use Rattle.coap_msg.specs.Grammar.{CoapOption, CoapMessage}
@@ -20,8 +20,8 @@ pub record Asking : Type 0 where
 abbrev pub asking_of : Ask → Asking
 asking_of a = record { code = a.code; path = a.path.now; observe = a.observe; format = a.format; payload = a.payload.now }
 
--- What may be asked: a code of class 0 that isn't 0.00 (section 12.1.1), and segments of at most 255 bytes (section
--- 5.10).
+-- What may be asked: a code of class 0 that isn't 0.00 (section 12.1.1), and segments of at most
+-- 255 bytes (section 5.10).
 pub record MayAsk (a : Asking) : Type 0 where
   pub code : a.code ≢ 0
   pub class : a.code < 32

@@ -1,6 +1,6 @@
--- A CoAP client as one machine (RFC 7252, sections 4.2 to 4.4, 5.2 and 5.3; RFC 7641, section 3): what it holds, and
--- what each of its three calls does to that. At most one request is unanswered at a time, and at most one resource is
--- observed.
+-- A CoAP client as one machine (RFC 7252, sections 4.2 to 4.4, 5.2 and 5.3; RFC 7641, section 3): what it
+-- holds, and what each of its three calls does to that. At most one request is unanswered at a time, and at
+-- most one resource is observed.
 --
 -- What it holds is `State` of src/state.rt, a plain record that code and definitions share, because what follows is
 -- then equations on it and a law can speak of any order of calls. It has the last `moment` that was handed in; the

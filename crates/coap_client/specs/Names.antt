@@ -5,8 +5,8 @@ use Rattle.coap_msg.specs.declared.endpoint.Endpoint.{Endpoint}
 use Rattle.coap_msg.specs.Endpoints.{is_same_endpoint}
 use Rattle.coap_client.specs.declared.observation.Observation.{Observation}
 
--- an id isn't used again within 400 seconds, which is longer than it may be in use (EXCHANGE_LIFETIME, sections 4.4 and
--- 4.8.2)
+-- an id isn't used again within 400 seconds, which is longer than it may be in use
+-- (EXCHANGE_LIFETIME, sections 4.4 and 4.8.2)
 abbrev pub is_recent : ℕ → Option ℕ → Bool
 is_recent now None = false
 is_recent now (Some moment) = nat_le (now - moment) 400000

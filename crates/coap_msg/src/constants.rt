@@ -14,8 +14,8 @@ pub const LONGEST_PAYLOAD: usize = 1024;
 /// The most bytes of a message where nothing is known of the path to its receiver (RFC 7252, section 4.6).
 pub const LONGEST_MESSAGE: usize = 1152;
 
-/// The most bytes of a datagram that is looked at: the least that every link of IPv6 carries whole (RFC 8200, section
-/// 5).
+/// The most bytes of a datagram that is looked at: the least that every link of IPv6 carries
+/// whole (RFC 8200, section 5).
 pub const LONGEST_DATAGRAM: usize = 1280;
 
 // ---- the numbers of options (RFC 7252, section 12.2; RFC 7641, section 2)

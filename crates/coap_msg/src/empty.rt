@@ -26,8 +26,8 @@ pub fn put_empty_reply(
     }
 }
 
-/// Writes the Reset that bytes which spell no message are replied to with, and returns how many bytes it has, if there
-/// is one.
+/// Writes the Reset that bytes which spell no message are replied to with, and returns how many bytes
+/// it has, if there is one.
 pub fn put_rejection(bytes: &[u8], out: &mut [u8; LONGEST_MESSAGE]) -> Option<usize>
     ensures { IsReplied (rejection_of bytes.now) result out.old out.new }
 {

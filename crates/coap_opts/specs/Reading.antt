@@ -47,8 +47,8 @@ faults_after before (o ∷ os) = and_then_these (fault_of before o) (faults_afte
 abbrev pub faults_of : List CoapOption → List AskFault
 faults_of os = faults_after None os
 
--- A request is refused for this: the first fault of its options; or being out of memory, and nothing is wrong
--- with them.
+-- A request is refused for this: the first fault of its options; or being out of memory, and
+-- nothing is wrong with them.
 abbrev pub IsRefusal : List CoapOption → AskFault → Type 0
 IsRefusal os e = (slice_get (faults_of os) 0 ≡ Some e) ⊎ ((faults_of os ≡ []) × (e ≡ fault.NoMemory))
 

@@ -49,8 +49,8 @@ impl<'a> Found<'a> {
     }
 }
 
-/// Finds all that counts of some options, where nothing is found yet, or says what is wrong with the first of them that
-/// is.
+/// Finds all that counts of some options, where nothing is found yet, or says what is wrong with
+/// the first of them that is.
 pub fn note_all<'a>(found: &mut Found<'a>, options: &Options<'a>) -> Result<(), AskFault>
     requires path { found.old.path ≡ [] }
     requires observe { kept_first found.old.observe ≡ None }

@@ -1,5 +1,5 @@
--- What `clap` makes of the words by the command of a form: no fault exactly where they give values, and then the rows
--- of those.
+-- What `clap` makes of the words by the command of a form: no fault exactly where they give values,
+-- and then the rows of those.
 use Rattle.std.proofs.Common.{◌≡◌, ◌+◌, ◌∙◌, ◌&&◌, ◌||◌, ◌++◌, ℕ, Bool, true, false, not, List, [], ◌∷◌, map, length, Option, Some, None, is_some, refl, sym, ap, subst, arith, nat_lt, inl, inr}
 use Rattle.std.specs.Prelude.{fold}
 use Rattle.std.specs.List.{All, list_all, list_any}

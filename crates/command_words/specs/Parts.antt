@@ -4,8 +4,8 @@ use Rattle.std.specs.Borrow.{Bor}
 use Rattle.command_words.specs.declared.fault.WordsFault.{WordsFault}
 use Rattle.command_words.specs.declared.fault.WordsFault.TheVariants.{Usage, NoMemory}
 
--- A success is the value that is defined, and the words are refused only where there is none. Being out of memory says
--- nothing.
+-- A success is the value that is defined, and the words are refused only where there is none. Being
+-- out of memory says nothing.
 abbrev pub Reads : {A : Type 0} → Option A → Result A WordsFault → Type 0
 Reads part (Ok value) = part ≡ Some value
 Reads part (Err Usage) = part ≡ None

@@ -21,8 +21,8 @@ pub enum Command {
         plan: Option<Text>,
         events: u32,
     },
-    /// Serves the Things of the plan for `events` events, or until `idle` seconds pass without traffic; 0 seconds is no
-    /// such end.
+    /// Serves the Things of the plan for `events` events, or until `idle` seconds pass without traffic;
+    /// 0 seconds is no such end.
     Serve {
         plan: Text,
         events: u32,

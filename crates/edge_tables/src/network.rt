@@ -1,6 +1,6 @@
-//! The network in memory: lines `event MOMENT ..` with what comes, lines `fails N` with the calls that fail; and steps:
-//! `next`, `listen ..`, `datagram ..`, `send ..`, `close ..`, `dial ..`, `find ..`, and `acts` for all that was done to
-//! it.
+//! The network in memory: lines `event MOMENT ..` with what comes, lines `fails N` with the calls that fail;
+//! and steps: `next`, `listen ..`, `datagram ..`, `send ..`, `close ..`, `dial ..`, `find ..`, and `acts` for
+//! all that was done to it.
 
 ghost use Rattle.std.specs.Prelude.{◌<◌, IfOk, IfSome};
 ghost use Rattle.servient_outside.specs.Network.{IsWithinBounds, MayCome};

@@ -86,8 +86,8 @@ fault_word status =
 abbrev pub fault_body : ℕ → List ℕ
 fault_body status = unwrap_or (fault_word status) []
 
--- the reply to a fault, which is the last of its connection; it has its payload also for HEAD, whose verb may not be
--- known
+-- the reply to a fault, which is the last of its connection; it has its payload also for HEAD,
+-- whose verb may not be known
 abbrev pub fault_head : ℕ → List ℕ
 fault_head status = http_reply (record {
   status = status;

@@ -1,6 +1,6 @@
--- The connections of an HTTP server, each with its whole stream since its opening, and what is done with them (RFC
--- 9112, sections 9.3 and 9.6). Bytes come in any pieces; the messages of a stream are taken from its front, one after
--- another.
+-- The connections of an HTTP server, each with its whole stream since its opening, and what is done with them
+-- (RFC 9112, sections 9.3 and 9.6). Bytes come in any pieces; the messages of a stream are taken from its
+-- front, one after another.
 use Rattle.std.specs.Prelude.{◌≡◌, ℕ, ◌+◌, ◌-◌, Bool, true, false, ◌&&◌, not, nat_le, List, [], ◌++◌, drop, replicate, slice_index_or, slice_set, position, Option, Some, None, option_map, if◌then◌else◌}
 use Rattle.thing_ops.specs.declared.outcome.Outcome.{Outcome}
 use Rattle.thing_ops.specs.Requests.{PlainRequest}
@@ -8,10 +8,10 @@ use Rattle.http_wire.specs.Stream.{Front, short, message, fault, IsFront}
 use Rattle.http_wire.specs.Reading.{asked}
 use Rattle.http_bind.specs.Replying.{reply, continue_reply, fault_reply}
 
--- An open connection: all bytes that came since its opening; how many of them the messages taken so far have, with the
--- CR LF pairs that were skipped before those; whether the 100 reply to the message after them was sent; whether the
--- message taken last asks that the connection be closed after its reply; and the moment of its last activity, in
--- milliseconds.
+-- An open connection: all bytes that came since its opening; how many of them the messages taken so far have, with
+-- the CR LF pairs that were skipped before those; whether the 100 reply to the message after them was sent;
+-- whether the message taken last asks that the connection be closed after its reply; and the moment of its last
+-- activity, in milliseconds.
 pub record Connection : Type 0 where
   pub stream : List ℕ
   pub taken : ℕ

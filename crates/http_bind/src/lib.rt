@@ -1,7 +1,7 @@
-//! The connections of an HTTP/1.1 server (RFC 9112, sections 9.3 and 9.6): what has come of each stream and wasn't
-//! taken yet, which message is at its front, and how an outcome is replied. There is no socket and no clock here:
-//! pieces of bytes and moments are handed in, requests and replies are handed out. `HttpBind` and `HttpNext` carry
-//! everything.
+//! The connections of an HTTP/1.1 server (RFC 9112, sections 9.3 and 9.6): what has come of each stream and
+//! wasn't taken yet, which message is at its front, and how an outcome is replied. There is no socket and no
+//! clock here: pieces of bytes and moments are handed in, requests and replies are handed out. `HttpBind` and
+//! `HttpNext` carry everything.
 //!
 //! ```text
 //! let mut http = HttpBind::new(alloc)?;

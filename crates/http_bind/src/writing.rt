@@ -32,8 +32,8 @@ pub fn payload<'a>(outcome: &'a Outcome, out: &'a mut [u8; LONGEST_WORD]) -> &'a
     }
 }
 
-/// Writes the head of the reply of an outcome to the beginning of `out`, and returns its length. The payload has this
-/// many bytes.
+/// Writes the head of the reply of an outcome to the beginning of `out`, and returns its length. The
+/// payload has this many bytes.
 pub fn put_answer(
     outcome: &Outcome,
     size: usize,

@@ -56,8 +56,8 @@ taken_if named value before = if named then Some (both_taken before (types_in va
 abbrev pub or_if : Bool → (List ℕ → Bool) → List ℕ → Bool → Bool
 or_if named test value before = before || (if named then test value else false)
 
--- What is said with one line more. The lines are read in one pass, because a pass for each field took four times as
--- long.
+-- What is said with one line more. The lines are read in one pass, because a pass for each field
+-- took four times as long.
 abbrev pub with_line : Line → Said → Said
 with_line line said = record {
   host = more_if (has_name (codes "host") line) line.1 said.host;

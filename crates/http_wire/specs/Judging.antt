@@ -25,8 +25,8 @@ stated_framing value =
     else if nat_lt longest_body (digits_value 10 value) then Err 413
     else Ok (framing.Stated (digits_value 10 value))
 
--- the framing of a body in this coding: there is none in HTTP/1.0, and none but `chunked` is known (RFC 9112, section
--- 6.1)
+-- the framing of a body in this coding: there is none in HTTP/1.0, and none but `chunked` is
+-- known (RFC 9112, section 6.1)
 abbrev pub coded_framing : Bool → List ℕ → Result Framing ℕ
 coded_framing newer value =
     if not newer then Err 400
@@ -53,8 +53,8 @@ is_often absent = false
 is_often (once value) = false
 is_often often = true
 
--- HTTP/1.1 asks for exactly one `Host` (RFC 9112, section 3.2), and a body has at most one type (RFC 9110, section
--- 8.3).
+-- HTTP/1.1 asks for exactly one `Host` (RFC 9112, section 3.2), and a body has at most one type
+-- (RFC 9110, section 8.3).
 abbrev pub has_right_counts : Bool → Said → Bool
 has_right_counts newer said = (not newer || is_once said.host) && not (is_often said.content_type)
 

@@ -20,8 +20,8 @@ front_of (scanned.Fault status expect) = fault status expect
 abbrev pub IsHeadFront : List ℕ → ℕ → List ℕ → Front → Type 0
 IsHeadFront head taken after f = (r : Result FramedHead ℕ) × IsJudged head r × (f ≡ with_head taken r after)
 
--- a whole message takes from low to high bytes, its target is no longer than a head may be, and its body no longer than
--- a body may be
+-- a whole message takes from low to high bytes, its target is no longer than a head may be, and its body no
+-- longer than a body may be
 abbrev pub TakesBetween : ℕ → ℕ → Scanned → Type 0
 TakesBetween low high (scanned.Short expect) = Unit {0}
 TakesBetween low high (scanned.Whole head body used expect) =

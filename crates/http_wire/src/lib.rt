@@ -1,7 +1,6 @@
 //! HTTP/1.1 requests at the front of a stream (RFC 9112), and the heads of replies, as bytes. Nothing here knows a
 //! connection or a Thing: `scan` judges the bytes that have come, however they were cut, and says whether a message is
-//! whole, isn't yet, or has a fault; `segments` reads a request target, and `put_reply` writes the head of a
-//! reply.
+//! whole, isn't yet, or has a fault; `segments` reads a request target, and `put_reply` writes the head of a reply.
 //!
 //! ```text
 //! let bytes = b"PUT /lamp/properties/status HTTP/1.1\r\nHost: h\r\nContent-Length: 1\r\n\r\n9";

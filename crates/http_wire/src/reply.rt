@@ -70,8 +70,8 @@ pub fn put_reply(reply: &Reply<'_>, out: &mut [u8]) -> Option<usize>
     put_head(phrase, &fields, out)
 }
 
-/// Whether a status has a reason, so that its reply can be written: the test for callers whose status comes from
-/// elsewhere.
+/// Whether a status has a reason, so that its reply can be written: the test for callers whose
+/// status comes from elsewhere.
 pub fn has_reason(status: u16) -> bool
     ensures { IsTrue result ↔ IsSome (phrase_of status) }
 {

@@ -9,8 +9,8 @@ one_more count = min (count + 1) (2 ^ 64 - 1)
 abbrev pub raised : ℕ → ℕ → ℕ
 raised more count = min (count + more) (max count (2 ^ 64 - 1))
 
--- A count went up by `more` at least. One that stays at its last value counts as one that rose, because 64 bits can't
--- say more.
+-- A count went up by `more` at least. One that stays at its last value counts as one that rose,
+-- because 64 bits can't say more.
 abbrev pub RoseBy : ℕ → ℕ → ℕ → Type 0
 RoseBy more before now = min (before + more) (max before (2 ^ 64 - 1)) ≤ now
 

@@ -38,8 +38,8 @@ is_built (Check description) = true
 is_built (Derive plan) = true
 is_built command = false
 
--- What each of them does, where the files hold this, so far as that is recorded, and the rack has handlers of these
--- kinds.
+-- What each of them does, where the files hold this, so far as that is recorded, and the rack has
+-- handlers of these kinds.
 abbrev pub Does : Option (List HeldFile) → List Kind → Command → List Deed → Outcome (Unit {0}) → Type 0
 Does held kinds (Replay script plan events) = Replays held kinds script plan events
 Does held kinds (Serve plan events idle) = ServesPlan held kinds plan events idle
@@ -88,14 +88,14 @@ pub record HoldsFaultless (files : List HeldFile) (limit : ℕ) (name : List ℕ
   pub short : length content ≤ limit
   pub good : Good content
 
--- This plan with its models is that of the file, with which nothing is wrong, or the built-in Thing where no plan is
--- named.
+-- This plan with its models is that of the file, with which nothing is wrong, or the built-in
+-- Thing where no plan is named.
 abbrev pub IsPlannedBy : List HeldFile → Option (List ℕ) → Planned → Type 0
 IsPlannedBy files None p = p ≡ built_in
 IsPlannedBy files (Some name) p = HoldsFaultless files longest_json name (IsFaultlessPlan files p)
 
--- Nothing is wrong with a replay: its root is derived, its Things fit the rack, and the budget is enough for the
--- script.
+-- Nothing is wrong with a replay: its root is derived, its Things fit the rack, and the budget
+-- is enough for the script.
 pub record IsFaultlessReplay (files : List HeldFile) (kinds : List Kind) (script : List ℕ) (plan : Option (List ℕ)) (budget : ℕ) : Type 0 where
   pub planned : Planned
   pub things : List (List ℕ × Json)
@@ -127,8 +127,8 @@ HasFaultlessFiles files kinds (Check description) = HoldsFaultless files longest
 HasFaultlessFiles files kinds (Derive plan) = IsFaultlessDerivation files plan
 HasFaultlessFiles files kinds command = ⊥
 
--- Nothing is wrong with the words, the files and the rack: the words mean a command that is built, and nothing is wrong
--- with it.
+-- Nothing is wrong with the words, the files and the rack: the words mean a command that is built, and
+-- nothing is wrong with it.
 pub record IsFaultless (words : List (List ℕ)) (held : Option (List HeldFile)) (kinds : List Kind) : Type 0 where
   pub command : Command
   pub meaning : meaning_of words ≡ Some command

@@ -7,8 +7,8 @@ use Rattle.servient_cli.specs.declared.ending.Ended.TheVariants as ended
 use Rattle.servient_cli.specs.Lines.{usage_line, network_line, spent_line, memory_line}
 use Rattle.servient_cli.specs.Stages.{Deed, Outcome, goes_on, ends, text_in, Around, ShowsDeeds}
 
--- A stage came out so, and the outside shows what it did. One that goes on has written nothing; one that ends has the
--- text to write.
+-- A stage came out so, and the outside shows what it did. One that goes on has written nothing; one that
+-- ends has the text to write.
 pub record ComesOut {A : Type 0} (P : List Deed → Outcome A → Type 0) (before now : Around) (o : Outcome A) (text : List ℕ) : Type 0 where
   pub seen : List Deed
   pub stage : P seen o

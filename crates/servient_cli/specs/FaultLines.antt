@@ -1,5 +1,5 @@
--- The lines on the first fault of a derivation, and on what doesn't fit the rack. Names and pointers in them are JSON
--- texts.
+-- The lines on the first fault of a derivation, and on what doesn't fit the rack. Names and
+-- pointers in them are JSON texts.
 use Rattle.std.specs.Prelude.{ℕ, List, [], ◌∷◌, ◌++◌, codes, decimal}
 use Rattle.std.specs.List.{flat_map}
 use Rattle.wot_json.specs.Json.{json_string}

@@ -29,8 +29,8 @@ pub data Listens (place : Place) (seen : List Deed) (o : Outcome (Unit {0})) : T
   place_memory : RunsOut [] seen o → Listens place seen o
   listen_memory : RunsOut (happens (listens_as place listened.NoMemory)) seen o → Listens place seen o
 
--- how serving ends the command: the status, and the line; 8 is no fault, because how many events come is the network's
--- business
+-- how serving ends the command: the status, and the line; 8 is no fault, because how many events come
+-- is the network's business
 abbrev pub status_after : Served → ℕ
 status_after served.Stopped = 0
 status_after served.Failed = 6

@@ -178,8 +178,8 @@ fn run_network<R: Handlers>(
     }
 }
 
-/// The print of all acts of a network, and of the turns that each handler has kept since these counts; none where an
-/// act was lost.
+/// The print of all acts of a network, and of the turns that each handler has kept since these counts;
+/// none where an act was lost.
 fn print_since<R: Handlers>(
     alloc: Global,
     net: &NetMemory,

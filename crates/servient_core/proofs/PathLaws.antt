@@ -50,8 +50,8 @@ path_short before (o ∷ os) none =
     (λ is. segment_short before o.1 (subst (λ (n : ℕ). fault_of before (n, o.1) ≡ None) (eqb-true o.0 11 is) both.0))
     (path_short (Some o.0) os both.1)
 
--- Where no option of a message is a fault, the segments of its path have at most 255 bytes each (RFC 7252, section
--- 5.10).
+-- Where no option of a message is a fault, the segments of its path have at most 255 bytes each
+-- (RFC 7252, section 5.10).
 pub asked_path_short : (os : List CoapOption) → faults_of os ≡ [] → All (λ segment. length segment ≤ 255) (values_under 11 os)
 asked_path_short os none = path_short None os none
 

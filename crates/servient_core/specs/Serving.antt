@@ -16,15 +16,15 @@ use Rattle.servient_core.specs.declared.servient.OpenFault.TheVariants.{Expose, 
 use Rattle.servient_core.specs.declared.serving.Served.{Served}
 use Rattle.servient_core.specs.declared.serving.Served.TheVariants as served
 
--- What the code of a servient keeps is `Parts` of src/parts.rt: a part for each layer, of which contracts see each by
--- its own view.
+-- What the code of a servient keeps is `Parts` of src/parts.rt: a part for each layer, of which contracts
+-- see each by its own view.
 
 -- the Things that it exposes
 abbrev pub site_of_parts : Parts → Site
 site_of_parts kept = kept.exposed.site
 
--- What is kept stands for a state: each part for that of its layer, and what is held of a connection for its whole
--- stream.
+-- What is kept stands for a state: each part for that of its layer, and what is held of a
+-- connection for its whole stream.
 pub record StandsFor (kept : Parts) (s : State) : Type 0 where
   pub moment : s.moment ≡ kept.moment
   pub http : ConnectionsStandFor kept.http s.http

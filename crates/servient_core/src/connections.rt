@@ -1,5 +1,5 @@
-//! What a servient does on its connections (RFC 9112): the messages of each stream are taken and answered, one after
-//! another.
+//! What a servient does on its connections (RFC 9112): the messages of each stream are taken and
+//! answered, one after another.
 
 ghost use Rattle.std.specs.Prelude.{◌≡◌, ◌≤◌, ◌<◌, ◌++◌, List, map, length, true, false, IsSome};
 ghost use Rattle.thing_handler.specs.Handler.{Seen};

@@ -32,8 +32,8 @@ pub fn each_stands_for_a_state()
     ensures { (kept : Parts) → (s : State) × StandsFor kept s }
 {}
 
-/// A duplicate of a request that was admitted and lives makes no turn and changes nothing of the Things (RFC 7252,
-/// section 4.5).
+/// A duplicate of a request that was admitted and lives makes no turn and changes nothing of the Things
+/// (RFC 7252, section 4.5).
 pub fn duplicates_act_on_nothing()
     ensures { DuplicatesActOnNothing }
 {}

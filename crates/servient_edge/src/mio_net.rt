@@ -19,8 +19,8 @@ use std::time::Instant;
 
 const LAST_MOMENT: u64 = 1_000_000_000_000_000;
 
-// The system is asked this many times for one event. A report of which nothing comes is no event, and it is asked
-// again.
+// The system is asked this many times for one event. A report of which nothing comes is no
+// event, and it is asked again.
 const ASKS: u32 = 64;
 
 /// The network over sockets.
@@ -125,8 +125,8 @@ impl<R: net::Net + Clock + Drop> MioNet<R> {
         }
     }
 
-    /// What a turn gives, if anything. It is traffic. What fails for one peer is counted, and asked again at the next
-    /// tick.
+    /// What a turn gives, if anything. It is traffic. What fails for one peer is counted, and
+    /// asked again at the next tick.
     fn take(&mut self, buffer: &mut [u8]) -> Option<What>
         requires { length buffer.old ≡ 4096 }
         ensures what { IfSome result MayCome }

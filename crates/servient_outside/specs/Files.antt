@@ -32,8 +32,8 @@ added_reads name limit Absent = record { name = name; limit = limit } ∷ []
 added_reads name limit TooLong = record { name = name; limit = limit } ∷ []
 added_reads name limit Failed = record { name = name; limit = limit } ∷ []
 
--- What is seen of files at one time: what they hold and which reads were made, where they record it, and how often a
--- read failed.
+-- What is seen of files at one time: what they hold and which reads were made, where they record it, and
+-- how often a read failed.
 pub record FilesSeen : Type 0 where
   pub held : Option (List HeldFile)
   pub reads : Option (List FileRead)

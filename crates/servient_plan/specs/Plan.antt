@@ -22,8 +22,8 @@ use Rattle.servient_plan.specs.declared.texts.TextRow.TheVariants as row
 
 -- ---- members that are texts
 
--- the segment of the root: 1 to 64 of A-Z a-z 0-9 . _ -, but none that is taken or that a URL would lose (RFC 3986,
--- section 5.2.4)
+-- the segment of the root: 1 to 64 of A-Z a-z 0-9 . _ -, but none that is taken or that a URL would lose
+-- (RFC 3986, section 5.2.4)
 abbrev pub is_reserved : List ℕ → Bool
 is_reserved text =
     bytes_eq text (codes "things") || bytes_eq text (codes ".well-known") || bytes_eq text (codes ".") || bytes_eq text (codes "..")
@@ -38,8 +38,8 @@ is_host_byte b = is_ascii_alphanumeric b || b == 46 || b == 45
 abbrev pub is_host : List ℕ → Bool
 is_host text = list_all is_host_byte text && nat_lt 0 (length text) && nat_le (length text) 253
 
--- a port: a number from 1 to 65,535 in decimal digits with no leading zero, which is to say the spelling of its own
--- value
+-- a port: a number from 1 to 65,535 in decimal digits with no leading zero, which is to say the
+-- spelling of its own value
 abbrev pub is_port : List ℕ → Bool
 is_port text =
     nat_le 1 (digits_value 10 text) && nat_le (digits_value 10 text) 65535 && bytes_eq text (decimal (digits_value 10 text))

@@ -1,7 +1,7 @@
-//! A case that is run for each way to cut a stream of bytes. `cut once TEXT` cuts it at each place into two pieces, and
-//! `cut twice TEXT` at each pair of places into three, of which none is empty; at the end of a line `{1}`, `{2}` and
-//! `{3}` stand for the pieces. What comes of the first way is written, and of each other way only if something else
-//! comes of it.
+//! A case that is run for each way to cut a stream of bytes. `cut once TEXT` cuts it at each place into two pieces,
+//! and `cut twice TEXT` at each pair of places into three, of which none is empty; at the end of a line `{1}`,
+//! `{2}` and `{3}` stand for the pieces. What comes of the first way is written, and of each other way only if
+//! something else comes of it.
 
 use crate::sessions::put_result;
 use case_notation::{bytes_of, put_digits};

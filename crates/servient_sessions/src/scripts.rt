@@ -1,5 +1,5 @@
-//! Scripts that are read: the events of each, or the line that is refused. A row of `faults` is a fault, and how it is
-//! shown.
+//! Scripts that are read: the events of each, or the line that is refused. A row of `faults` is a
+//! fault, and how it is shown.
 
 use case_notation::{bytes_of, put};
 use servient_cli::{Script, ScriptFault};

@@ -1,5 +1,5 @@
-//! How outcomes are answered: HTTP status, CoAP code, and the payload, which is the text that an outcome carries or its
-//! word.
+//! How outcomes are answered: HTTP status, CoAP code, and the payload, which is the text that an
+//! outcome carries or its word.
 
 use crate::paths::{path_of, put_path};
 use crate::routes::put_line;

@@ -1,5 +1,5 @@
-//! Paths: `/lamp//on` are the segments `lamp`, an empty one and `on`, as bytes in text; `/` is one empty segment, and
-//! `-` none.
+//! Paths: `/lamp//on` are the segments `lamp`, an empty one and `on`, as bytes in text; `/` is one
+//! empty segment, and `-` none.
 
 ghost use Rattle.std.specs.Prelude.{◌<◌};
 

@@ -1,5 +1,5 @@
--- Things of a derivation without a fault: the root is the first, no two have the same segment, and each description is
--- valid.
+-- Things of a derivation without a fault: the root is the first, no two have the same segment, and
+-- each description is valid.
 use Rattle.std.proofs.Common.{◌≡◌, ◌≢◌, ℕ, ◌+◌, ◌<◌, List, [], ◌∷◌, ◌++◌, map, take, refl, sym, ap, subst, ◌∙◌, append_assoc, arith}
 use Rattle.std.specs.Prelude.{⊤, nat_lt, nat_le, length, Bool, true, false, ◌&&◌, ◌||◌, Option, Some, None, Result, Ok, Err, IfOk, zero, suc, AllPairs, if◌then◌else◌}
 use Rattle.std.specs.List.{AllByRecursion, flat_map, list_all, list_any}

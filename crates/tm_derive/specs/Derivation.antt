@@ -40,9 +40,9 @@ children given place = children_from place 1 (submodels given place)
 abbrev pub optionals : Given → Place → List (List ℕ)
 optionals given place = optional_texts most_below given.sources place.model
 
--- A description with these texts of what is optional and these parts, from the value of its model: without what is
--- optional and not chosen, finished, and with the links to its own model, its parent and its parts in place of those to
--- other models.
+-- A description with these texts of what is optional and these parts, from the value of its model: without what
+-- is optional and not chosen, finished, and with the links to its own model, its parent and its parts in place
+-- of those to other models.
 abbrev pub thing_with : Given → Place → List (List ℕ) → List Place → Json → Json
 thing_with given place texts parts value =
     description given.frame place

@@ -1,5 +1,5 @@
--- A Thing Model's value without what is optional in it and wasn't chosen (Thing Description 1.1, section "Thing
--- Model").
+-- A Thing Model's value without what is optional in it and wasn't chosen (Thing Description
+-- 1.1, section "Thing Model").
 use Rattle.std.specs.Prelude.{◌&&◌, not, Bool, ℕ, List, [], ◌∷◌, ◌++◌, codes, Option, Some, None, option_and_then, if◌then◌else◌}
 use Rattle.wot_json.specs.Tree.{Json, null, object, members_of}
 use Rattle.wot_json.specs.Lookup.{member_list}

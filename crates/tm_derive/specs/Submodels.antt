@@ -67,8 +67,8 @@ name_faults place earlier index None = Instance place.segment (link_place index)
 name_faults place earlier index (Some name) =
     if is_among (below place.segment name) earlier then TwiceInstance place.segment (link_place index) ∷ [] else []
 
--- the kind of the fault of the model that a link leads to: it is one of the library, and not that of this Thing or of
--- one above it
+-- the kind of the fault of the model that a link leads to: it is one of the library, and not that of this
+-- Thing or of one above it
 abbrev pub target_kind : Models → List (List ℕ) → List ℕ → List ℕ → Option ResolveKind
 target_kind models above model url =
     if is_none (member_named url models) then Some MissingModel

@@ -1,5 +1,5 @@
--- How a map by texts answers, in terms of the list of the values that it keeps: each entry's value is seen by a
--- function.
+-- How a map by texts answers, in terms of the list of the values that it keeps: each entry's
+-- value is seen by a function.
 use Rattle.std.proofs.Common.{◌≡◌, ℕ, List, [], ◌∷◌, map, refl, sym, ap, subst, rules, ◌∙◌, Bool, true, false, cond}
 use Rattle.std.specs.Prelude.{Option, Some, None, option_map, is_some, IsSome, String, string_bytes}
 use Rattle.std.specs.Str.{bytes_eq}

@@ -1,10 +1,10 @@
 //! Parts of Thing Models: their placeholders, the library that keeps them, and references from one to another.
 //!
 //! A Thing Model is a JSON value whose texts may hold placeholders, `{{NAME}}` (Thing Description 1.1, section "Thing
-//! Model"). `substitute` puts bound values in their places, or finds the first fault; `first_hole` finds the first that
-//! is left. `Library` keeps models by the texts of their URLs, and `Sources` are its models with values, of which none
-//! is built. `target` says where the text of a `tm:ref` leads, and a `Location` says it of many without parsing its own
-//! URL again.
+//! Model"). `substitute` puts bound values in their places, or finds the first fault; `first_hole` finds the first
+//! that is left. `Library` keeps models by the texts of their URLs, and `Sources` are its models with values, of
+//! which none is built. `target` says where the text of a `tm:ref` leads, and a `Location` says it of many without
+//! parsing its own URL again.
 //!
 //! ```
 //! use tm_parts::{Bindings, substitute, target};

@@ -48,8 +48,8 @@ impl<'a> Values<'a> {
     pub fn new(alloc: Global, bindings: &'a Bindings) -> Result<Self, NoMemory>
         ensures { IfOk result (λ values. BindAlike values bindings.now) }
     {
-        // A vector, because the check of borrows doesn't let a `BTreeMap` of references be lent for less time than they
-        // live.
+        // A vector, because the check of borrows doesn't let a `BTreeMap` of references be lent for
+        // less time than they live.
         let map = bound_map(alloc, bindings)?;
         let mut list = Vec::with_capacity(alloc, map.len())?;
         for entry in map {

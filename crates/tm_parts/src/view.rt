@@ -1,5 +1,5 @@
-//! A model with values in place of its placeholders, seen without building it: nothing is built before its size is
-//! known.
+//! A model with values in place of its placeholders, seen without building it: nothing is built
+//! before its size is known.
 
 ghost use Rattle.std.specs.Prelude.{◌≡◌, ◌<◌, ◌≤◌, ◌++◌, ℕ, List, length, IfOk, IfSome, IsNone, ◌↔◌, option_map, option_and_then};
 ghost use Rattle.std.specs.Str.{bytes_eq};
@@ -65,9 +65,9 @@ pub struct ObjectView<'a> {
 }
 
 impl<'a> View<'a> {
-    /// What the node is. A text that is exactly one bound placeholder is what the value is. A text is read each time
-    /// that it is visited, so counting takes a time in proportion to the model as it is written, and not to its weight
-    /// alone.
+    /// What the node is. A text that is exactly one bound placeholder is what the value is. A text is read
+    /// each time that it is visited, so counting takes a time in proportion to the model as it is written, and
+    /// not to its weight alone.
     pub fn node(self) -> Node<'a>
         ensures { node_value result ≡ seen self.entry }
     {
@@ -88,8 +88,8 @@ impl<'a> View<'a> {
         }
     }
 
-    /// The node itself, or the value where it is a text that is exactly one bound placeholder. A text that is left is
-    /// none.
+    /// The node itself, or the value where it is a text that is exactly one bound placeholder. A
+    /// text that is left is none.
     fn followed(self) -> View<'a>
         ensures same { seen result ≡ seen self.entry }
         ensures text { (text : List ℕ) → json_of result.tree.now ≡ string text

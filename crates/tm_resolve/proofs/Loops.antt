@@ -87,8 +87,8 @@ pub elements_mapped : (step : ValueStep) (url : List ℕ) (chain : List Referenc
 elements_mapped step url chain [] = refl
 elements_mapped step url chain (v ∷ vs) = ap (λ (es : Elements). element (part_value step url chain v) es) (elements_mapped step url chain vs)
 
--- what a walk through a list has made, with what is left, is what becomes of the list; and what is left has all its
--- faults
+-- what a walk through a list has made, with what is left, is what becomes of the list; and what
+-- is left has all its faults
 pub record ElementsGoOn (steps : Steps) (chain : List Reference) (from : Reference) (meaning : Tree → Json) (list : List Tree) (done : List Json) (index : ℕ) : Type 0 where
   pub values : done ++ map (part_value steps.value from.url chain) (map meaning (drop index list)) ≡ map (part_value steps.value from.url chain) (map meaning list)
   pub faults : element_faults steps chain from index (elements_of (map meaning (drop index list))) ≡ element_faults steps chain from 0 (elements_of (map meaning list))

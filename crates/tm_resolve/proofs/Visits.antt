@@ -101,8 +101,8 @@ pub loop_end : {X : Type 0} (visits : List X → List Visit) (list : List X) (in
 loop_end {X} visits list index before left none past so_far =
     counts_end (visits list) before (visits (drop index list)) left (ap visits (drop_all index list past) ∙ none) so_far
 
--- the visits of links, of the elements of a list and of the members of an object, by the code's values and what they
--- mean
+-- the visits of links, of the elements of a list and of the members of an object, by the code's
+-- values and what they mean
 abbrev pub submodels_list : (Tree → Json) → Sources → List ℕ → List Reference → List Tree → List Visit
 submodels_list meaning sources url chain links = flat_map (submodel_visits (step_from sources chain) url chain) (map meaning links)
 

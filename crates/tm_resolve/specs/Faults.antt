@@ -1,6 +1,6 @@
--- The faults of a part of a Thing Model, all of them in order: those of an extension come before those of the model,
--- those of a `tm:ref` before those of the members beside it, and those of elements and members in the order of the
--- value.
+-- The faults of a part of a Thing Model, all of them in order: those of an extension come before those of
+-- the model, those of a `tm:ref` before those of the members beside it, and those of elements and members
+-- in the order of the value.
 use Rattle.std.specs.Prelude.{◌+◌, Bool, true, false, ℕ, zero, suc, List, [], ◌∷◌, ◌++◌, Option, Some, None, Result, Ok, Err, if◌then◌else◌}
 use Rattle.std.specs.Str.{bytes_eq}
 use Rattle.wot_json.specs.Tree.{Json, null, boolean, integer, string, array, object, Elements, no_elements, element, Members, no_members, member}
@@ -101,8 +101,8 @@ target_faults steps chain target part =
     (if is_whole target then extension_faults steps chain target.url (extensions part) else [])
     ++ part_faults steps chain target part
 
--- the faults of a step whose target's model is this one: there is a part at the pointer, in the model without its
--- extension
+-- the faults of a step whose target's model is this one: there is a part at the pointer, in the
+-- model without its extension
 abbrev pub model_faults : (Json → List ResolveFault) → Reference → Reference → Result Json PartFault → List ResolveFault
 model_faults inside from target (Err fault) = fault_in target.url fault ∷ []
 model_faults inside from target (Ok whole) = elim (part_of target.pointer whole) [ None ↦ fault_at MissingNode from ∷ [] | Some part ↦ inside part ]

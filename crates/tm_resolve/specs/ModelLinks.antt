@@ -16,8 +16,8 @@ abbrev pub relation_text : Relation → List ℕ
 relation_text Extends = codes "tm:extends"
 relation_text Submodel = codes "tm:submodel"
 
--- the model under this URL with values in place of its placeholders, where there is one and its substitution has no
--- fault
+-- the model under this URL with values in place of its placeholders, where there is one and its
+-- substitution has no fault
 abbrev pub whole_model : Sources → List ℕ → Option Json
 whole_model sources url = option_and_then result_ok (source_named url sources)
 

@@ -102,8 +102,8 @@ links_visits step role url chain whole =
 abbrev pub is_whole : Reference → Bool
 is_whole target = length target.pointer == 0
 
--- the visits of a target whose part this is, with it in the chain: those of the part, and for a whole model of its
--- links
+-- the visits of a target whose part this is, with it in the chain: those of the part, and for a
+-- whole model of its links
 abbrev pub target_visits : Step → Role → ℕ → List Reference → Reference → Json → List Visit
 target_visits step role depth chain target part =
     part_visits step target.url chain depth part

@@ -28,8 +28,8 @@ pub(crate) fn is_in_chain(target: &Reference, chain: &[Reference]) -> bool
     false
 }
 
-/// The two lead to one part of one model: their texts are the same, because a pointer that was decoded has one text for
-/// each place.
+/// The two lead to one part of one model: their texts are the same, because a pointer that was decoded has
+/// one text for each place.
 fn is_target(target: &Reference, entry: &Reference) -> bool
     ensures { result ≡ spec.is_target target.now entry.now }
 {

@@ -21,8 +21,8 @@ pub fn too_large_is_exact()
         ↔ ((is_too_large (expansion (sources_of models values) root) ≡ true) × (url ≡ root) × (place ≡ [])) }
 {}
 
-/// The value of a model that isn't too large and its faults don't depend on the limit on chains: with more room they
-/// are the same.
+/// The value of a model that isn't too large and its faults don't depend on the limit on chains: with
+/// more room they are the same.
 pub fn room_is_enough()
     ensures { (sources : Sources) → (root : List ℕ) → is_too_large (expansion sources root) ≡ false
         → (room : ℕ) → most_entries ≤ room → SaysTheSame sources root room }

@@ -12,8 +12,8 @@
 //! assert!(matches!(directory.remove("urn:fan"), Err(DirFault::NotFound)));
 //! ```
 //!
-//! The contract in a sentence: each call does what its step says, or gives the first fault that holds and changes
-//! nothing.
+//! The contract in a sentence: each call does what its step says, or gives the first fault that
+//! holds and changes nothing.
 #![tactic(auto)]
 
 mod directory;

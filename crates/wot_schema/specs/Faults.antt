@@ -1,6 +1,6 @@
--- What is wrong with a data schema: `schema_faults` lists all of it, `table` says what each member must be. Places are
--- seen from the value that has the fault, because each part then reports its own; the level above puts its step before
--- them.
+-- What is wrong with a data schema: `schema_faults` lists all of it, `table` says what each member must be.
+-- Places are seen from the value that has the fault, because each part then reports its own; the level above
+-- puts its step before them.
 use Rattle.std.specs.Prelude.{◌≡◌, ◌⊎◌, ◌&&◌, Bool, true, false, ℕ, ◌+◌, pos, suc, List, [], ◌∷◌, ◌++◌, map, Some, IfSome, codes, slice_get, if◌then◌else◌}
 use Rattle.std.specs.List.{flat_map, list_any}
 use Rattle.std.specs.Option.{option_map_or}
@@ -128,8 +128,8 @@ abbrev pub table_faults : Members → List SchemaFault
 table_faults ms = flat_map (row_faults ms) table
 
 abbrev mutual
-  -- All faults of a schema, with their places from its root: those of the table, and then those of the schemas below
-  -- it.
+  -- All faults of a schema, with their places from its root: those of the table, and then those
+  -- of the schemas below it.
   pub schema_faults : Json → List SchemaFault
   schema_faults (object ms) = table_faults ms ++ (faults_within one_of ms ++ (faults_within items ms ++ faults_within properties ms))
   schema_faults s = wrong_form

@@ -43,8 +43,8 @@ impl Model for Schema {
 }
 
 impl Schema {
-    /// The schema of a tree, or its first fault, as `check` gives it. The time is in proportion to the size of the
-    /// tree.
+    /// The schema of a tree, or its first fault, as `check` gives it. The time is in proportion
+    /// to the size of the tree.
     pub fn read(alloc: Global, tree: &Tree) -> Result<Schema, SchemaFault>
         ensures ok { IfOk result (λ s. (s ≡ json_of tree.now) × (schema_faults (json_of tree.now) ≡ [])) }
         ensures fault { IfErr result (IsSchemaRefusal (schema_faults (json_of tree.now))) }

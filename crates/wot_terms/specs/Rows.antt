@@ -16,8 +16,8 @@ use Rattle.wot_terms.specs.declared.affordances.AffordanceRow.{AffordanceRow}
 use Rattle.wot_terms.specs.declared.affordances.AffordanceRow.TheVariants as affordance_row
 use Rattle.wot_terms.specs.Faults.{Places, Judge, MembersJudge, is, is_text_with, is_text_not_empty, anything, text, truth_value, any_object, schema, object_with, if_object, required_member, link, forms_of, form_href, form_operations, form_texts, affordance_forms, affordance_flags, affordance_schemas, table}
 
--- What was found in a part with these wrong places: nothing, where it has none; or the first; or out of memory, and it
--- has one.
+-- What was found in a part with these wrong places: nothing, where it has none; or the first; or out
+-- of memory, and it has one.
 abbrev pub IsFinding : Places → Result (Unit {0}) RowFault → Type 0
 IsFinding places (Ok u) = places ≡ []
 IsFinding places (Err row_fault.NoMemory) = places ≢ []

@@ -34,9 +34,9 @@ ghost use Rattle.wot_terms.specs.Schemas.{IsSchema, HasSchemas, HaveSchemas, Hol
 ghost use Rattle.wot_terms.specs.Affordances.{affordances_of, affordances_in, held_affordances, named_affordances, affordance_of, input_of, output_of, flag_of, is_true as is_true_value};
 
 impl Description {
-    /// The affordances of a description that `check` takes: properties, actions and events, in the order in which the
-    /// standard introduces them, each in the byte order of their names. The time is in proportion to the size of the
-    /// tree.
+    /// The affordances of a description that `check` takes: properties, actions and events, in the order in
+    /// which the standard introduces them, each in the byte order of their names. The time is in proportion
+    /// to the size of the tree.
     ///
     /// The schemas are compiled here and not by `check`, because descriptions are checked where they come in and listed
     /// where they are exposed.
@@ -171,8 +171,8 @@ fn schema(alloc: Global, tree: Option<&Tree>) -> Result<Option<Schema>, NoMemory
     }
 }
 
-/// The truth value that an affordance has under this name, as `readOnly`; false where it is absent (TD 1.1, section
-/// 5.4).
+/// The truth value that an affordance has under this name, as `readOnly`; false where it is
+/// absent (TD 1.1, section 5.4).
 pub fn flag(affordance: &Tree, name: &str) -> bool
     ensures { result ≡ flag_of name.now (json_of affordance.now) }
 {

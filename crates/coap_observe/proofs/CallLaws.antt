@@ -23,7 +23,7 @@ where_weaker q p f w h = at (p w) h
     at true k = k
     at false k = λ e. e
 
-where_same : (q p : Watcher → Bool) (f : Watcher → Watcher) (w : Watcher) → q (f w) ≡ q w → q (where_so p f w) ≡ q w
+pub where_same : (q p : Watcher → Bool) (f : Watcher → Watcher) (w : Watcher) → q (f w) ≡ q w → q (where_so p f w) ≡ q w
 where_same q p f w h = at (p w) h
   where
     at : (t : Bool) → q (f w) ≡ q w → q (cond t (f w) w) ≡ q w
@@ -199,7 +199,7 @@ one_pair capacity u (goes_on t _ before goes) from token = pair_goes t u goes fr
 
 -- ---- one that isn't registered
 
-own_pair : (w : Watcher) → is_pair w.from w.token w ≡ true
+pub own_pair : (w : Watcher) → is_pair w.from w.token w ≡ true
 own_pair w = ap (λ (b : Bool). b && bytes_eq w.token w.token) (itself w.from) ∙ own_token w.token
 
 pub forgotten : (capacity : ℕ) (t : Watching) (from : Endpoint) (id : ℕ) (w : Watcher) → Comes capacity t → find (is_sent_as from id) t.list ≡ Some w

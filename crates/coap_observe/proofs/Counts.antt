@@ -176,11 +176,11 @@ found_passes {X} p (x ∷ xs) w found = elim (cases_Bool (p x)) [
 ]
 
 -- of elements of which at most one passes a test, none passes it once that one is taken away
-few : {X : Type 0} (t : Bool) (x : X) (xs : List X) → t ≡ true → length (cond t (x ∷ xs) xs) ≤ 1 → length xs ≡ 0
+pub few : {X : Type 0} (t : Bool) (x : X) (xs : List X) → t ≡ true → length (cond t (x ∷ xs) xs) ≤ 1 → length xs ≡ 0
 few true x xs e most = omega arith
 few false x xs e most = absurd (cc)
 
-no_element : {X : Type 0} (q : X → Bool) (xs : List X) → length (filter q xs) ≡ 0 → list_any q xs ≡ false
+pub no_element : {X : Type 0} (q : X → Bool) (xs : List X) → length (filter q xs) ≡ 0 → list_any q xs ≡ false
 no_element q [] e = refl
 no_element {X} q (x ∷ xs) e = elim (cases_Bool (q x)) [
   | inl passes ↦

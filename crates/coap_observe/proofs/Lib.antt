@@ -1,5 +1,7 @@
 mod Changed
 mod Due
 mod Counts
+mod Found
 mod Endpoints
 mod CallLaws
+mod NumberLaws

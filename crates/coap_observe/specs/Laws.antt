@@ -1,13 +1,14 @@
 -- Laws of watchers, over all that is done to them from the beginning (RFC 7641, sections 3.6, 4.1 and 4.5).
-use Rattle.std.specs.Prelude.{◌≡◌, ◌≤◌, ◌&&◌, ℕ, Bool, true, false, List, length, take, filter, find, Option, Some}
+use Rattle.std.specs.Prelude.{◌≡◌, ◌≤◌, ◌&&◌, ℕ, Bool, true, false, List, length, take, filter, find, Option, Some, None, option_map, ◌⊎◌, if◌then◌else◌}
 use Rattle.std.specs.List.{list_any}
 use Rattle.std.specs.Str.{bytes_eq}
 use Rattle.coap_msg.specs.declared.endpoint.Endpoint.{Endpoint}
 use Rattle.coap_msg.specs.Endpoints.{is_same_endpoint}
 use Rattle.coap_observe.specs.declared.watcher.Watcher.{Watcher}
 use Rattle.coap_observe.specs.declared.notice.Registered.{Registered}
+use Rattle.coap_observe.specs.declared.notice.Registered.TheVariants.{New, Replaced, Full}
 use Rattle.coap_observe.specs.declared.notice.Notice.{Notice}
-use Rattle.coap_observe.specs.Watching.{Watching, none_watch, is_from, is_pair, is_busy, is_sent_as, Registers, without_pair, with_emission, with_acknowledgement, with_reset, hopeless, GivesUp, Notifies}
+use Rattle.coap_observe.specs.Watching.{Watching, next_sequence, sequence_of, none_watch, is_from, is_pair, is_busy, is_sent_as, Registers, without_pair, with_emission, with_acknowledgement, with_reset, hopeless, GivesUp, Notifies}
 
 -- What one call does to watchers, where a registration may be of each endpoint and token of which `May` holds.
 pub data Goes (May : Endpoint → List ℕ → Type 0) (t u : Watching) : Type 0 where
@@ -70,3 +71,37 @@ abbrev pub NothingForAbsent : Type 0
 NothingForAbsent =
     (from : Endpoint) (token : List ℕ) (t : Watching) (now id : ℕ) (n : Notice) (us : List Watcher) → IsAbsent from token t
     → Notifies now id t.list (Some n) us → is_for from token n ≡ false
+
+-- ---- sequence numbers
+
+-- the last sequence number of the watcher of an endpoint and a token, if there is one
+abbrev pub last_number : Endpoint → List ℕ → List Watcher → Option ℕ
+last_number from token ws = option_map (λ w. w.sequence) (find (is_pair from token) ws)
+
+-- While a watcher stays, a call leaves its number or takes it to the next one.
+abbrev pub NumbersRise : Type 0
+NumbersRise =
+    (capacity : ℕ) (t u : Watching) (from : Endpoint) (token : List ℕ) (before after : ℕ) → Comes capacity t → Goes Any t u
+    → last_number from token t.list ≡ Some before → last_number from token u.list ≡ Some after
+    → (after ≡ before) ⊎ (after ≡ next_sequence before)
+
+-- a registration of which there was no watcher
+abbrev pub is_new : Registered → Bool
+is_new (New n) = true
+is_new (Replaced n) = false
+is_new Full = false
+
+-- A registration says the number that its watcher has from then on: 0 where that is new, and else the next one.
+abbrev pub RegistrationsSayIt : Type 0
+RegistrationsSayIt =
+    (from : Endpoint) (token : List ℕ) (target : ℕ) (t u : Watching) (r : Registered) (n : ℕ) → Registers from token target t r u
+    → sequence_of r ≡ Some n
+    → (last_number from token u.list ≡ Some n) × (option_map next_sequence (last_number from token t.list) ≡ (if is_new r then None else Some n))
+
+-- And a notification says it too: a new message the next number, and one that is sent again the same.
+abbrev pub NoticesSayIt : Type 0
+NoticesSayIt =
+    (capacity : ℕ) (t : Watching) (now id : ℕ) (n : Notice) (us : List Watcher) → Comes capacity t → Notifies now id t.list (Some n) us
+    → (before : ℕ) × (last_number n.to (take n.token_length n.token) t.list ≡ Some before)
+    × (last_number n.to (take n.token_length n.token) us ≡ Some n.sequence)
+    × (n.sequence ≡ (if n.fresh then next_sequence before else before))

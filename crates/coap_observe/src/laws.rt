@@ -1,6 +1,6 @@
 //! Laws of watchers, as contracts of functions that do nothing.
 
-ghost use Rattle.coap_observe.specs.Laws.{OneUnacknowledged, PairsDiffer, GivenUpLeavesNone, ResetForgets, AbsentStays, NothingForAbsent};
+ghost use Rattle.coap_observe.specs.Laws.{OneUnacknowledged, PairsDiffer, GivenUpLeavesNone, ResetForgets, AbsentStays, NothingForAbsent, NumbersRise, RegistrationsSayIt, NoticesSayIt};
 
 /// At most one notification to an endpoint is unacknowledged at a time (RFC 7641, section 4.5.1).
 pub fn one_is_unacknowledged()
@@ -23,4 +23,11 @@ pub fn reset_forgets()
     ensures forgets { ResetForgets }
     ensures stays { AbsentStays }
     ensures nothing { NothingForAbsent }
+{}
+
+/// While a watcher stays, its sequence numbers rise by one, and registrations and notifications say them (RFC 7641, section 3.4).
+pub fn numbers_rise()
+    ensures rise { NumbersRise }
+    ensures registrations { RegistrationsSayIt }
+    ensures notices { NoticesSayIt }
 {}

@@ -20,7 +20,7 @@
 //!
 //! The contract in a sentence: each call is its step of `specs/Watching.antt`, and `next_send` is `Notifies` there. The laws
 //! (`specs/Laws.antt`): at most one notification to an endpoint is unacknowledged, an endpoint that is given up has no
-//! watcher left, and after a Reset nothing is sent to its watcher until that registers again.
+//! watcher left, after a Reset nothing is sent to its watcher until that registers again, and sequence numbers rise by one.
 #![tactic(auto)]
 
 mod laws;
@@ -31,7 +31,9 @@ mod sequence;
 mod watcher;
 mod watchers;
 
-pub use laws::{given_up_leaves_none, one_is_unacknowledged, pairs_differ, reset_forgets};
+pub use laws::{
+    given_up_leaves_none, numbers_rise, one_is_unacknowledged, pairs_differ, reset_forgets,
+};
 pub use notice::{Notice, Registered};
 pub use servient_base::NoMemory;
 pub use watchers::Watchers;

@@ -218,7 +218,7 @@ from_past : (x : ℕ) (xs : List ℕ) (o : Option ℕ) → ((z : ℕ) → o ≡ 
 from_past x xs None h = refl
 from_past x xs (Some z) h = rw (h z refl) refl
 
-from_first : (xs : List ℕ) → from_slot (first_of xs) xs ≡ xs
+pub from_first : (xs : List ℕ) → from_slot (first_of xs) xs ≡ xs
 from_first [] = refl
 from_first (x ∷ xs) = rw (same_slot x) refl
 

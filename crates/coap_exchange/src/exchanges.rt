@@ -15,12 +15,13 @@ use std::marker::Model;
 /// The one list of `order`.
 const ALL: u32 = 0;
 
-/// The exchanges of a server. Contracts see how many may live, the last moment that was handed in, and the exchanges that
-/// live then with their replies (`Table` of specs/Table.antt).
+/// The exchanges of a server. Contracts see how many may live, the last moment that was handed in, and the exchanges
+/// that live then with their replies (`Table` of specs/Table.antt).
 ///
-/// Each exchange has a slot, in which its entry and its reply have fixed places. A slot is in the list of the free ones or in
-/// that of its kind (`kinds`); while it lives also in one bucket, by endpoint and message ID, and in the list of all in order of
-/// admission. So a call looks into one bucket, and gives up what is over from the front of the lists by kind.
+/// Each exchange has a slot, in which its entry and its reply have fixed places. A slot is in the list of the free ones
+/// or in that of its kind (`kinds`); while it lives also in one bucket, by endpoint and message ID, and in the list of
+/// all in order of admission. So a call looks into one bucket, and gives up what is over from the front of the lists by
+/// kind.
 #[derive(Drop)]
 pub struct Exchanges {
     capacity: u32,
@@ -131,8 +132,8 @@ impl Exchanges {
         }
     }
 
-    /// The slot of the oldest exchange of a kind, if it doesn't live at the moment `now`. As none lives longer than a later one of
-    /// its kind, all live where that does.
+    /// The slot of the oldest exchange of a kind, if it doesn't live at the moment `now`. As none lives longer than a
+    /// later one of its kind, all live where that does.
     fn oldest_over(&self, kind: RequestType, now: u64) -> Option<u32>
         ensures { FindsOver now kind self.now result }
     {
@@ -170,7 +171,8 @@ impl Exchanges {
         }
     }
 
-    /// The slot of the reply to the exchange of this endpoint and message ID, where one was kept, if that exchange lives.
+    /// The slot of the reply to the exchange of this endpoint and message ID, where one was kept, if that exchange
+    /// lives.
     fn duplicated(&self, from: Endpoint, id: u16) -> Option<Option<u32>>
         ensures { (kind : RequestType) → FindsDuplicated self.now (record { moment = self.now.moment; from = from; id = id; kind = kind }) result }
     {

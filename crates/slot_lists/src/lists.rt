@@ -8,8 +8,8 @@ use crate::link::{Ends, Link};
 use std::alloc::Global;
 use std::marker::Model;
 
-/// Some number of lists of slots, each slot in at most one of them. Contracts see the capacity, which all slots are below, and
-/// the lists (`Lists` of specs/Lists.antt). A list is named by its index.
+/// Some number of lists of slots, each slot in at most one of them. Contracts see the capacity, which all slots are
+/// below, and the lists (`Lists` of specs/Lists.antt). A list is named by its index.
 #[derive(Drop)]
 pub struct SlotLists {
     links: Vec<Link>,

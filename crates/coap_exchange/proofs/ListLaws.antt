@@ -4,7 +4,7 @@ use Rattle.std.specs.Option.{option_map}
 use Rattle.std.specs.Prelude.{slice_get}
 use Rattle.std.proofs.lemmas.Option.{slice_get-get_or}
 use Rattle.std.specs.List.{find, filter, AllByRecursion}
-use Rattle.coap_exchange.specs.Kept.{times}
+use Rattle.coap_exchange.specs.Slots.{times}
 
 -- the first that passes, in a mapped list
 found_in_map : {A B : Type 0} (f : A → B) (x : A) (o : Option A) (p : Option B) (b : Bool) → p ≡ option_map f o → cond b (Some (f x)) p ≡ option_map f (cond b (Some x) o)

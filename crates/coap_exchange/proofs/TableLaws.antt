@@ -1,130 +1,178 @@
--- What is seen of the code's entries.
-use Rattle.std.proofs.Common.{◌-◌, not, ◌++◌, vec_capacity, length-append, ◌≡◌, ◌+◌, ◌≤◌, ◌<◌, ◌==◌, ℕ, Bool, true, false, cond, List, [], ◌∷◌, map, length, get_or, set, Option, Some, None, ◌≢◌, ◌∙◌, sym, refl, ap, arith}
+-- What is seen of the slots of the code.
+use Rattle.std.proofs.Common.{◌-◌, not, ◌≡◌, ◌≢◌, ◌≤◌, ◌<◌, ◌==◌, ◌&&◌, ℕ, Bool, true, false, cond, List, [], ◌∷◌, map, length, get_or, set, Option, Some, None, inl, inr, ◌∙◌, sym, refl, ap, subst, arith}
 use Rattle.std.specs.Option.{option_map}
 use Rattle.std.specs.Prelude.{nat_lt}
-use Rattle.std.proofs.lemmas.List.Elements.{All-push, filter_passes}
-use Rattle.std.proofs.lemmas.List.Filters.{length-filter_both}
+use Rattle.std.specs.List.{find, filter, AllByRecursion}
+use Rattle.std.proofs.lemmas.List.{get_or-set_same, get_or-set_other, get_or_read}
+use Rattle.std.proofs.lemmas.List.Elements.{recursion_from_All, filter_agree}
+use Rattle.std.proofs.lemmas.Bool.Decides.{nat_tests, eqb_tells}
+use Rattle.coap_msg.specs.declared.endpoint.Endpoint.{Endpoint}
 use Rattle.coap_msg.specs.declared.message.RequestType.{RequestType}
 use Rattle.coap_msg.specs.declared.message.RequestType.TheVariants.{Confirmable, NonConfirmable}
+use Rattle.slot_lists.specs.Lists.{is_among, without}
+use Rattle.slot_lists.proofs.Among.{either, is_same, among_first, among_rest}
 use Rattle.coap_exchange.specs.Admission.{Arrival, lifetime, lives, is_duplicate_of}
-use Rattle.coap_exchange.specs.Kept.{arrival_of, is_of, exchange_of, table_of, IsKept, once_below, times_used, times_free}
+use Rattle.coap_exchange.specs.Slots.{arrival_of, is_of, entry_at, exchange_at, times_in, bucket_at}
+use Rattle.coap_exchange.specs.Buckets.{bucket}
+use Rattle.coap_exchange.specs.Kept.{table_of, living_slots, free_slots, arrival_at, IsKept}
 use Rattle.coap_exchange.specs.Table.{Exchange, exchange_in, answered, duplicated_exchange}
 use Rattle.coap_exchange.specs.declared.entry.Entry.{Entry}
 use Rattle.coap_exchange.specs.declared.exchanges.Exchanges.TheInside.{Inside}
-use Rattle.coap_exchange.proofs.ListLaws.{find-map, option_map_some, found_is_counted, found_once, found_passes, find_agreeing, uncounted_is_not_found}
-use Rattle.coap_exchange.proofs.SlotLaws.{once_is_below, once_at_most, times_used-append, times_free-append, slots_split}
-use Rattle.std.specs.List.{find, filter, AllByRecursion}
-use Rattle.std.proofs.lemmas.List.Elements.{recursion_from_All}
-use Rattle.std.proofs.lemmas.List.{get_or-set_same, get_or-set_other, length-map, map-append}
-use Rattle.std.proofs.lemmas.Bool.Decides.{nat_tests}
+use Rattle.coap_exchange.proofs.ListLaws.{find-map, filter-map, option_map_some, find_agreeing}
+use Rattle.coap_exchange.proofs.SlotLaws.{same_slot, turned_test, once_is_below, once_at_most, among_counted, uncounted_is_absent, find_in_filter}
 
--- the exchange in a slot is that of the entry with the slot
-in_slot : (x : Inside) (slot : ℕ) → exchange_in slot (table_of x) ≡ option_map (exchange_of x.replies.items) (find (λ e. e.slot == slot) x.entries.items)
-in_slot x slot = find-map (λ e. e.slot == slot) (exchange_of x.replies.items) x.entries.items
+-- ---- the exchange in a slot
 
--- a slot that an entry has is a place for a reply
-pub used_is_place : (x : Inside) → IsKept x → (slot : ℕ) → 1 ≤ times_used slot x.entries.items → slot < length x.replies.items
-used_is_place x kept slot h =
-    let once : 1 ≤ once_below slot x.capacity = omega (arith, kept.slots slot) in
-    let below : slot < x.capacity = once_is_below slot x.capacity once in
-    omega (arith, kept.places)
+in_slot : (x : Inside) (slot : ℕ) → exchange_in slot (table_of x) ≡ option_map (exchange_at x.entries.items x.replies.items) (find (λ s. s == slot) (living_slots x))
+in_slot x slot = find-map (λ e. e.slot == slot) (exchange_at x.entries.items x.replies.items) (living_slots x)
 
--- the entry of the exchange in a slot
-pub entry_in : (x : Inside) (slot : ℕ) (e : Exchange) → exchange_in slot (table_of x) ≡ Some e
-    → (y : Entry) × (find (λ z. z.slot == slot) x.entries.items ≡ Some y) × (exchange_of x.replies.items y ≡ e)
-entry_in x slot e h =
-    let mapped : option_map (exchange_of x.replies.items) (find (λ z. z.slot == slot) x.entries.items) ≡ Some e = sym (in_slot x slot) ∙ h in
-    option_map_some (exchange_of x.replies.items) (find (λ z. z.slot == slot) x.entries.items) e mapped
+found_among : (slot : ℕ) (xs : List ℕ) (s : ℕ) → find (λ n. n == slot) xs ≡ Some s → is_among slot xs ≡ true
+found_among slot [] s h = absurd cc
+found_among slot (x ∷ xs) s h = elim (eqb_tells slot x) [
+  | inl w ↦ subst (λ n. is_among n (x ∷ xs) ≡ true) (sym w.1) (among_first x xs)
+  | inr w ↦
+      let other : (x == slot) ≡ false = turned_test x slot ∙ w.0 in
+      let later : find (λ n. n == slot) xs ≡ Some s = subst (λ b. cond b (Some x) (find (λ n. n == slot) xs) ≡ Some s) other h in
+      among_rest slot x xs (found_among slot xs s later)
+]
+
+among_found : (slot : ℕ) (xs : List ℕ) → is_among slot xs ≡ true → find (λ n. n == slot) xs ≡ Some slot
+among_found slot [] m = absurd cc
+among_found slot (x ∷ xs) m = elim (eqb_tells slot x) [
+  | inl w ↦ let here : (x == slot) ≡ true = turned_test x slot ∙ w.0 in rw here (ap (λ n. Some n) (sym w.1))
+  | inr w ↦
+      let other : (x == slot) ≡ false = turned_test x slot ∙ w.0 in
+      rw other (among_found slot xs (elim (either (slot == x) (is_among slot xs) m) [ inl e ↦ absurd cc | inr later ↦ later ]))
+]
+
+-- a slot that an exchange is in is living, and the exchange is what it holds
+pub slot_lives : (x : Inside) (slot : ℕ) (e : Exchange) → exchange_in slot (table_of x) ≡ Some e
+    → (is_among slot (living_slots x) ≡ true) × (exchange_at x.entries.items x.replies.items slot ≡ e)
+slot_lives x slot e h =
+    let found = option_map_some (exchange_at x.entries.items x.replies.items) (find (λ s. s == slot) (living_slots x)) e (sym (in_slot x slot) ∙ h) in
+    let has : is_among slot (living_slots x) ≡ true = found_among slot (living_slots x) found.0 found.1 in
+    let one : found.0 ≡ slot = let f : find (λ s. s == slot) (living_slots x) ≡ Some found.0 = found.1 in let g : find (λ s. s == slot) (living_slots x) ≡ Some slot = among_found slot (living_slots x) has in cc in
+    (has, ap (exchange_at x.entries.items x.replies.items) (sym one) ∙ found.2)
+
+pub lives_in_slot : (x : Inside) (slot : ℕ) → is_among slot (living_slots x) ≡ true → exchange_in slot (table_of x) ≡ Some (exchange_at x.entries.items x.replies.items slot)
+lives_in_slot x slot has = in_slot x slot ∙ ap (option_map (exchange_at x.entries.items x.replies.items)) (among_found slot (living_slots x) has)
+
+-- a living slot is below the capacity
+pub living_is_below : (x : Inside) → IsKept x → (slot : ℕ) → is_among slot (living_slots x) ≡ true → slot < x.capacity
+living_is_below x kept slot has =
+    let counted : 1 ≤ times_in slot (living_slots x) = among_counted slot (living_slots x) has in
+    once_is_below slot x.capacity (omega (arith, kept.slots slot))
+
+pub living_once : (x : Inside) → IsKept x → (slot : ℕ) → is_among slot (living_slots x) ≡ true → times_in slot (living_slots x) ≡ 1
+living_once x kept slot has =
+    let counted : 1 ≤ times_in slot (living_slots x) = among_counted slot (living_slots x) has in
+    omega (arith, kept.slots slot, once_at_most slot x.capacity)
+
+pub slot_is_place : (x : Inside) → IsKept x → (slot : ℕ) (e : Exchange) → exchange_in slot (table_of x) ≡ Some e → slot < length x.replies.items
+slot_is_place x kept slot e h =
+    let below : slot < x.capacity = living_is_below x kept slot (slot_lives x slot e h).0 in
+    omega (arith, kept.replies)
+
+-- a free slot is below the capacity, and no exchange is in it
+pub free_is_place : (x : Inside) → IsKept x → (slot : ℕ) → is_among slot (free_slots x) ≡ true
+    → (slot < x.capacity) × (is_among slot (living_slots x) ≡ false) × (times_in slot (free_slots x) ≡ 1)
+free_is_place x kept slot has =
+    let counted : 1 ≤ times_in slot (free_slots x) = among_counted slot (free_slots x) has in
+    let below : slot < x.capacity = once_is_below slot x.capacity (omega (arith, kept.slots slot)) in
+    let unused : times_in slot (living_slots x) ≡ 0 = omega (arith, kept.slots slot, once_at_most slot x.capacity) in
+    let once : times_in slot (free_slots x) ≡ 1 = omega (arith, kept.slots slot, once_at_most slot x.capacity) in
+    (below, uncounted_is_absent slot (living_slots x) unused, once)
+
+absent_not_found : (slot : ℕ) (xs : List ℕ) (o : Option ℕ) → find (λ n. n == slot) xs ≡ o → is_among slot xs ≡ false → o ≡ None
+absent_not_found slot xs None e h = refl
+absent_not_found slot xs (Some s) e h = let has : is_among slot xs ≡ true = found_among slot xs s e in absurd cc
+
+pub free_is_empty : (x : Inside) (slot : ℕ) → is_among slot (living_slots x) ≡ false → exchange_in slot (table_of x) ≡ None
+free_is_empty x slot h =
+    in_slot x slot ∙ ap (option_map (exchange_at x.entries.items x.replies.items)) (absent_not_found slot (living_slots x) (find (λ n. n == slot) (living_slots x)) refl h)
 
 -- ---- keeping a reply
 
--- a reply that is put into a slot is that of the exchange in the slot, and of no other
-kept_at : (replies : List (Option (List ℕ))) (slot : ℕ) (bytes : List ℕ) (e : Entry) (b : Bool) → slot < length replies → (e.slot == slot) ≡ b
-    → exchange_of (set replies slot (Some bytes)) e ≡ cond b (record (exchange_of replies e) { reply = Some bytes }) (exchange_of replies e)
-kept_at replies slot bytes e true h t =
-    let same : e.slot ≡ slot = grind (arith, nat_tests) in
-    let put : get_or (set replies slot (Some bytes)) e.slot None ≡ Some bytes = rw same (get_or-set_same replies slot (Some bytes) None h) in
-    let at : Option (List ℕ) → Exchange = λ r. record { arrival = arrival_of e; slot = e.slot; reply = r } in
+kept_at : (entries : List Entry) (replies : List (Option (List ℕ))) (slot : ℕ) (bytes : List ℕ) (s : ℕ) (b : Bool) → slot < length replies → (s == slot) ≡ b
+    → exchange_at entries (set replies slot (Some bytes)) s ≡ cond b (record (exchange_at entries replies s) { reply = Some bytes }) (exchange_at entries replies s)
+kept_at entries replies slot bytes s true h t =
+    let same : s ≡ slot = is_same s slot t in
+    let put : get_or (set replies slot (Some bytes)) s None ≡ Some bytes = rw same (get_or-set_same replies slot (Some bytes) None h) in
+    let at : Option (List ℕ) → Exchange = λ r. record { arrival = arrival_of (entry_at entries s); slot = s; reply = r } in
     ap at put
-kept_at replies slot bytes e false h t =
-    let other : e.slot ≢ slot = grind (arith, nat_tests) in
-    let stays : get_or (set replies slot (Some bytes)) e.slot None ≡ get_or replies e.slot None = get_or-set_other replies slot e.slot (Some bytes) None other in
-    let at : Option (List ℕ) → Exchange = λ r. record { arrival = arrival_of e; slot = e.slot; reply = r } in
+kept_at entries replies slot bytes s false h t =
+    let other : s ≢ slot = grind (arith, nat_tests) in
+    let stays : get_or (set replies slot (Some bytes)) s None ≡ get_or replies s None = get_or-set_other replies slot s (Some bytes) None other in
+    let at : Option (List ℕ) → Exchange = λ r. record { arrival = arrival_of (entry_at entries s); slot = s; reply = r } in
     ap at stays
 
-pub keeps_reply : (replies : List (Option (List ℕ))) (slot : ℕ) (bytes : List ℕ) → slot < length replies → (es : List Entry)
-    → map (exchange_of (set replies slot (Some bytes))) es ≡ map (answered slot bytes) (map (exchange_of replies) es)
-keeps_reply replies slot bytes h [] = refl
-keeps_reply replies slot bytes h (e ∷ es) =
-    let first : exchange_of (set replies slot (Some bytes)) e ≡ answered slot bytes (exchange_of replies e) = kept_at replies slot bytes e (e.slot == slot) h refl in
-    let rest : map (exchange_of (set replies slot (Some bytes))) es ≡ map (answered slot bytes) (map (exchange_of replies) es) = keeps_reply replies slot bytes h es in
+pub keeps_reply : (entries : List Entry) (replies : List (Option (List ℕ))) (slot : ℕ) (bytes : List ℕ) → slot < length replies → (xs : List ℕ)
+    → map (exchange_at entries (set replies slot (Some bytes))) xs ≡ map (answered slot bytes) (map (exchange_at entries replies) xs)
+keeps_reply entries replies slot bytes h [] = refl
+keeps_reply entries replies slot bytes h (x ∷ xs) =
+    let first : exchange_at entries (set replies slot (Some bytes)) x ≡ answered slot bytes (exchange_at entries replies x) = kept_at entries replies slot bytes x (x == slot) h refl in
+    let rest : map (exchange_at entries (set replies slot (Some bytes))) xs ≡ map (answered slot bytes) (map (exchange_at entries replies) xs) = keeps_reply entries replies slot bytes h xs in
     cc
 
--- ---- a slot that nothing uses
-
--- no exchange is in a slot that is free
-pub free_is_empty : (x : Inside) → (slot : ℕ) → times_used slot x.entries.items ≡ 0 → exchange_in slot (table_of x) ≡ None
-free_is_empty x slot h = in_slot x slot ∙ ap (option_map (exchange_of x.replies.items)) (uncounted_is_not_found (λ e. e.slot == slot) x.entries.items h)
-
--- what is put into a slot that no entry has changes no exchange
-unused_at : (n : ℕ) (b : Bool) → cond b 1 0 + n ≡ 0 → (b ≡ false) × (n ≡ 0)
-unused_at n true h = absurd (omega arith)
-unused_at n false h = (refl, omega arith)
-
-pub unused_changes_nothing : (replies : List (Option (List ℕ))) (slot : ℕ) (r : Option (List ℕ)) (es : List Entry) → times_used slot es ≡ 0
-    → map (exchange_of (set replies slot r)) es ≡ map (exchange_of replies) es
-unused_changes_nothing replies slot r [] h = refl
-unused_changes_nothing replies slot r (e ∷ es) h =
-    let split : ((e.slot == slot) ≡ false) × (times_used slot es ≡ 0) = unused_at (times_used slot es) (e.slot == slot) h in
-    let differs : (e.slot == slot) ≡ false = split.0 in
-    let other : e.slot ≢ slot = grind (arith, nat_tests) in
-    let stays : get_or (set replies slot r) e.slot None ≡ get_or replies e.slot None = get_or-set_other replies slot e.slot r None other in
-    let at : Option (List ℕ) → Exchange = λ q. record { arrival = arrival_of e; slot = e.slot; reply = q } in
-    let first : exchange_of (set replies slot r) e ≡ exchange_of replies e = ap at stays in
-    let rest : map (exchange_of (set replies slot r)) es ≡ map (exchange_of replies) es = unused_changes_nothing replies slot r es split.1 in
-    cc
+-- the reply of the exchange in a slot is what is in the slot's place
+pub reply_in_place : (x : Inside) (slot : ℕ) (e : Exchange) → exchange_in slot (table_of x) ≡ Some e → e.reply ≡ get_or x.replies.items slot None
+reply_in_place x slot e h = sym (ap (λ (z : Exchange). z.reply) (slot_lives x slot e h).1)
 
 -- ---- what a request duplicates
 
--- among entries that all live, what a request duplicates is what has its endpoint and message ID
-tests_agree : (x : Inside) (a : Arrival) (es : List Entry) → a.moment ≡ x.moment → AllByRecursion (λ e. lives x.moment (arrival_of e) ≡ true) es
-    → AllByRecursion (λ e. is_duplicate_of a (arrival_of e) ≡ is_of a.from a.id e) es
-tests_agree x a [] m h = tt
-tests_agree x a (e ∷ es) m h =
-    let alive : lives a.moment (arrival_of e) ≡ true = rw m h.0 in
-    (rw alive refl, tests_agree x a es m h.1)
+-- among exchanges that all live, what a request duplicates is what has its endpoint and message ID
+tests_agree : (entries : List Entry) (moment : ℕ) (a : Arrival) (xs : List ℕ) → a.moment ≡ moment → AllByRecursion (λ s. lives moment (arrival_of (entry_at entries s)) ≡ true) xs
+    → AllByRecursion (λ s. is_duplicate_of a (arrival_of (entry_at entries s)) ≡ is_of a.from a.id (entry_at entries s)) xs
+tests_agree entries moment a [] m h = tt
+tests_agree entries moment a (x ∷ xs) m h =
+    let alive : lives a.moment (arrival_of (entry_at entries x)) ≡ true = rw m h.0 in
+    (rw alive refl, tests_agree entries moment a xs m h.1)
 
 pub duplicated_is : (x : Inside) → IsKept x → (a : Arrival) → a.moment ≡ x.moment
-    → duplicated_exchange a (table_of x) ≡ option_map (exchange_of x.replies.items) (find (is_of a.from a.id) x.entries.items)
+    → duplicated_exchange a (table_of x) ≡ option_map (exchange_at x.entries.items x.replies.items) (find (λ s. is_of a.from a.id (entry_at x.entries.items s)) (living_slots x))
 duplicated_is x kept a m =
-    let mapped = find-map (λ e. is_duplicate_of a e.arrival) (exchange_of x.replies.items) x.entries.items in
-    let agree = find_agreeing (λ e. is_duplicate_of a (arrival_of e)) (is_of a.from a.id) x.entries.items
-    (tests_agree x a x.entries.items m (recursion_from_All (λ e. lives x.moment (arrival_of e) ≡ true) x.entries.items kept.living)) in
-    mapped ∙ ap (option_map (exchange_of x.replies.items)) agree
+    let mapped = find-map (λ e. is_duplicate_of a e.arrival) (exchange_at x.entries.items x.replies.items) (living_slots x) in
+    let agree = find_agreeing (λ s. is_duplicate_of a (arrival_at x s)) (λ s. is_of a.from a.id (entry_at x.entries.items s)) (living_slots x)
+    (tests_agree x.entries.items x.moment a (living_slots x) m (recursion_from_All (λ s. lives x.moment (arrival_at x s) ≡ true) (living_slots x) kept.living)) in
+    mapped ∙ ap (option_map (exchange_at x.entries.items x.replies.items)) agree
 
--- an entry that is found is the one of its slot
-pub same_slot : (n : ℕ) → (n == n) ≡ true
-same_slot n = grind (arith, nat_tests)
+-- the search in a bucket finds what a search among all would
+same_endpoint : (host host2 port port2 id id2 : ℕ) → (host == host2 && port == port2 && id == id2) ≡ true → (host ≡ host2) × (port ≡ port2) × (id ≡ id2)
+same_endpoint host host2 port port2 id id2 h = elim (eqb_tells host host2) [
+  | inl a ↦ elim (eqb_tells port port2) [
+    | inl b ↦ elim (eqb_tells id id2) [
+      | inl c ↦ (a.1, b.1, c.1)
+      | inr c ↦ absurd cc
+    ]
+    | inr b ↦ absurd cc
+  ]
+  | inr a ↦ absurd cc
+]
 
-pub found_is_in_slot : (x : Inside) → IsKept x → (q : Entry → Bool) (y : Entry) → find q x.entries.items ≡ Some y
-    → exchange_in y.slot (table_of x) ≡ Some (exchange_of x.replies.items y)
-found_is_in_slot x kept q y h =
-    let most : times_used y.slot x.entries.items ≤ 1 = omega (arith, kept.slots y.slot, once_at_most y.slot x.capacity) in
-    let once : find (λ e. e.slot == y.slot) x.entries.items ≡ Some y = found_once (λ e. e.slot == y.slot) q x.entries.items y h (same_slot y.slot) most in
-    in_slot x y.slot ∙ ap (option_map (exchange_of x.replies.items)) once
+pub same_bucket : (count : ℕ) (from : Endpoint) (id : ℕ) (e : Entry) → is_of from id e ≡ true → bucket count e.from e.id ≡ bucket count from id
+same_bucket count from id e h =
+    let parts = same_endpoint from.host e.from.host from.port e.from.port id e.id h in
+    let endpoint : from ≡ e.from = λ i. record { host = parts.0 i; port = parts.1 i } in
+    sym (ap (λ f. bucket count f id) endpoint ∙ ap (bucket count e.from) parts.2)
 
-pub found_is_place : (x : Inside) → IsKept x → (q : Entry → Bool) (y : Entry) → find q x.entries.items ≡ Some y → y.slot < length x.replies.items
-found_is_place x kept q y h =
-    used_is_place x kept y.slot (found_is_counted (λ e. e.slot == y.slot) q x.entries.items y h (same_slot y.slot))
+pub found_in_bucket : (x : Inside) → IsKept x → (from : Endpoint) (id : ℕ) → bucket x.capacity from id < length x.buckets.lists
+    → find (λ s. is_of from id (entry_at x.entries.items s)) (get_or x.buckets.lists (bucket x.capacity from id) [])
+    ≡ find (λ s. is_of from id (entry_at x.entries.items s)) (living_slots x)
+found_in_bucket x kept from id below =
+    let b : ℕ = bucket x.capacity from id in
+    ap (find (λ s. is_of from id (entry_at x.entries.items s))) (kept.buckets (bucket x.capacity from id) (omega arith) below)
+    ∙ find_in_filter (λ s. is_of from id (entry_at x.entries.items s)) (λ s. bucket_at x.entries.items x.capacity s == bucket x.capacity from id)
+    (λ s h. ap (λ n. n == bucket x.capacity from id) (same_bucket x.capacity from id (entry_at x.entries.items s) h) ∙ same_slot (bucket x.capacity from id)) (living_slots x)
 
--- an exchange in a slot has a place for its reply
-pub slot_is_place : (x : Inside) → IsKept x → (slot : ℕ) (e : Exchange) → exchange_in slot (table_of x) ≡ Some e → slot < length x.replies.items
-slot_is_place x kept slot e h =
-    let found = entry_in x slot e h in
-    let has : (found.0.slot == slot) ≡ true = found_passes (λ z. z.slot == slot) x.entries.items found.0 found.1 in
-    used_is_place x kept slot (found_is_counted (λ z. z.slot == slot) (λ z. z.slot == slot) x.entries.items found.0 found.1 has)
+found_lives_at : (x s : ℕ) (xs : List ℕ) (o : Option ℕ) (b : Bool) → (o ≡ Some s → is_among s xs ≡ true) → cond b (Some x) o ≡ Some s → is_among s (x ∷ xs) ≡ true
+found_lives_at x s xs o true rec e = let same : x ≡ s = cc in subst (λ n. is_among n (x ∷ xs) ≡ true) same (among_first x xs)
+found_lives_at x s xs o false rec e = among_rest s x xs (rec e)
 
--- ---- a new exchange
+pub found_lives : (p : ℕ → Bool) (xs : List ℕ) (s : ℕ) → find p xs ≡ Some s → is_among s xs ≡ true
+found_lives p [] s h = absurd cc
+found_lives p (x ∷ xs) s h = found_lives_at x s xs (find p xs) (p x) (found_lives p xs s) h
+
+-- ---- living
 
 -- a request lives at the moment at which it comes
 lives_for : (m n : ℕ) → 0 < n → nat_lt (m - m) n ≡ true
@@ -137,80 +185,24 @@ has_lifetime NonConfirmable = omega arith
 pub lives_at_first : (a : Arrival) → lives a.moment a ≡ true
 lives_at_first a = lives_for a.moment (lifetime a.kind) (has_lifetime a.kind)
 
--- a slot that was free is a place, and no entry has it
-pub was_free : (x : Inside) → IsKept x → (rest : List ℕ) (slot : ℕ) → x.free.items ≡ rest ++ slot ∷ []
-    → (slot < x.capacity) × (times_used slot x.entries.items ≡ 0)
-was_free x kept rest slot h =
-    let counted : times_free slot x.free.items ≡ times_free slot rest + 1 = rw h (times_free-append slot rest (slot ∷ []) ∙ rw (same_slot slot) refl) in
-    let below : slot < x.capacity = once_is_below slot x.capacity (omega (arith, kept.slots slot)) in
-    let unused : times_used slot x.entries.items ≡ 0 = omega (arith, kept.slots slot, once_at_most slot x.capacity) in
-    (below, unused)
+-- ---- an exchange that is given up
 
-pub stays_kept_admitting : (x y : Inside) (e : Entry) → IsKept x
-    → x.free.items ≡ y.free.items ++ e.slot ∷ [] → y.entries.items ≡ x.entries.items ++ e ∷ [] → lives x.moment (arrival_of e) ≡ true
-    → y.capacity ≡ x.capacity → y.moment ≡ x.moment → length y.replies.items ≡ length x.replies.items
-    → vec_capacity x.entries ≤ vec_capacity y.entries → vec_capacity y.free ≡ vec_capacity x.free → IsKept y
-stays_kept_admitting x y e kept free entries living capacity moment replies entries_room free_room = record {
-  living = rw (moment, entries) (All-push (λ z. lives x.moment (arrival_of z) ≡ true) x.entries.items e kept.living living);
-  slots = λ s.
-      let before : times_used s x.entries.items + times_free s x.free.items ≡ once_below s x.capacity = kept.slots s in
-      let used : times_used s y.entries.items ≡ times_used s x.entries.items + (cond (e.slot == s) 1 0 + 0) = rw entries (times_used-append s x.entries.items (e ∷ [])) in
-      let left : times_free s x.free.items ≡ times_free s y.free.items + (cond (e.slot == s) 1 0 + 0) = rw free (times_free-append s y.free.items (e.slot ∷ [])) in
-      rw capacity (omega arith);
-  count =
-      let used : length y.entries.items ≡ length x.entries.items + 1 = rw entries (length-append x.entries.items (e ∷ [])) in
-      let left : length x.free.items ≡ length y.free.items + 1 = rw free (length-append y.free.items (e.slot ∷ [])) in
-      omega (arith, kept.count);
-  places = omega (arith, kept.places);
-  entries_room = omega (arith, kept.entries_room);
-  free_room = omega (arith, kept.free_room);
-}
+pub seen_without : (entries : List Entry) (replies : List (Option (List ℕ))) (slot : ℕ) (xs : List ℕ)
+    → map (exchange_at entries replies) (without slot xs) ≡ filter (λ e. not (e.slot == slot)) (map (exchange_at entries replies) xs)
+seen_without entries replies slot xs =
+    ap (map (exchange_at entries replies)) (filter_agree (λ other. not (slot == other)) (λ other. not (other == slot)) (λ other. ap not (turned_test slot other)) xs)
+    ∙ sym (filter-map (λ (e : Exchange). not (e.slot == slot)) (exchange_at entries replies) xs)
 
-pub admits : (replies : List (Option (List ℕ))) (es : List Entry) (e : Entry) → e.slot < length replies → times_used e.slot es ≡ 0
-    → map (exchange_of (set replies e.slot None)) (es ++ e ∷ []) ≡ map (exchange_of replies) es ++ record { arrival = arrival_of e; slot = e.slot; reply = None } ∷ []
-admits replies es e h unused =
-    let before : map (exchange_of (set replies e.slot None)) es ≡ map (exchange_of replies) es = unused_changes_nothing replies e.slot None es unused in
-    let empty : get_or (set replies e.slot None) e.slot None ≡ None = get_or-set_same replies e.slot None None h in
-    let at : Option (List ℕ) → List Exchange = λ r. record { arrival = arrival_of e; slot = e.slot; reply = r } ∷ [] in
-    let last : at (get_or (set replies e.slot None) e.slot None) ≡ at None = ap at empty in
-    map-append (exchange_of (set replies e.slot None)) es (e ∷ []) ∙ (ap (λ l. l ++ at (get_or (set replies e.slot None) e.slot None)) before ∙ ap (λ l. map (exchange_of replies) es ++ l) last)
+-- ---- what the code read
 
--- ---- a later moment
+pub entry_read : (entries : List Entry) (slot : ℕ) (e : Entry) → slot < length entries → e ≡ get_or entries slot e → e ≡ entry_at entries slot
+entry_read entries slot e below h = get_or_read entries slot e below h (record { moment = 0; from = record { host = 0; port = 0 }; id = 0; kind = Confirmable })
 
-pub stays_kept_later : (x y : Inside) (now : ℕ) → IsKept x
-    → y.entries.items ≡ filter (λ e. lives now (arrival_of e)) x.entries.items
-    → y.free.items ≡ x.free.items ++ map (λ e. e.slot) (filter (λ e. not (lives now (arrival_of e))) x.entries.items)
-    → y.capacity ≡ x.capacity → y.moment ≡ now → y.replies ≡ x.replies
-    → vec_capacity y.entries ≡ vec_capacity x.entries → vec_capacity x.free ≤ vec_capacity y.free → IsKept y
-stays_kept_later x y now kept entries free capacity moment replies entries_room free_room =
-    let p : Entry → Bool = λ e. lives now (arrival_of e) in
-    let left : List ℕ = map (λ e. e.slot) (filter (λ e. not (p e)) x.entries.items) in
-    record {
-      living = rw (moment, entries) (filter_passes p x.entries.items);
-      slots = λ s.
-          let split : times_used s x.entries.items ≡ times_used s (filter p x.entries.items) + times_free s left = slots_split s p x.entries.items in
-          let more : times_free s y.free.items ≡ times_free s x.free.items + times_free s left = rw free (times_free-append s x.free.items left) in
-          let before : times_used s x.entries.items + times_free s x.free.items ≡ once_below s x.capacity = kept.slots s in
-          let used : times_used s y.entries.items ≡ times_used s (filter p x.entries.items) = ap (times_used s) entries in
-          rw capacity (omega arith);
-      count =
-          let both : length (filter p x.entries.items) + length (filter (λ e. not (p e)) x.entries.items) ≡ length x.entries.items
-          = length-filter_both p (λ e. not (p e)) (λ _. refl) x.entries.items in
-          let used : length y.entries.items ≡ length (filter p x.entries.items) = ap length entries in
-          let gone : length left ≡ length (filter (λ e. not (p e)) x.entries.items) = length-map (filter (λ e. not (p e)) x.entries.items) (λ e. e.slot) in
-          let more : length y.free.items ≡ length x.free.items + length left = rw free (length-append x.free.items left) in
-          omega (arith, kept.count);
-      places = rw (replies, capacity) kept.places;
-      entries_room = omega (arith, kept.entries_room);
-      free_room = omega (arith, kept.free_room);
-    }
-
--- ---- a reply
-
--- the reply of the exchange in a slot is what is in the slot's place
-pub reply_in_place : (x : Inside) (slot : ℕ) (e : Exchange) → exchange_in slot (table_of x) ≡ Some e → e.reply ≡ get_or x.replies.items slot None
-reply_in_place x slot e h =
-    let found = entry_in x slot e h in
-    let has : (found.0.slot == slot) ≡ true = found_passes (λ z. z.slot == slot) x.entries.items found.0 found.1 in
-    let same : found.0.slot ≡ slot = grind (arith, nat_tests) in
-    sym (ap (λ z. z.reply) found.2) ∙ ap (λ s. get_or x.replies.items s None) same
+-- what the search in a bucket gave is what a search among all would
+pub searched : (x : Inside) → IsKept x → (es : List Entry) (b : ℕ) (from : Endpoint) (id : ℕ) (r : Option ℕ)
+    → es ≡ x.entries.items → b ≡ bucket x.capacity from id → b < x.capacity → r ≡ find (λ s. is_of from id (entry_at es s)) (get_or x.buckets.lists b [])
+    → r ≡ find (λ s. is_of from id (entry_at x.entries.items s)) (living_slots x)
+searched x kept es b from id r same is below h =
+    let within : bucket x.capacity from id < length x.buckets.lists = omega (arith, kept.buckets_count) in
+    h ∙ (ap (λ l. find (λ s. is_of from id (entry_at l s)) (get_or x.buckets.lists b [])) same
+    ∙ (ap (λ n. find (λ s. is_of from id (entry_at x.entries.items s)) (get_or x.buckets.lists n [])) is ∙ found_in_bucket x kept from id within))

@@ -1,4 +1,6 @@
 pub mod Admission
+pub mod Buckets
 pub mod Kept
 pub mod Laws
+pub mod Slots
 pub mod Table

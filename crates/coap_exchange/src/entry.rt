@@ -2,10 +2,11 @@
 
 ghost use Rattle.std.specs.Prelude.{◌≡◌};
 ghost use Rattle.coap_exchange.specs.Admission.{lifetime};
+ghost use Rattle.coap_exchange.specs.Slots.{age_list};
 
 use coap_msg::{Endpoint, RequestType};
 
-/// A request that was admitted, and the slot of its reply.
+/// A request that was admitted. What it is kept in is its slot.
 #[derive(Clone, Copy)]
 pub struct Entry {
     /// When it came, in milliseconds.
@@ -16,14 +17,12 @@ pub struct Entry {
     pub id: u16,
     /// How it was sent.
     pub kind: RequestType,
-    /// The slot of its reply.
-    pub slot: u32,
 }
 
 impl Entry {
     ghost use Rattle.std.specs.Prelude.{◌≡◌, ◌==◌, ◌&&◌};
     ghost use Rattle.coap_exchange.specs.Admission.{lives};
-    ghost use Rattle.coap_exchange.specs.Kept.{arrival_of};
+    ghost use Rattle.coap_exchange.specs.Slots.{arrival_of};
 
     /// Whether less than its lifetime has passed.
     pub fn lives(&self, now: u64) -> bool
@@ -48,5 +47,15 @@ pub fn lifetime_of(kind: RequestType) -> u64
     match kind {
         RequestType::Confirmable => 247_000,
         RequestType::NonConfirmable => 145_000,
+    }
+}
+
+/// The list, among those by kind, in which the exchanges of a kind stand.
+pub fn list_of(kind: RequestType) -> u32
+    ensures { result ≡ age_list kind }
+{
+    match kind {
+        RequestType::Confirmable => 1,
+        RequestType::NonConfirmable => 2,
     }
 }

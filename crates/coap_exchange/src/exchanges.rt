@@ -1,28 +1,36 @@
 //! The table of exchanges: which requests were admitted and live, with the replies that were kept.
 
-ghost use Rattle.std.specs.Prelude.{◌≡◌, ◌≤◌, ◌+◌, ◌++◌, ℕ, map, filter, find, not, length, IfOk, vec_capacity};
-ghost use Rattle.coap_exchange.specs.Admission.{lives};
-ghost use Rattle.coap_exchange.specs.Kept.{arrival_of, is_of, once_below, times_free};
+ghost use Rattle.std.specs.Prelude.{◌≡◌, ◌≤◌, ℕ, length, IfOk};
 ghost use Rattle.coap_msg.specs.declared.message.Type4.TheVariants.{Con, Non};
 
-use crate::entry::Entry;
+use crate::bucket::bucket_of;
+use crate::entry::{Entry, list_of};
+use crate::slots::{FREE, all_free, no_entries, no_replies, slot_of};
 use crate::{Met, NoMemory};
 use coap_msg::{BoundedBytes, Endpoint, LONGEST_MESSAGE, RequestType, Type4};
+use slot_lists::SlotLists;
 use std::alloc::Global;
 use std::marker::Model;
 
-/// The exchanges of a server. Contracts see how many may live, the last moment that was handed in, and the exchanges that
-/// live then with their replies (`Table` of specs/Table.antt).
+/// The one list of `order`.
+const ALL: u32 = 0;
+
+/// The exchanges of a server. Contracts see how many may live, the last moment that was handed in, and the exchanges
+/// that live then with their replies (`Table` of specs/Table.antt).
 ///
-/// Entries stand in the order in which their requests were admitted. Replies have fixed places, by slot, so that a call
-/// moves entries alone.
+/// Each exchange has a slot, in which its entry and its reply have fixed places. A slot is in the list of the free ones
+/// or in that of its kind (`kinds`); while it lives also in one bucket, by endpoint and message ID, and in the list of
+/// all in order of admission. So a call looks into one bucket, and gives up what is over from the front of the lists by
+/// kind.
 #[derive(Drop)]
 pub struct Exchanges {
     capacity: u32,
     moment: u64,
     entries: Vec<Entry>,
-    free: Vec<u32>,
     replies: Vec<Option<BoundedBytes<LONGEST_MESSAGE>>>,
+    kinds: SlotLists,
+    buckets: SlotLists,
+    order: SlotLists,
 }
 
 impl Model for Exchanges {
@@ -38,10 +46,11 @@ impl Model for Exchanges {
 }
 
 impl Exchanges {
-    ghost use Rattle.std.specs.Prelude.{◌⊎◌, ℕ};
+    ghost use Rattle.std.specs.Prelude.{◌⊎◌, ℕ, Some, None};
     ghost use Rattle.coap_msg.specs.declared.message.RequestType.{RequestType};
     ghost use Rattle.coap_msg.specs.Requests.{request_type};
-    ghost use Rattle.coap_exchange.specs.Table.{empty_table, at_moment, Meets, IsAwaited, HasReply, HoldsReply, with_reply, FindsDuplicated, Admits};
+    ghost use Rattle.coap_exchange.specs.Table.{Exchange, empty_table, at_moment, duplicated_exchange, exchange_in, Meets, IsAwaited, HasReply, HoldsReply, with_reply, FindsDuplicated, Admits};
+    ghost use Rattle.coap_exchange.specs.Kept.{without_exchange, AllLive, FindsOver};
 
     /// A table in which so many exchanges may live. All its memory is taken here.
     pub fn new(alloc: Global, capacity: u32) -> Result<Exchanges, NoMemory>
@@ -49,15 +58,19 @@ impl Exchanges {
         requires most { capacity ≤ 65536 }
         ensures { IfOk result (λ x. x ≡ empty_table capacity) }
     {
-        let entries = Vec::with_capacity(alloc, capacity as usize)?;
-        let free = all_slots(alloc, capacity)?;
+        let entries = no_entries(alloc, capacity)?;
         let replies = no_replies(alloc, capacity)?;
+        let kinds = all_free(alloc, capacity)?;
+        let buckets = SlotLists::new(alloc, capacity, capacity)?;
+        let order = SlotLists::new(alloc, capacity, 1)?;
         Ok(Exchanges {
             capacity,
             moment: 0,
             entries,
-            free,
             replies,
+            kinds,
+            buckets,
+            order,
         })
     }
 
@@ -102,9 +115,47 @@ impl Exchanges {
         requires { self.old.moment ≤ now }
         ensures { self.new ≡ at_moment now self.old }
     {
-        free_slots(&mut self.free, self.entries.as_slice(), now);
-        keep_living(&mut self.entries, now);
+        self.give_up_over(RequestType::Confirmable, now);
+        self.give_up_over(RequestType::NonConfirmable, now);
         self.moment = now;
+    }
+
+    /// Gives up the exchanges of a kind that don't live at the moment `now`.
+    fn give_up_over(&mut self, kind: RequestType, now: u64)
+        ensures same { at_moment now self.new ≡ at_moment now self.old }
+        ensures moment { self.new.moment ≡ self.old.moment }
+        ensures live { AllLive now kind self.new }
+        ensures others { (other : RequestType) → AllLive now other self.old → AllLive now other self.new }
+    {
+        while let Some(slot) = self.oldest_over(kind, now) {
+            self.give_up(slot);
+        }
+    }
+
+    /// The slot of the oldest exchange of a kind, if it doesn't live at the moment `now`. As none lives longer than a
+    /// later one of its kind, all live where that does.
+    fn oldest_over(&self, kind: RequestType, now: u64) -> Option<u32>
+        ensures { FindsOver now kind self.now result }
+    {
+        let slot = self.kinds.first(list_of(kind))?;
+        if self.entries[slot as usize].lives(now) {
+            None
+        } else {
+            Some(slot)
+        }
+    }
+
+    /// Gives up the exchange in a slot.
+    fn give_up(&mut self, slot: u32)
+        requires { (e : Exchange) × (exchange_in slot self.old ≡ Some e) }
+        ensures { self.new ≡ without_exchange slot self.old }
+    {
+        let entry = self.entries[slot as usize];
+        self.kinds.remove(list_of(entry.kind), slot);
+        self.kinds.push_back(FREE, slot);
+        self.buckets
+            .remove(bucket_of(entry.from, entry.id, self.capacity), slot);
+        self.order.remove(ALL, slot);
     }
 
     /// Judges a request that came now.
@@ -120,93 +171,37 @@ impl Exchanges {
         }
     }
 
-    /// The slot of the reply to the exchange of this endpoint and message ID, where one was kept, if that exchange lives.
+    /// The slot of the reply to the exchange of this endpoint and message ID, where one was kept, if that exchange
+    /// lives.
     fn duplicated(&self, from: Endpoint, id: u16) -> Option<Option<u32>>
         ensures { (kind : RequestType) → FindsDuplicated self.now (record { moment = self.now.moment; from = from; id = id; kind = kind }) result }
     {
-        let entry = entry_of(self.entries.as_slice(), from, id)?;
-        match &self.replies[entry.slot as usize] {
-            Some(_) => Some(Some(entry.slot)),
+        let bucket = bucket_of(from, id, self.capacity);
+        let slot = slot_of(&self.buckets, bucket, &self.entries, from, id)?;
+        match &self.replies[slot as usize] {
+            Some(_) => Some(Some(slot)),
             None => Some(None),
         }
     }
 
-    /// Makes an exchange of a request that came now, and returns its slot, if there is room.
+    /// Makes an exchange of a request that came now and is no duplicate, and returns its slot, if there is room.
     fn admit(&mut self, from: Endpoint, id: u16, kind: RequestType) -> Option<u32>
+        requires { duplicated_exchange (record { moment = self.old.moment; from = from; id = id; kind = kind }) self.old ≡ None }
         ensures { Admits self.old (record { moment = self.old.moment; from = from; id = id; kind = kind }) result self.new }
     {
-        let slot = self.free.pop()?;
+        let slot = self.kinds.first(FREE)?;
         self.replies[slot as usize] = None;
-        let moment = self.moment;
-        self.entries
-            .push(Entry {
-                moment,
-                from,
-                id,
-                kind,
-                slot,
-            })
-            .unwrap();
+        self.entries[slot as usize] = Entry {
+            moment: self.moment,
+            from,
+            id,
+            kind,
+        };
+        self.kinds.remove(FREE, slot);
+        self.kinds.push_back(list_of(kind), slot);
+        self.buckets
+            .push_back(bucket_of(from, id, self.capacity), slot);
+        self.order.push_back(ALL, slot);
         Some(slot)
-    }
-}
-
-/// The entry of this endpoint and message ID.
-fn entry_of(entries: &[Entry], from: Endpoint, id: u16) -> Option<Entry>
-    ensures { result ≡ find (is_of from id) entries.now }
-{
-    for entry in entries {
-        if entry.is_of(from, id) {
-            return Some(*entry);
-        }
-    }
-    None
-}
-
-/// The slots below the capacity, all of them free.
-fn all_slots(alloc: Global, capacity: u32) -> Result<Vec<u32>, NoMemory>
-    ensures slots { IfOk result (λ free. (s : ℕ) → times_free s free.items ≡ once_below s capacity) }
-    ensures count { IfOk result (λ free. length free.items ≡ capacity) }
-    ensures room { IfOk result (λ free. capacity ≤ vec_capacity free) }
-{
-    let mut free = Vec::with_capacity(alloc, capacity as usize)?;
-    for slot in 0..capacity {
-        free.push(slot)?;
-    }
-    Ok(free)
-}
-
-/// A place for the reply of each slot.
-fn no_replies(
-    alloc: Global,
-    capacity: u32,
-) -> Result<Vec<Option<BoundedBytes<LONGEST_MESSAGE>>>, NoMemory>
-    ensures { IfOk result (λ replies. length replies.items ≡ capacity) }
-{
-    let mut replies = Vec::with_capacity(alloc, capacity as usize)?;
-    for _slot in 0..capacity {
-        replies.push(None)?;
-    }
-    Ok(replies)
-}
-
-/// Leaves out the entries that don't live.
-fn keep_living(entries: &mut Vec<Entry>, now: u64)
-    ensures items { entries.new.items ≡ filter (λ e. lives now (arrival_of e)) entries.old.items }
-    ensures room { vec_capacity entries.new ≡ vec_capacity entries.old }
-{
-    entries.retain(|entry| entry.lives(now));
-}
-
-/// Puts the slots of the entries that don't live among the free ones, for which there is room.
-fn free_slots(free: &mut Vec<u32>, entries: &[Entry], now: u64)
-    requires { length free.old.items + length entries.now ≤ vec_capacity free.old }
-    ensures slots { free.new.items ≡ free.old.items ++ map (λ e. e.slot) (filter (λ e. not (lives now (arrival_of e))) entries.now) }
-    ensures room { vec_capacity free.old ≤ vec_capacity free.new }
-{
-    for entry in entries {
-        if !entry.lives(now) {
-            free.push(entry.slot).unwrap();
-        }
     }
 }

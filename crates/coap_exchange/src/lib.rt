@@ -23,10 +23,12 @@
 //! with each request what that says (`Meets` of `specs/Table.antt`, and the law `tables_follow_the_history`).
 #![tactic(auto)]
 
+mod bucket;
 mod entry;
 mod exchanges;
 mod laws;
 mod met;
+mod slots;
 
 pub use exchanges::Exchanges;
 pub use laws::{admitted_once, living_exchanges_differ, tables_follow_the_history};

@@ -1,26 +1,27 @@
--- The entries that live stay, and the slots of the others are free.
-use Rattle.std.proofs.Common.{◌≡◌, ◌∙◌, List, ◌++◌, not, map, ap, sym, refl}
-use Rattle.std.specs.List.{filter}
-use Rattle.coap_exchange.specs.Admission.{lives}
-use Rattle.coap_exchange.specs.Kept.{arrival_of, exchange_of}
-use Rattle.coap_exchange.specs.Table.{Exchange, Table, at_moment}
-use Rattle.coap_exchange.proofs.ListLaws.{filter-map}
-use Rattle.coap_exchange.proofs.TableLaws.{stays_kept_later}
+-- Once those that are over are given up, all live.
+use Rattle.std.proofs.Common.{◌≡◌, ◌∙◌, ℕ, sym, ap, subst, arith}
+use Rattle.coap_msg.specs.declared.message.RequestType.{RequestType}
+use Rattle.coap_msg.specs.declared.message.RequestType.TheVariants.{Confirmable, NonConfirmable}
+use Rattle.coap_exchange.specs.Kept.{AllLive}
+use Rattle.coap_exchange.specs.Table.{Table, at_moment}
+use Rattle.coap_exchange.proofs.OverLaws.{kept_later, seen_later}
 use Rattle.coap_exchange.proofs.exchanges.Exchanges.go_on.Goals as goal
+
+both : (now : ℕ) (t : Table) → AllLive now Confirmable t → AllLive now NonConfirmable t → (kind : RequestType) → AllLive now kind t
+both now t a b Confirmable = a
+both now t a b NonConfirmable = b
 
 pub invariant_of-self : goal.invariant_of-self
 invariant_of-self c =
-    stays_kept_later c.self.inside _ c.args.now c.self.invariant c.keep_living.ensures.items
-    (c.free_slots.ensures.slots ∙ ap (λ es. c.self.inside.free.items ++ map (λ e. e.slot) (filter (λ e. not (lives c.args.now (arrival_of e))) es)) c.as_slice.ensures.value)
-    refl refl refl c.keep_living.ensures.room c.free_slots.ensures.room
+    let live : (kind : RequestType) → AllLive c.args.now kind c.give_up_over-2.new.self
+    = both c.args.now c.give_up_over-2.new.self (c.give_up_over-2.ensures.others Confirmable c.give_up_over.ensures.live) c.give_up_over-2.ensures.live in
+    let moment : c.self.inside.moment ≡ c.args.self.now.moment
+    = ap (λ (t : Table). t.moment) c.self.view_is ∙ (c.give_up_over-2.ensures.moment ∙ c.give_up_over.ensures.moment) in
+    kept_later c.self.inside c.args.now c.self.invariant (omega arith) (λ kind. subst (AllLive c.args.now kind) (sym c.self.view_is) (live kind))
 
 pub returns : goal.returns
 returns c =
-    let at : List Exchange → Table = λ es. record { capacity = c.self.inside.capacity; moment = c.args.now; exchanges = es } in
-    let kept : map (exchange_of c.self.inside.replies.items) c.keep_living.new.entries.items
-    ≡ map (exchange_of c.self.inside.replies.items) (filter (λ e. lives c.args.now (arrival_of e)) c.self.inside.entries.items)
-    = ap (map (exchange_of c.self.inside.replies.items)) c.keep_living.ensures.items in
-    let swapped : filter (λ e. lives c.args.now e.arrival) (map (exchange_of c.self.inside.replies.items) c.self.inside.entries.items)
-    ≡ map (exchange_of c.self.inside.replies.items) (filter (λ e. lives c.args.now (arrival_of e)) c.self.inside.entries.items)
-    = filter-map (λ e. lives c.args.now e.arrival) (exchange_of c.self.inside.replies.items) c.self.inside.entries.items in
-    ap at (kept ∙ sym swapped) ∙ ap (at_moment c.args.now) c.self.view_is
+    let live : (kind : RequestType) → AllLive c.args.now kind c.give_up_over-2.new.self
+    = both c.args.now c.give_up_over-2.new.self (c.give_up_over-2.ensures.others Confirmable c.give_up_over.ensures.live) c.give_up_over-2.ensures.live in
+    seen_later c.self.inside c.args.now (λ kind. subst (AllLive c.args.now kind) (sym c.self.view_is) (live kind))
+    ∙ (ap (at_moment c.args.now) c.self.view_is ∙ (c.give_up_over-2.ensures.same ∙ c.give_up_over.ensures.same))

@@ -1,0 +1,30 @@
+//! Which bucket an endpoint and a message ID belong to. No contract of the table rests on which it is, only on its
+//! being one function of both. It is a fixed function, with no key: whoever can forge sources can choose them so that
+//! all fall into one bucket, whose list is then as long as the table.
+
+ghost use Rattle.std.specs.Prelude.{◌≡◌, ◌<◌};
+ghost use Rattle.coap_exchange.specs.Buckets.{scattered, bucket};
+
+use coap_msg::Endpoint;
+
+/// The bucket, of so many, of an endpoint and a message ID.
+pub fn bucket_of(from: Endpoint, id: u16, count: u32) -> u32
+    requires { 0 < count }
+    ensures bucket { result ≡ bucket count from id }
+    ensures within { result < count }
+{
+    let high = (from.host >> 64) as u64;
+    let low = (from.host % (1 << 64)) as u64;
+    let host = scatter(scatter(high) ^ low);
+    let all = scatter(host ^ (from.port as u64 * (1 << 16) + id as u64));
+    (all % count as u64) as u32
+}
+
+/// A number of which each bit depends on all bits of this one, one to one: the last step of the generator SplitMix64.
+fn scatter(number: u64) -> u64
+    ensures { result ≡ scattered number }
+{
+    let first = (number ^ (number >> 30)).wrapping_mul(0xbf58_476d_1ce4_e5b9);
+    let second = (first ^ (first >> 27)).wrapping_mul(0x94d0_49bb_1331_11eb);
+    second ^ (second >> 31)
+}

@@ -1,0 +1,3 @@
+pub mod Among
+pub mod Linking
+pub mod Neighbours

@@ -1,0 +1,53 @@
+//! What a slot knows of its neighbours, and a list of its two ends.
+
+/// The neighbours of a slot in its list.
+#[derive(Clone, Copy)]
+pub struct Link {
+    /// The one before it.
+    pub previous: Option<u32>,
+    /// The one after it.
+    pub next: Option<u32>,
+}
+
+/// The two ends of a list.
+#[derive(Clone, Copy)]
+pub struct Ends {
+    /// Its first slot.
+    pub first: Option<u32>,
+    /// Its last slot.
+    pub last: Option<u32>,
+}
+
+impl Ends {
+    ghost use Rattle.std.specs.Prelude.{◌≡◌};
+    ghost use Rattle.slot_lists.specs.Links.{ends_with, ends_without};
+
+    /// The ends once this slot was put behind the last one.
+    pub fn with(&self, slot: u32) -> Ends
+        ensures { result ≡ ends_with slot self.now }
+    {
+        let first = match self.first {
+            Some(first) => first,
+            None => slot,
+        };
+        Ends {
+            first: Some(first),
+            last: Some(slot),
+        }
+    }
+
+    /// The ends once the slot with this link was taken out.
+    pub fn without(&self, link: Link) -> Ends
+        ensures { result ≡ ends_without link self.now }
+    {
+        let first = match link.previous {
+            Some(_) => self.first,
+            None => link.next,
+        };
+        let last = match link.next {
+            Some(_) => self.last,
+            None => link.previous,
+        };
+        Ends { first, last }
+    }
+}

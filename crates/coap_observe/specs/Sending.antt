@@ -1,11 +1,11 @@
--- A notification that is sent as a Confirmable message, again and again until it is acknowledged (RFC 7641, section 4.5;
--- RFC 7252, section 4.2). Times are in milliseconds.
+-- A notification that is sent as a Confirmable message, again and again until it is acknowledged (RFC 7641, section
+-- 4.5; RFC 7252, section 4.2). Times are in milliseconds.
 use Rattle.std.specs.Prelude.{◌+◌, ◌-◌, ◌*◌, ℕ, nat_le, Bool}
 use Rattle.coap_msg.specs.declared.transmission.TheConstants.{MOST_RETRANSMISSIONS}
 use Rattle.coap_msg.specs.Transmission.{first_timeout}
 
--- a notification that nothing acknowledged: its message ID, how often it was sent again, how long after the last sending it
--- is sent again, and when that was
+-- a notification that nothing acknowledged: its message ID, how often it was sent again, how long after the last
+-- sending it is sent again, and when that was
 pub record Sent : Type 0 where
   pub id : ℕ
   pub retransmissions : ℕ

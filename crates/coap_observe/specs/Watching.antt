@@ -56,8 +56,8 @@ next_sequence sequence = (sequence + 1) % 2 ^ 24
 abbrev pub newcomer : Endpoint → List ℕ → ℕ → Watcher
 newcomer from token target = record { from = from; token = token; target = target; sequence = 0; is_marked = false; notification = None }
 
--- one that registers anew: it keeps its place and takes the target, its sequence number goes on, and what was to be sent or to
--- be acknowledged is forgotten
+-- one that registers anew: it keeps its place and takes the target, its sequence number goes on, and what was to be
+-- sent or to be acknowledged is forgotten
 abbrev pub replaced : ℕ → Watcher → Watcher
 replaced target w = record w { target = target; sequence = next_sequence w.sequence; is_marked = false; notification = None }
 
@@ -65,8 +65,8 @@ replaced target w = record w { target = target; sequence = next_sequence w.seque
 abbrev pub where_so : {X : Type 0} → (X → Bool) → (X → X) → X → X
 where_so test change w = if test w then change w else w
 
--- What a registration comes to: the watcher of this endpoint and token registers anew, or there is a new one, or no room for
--- one.
+-- What a registration comes to: the watcher of this endpoint and token registers anew, or there is a new one, or no
+-- room for one.
 abbrev pub Registers : Endpoint → List ℕ → ℕ → Watching → Registered → Watching → Type 0
 Registers from token target t (Replaced sequence) u =
     (option_map (λ w. next_sequence w.sequence) (find (is_pair from token) t.list) ≡ Some sequence)
@@ -152,7 +152,8 @@ abbrev pub with_first : {X : Type 0} → (X → Bool) → (X → X) → List X �
 with_first test change [] = []
 with_first test change (w ∷ ws) = if test w then change w ∷ ws else w ∷ with_first test change ws
 
--- A notification to a watcher, with this message ID and sequence number; fresh, where the id is the one that was handed in.
+-- A notification to a watcher, with this message ID and sequence number; fresh, where the id is the one that was handed
+-- in.
 pub record IsNotice (w : Watcher) (id sequence : ℕ) (fresh : Bool) (n : Notice) : Type 0 where
   pub to : n.to ≡ w.from
   pub token : take n.token_length n.token ≡ w.token
@@ -183,8 +184,9 @@ pub data GivesUp (now : ℕ) : List Watcher → List Watcher → Type 0 where
   endpoint : (from : Endpoint) (ws us : List Watcher) → hopeless now ws ≡ Some from
       → GivesUp now (without (is_from from) ws) us → GivesUp now ws us
 
--- At most one message is sent: to the first watcher whose notification is due, the same message again, or a new one where its
--- target has a newer value; where none is due, to the first that has a value to be sent and whose endpoint acknowledged all.
+-- At most one message is sent: to the first watcher whose notification is due, the same message again, or a new one
+-- where its target has a newer value; where none is due, to the first that has a value to be sent and whose endpoint
+-- acknowledged all.
 pub data Sends (now id : ℕ) (ws : List Watcher) : Option Notice → List Watcher → Type 0 where
   same : (w : Watcher) (s : Sent) (n : Notice) (us : List Watcher) → find (is_due now) ws ≡ Some w → w.is_marked ≡ false
       → w.notification ≡ Some s → IsNotice w s.id w.sequence false n → us ≡ with_first (is_due now) (resent now) ws

@@ -17,15 +17,16 @@ pub fn given_up_leaves_none()
     ensures { GivenUpLeavesNone }
 {}
 
-/// A Reset takes the watcher away, which stays away until it is registered again, and until then nothing is sent to it (RFC 7641,
-/// section 3.6).
+/// A Reset takes the watcher away, which stays away until it is registered again, and until then nothing is sent to it
+/// (RFC 7641, section 3.6).
 pub fn reset_forgets()
     ensures forgets { ResetForgets }
     ensures stays { AbsentStays }
     ensures nothing { NothingForAbsent }
 {}
 
-/// While a watcher stays, its sequence numbers rise by one, and registrations and notifications say them (RFC 7641, section 3.4).
+/// While a watcher stays, its sequence numbers rise by one, and registrations and notifications say them (RFC 7641,
+/// section 3.4).
 pub fn numbers_rise()
     ensures rise { NumbersRise }
     ensures registrations { RegistrationsSayIt }

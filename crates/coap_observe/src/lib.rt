@@ -1,7 +1,7 @@
 //! Who observes what on a CoAP server, and which notifications are sent (RFC 7641, sections 3 and 4). This crate knows
-//! endpoints, tokens, message IDs, moments and numbers of targets, and no message: what a target is, and what its value is,
-//! is decided elsewhere. It has no clock and no socket, and takes memory once, when the list is made. `Watchers` and
-//! `Notice` carry everything.
+//! endpoints, tokens, message IDs, moments and numbers of targets, and no message: what a target is, and what its value
+//! is, is decided elsewhere. It has no clock and no socket, and takes memory once, when the list is made. `Watchers`
+//! and `Notice` carry everything.
 //!
 //! ```
 //! use coap_msg::Endpoint;
@@ -18,9 +18,10 @@
 //! assert!(watchers.acked(from, 7));
 //! ```
 //!
-//! The contract in a sentence: each call is its step of `specs/Watching.antt`, and `next_send` is `Notifies` there. The laws
-//! (`specs/Laws.antt`): at most one notification to an endpoint is unacknowledged, an endpoint that is given up has no
-//! watcher left, after a Reset nothing is sent to its watcher until that registers again, and sequence numbers rise by one.
+//! The contract in a sentence: each call is its step of `specs/Watching.antt`, and `next_send` is `Notifies` there. The
+//! laws (`specs/Laws.antt`): at most one notification to an endpoint is unacknowledged, an endpoint that is given up
+//! has no watcher left, after a Reset nothing is sent to its watcher until that registers again, and sequence numbers
+//! rise by one.
 #![tactic(auto)]
 
 mod laws;

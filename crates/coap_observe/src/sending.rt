@@ -76,7 +76,8 @@ fn send_again(list: &mut [Watcher], index: usize, now: u64, id: u16) -> Notice
     }
 }
 
-/// Sends the last value to the first watcher that has one to be sent and whose endpoint acknowledged all, if there is one.
+/// Sends the last value to the first watcher that has one to be sent and whose endpoint acknowledged all, if there is
+/// one.
 fn send_first(list: &mut [Watcher], now: u64, id: u16) -> Option<Notice>
     requires { position (is_due now) list.old ≡ None }
     ensures sends { Sends now id list.old result list.new }

@@ -76,8 +76,8 @@ impl Watchers {
         mark(self.list.as_mut_slice(), target);
     }
 
-    /// An endpoint acknowledged the message with this ID (RFC 7252, section 4.2). Whether a notification to it had that ID and
-    /// wasn't acknowledged.
+    /// An endpoint acknowledged the message with this ID (RFC 7252, section 4.2). Whether a notification to it had that
+    /// ID and wasn't acknowledged.
     pub fn acked(&mut self, from: Endpoint, id: u16) -> bool
         ensures list { self.new ≡ with_acknowledgement from id self.old }
         ensures found { result ≡ list_any (is_sent_as from id) self.old.list }
@@ -87,8 +87,8 @@ impl Watchers {
         found
     }
 
-    /// An endpoint rejected the message with this ID, which ends the observation (RFC 7641, section 3.6). Whether a notification
-    /// to it had that ID and wasn't acknowledged.
+    /// An endpoint rejected the message with this ID, which ends the observation (RFC 7641, section 3.6). Whether a
+    /// notification to it had that ID and wasn't acknowledged.
     pub fn reset(&mut self, from: Endpoint, id: u16) -> bool
         ensures list { self.new ≡ with_reset from id self.old }
         ensures found { result ≡ list_any (is_sent_as from id) self.old.list }
@@ -98,8 +98,8 @@ impl Watchers {
         found
     }
 
-    /// What is to be sent now, with this message ID where it is no message that was sent before: one notification at most. A
-    /// caller calls it until it returns None.
+    /// What is to be sent now, with this message ID where it is no message that was sent before: one notification at
+    /// most. A caller calls it until it returns None.
     pub fn next_send(&mut self, now: u64, id: u16) -> Option<Notice>
         ensures list { Notifies now id self.old.list result self.new.list }
         ensures capacity { self.new.capacity ≡ self.old.capacity }

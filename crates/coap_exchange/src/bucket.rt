@@ -7,7 +7,7 @@ ghost use Rattle.coap_exchange.specs.Buckets.{scattered, bucket};
 
 use coap_msg::Endpoint;
 
-/// The bucket, of so many, of an endpoint and a message ID.
+/// The bucket of an endpoint and a message ID, of `count` buckets.
 pub fn bucket_of(from: Endpoint, id: u16, count: u32) -> u32
     requires { 0 < count }
     ensures bucket { result ≡ bucket count from id }

@@ -52,7 +52,7 @@ impl Exchanges {
     ghost use Rattle.coap_exchange.specs.Table.{Exchange, empty_table, at_moment, duplicated_exchange, exchange_in, Meets, IsAwaited, HasReply, HoldsReply, with_reply, FindsDuplicated, Admits};
     ghost use Rattle.coap_exchange.specs.Kept.{without_exchange, AllLive, FindsOver};
 
-    /// A table in which so many exchanges may live. All its memory is taken here.
+    /// A table in which `capacity` exchanges may live. All its memory is taken here.
     pub fn new(alloc: Global, capacity: u32) -> Result<Exchanges, NoMemory>
         requires least { 16 ≤ capacity }
         requires most { capacity ≤ 65536 }
@@ -110,7 +110,7 @@ impl Exchanges {
         }
     }
 
-    /// Goes on to the moment `now`, and gives up the exchanges that don't live then.
+    /// Moves on to the moment `now`, and gives up the exchanges that don't live then.
     fn go_on(&mut self, now: u64)
         requires { self.old.moment ≤ now }
         ensures { self.new ≡ at_moment now self.old }

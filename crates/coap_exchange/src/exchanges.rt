@@ -20,15 +20,18 @@ const ALL: u32 = 0;
 ///
 /// Each exchange has a slot, in which its entry and its reply have fixed places. A slot is in the list of the free ones
 /// or in that of its kind (`kinds`); while it lives also in one bucket, by endpoint and message ID, and in the list of
-/// all in order of admission. So a call looks into one bucket, and gives up what is over from the front of the lists by
-/// kind.
+/// all in order of admission, which contracts see and the lists by kind don't give where moments are equal. So a call
+/// looks into one bucket, and gives up what is over from the front of the lists by kind.
 #[derive(Drop)]
 pub struct Exchanges {
     capacity: u32,
     moment: u64,
     entries: Vec<Entry>,
     replies: Vec<Option<BoundedBytes<LONGEST_MESSAGE>>>,
+    // Links are apart from the entries, in three values, because what one of them does leaves the others as they are by
+    // their types alone.
     kinds: SlotLists,
+    // As many as there are slots.
     buckets: SlotLists,
     order: SlotLists,
 }

@@ -271,7 +271,7 @@ dealt_elsewhere number first slot i slots lists h least other = elim (cases_lt i
   | inr past ↦ ap (is_among slot) (get_or_past lists i [] past)
 ]
 
--- ---- a search that goes on from slot to slot
+-- ---- a search from slot to slot
 
 pub found_at_slot : (p : ℕ → Bool) (slot : ℕ) (xs : List ℕ) → is_among slot xs ≡ true → p slot ≡ true → find p (from_slot (Some slot) xs) ≡ Some slot
 found_at_slot p slot [] m t = absurd cc

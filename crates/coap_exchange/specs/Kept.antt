@@ -1,5 +1,5 @@
--- Inside: how the code keeps its exchanges. Each slot is free or living; the living ones are in one list in order of
--- admission, and each of them in one list by its kind and in one by its bucket.
+-- Inside the crate: how the code keeps its exchanges. Each slot is free or living; the living ones are in one list in
+-- order of admission, and each of them in one list by its kind and in one by its bucket.
 use Rattle.std.specs.Prelude.{◌≡◌, ◌+◌, ◌≤◌, ◌<◌, ℕ, List, length, map, filter, not, ◌==◌, All, AllPairs, Option, Some, None, true, false}
 use Rattle.coap_msg.specs.declared.message.RequestType.{RequestType}
 use Rattle.slot_lists.specs.Lists.{list_at}

@@ -10,8 +10,8 @@ pub record Exchange : Type 0 where
   pub slot : ℕ
   pub reply : Option (List ℕ)
 
--- how many exchanges may live, the last moment that was handed in, and the exchanges that live then, in the order in which
--- they were admitted
+-- How many exchanges may live, the last moment that was handed in, and the exchanges that live then, in the order in
+-- which they were admitted. Those that are over aren't seen, so that code may give them up when it likes.
 pub record Table : Type 0 where
   pub capacity : ℕ
   pub moment : ℕ
@@ -45,7 +45,7 @@ HoldsReply slot bytes t = (e : Exchange) × (exchange_in slot t ≡ Some e) × (
 abbrev pub HasReply : ℕ → Table → Type 0
 HasReply slot t = (bytes : List ℕ) × HoldsReply slot bytes t
 
--- the table with a new exchange, whose reply is to come
+-- the table with a new exchange, whose reply comes later
 abbrev pub with_exchange : Arrival → ℕ → Table → Table
 with_exchange a slot t = record t { exchanges = t.exchanges ++ record { arrival = a; slot = slot; reply = None } ∷ [] }
 
@@ -57,7 +57,8 @@ answered slot bytes e = if e.slot == slot then record e { reply = Some bytes } e
 abbrev pub with_reply : ℕ → List ℕ → Table → Table
 with_reply slot bytes t = record t { exchanges = map (answered slot bytes) t.exchanges }
 
--- The exchange of which a request is a duplicate was found, with the slot of its reply where that was kept; or there is none.
+-- The exchange of which a request is a duplicate was found, with the slot of its reply where that
+-- was kept; or there is none.
 abbrev pub FindsDuplicated : Table → Arrival → Option (Option ℕ) → Type 0
 FindsDuplicated t a None = duplicated_exchange a t ≡ None
 FindsDuplicated t a (Some kept) =
@@ -68,8 +69,8 @@ abbrev pub Admits : Table → Arrival → Option ℕ → Table → Type 0
 Admits t a (Some slot) u = (length t.exchanges < t.capacity) × (exchange_in slot t ≡ None) × (u ≡ with_exchange a slot t)
 Admits t a None u = (t.capacity ≤ length t.exchanges) × (u ≡ t)
 
--- What a request meets in a table at its moment, and the table afterwards: it is a duplicate of one that lives; or it gets a
--- slot; or as many live as may.
+-- What a request meets in a table at its moment, and the table afterwards: it is a duplicate of one that lives; or it
+-- gets a slot; or as many live as may.
 abbrev pub Meets : Table → Arrival → Met → Table → Type 0
 Meets t a (Repeat kept) u = FindsDuplicated t a (Some kept) × (u ≡ t)
 Meets t a (Fresh slot) u = FindsDuplicated t a None × Admits t a (Some slot) u

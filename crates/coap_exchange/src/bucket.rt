@@ -1,13 +1,13 @@
 //! Which bucket an endpoint and a message ID belong to. No contract of the table rests on which it is, only on its
-//! being one function of both. It is a fixed function, with no key: whoever can forge sources can choose them so that
-//! all fall into one bucket, whose list is then as long as the table.
+//! being one function of both. It is a fixed function, with no key, because no call hands in a secret: whoever can
+//! forge sources can choose them so that all fall into one bucket, whose list is then as long as the table.
 
 ghost use Rattle.std.specs.Prelude.{◌≡◌, ◌<◌};
 ghost use Rattle.coap_exchange.specs.Buckets.{scattered, bucket};
 
 use coap_msg::Endpoint;
 
-/// The bucket, of so many, of an endpoint and a message ID.
+/// The bucket of an endpoint and a message ID, of `count` buckets.
 pub fn bucket_of(from: Endpoint, id: u16, count: u32) -> u32
     requires { 0 < count }
     ensures bucket { result ≡ bucket count from id }

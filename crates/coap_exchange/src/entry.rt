@@ -1,4 +1,4 @@
-//! One exchange as the code keeps it.
+//! One exchange as the code keeps it, and how long it lives.
 
 ghost use Rattle.std.specs.Prelude.{◌≡◌};
 ghost use Rattle.coap_exchange.specs.Admission.{lifetime};
@@ -50,7 +50,7 @@ pub fn lifetime_of(kind: RequestType) -> u64
     }
 }
 
-/// The list, among those by kind, in which the exchanges of a kind stand.
+/// The list, among those by kind, in which the exchanges of a kind are.
 pub fn list_of(kind: RequestType) -> u32
     ensures { result ≡ age_list kind }
 {

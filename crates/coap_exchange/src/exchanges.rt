@@ -20,15 +20,18 @@ const ALL: u32 = 0;
 ///
 /// Each exchange has a slot, in which its entry and its reply have fixed places. A slot is in the list of the free ones
 /// or in that of its kind (`kinds`); while it lives also in one bucket, by endpoint and message ID, and in the list of
-/// all in order of admission. So a call looks into one bucket, and gives up what is over from the front of the lists by
-/// kind.
+/// all in order of admission, which contracts see and the lists by kind don't give where moments are equal. So a call
+/// looks into one bucket, and gives up what is over from the front of the lists by kind.
 #[derive(Drop)]
 pub struct Exchanges {
     capacity: u32,
     moment: u64,
     entries: Vec<Entry>,
     replies: Vec<Option<BoundedBytes<LONGEST_MESSAGE>>>,
+    // Links are apart from the entries, in three values, because what one of them does leaves the others as they are by
+    // their types alone.
     kinds: SlotLists,
+    // As many as there are slots.
     buckets: SlotLists,
     order: SlotLists,
 }
@@ -52,7 +55,7 @@ impl Exchanges {
     ghost use Rattle.coap_exchange.specs.Table.{Exchange, empty_table, at_moment, duplicated_exchange, exchange_in, Meets, IsAwaited, HasReply, HoldsReply, with_reply, FindsDuplicated, Admits};
     ghost use Rattle.coap_exchange.specs.Kept.{without_exchange, AllLive, FindsOver};
 
-    /// A table in which so many exchanges may live. All its memory is taken here.
+    /// A table in which `capacity` exchanges may live. All its memory is taken here.
     pub fn new(alloc: Global, capacity: u32) -> Result<Exchanges, NoMemory>
         requires least { 16 ≤ capacity }
         requires most { capacity ≤ 65536 }
@@ -110,7 +113,7 @@ impl Exchanges {
         }
     }
 
-    /// Goes on to the moment `now`, and gives up the exchanges that don't live then.
+    /// Moves on to the moment `now`, and gives up the exchanges that don't live then.
     fn go_on(&mut self, now: u64)
         requires { self.old.moment ≤ now }
         ensures { self.new ≡ at_moment now self.old }

@@ -1,6 +1,6 @@
-//! The exchanges of a CoAP server (RFC 7252, sections 4.2 and 4.5): a request that comes twice acts once. This crate knows
-//! endpoints, message IDs and moments, and no message: what a request asks for is decided elsewhere. It has no clock and no
-//! socket, and takes memory once, when the table is made. `Exchanges` and `Met` carry everything.
+//! The exchanges of a CoAP server (RFC 7252, sections 4.2 and 4.5): a request that comes twice acts once. This crate
+//! knows endpoints, message IDs and moments, and no message: what a request asks for is decided elsewhere. It has no
+//! clock and no socket, and takes memory once, when the table is made. `Exchanges` and `Met` carry everything.
 //!
 //! ```
 //! use coap_exchange::{Exchanges, Met};

@@ -1,6 +1,6 @@
 //! How many requests met what.
 
-/// How many lines of a text tell what.
+/// How many lines of a text say what.
 #[derive(Clone, Copy)]
 pub struct Counts {
     /// Requests that were admitted.

@@ -1,7 +1,7 @@
 //! Compares two tables of exchanges: `Exchanges` of `coap_exchange`, whose slots are linked, and a plain list with the
 //! same contract. Both get the same requests and the same replies to keep, in tables in which 16 exchanges may live,
-//! and the program prints how many requests met what. What a request meets is told by a line, with the reply that was
-//! kept and without its slot, since slots may differ; the lines of both are to be the same.
+//! and the program prints how many requests met what. What a request meets is a line, with the reply that was
+//! kept and without its slot, since slots may differ; the lines of both have to be the same.
 //!
 //! The counts that it must print come from `tools/exchange-counts`, a third table in another language over the same
 //! requests.
@@ -22,7 +22,7 @@ use std::io;
 /// How many requests both tables get.
 const REQUESTS: u32 = 8_000;
 
-/// Hands the same requests to both tables, and tells what they meet.
+/// Hands the same requests to both tables, and writes what they meet.
 fn compare(linked: &mut String, plain: &mut String, alloc: Global) -> Result<(), AllocError> {
     let mut linked_table = Exchanges::new(alloc, 16)?;
     let mut plain_table = PlainExchanges::new(alloc, 16)?;

@@ -16,7 +16,7 @@ use std::marker::Model;
 /// The exchanges of a server. Contracts see how many may live, the last moment that was handed in, and the exchanges
 /// that live then with their replies (`Table` of specs/Table.antt).
 ///
-/// Entries stand in the order in which their requests were admitted. Replies have fixed places, by slot, so that a call
+/// Entries are in the order in which their requests were admitted. Replies have fixed places, by slot, so that a call
 /// moves entries alone.
 #[derive(Drop)]
 pub struct PlainExchanges {
@@ -45,7 +45,7 @@ impl PlainExchanges {
     ghost use Rattle.coap_msg.specs.Requests.{request_type};
     ghost use Rattle.coap_exchange.specs.Table.{empty_table, at_moment, Meets, IsAwaited, HasReply, HoldsReply, with_reply, FindsDuplicated, Admits};
 
-    /// A table in which so many exchanges may live. All its memory is taken here.
+    /// A table in which `capacity` exchanges may live. All its memory is taken here.
     pub fn new(alloc: Global, capacity: u32) -> Result<PlainExchanges, NoMemory>
         requires least { 16 ≤ capacity }
         requires most { capacity ≤ 65536 }
@@ -99,7 +99,7 @@ impl PlainExchanges {
         }
     }
 
-    /// Goes on to the moment `now`, and gives up the exchanges that don't live then.
+    /// Moves on to the moment `now`, and gives up the exchanges that don't live then.
     fn go_on(&mut self, now: u64)
         requires { self.old.moment ≤ now }
         ensures { self.new ≡ at_moment now self.old }

@@ -23,7 +23,7 @@ fn put_reply(text: &mut String, reply: &[u8]) -> Result<(), AllocError> {
     text.push_str("\n")
 }
 
-/// Tells what a request meets in the table of linked slots, and keeps its reply.
+/// Writes what a request meets in the table of linked slots, and keeps its reply.
 pub fn put_linked(
     text: &mut String,
     exchanges: &mut Exchanges,
@@ -51,7 +51,7 @@ pub fn put_linked(
     }
 }
 
-/// Tells what a request meets in the plain list, and keeps its reply.
+/// Writes what a request meets in the plain list, and keeps its reply.
 pub fn put_plain(
     text: &mut String,
     exchanges: &mut PlainExchanges,

@@ -142,7 +142,7 @@ if_some (Some z) P h = h z refl
 
 -- ---- a slot at the end
 
--- the links once a slot was put behind the last one
+-- the links once a slot was put after the last one
 abbrev pub pushed_links : List Link → Option ℕ → ℕ → List Link
 pushed_links links last slot = with_next last (Some slot) (set links slot (record { previous = last; next = None }))
 

@@ -68,7 +68,7 @@ same_neighbours capacity before after before2 after2 p (x ∷ xs) b a h = (
 
 -- ---- one slot more
 
--- what is linked otherwise once a slot was put behind the last one
+-- what is linked otherwise once a slot was put after the last one
 pub record Appended (before after before2 after2 : ℕ → Option ℕ) (slot : ℕ) (last : Option ℕ) : Type 0 where
   pub back : before2 slot ≡ last
   pub on : after2 slot ≡ None
@@ -108,7 +108,7 @@ different_from o x xs hasnt z e m f =
     let has : is_among x xs ≡ true = subst (λ w. is_among w xs ≡ true) same m in
     cc
 
--- the rest behind a slot that is taken out
+-- the rest after a slot that is taken out
 rest_bridged : (capacity slot : ℕ) (before after before2 after2 : ℕ → Option ℕ) (p : Option ℕ) (xs : List ℕ)
     → AreDistinct xs → ((y : ℕ) → p ≡ Some y → is_among y xs ≡ false) → Bridged before after before2 after2 slot
     → before slot ≡ p → after slot ≡ first_of xs

@@ -19,7 +19,7 @@ next_in links slot = (link_at links slot).next
 abbrev pub ends_at : List Ends → ℕ → Ends
 ends_at ends list = slice_index_or ends list (record { first = None; last = None })
 
--- the slots from one on, as the links lead, so many at most
+-- the slots from one on, as the links lead, at most n
 abbrev pub slots_from : List Link → ℕ → Option ℕ → List ℕ
 slots_from links most None = []
 slots_from links zero (Some slot) = []
@@ -44,7 +44,7 @@ AreNeighbours capacity before after previous [] = ⊤
 AreNeighbours capacity before after previous (slot ∷ slots) =
     (slot < capacity) × (before slot ≡ previous) × (after slot ≡ first_of slots) × AreNeighbours capacity before after (Some slot) slots
 
--- no slot stands twice in a list
+-- no slot is twice in a list
 abbrev pub AreDistinct : List ℕ → Type 0
 AreDistinct [] = ⊤
 AreDistinct (slot ∷ slots) = (is_among slot slots ≡ false) × AreDistinct slots
@@ -76,7 +76,7 @@ abbrev pub first_or : ℕ → Option ℕ → ℕ
 first_or slot None = slot
 first_or slot (Some first) = first
 
--- the ends of a list once a slot was put behind the last one
+-- the ends of a list once a slot was put after the last one
 abbrev pub ends_with : ℕ → Ends → Ends
 ends_with slot e = record { first = Some (first_or slot e.first); last = Some slot }
 

@@ -7,7 +7,7 @@ pub record Lists : Type 0 where
   pub capacity : ℕ
   pub lists : List (List ℕ)
 
--- so many lists, all empty
+-- n lists, all empty
 abbrev pub empty_lists : ℕ → ℕ → Lists
 empty_lists capacity count = record { capacity = capacity; lists = replicate count [] }
 
@@ -40,7 +40,7 @@ abbrev pub first_of : List ℕ → Option ℕ
 first_of [] = None
 first_of (slot ∷ slots) = Some slot
 
--- what stands in a list from a slot on
+-- what is in a list from a slot on
 abbrev pub from_slot : Option ℕ → List ℕ → List ℕ
 from_slot None slots = []
 from_slot (Some slot) [] = []

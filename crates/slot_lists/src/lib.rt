@@ -1,8 +1,7 @@
 //! Lists of slots that are linked by index. A slot is a number below a capacity, by which its owner keeps a record of
-//! its own in a vector. A slot stands in at most one list of a `SlotLists`, and goes into it, out of it and is found
+//! its own in a vector. A slot is in at most one list of a `SlotLists`, and goes into it, out of it and is found
 //! next to its neighbours in constant time. No call but the first takes memory.
-//!
-//! Contracts see the lists and nothing of the links (`Lists` of `specs/Lists.antt`). Slots that are to be in several
+//! Contracts see the lists and nothing of the links (`Lists` of `specs/Lists.antt`). Slots that should be in several
 //! lists at once get several `SlotLists`: these are values of their own, so what one does leaves the others as they
 //! are.
 //!

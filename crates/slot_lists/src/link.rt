@@ -22,7 +22,7 @@ impl Ends {
     ghost use Rattle.std.specs.Prelude.{◌≡◌};
     ghost use Rattle.slot_lists.specs.Links.{ends_with, ends_without};
 
-    /// The ends once this slot was put behind the last one.
+    /// The ends once this slot was put after the last one.
     pub fn with(&self, slot: u32) -> Ends
         ensures { result ≡ ends_with slot self.now }
     {

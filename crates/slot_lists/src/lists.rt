@@ -33,7 +33,7 @@ impl SlotLists {
     ghost use Rattle.std.specs.List.{list_any};
     ghost use Rattle.slot_lists.specs.Lists.{empty_lists, list_at, is_among, IsIn, IsInNone, with_list, without, first_of, from_slot};
 
-    /// So many empty lists of slots below the capacity. All memory is taken here.
+    /// `count` empty lists of slots below the capacity. All memory is taken here.
     pub fn new(alloc: Global, capacity: u32, count: u32) -> Result<SlotLists, NoMemory>
         ensures { IfOk result (λ x. x ≡ empty_lists capacity count) }
     {

@@ -1,4 +1,4 @@
--- The slot is that of an entry, and the reply comes to its exchange alone.
+-- The slot is that of an entry, and the reply goes to its exchange alone.
 use Rattle.std.proofs.Common.{◌≡◌, ◌<◌, ◌∙◌, List, length, map, set, Some, ap, arith}
 use Rattle.coap_exchange.specs.Kept.{table_of, living_slots}
 use Rattle.coap_exchange.specs.Slots.{exchange_at}

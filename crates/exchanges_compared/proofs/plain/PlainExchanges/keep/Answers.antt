@@ -1,4 +1,4 @@
--- The slot is that of an entry, and the reply comes to its exchange alone.
+-- The slot is that of an entry, and the reply goes to its exchange alone.
 use Rattle.std.proofs.Common.{◌≡◌, ◌<◌, ◌∙◌, List, length, map, set, Some, ap, arith}
 use Rattle.exchanges_compared.specs.Plain.{table_of, exchange_of}
 use Rattle.coap_exchange.specs.Table.{Exchange, Table, exchange_in, with_reply}

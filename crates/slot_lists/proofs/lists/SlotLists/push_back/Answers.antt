@@ -1,4 +1,4 @@
--- The slot is linked behind the last one, and nothing else changes.
+-- The slot is linked after the last one, and nothing else changes.
 use Rattle.std.proofs.Common.{◌≡◌, ◌∷◌, [], ◌++◌, ◌<◌, ℕ, List, false, Some, None, length, get_or, set, subst, sym, ap, ◌∙◌}
 use Rattle.std.proofs.lemmas.List.{get_or_read, length-map, length-set}
 use Rattle.slot_lists.specs.declared.link.Link.{Link}

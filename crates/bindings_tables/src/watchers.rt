@@ -2,6 +2,8 @@
 //! step is `register ENDPOINT TOKEN TARGET`, `cancel ENDPOINT TOKEN`, `emit TARGET`, `acked ENDPOINT ID`, `reset ENDPOINT ID`
 //! or `next MOMENT ID`, and what it comes to.
 
+ghost use Rattle.std.specs.Prelude.{◌≤◌};
+
 use crate::exchanges::{endpoint_of, put_words};
 use case_notation::{bytes_of, number, put as put_bytes};
 use coap_msg::{Endpoint, LONGEST_TOKEN};
@@ -120,7 +122,10 @@ fn put_step(
 }
 
 /// How many watchers there may be in a history.
-fn capacity_of(history: &str) -> u32 {
+fn capacity_of(history: &str) -> u32
+    ensures least { 1 ≤ result }
+    ensures most { result ≤ 1024 }
+{
     for line in history.lines() {
         if let Some(capacity) = line.strip_prefix("capacity ") {
             return target_of(Some(capacity)).clamp(1, 1024);

@@ -10,7 +10,7 @@ ghost use Rattle.thing_site.specs.Exposing.{held_thing};
 ghost use Rattle.thing_site.specs.Found.{found_act};
 ghost use Rattle.thing_site.specs.HandedIn.{input_of, HasNoInputs, IsRefusedByRequest, IsUnrefused};
 
-use crate::{Act, HeldThing, Input, Spot};
+use crate::{Act, HeldThing, Input, NoMemory, Spot};
 use std::alloc::Global;
 use thing_ops::{Accept, Format, Outcome, Request};
 use wot_json::{Members, ReadFault, Tree, read, text_of};
@@ -171,14 +171,11 @@ fn push_input<'a>(
     ensures ok { OnOk result (map input_of inputs.new.items ≡ map input_of inputs.old.items ++ refusal.only_input spot.entry (json_of value)) }
     ensures fault { IfErr result (λ o. o ≡ Outcome.Memory) }
 {
-    let text = match text_of(alloc, &value) {
-        Ok(text) => text,
-        Err(_) => return Err(Outcome::Memory),
-    };
-    match inputs.push(Input { spot, value, text }) {
-        Ok(()) => Ok(()),
-        Err(_) => Err(Outcome::Memory),
-    }
+    let text = text_of(alloc, &value)?;
+    inputs
+        .push(Input { spot, value, text })
+        .map_err(NoMemory::from)?;
+    Ok(())
 }
 
 /// The body is an object whose members name properties that may be written.

@@ -6,7 +6,6 @@ ghost use Rattle.thing_ops.specs.Requests.{plain_request};
 ghost use Rattle.thing_core.specs.State.{last_of};
 ghost use Rattle.thing_core.specs.Thing.{event_outcome, Performs};
 ghost use Rattle.thing_site.specs.Found.{found_act};
-ghost use Rattle.thing_site.specs.HandedIn.{input_of};
 ghost use Rattle.thing_core.specs.Performing.{affordances_of_act, AllStand, InputsFit, IsOrMemory, MakesDone, MayBeDone, OrMemory};
 
 use crate::admitting::Task;
@@ -32,7 +31,7 @@ pub fn act<R: Handlers>(
     requires slots { AllStand (length (R.slots rack.old)) (affordances_of_act (found_act task.act)) }
     requires inputs { InputsFit (length (R.slots rack.old)) task.inputs.items }
     requires state { MayBeDone (found_act task.act) machine.old.state }
-    ensures { MakesDone (OrMemory (Performs (found_act task.entry.act) (plain_request request.now) (map input_of task.entry.inputs.items))) result machine.old machine.new (R.slots rack.old) (R.slots rack.new) }
+    ensures { MakesDone (OrMemory (Performs (found_act task.entry.act) (plain_request request.now) task.entry.inputs.items)) result machine.old machine.new (R.slots rack.old) (R.slots rack.new) }
 {
     let Task { act, inputs } = task;
     match act {

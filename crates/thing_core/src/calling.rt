@@ -29,13 +29,9 @@ pub fn call<R: Handlers>(
     if number == MOST_TURNS {
         return Err(Outcome::CallsUsed);
     }
-    match rack.call(slot as usize, number, what) {
-        Ok(answer) => {
-            machine.count_turn();
-            Ok(answer)
-        }
-        Err(_) => Err(Outcome::Memory),
-    }
+    let answer = rack.call(slot as usize, number, what)?;
+    machine.count_turn();
+    Ok(answer)
 }
 
 /// What a request comes to whose device answers so, where that isn't a success: a refusal and a fault of the device as they

@@ -1,7 +1,7 @@
 //! Doing what a request asks.
 
 ghost use Rattle.std.specs.Prelude.{◌≡◌, length, map, option_map};
-ghost use Rattle.wot_json.specs.Json.{json_text};
+ghost use Rattle.wot_json.specs.Json.{text_of as text_of_value};
 ghost use Rattle.thing_ops.specs.Requests.{plain_request};
 ghost use Rattle.thing_core.specs.State.{last_of};
 ghost use Rattle.thing_core.specs.Thing.{event_outcome, Performs};
@@ -17,8 +17,8 @@ use crate::writing::write_each;
 use std::alloc::Global;
 use thing_handler::Handlers;
 use thing_ops::{Outcome, Request};
-use thing_site::Act;
-use wot_json::{Bytes, Tree, text_of};
+use thing_site::{Act, HeldThing};
+use wot_json::{Bytes, text_of};
 
 /// Does an act.
 pub fn act<R: Handlers>(
@@ -35,7 +35,7 @@ pub fn act<R: Handlers>(
 {
     let Task { act, inputs } = task;
     match act {
-        Act::Describes(thing) => describe(alloc, &thing.tree, request.accept.td),
+        Act::Describes(thing) => describe(alloc, thing, request.accept.td),
         Act::ReadsAll(thing) => read_all(alloc, thing, machine, rack),
         Act::Reads(spot) => read(alloc, spot, machine, rack),
         Act::WritesMany(_) => write_each(inputs, machine, rack),
@@ -58,10 +58,10 @@ pub fn act<R: Handlers>(
 }
 
 /// A description as it is sent.
-fn describe(alloc: Global, tree: &Tree, td: bool) -> Outcome
-    ensures { IsOrMemory (Outcome.Description (json_text tree.now) td) result }
+fn describe(alloc: Global, thing: &HeldThing, td: bool) -> Outcome
+    ensures { IsOrMemory (Outcome.Description (text_of_value thing.now.description) td) result }
 {
-    match text_of(alloc, tree) {
+    match text_of(alloc, thing.description()) {
         Ok(text) => Outcome::Description(text, td),
         Err(_) => Outcome::Memory,
     }

@@ -5,7 +5,6 @@ ghost use Rattle.std.specs.List.{filter};
 ghost use Rattle.wot_json.specs.Json.{json_string};
 ghost use Rattle.thing_site.specs.Site.{of_kind};
 ghost use Rattle.thing_core.specs.Thing.{is_readable, readable, Reads, ReadsEach};
-ghost use Rattle.thing_site.specs.Exposing.{held_thing, placed_all};
 ghost use Rattle.thing_core.specs.Performing.{with_member, room_of_all, AllStand, CallsFor, IsValueOf, MakesDone, OrMemory, ReadsOne};
 
 use crate::NoMemory;
@@ -15,9 +14,9 @@ use crate::machine::Machine;
 use std::alloc::Global;
 use thing_handler::{CallKind, Handlers};
 use thing_ops::Outcome;
-use thing_site::{HeldThing, LONGEST_VALUE, Spot, slot_at};
+use thing_site::{HeldThing, LONGEST_VALUE, Spot};
 use wot_json::{Bytes, Tree};
-use wot_terms::{Affordance, Kind};
+use wot_terms::Kind;
 
 /// Reads a property. The room for its text is taken before the call.
 pub fn read<R: Handlers>(
@@ -76,14 +75,10 @@ pub fn read_all<R: Handlers>(
     machine: &mut Machine,
     rack: &mut R,
 ) -> Outcome
-    requires { AllStand (length (R.slots rack.old)) (held_thing thing.now).affordances }
-    ensures { MakesDone (OrMemory (ReadsEach (readable (held_thing thing.now)) [])) result machine.old machine.new (R.slots rack.old) (R.slots rack.new) }
+    requires { AllStand (length (R.slots rack.old)) thing.now.affordances }
+    ensures { MakesDone (OrMemory (ReadsEach (readable thing.now) [])) result machine.old machine.new (R.slots rack.old) (R.slots rack.new) }
 {
-    let fields = match fields_of(
-        alloc,
-        thing.affordances.affordances(),
-        thing.slots.as_slice(),
-    ) {
+    let fields = match fields_of(alloc, thing) {
         Ok(fields) => fields,
         Err(_) => return Outcome::Memory,
     };
@@ -162,21 +157,17 @@ fn put_member(text: &mut Vec<u8>, name: &[u8], value: &[u8])
     text.extend_from_slice(value).unwrap();
 }
 
-/// The properties that are to be read among these affordances.
-fn fields_of<'a>(
-    alloc: Global,
-    affordances: &'a [Affordance],
-    slots: &[u32],
-) -> Result<Vec<Field<'a>>, NoMemory>
-    ensures { IfOk result (λ fields. fields.items ≡ filter is_readable (filter (of_kind Kind.Property) (placed_all affordances.now slots.now))) }
+/// The properties of a Thing that are to be read.
+fn fields_of(alloc: Global, thing: &HeldThing) -> Result<Vec<Field<'_>>, NoMemory>
+    ensures { IfOk result (λ fields. fields.items ≡ readable thing.now) }
 {
     let mut fields = Vec::new(alloc);
-    for (index, affordance) in affordances.iter().enumerate() {
-        let slot = match slot_at(slots, index) {
-            Some(slot) => slot,
+    for index in 0..thing.len() {
+        let spot = match thing.spot(index) {
+            Some(spot) => spot,
             None => return Ok(fields),
         };
-        push_if_readable(alloc, &mut fields, Spot::of(affordance, slot))?;
+        push_if_readable(alloc, &mut fields, spot)?;
     }
     Ok(fields)
 }

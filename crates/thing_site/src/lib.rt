@@ -38,5 +38,5 @@ pub use input::Input;
 pub use place::{Act, Place, act_at, place_at, target_at};
 pub use refusing::{LONGEST_VALUE, is_accepted, judge};
 pub use servient_base::NoMemory;
-pub use site::{Spot, is_emitter, is_kind, slot_at};
+pub use site::{Spot, is_emitter, is_kind};
 pub use slots::Slots;

@@ -67,12 +67,7 @@ fn place<R: Handlers>(
     let slots = judge_all(alloc, rack, wanted, earlier)?;
     let segment = Text::copy_of(alloc, thing.segment.as_str())?;
     let tree = copy(alloc, &thing.tree)?;
-    Ok(HeldThing {
-        segment,
-        tree,
-        affordances,
-        slots,
-    })
+    Ok(HeldThing::of(segment, tree, affordances, slots))
 }
 
 /// The slots of affordances none of which has a fault, where earlier ones have these slots, and puts them after those.

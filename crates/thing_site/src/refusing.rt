@@ -6,7 +6,6 @@ ghost use Rattle.wot_json.specs.Tree.{members_of};
 ghost use Rattle.wot_json.specs.Meaning.{json_of};
 ghost use Rattle.thing_ops.specs.Requests.{plain_request};
 ghost use Rattle.thing_site.specs.Refusals as refusal;
-ghost use Rattle.thing_site.specs.Exposing.{held_thing};
 ghost use Rattle.thing_site.specs.Found.{found_act};
 ghost use Rattle.thing_site.specs.HandedIn.{HasNoInputs, IsRefusedByRequest, IsUnrefused};
 
@@ -180,8 +179,8 @@ fn object_inputs<'a>(
     thing: &'a HeldThing,
     body: &[u8],
 ) -> Result<Vec<Input<'a>>, Outcome>
-    ensures ok { IfOk result (λ inputs. option_and_then (refusal.object_inputs (held_thing thing.now)) (tree_of body.now) ≡ Some inputs.items) }
-    ensures fault { IfErr result (λ o. HasNoInputs (option_and_then (refusal.object_inputs (held_thing thing.now)) (tree_of body.now)) o) }
+    ensures ok { IfOk result (λ inputs. option_and_then (refusal.object_inputs thing.now) (tree_of body.now) ≡ Some inputs.items) }
+    ensures fault { IfErr result (λ o. HasNoInputs (option_and_then (refusal.object_inputs thing.now) (tree_of body.now)) o) }
 {
     let value = value_in(alloc, body)?;
     match value {
@@ -198,8 +197,8 @@ fn member_inputs<'a>(
     thing: &'a HeldThing,
     members: Members,
 ) -> Result<Vec<Input<'a>>, Outcome>
-    ensures ok { IfOk result (λ inputs. refusal.member_inputs (held_thing thing.now) (members_of members) ≡ Some inputs.items) }
-    ensures fault { IfErr result (λ o. HasNoInputs (refusal.member_inputs (held_thing thing.now) (members_of members)) o) }
+    ensures ok { IfOk result (λ inputs. refusal.member_inputs thing.now (members_of members) ≡ Some inputs.items) }
+    ensures fault { IfErr result (λ o. HasNoInputs (refusal.member_inputs thing.now (members_of members)) o) }
 {
     let mut inputs = Vec::new(alloc);
     for (name, value) in members.into_vec() {
@@ -214,7 +213,7 @@ fn member_inputs<'a>(
 
 /// The property of this name that may be written.
 fn writable<'a>(thing: &'a HeldThing, name: &[u8]) -> Option<Spot<'a>>
-    ensures { result ≡ refusal.written_property (held_thing thing.now) name.now }
+    ensures { result ≡ refusal.written_property thing.now name.now }
 {
     match thing.affordance(Kind::Property, name) {
         Some(spot) => {

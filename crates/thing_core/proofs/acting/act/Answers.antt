@@ -1,5 +1,5 @@
 use Rattle.std.proofs.Common.{ℕ, List, [], map, refl, sym, ap, subst, inl}
-use Rattle.wot_json.specs.Json.{json_text}
+use Rattle.wot_json.specs.Json.{text_of}
 use Rattle.thing_ops.specs.declared.outcome.Outcome.TheVariants as outcome
 use Rattle.thing_ops.specs.Requests.{plain_request}
 use Rattle.thing_site.specs.declared.place.Act.{Act as FoundAct}
@@ -12,9 +12,9 @@ use Rattle.thing_core.proofs.acting.act.Goals as goal
 pub returns-in-Describes : goal.returns-in-Describes
 returns-in-Describes g c =
     answers_done (Performs (found_act c.args.task.act) (plain_request c.args.request.now) c.args.task.inputs.items)
-    (outcome.Description (json_text c.in-Describes.thing.now.tree) c.args.request.now.accept.td) c.describe.result c.args.machine.now (g.R.Handlers.slots c.args.rack.now) c.describe.ensures
+    (outcome.Description (text_of c.in-Describes.thing.now.description) c.args.request.now.accept.td) c.describe.result c.args.machine.now (g.R.Handlers.slots c.args.rack.now) c.describe.ensures
     (subst (λ (x : FoundAct). Performs (found_act x) (plain_request c.args.request.now) c.args.task.inputs.items
-    (only (outcome.Description (json_text c.in-Describes.thing.now.tree) c.args.request.now.accept.td)) c.args.machine.now.state [] c.args.machine.now.state) (sym c.in-Describes.is)
+    (only (outcome.Description (text_of c.in-Describes.thing.now.description) c.args.request.now.accept.td)) c.args.machine.now.state [] c.args.machine.now.state) (sym c.in-Describes.is)
     (refl, record { next = refl; saw = refl }))
 
 pub returns-in-Err : goal.returns-in-Err

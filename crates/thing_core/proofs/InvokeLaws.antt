@@ -1,5 +1,5 @@
 -- Acts on actions as moves of the Thing machine.
-use Rattle.std.proofs.Common.{◌≡◌, ℕ, zero, suc, ◌+◌, List, [], ◌∷◌, map, drop, true, false, refl, sym, ap, subst, ◌∙◌, arith}
+use Rattle.std.proofs.Common.{◌≡◌, ℕ, zero, suc, ◌+◌, List, [], ◌∷◌, drop, true, false, refl, sym, ap, subst, ◌∙◌, arith}
 use Rattle.std.specs.Prelude.{Option, Some, None, IsSome, IfSome, slice_get}
 use Rattle.std.proofs.lemmas.Option.{same_Some}
 use Rattle.servient_base.specs.Moves.{Makes}

@@ -36,11 +36,7 @@ fn push_silent(alloc: Global, last: &mut Vec<Latest>, thing: &HeldThing) -> Resu
 }
 
 /// Puts an affordance at the end, where it may emit.
-fn push_if_emitter(
-    alloc: Global,
-    last: &mut Vec<Latest>,
-    spot: &Spot<'_>,
-) -> Result<(), NoMemory>
+fn push_if_emitter(alloc: Global, last: &mut Vec<Latest>, spot: &Spot<'_>) -> Result<(), NoMemory>
     ensures { OnOk result (last.new.items ≡ last.old.items ++ map silent (filter is_emitter_of (spot.now ∷ []))) }
 {
     if is_emitter(spot) {

@@ -13,8 +13,8 @@ use thing_handler::{CallKind, Handlers};
 use thing_ops::Outcome;
 use thing_site::{Input, Spot};
 
-/// Writes values to properties, one after another, until one isn't done. Room for the emissions is taken before the first
-/// call.
+/// Writes values to properties, one after another, until one isn't done. Room for the emissions is taken before the
+/// first call.
 pub fn write_each<R: Handlers>(
     inputs: Vec<Input<'_>>,
     machine: &mut Machine,

@@ -61,5 +61,13 @@ any_long act q is accepted formatted given long =
 pub any_refused : (act : Act) (q : PlainRequest) (is : List Input) → is_acceptable act q.accept ≡ true → IsFormatTaken act q
     → inputs_of act q.body ≡ Some is → ¬ (SomeInput IsLong is) → SomeInput IsRefusedBySchema is → IsRefusedByRequest act q outcome.BadValue
 any_refused act q is accepted formatted given short refused =
-    inr (inr ((λ e. absurd cc), inr (formatted, inr (some_there (inputs_of act q.body) is given,
-    inr ((λ h. short (given_hold (SomeInput IsLong) (inputs_of act q.body) is given h)), inl (hold_given (SomeInput IsRefusedBySchema) (inputs_of act q.body) is given refused, refl))))))
+    inr (inr (
+      (λ e. absurd cc),
+      inr (
+        formatted,
+        inr (
+          some_there (inputs_of act q.body) is given,
+          inr ((λ h. short (given_hold (SomeInput IsLong) (inputs_of act q.body) is given h)), inl (hold_given (SomeInput IsRefusedBySchema) (inputs_of act q.body) is given refused, refl)),
+        ),
+      ),
+    ))

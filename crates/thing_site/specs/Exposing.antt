@@ -7,7 +7,7 @@ use Rattle.thing_handler.specs.Handler.{Seen}
 use Rattle.thing_site.specs.declared.fault.ExposeFault.{ExposeFault}
 use Rattle.thing_site.specs.declared.fault.ExposeFault.TheVariants.{NoSlot, KindDiffers, SlotTwice, NoMemory}
 use Rattle.thing_site.specs.declared.wanted.Wanted.{Wanted}
-use Rattle.thing_site.specs.Site.{Placed, ExposedThing, Site, Slots, exposed, site_of, wanted_of_thing, fault_of, faults_from, expose_faults}
+use Rattle.thing_site.specs.Site.{Placed, ExposedThing, Slots, exposed, site_of, wanted_of_thing, fault_of, faults_from, expose_faults}
 
 -- the kinds of the handlers of a rack
 abbrev pub kinds_of : List Seen → List Kind

@@ -6,8 +6,8 @@ use std::marker::Model;
 use wot_json::{Text, Tree};
 use wot_terms::{Description, Kind};
 
-/// A Thing with the slots of its handlers, one for each affordance, in the order of the affordances. Contracts see its segment,
-/// its description, and its affordances with their slots.
+/// A Thing with the slots of its handlers, one for each affordance, in the order of the affordances. Contracts see
+/// its segment, its description, and its affordances with their slots.
 #[derive(Drop)]
 pub struct HeldThing {
     segment: Text,
@@ -78,11 +78,7 @@ impl HeldThing {
     pub fn spot(&self, index: usize) -> Option<Spot<'_>>
         ensures { result ≡ slice_get self.now.affordances index }
     {
-        spot_at(
-            self.affordances.affordances(),
-            self.slots.as_slice(),
-            index,
-        )
+        spot_at(self.affordances.affordances(), self.slots.as_slice(), index)
     }
 
     /// The affordance of this kind and name, found by halving.

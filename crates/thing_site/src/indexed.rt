@@ -28,7 +28,7 @@ pub struct IndexedThings {
 impl Model for IndexedThings {
     ghost use Rattle.thing_site.specs.Site.{Site};
     ghost use Rattle.thing_site.specs.SiteCodes.{site_code};
-        ghost use Rattle.thing_site.specs.Index.{Indexes};
+    ghost use Rattle.thing_site.specs.Index.{Indexes};
 
     ghost Value = { Site };
 

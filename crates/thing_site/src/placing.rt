@@ -44,7 +44,8 @@ fn push_thing(held: &mut Vec<HeldThing>, one: HeldThing) -> Result<(), NoMemory>
     Ok(())
 }
 
-/// Gives the affordances of a Thing their handlers, where earlier ones have these slots, and puts their slots after those.
+/// Gives the affordances of a Thing their handlers, where earlier ones have these slots, and puts their slots after
+/// those.
 fn place<R: Handlers>(
     alloc: Global,
     rack: &R,

@@ -19,9 +19,9 @@ use wot_terms::Kind;
 /// How long the text of a value may be that is handed in or comes back, in bytes.
 pub const LONGEST_VALUE: usize = 1024;
 
-/// What a request hands in to an act, where nothing stands against it that needs no state; else what the request comes to: it
-/// isn't acceptable, or its body has another format, isn't as wanted, is too long or refused by a schema, in this order; or
-/// memory is out.
+/// What a request hands in to an act, where nothing stands against it that needs no state; else what the request
+/// comes to: it isn't acceptable, or its body has another format, isn't as wanted, is too long or refused by a
+/// schema, in this order; or memory is out.
 pub fn judge<'a>(
     alloc: Global,
     act: &Act<'a>,

@@ -1,4 +1,4 @@
-use Rattle.std.proofs.Common.{ℕ, List, [], map, refl, sym, ap, subst, inl}
+use Rattle.std.proofs.Common.{ℕ, [], refl, sym, ap, subst, inl}
 use Rattle.wot_json.specs.Json.{text_of}
 use Rattle.thing_ops.specs.declared.outcome.Outcome.TheVariants as outcome
 use Rattle.thing_ops.specs.Requests.{plain_request}

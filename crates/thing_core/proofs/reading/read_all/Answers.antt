@@ -1,4 +1,4 @@
-use Rattle.std.proofs.Common.{◌≡◌, ◌∙◌, List, [], length, refl, sym, ap, subst}
+use Rattle.std.proofs.Common.{◌≡◌, ◌∙◌, List, [], length, refl, sym, subst}
 use Rattle.thing_site.specs.Site.{Placed}
 use Rattle.thing_core.specs.Thing.{readable, ReadsEach}
 use Rattle.thing_core.specs.Performing.{AllStand}

@@ -1,4 +1,4 @@
-use Rattle.std.proofs.Common.{subst, refl, ◌∙◌, ℕ, List, sym, ap}
+use Rattle.std.proofs.Common.{subst, ◌∙◌, ℕ, List, sym, ap}
 use Rattle.std.specs.Prelude.{Ok, Err}
 use Rattle.wot_json.specs.Meaning.{json_of}
 use Rattle.thing_ops.specs.declared.outcome.Outcome.TheVariants as outcome

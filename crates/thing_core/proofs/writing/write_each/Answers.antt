@@ -1,4 +1,4 @@
-use Rattle.std.proofs.Common.{[], map}
+use Rattle.std.proofs.Common.{[]}
 use Rattle.thing_core.specs.Thing.{WritesEach}
 use Rattle.thing_core.proofs.MoveLaws.{memory_out}
 use Rattle.thing_core.proofs.writing.write_each.Goals as goal

@@ -1,4 +1,4 @@
-use Rattle.std.proofs.Common.{◌≡◌, ◌∙◌, ℕ, List, ◌++◌, map, refl, ap}
+use Rattle.std.proofs.Common.{◌≡◌, ◌∙◌, List, ◌++◌, map, ap}
 use Rattle.std.specs.Prelude.{Err}
 use Rattle.thing_core.specs.State.{Emission, last_after}
 use Rattle.thing_handler.specs.declared.handler.CallKind.TheVariants as call

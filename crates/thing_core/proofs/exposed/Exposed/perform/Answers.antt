@@ -1,4 +1,4 @@
-use Rattle.std.proofs.Common.{◌≡◌, List, map, length, sym, ap, subst, ◌∙◌}
+use Rattle.std.proofs.Common.{◌≡◌, List, length, sym, ap, subst, ◌∙◌}
 use Rattle.thing_ops.specs.Requests.{PlainRequest, plain_request}
 use Rattle.thing_handler.specs.Handler.{Seen}
 use Rattle.thing_site.specs.Site.{Site}

@@ -2,7 +2,7 @@
 use Rattle.std.proofs.Common.{◌≡◌, ℕ, zero, suc, ◌+◌, ◌<◌, ◌≤◌, List, [], ◌∷◌, length, get_or, true, false, refl, sym, ap, inl, inr, ◌∙◌, arith}
 use Rattle.std.specs.Prelude.{Option, Some, None, slice_get, option_map, ◌&&◌}
 use Rattle.std.specs.Str.{bytes_eq}
-use Rattle.std.specs.Ordering.{nat_cmp, ordering_index, ordering_reverse, is_eq, is_lt}
+use Rattle.std.specs.Ordering.{nat_cmp, ordering_index, ordering_reverse, ordering_then, is_eq, is_lt}
 use Rattle.std.specs.declared.cmp.Ordering.{Ordering}
 use Rattle.std.specs.declared.cmp.Ordering.TheVariants.{Less, Equal, Greater}
 use Rattle.std.specs.Cmp.Lexicographic.{slice_cmp, nat_list_cmp_total}
@@ -40,6 +40,15 @@ earlier_before [] rising i j d below within = absurd (omega arith)
 earlier_before (a ∷ list) rising i zero d below within = absurd (omega arith)
 earlier_before (a ∷ list) rising zero (suc j) d below within = first_before a list rising j d (omega arith)
 earlier_before (a ∷ list) rising (suc i) (suc j) d below within = earlier_before list (rest_rising a list rising) i j d (omega arith) (omega arith)
+
+-- keys compare by their ranks first
+pub then_by_name : (x y : ℕ) (m n : List ℕ) → Equal ≡ nat_cmp x y → slice_cmp nat_cmp m n ≡ slice_cmp nat_cmp (x ∷ m) (y ∷ n)
+then_by_name x y m n same = ap (λ (o : Ordering). ordering_then o (slice_cmp nat_cmp m n)) same
+
+pub by_rank : (x y : ℕ) (m n : List ℕ) (o : Ordering) → ¬ (o ≡ Equal) → o ≡ nat_cmp x y → o ≡ slice_cmp nat_cmp (x ∷ m) (y ∷ n)
+by_rank x y m n Less other is = ap (λ (o : Ordering). ordering_then o (slice_cmp nat_cmp m n)) is
+by_rank x y m n Greater other is = ap (λ (o : Ordering). ordering_then o (slice_cmp nat_cmp m n)) is
+by_rank x y m n Equal other is = absurd (other refl)
 
 -- how one compares to the one that is looked for
 abbrev pub order_of : Kind → List ℕ → Affordance → Ordering

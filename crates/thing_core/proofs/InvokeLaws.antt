@@ -1,5 +1,5 @@
 -- Acts on actions as moves of the Thing machine.
-use Rattle.std.proofs.Common.{◌≡◌, ℕ, zero, suc, ◌+◌, List, [], ◌∷◌, map, drop, true, false, refl, sym, ap, subst, ◌∙◌, arith}
+use Rattle.std.proofs.Common.{◌≡◌, ℕ, zero, suc, ◌+◌, List, [], ◌∷◌, drop, true, false, refl, sym, ap, subst, ◌∙◌, arith}
 use Rattle.std.specs.Prelude.{Option, Some, None, IsSome, IfSome, slice_get}
 use Rattle.std.proofs.lemmas.Option.{same_Some}
 use Rattle.servient_base.specs.Moves.{Makes}
@@ -9,34 +9,24 @@ use Rattle.thing_ops.specs.declared.outcome.Outcome.TheVariants as outcome
 use Rattle.thing_handler.specs.declared.handler.CallKind.TheVariants as call
 use Rattle.thing_handler.specs.Handler.{Seen}
 use Rattle.thing_handler.specs.Turns.{RackShows}
-use Rattle.thing_site.specs.declared.input.Input.{Input as InputInCode}
+use Rattle.thing_site.specs.Refusals.{Input}
 use Rattle.thing_site.specs.Site.{Placed}
 use Rattle.thing_core.specs.State.{Status, running, completed, Invocation, State, invocation_named, is_running, without_invocation, status_text}
 use Rattle.thing_core.specs.Course.{Course}
 use Rattle.thing_core.specs.Thing.{Called, no_number, no_memory, gives, only, place_of_invocation, IsHandedIn, IsInvoked, Invokes, IsQueried, Queries, IsCancelled, Cancels, OnInvocation, with_invocations}
 use Rattle.thing_handler.specs.declared.handler.Answer.{Answer}
-use Rattle.thing_site.specs.HandedIn.{input_of}
-use Rattle.thing_core.specs.Performing.{IsUnanswered, MakesCall, MakesDone, HandsIn, SettlesInvocation}
+use Rattle.thing_core.specs.Performing.{IsUnanswered, MakesCall, MakesDone, SettlesInvocation}
 use Rattle.thing_core.proofs.MoveLaws.{call_ends, done_alone, made_unseen}
 
--- what inputs hand in
-pub hands_in : (inputs : List InputInCode) (handed : Option Tree) → HandsIn inputs handed → IsHandedIn (map input_of inputs) handed
-hands_in [] handed e = e
-hands_in (i ∷ inputs) handed e = (i.value, refl, e)
-
-pub some_handed : (inputs : List InputInCode) → (handed : Option Tree) × HandsIn inputs handed
-some_handed [] = (None, refl)
-some_handed (i ∷ inputs) = (Some i.value, refl)
-
 -- an action is invoked by one call
-pub invoke_done : (p : Placed) (path : List (List ℕ)) (inputs : List InputInCode) (handed : Option Tree) (called : Called) (o : Outcome) (c d e : Course) (a b : List Seen) → HandsIn inputs handed
+pub invoke_done : (p : Placed) (path : List (List ℕ)) (inputs : List Input) (handed : Option Tree) (called : Called) (o : Outcome) (c d e : Course) (a b : List Seen) → IsHandedIn inputs handed
     → MakesCall p.slot (call.Invoke c.state.next_invocation handed) called c d a b → IsInvoked p path c.state.next_invocation (only o) called d.state [] e.state → e.pending ≡ d.pending
-    → MakesDone (Invokes p path (map input_of inputs)) o c e a b
+    → MakesDone (Invokes p path inputs) o c e a b
 invoke_done p path inputs handed called o c d e a b hands k is pending =
     let made : Makes RackShows _ c.state e.state a b =
     call_ends (IsInvoked p path c.state.next_invocation) p.slot (call.Invoke c.state.next_invocation handed) called c d e.state (only o) a b k is in
-    done_alone (Invokes p path (map input_of inputs)) o c e a b
-    (record { seen = made.seen; move = (handed, hands_in inputs handed hands, made.move); shows = made.shows }) (pending ∙ k.pending)
+    done_alone (Invokes p path inputs) o c e a b
+    (record { seen = made.seen; move = (handed, hands, made.move); shows = made.shows }) (pending ∙ k.pending)
 
 -- an invocation that runs is asked about, or ended, by one call
 pub query_done : (p : Placed) (id : ℕ) (i : Invocation) (called : Called) (o : Outcome) (c d e : Course) (a b : List Seen) → invocation_named p.slot id c.state.invocations ≡ Some i → i.status ≡ running
@@ -134,9 +124,9 @@ next_segment (x ∷ path) zero s e = ap (λ (y : List ℕ). y ∷ path) (same_So
 next_segment (x ∷ path) (suc i) s e = next_segment path i s e ∙ (let n : suc (i + 1) ≡ suc i + 1 = omega arith in ap (λ (k : ℕ). s ∷ drop k (x ∷ path)) n)
 
 -- what an answer to an invocation brought about is said at the state after the call, whose next id is that before it
-pub invoked_after : (p : Placed) (path place : List (List ℕ)) (inputs : List InputInCode) (handed : Option Tree) (a : Answer) (o : Outcome) (c d e : Course) (x y : List Seen) → HandsIn inputs handed
+pub invoked_after : (p : Placed) (path place : List (List ℕ)) (inputs : List Input) (handed : Option Tree) (a : Answer) (o : Outcome) (c d e : Course) (x y : List Seen) → IsHandedIn inputs handed
     → MakesCall p.slot (call.Invoke c.state.next_invocation handed) (gives a) c d x y → place ≡ place_of_invocation path c.state.next_invocation → SettlesInvocation p place a o d e
-    → MakesDone (Invokes p path (map input_of inputs)) o c e x y
+    → MakesDone (Invokes p path inputs) o c e x y
 invoked_after p path place inputs handed a o c d e x y hands k is settles =
     let same : c.state.next_invocation ≡ d.state.next_invocation = ap (λ (s : State). s.next_invocation) (sym k.made.move.1.next) in
     let there : place ≡ place_of_invocation path d.state.next_invocation = is ∙ ap (place_of_invocation path) same in

@@ -1,5 +1,5 @@
 -- Affordances with their slots, gone through one by one.
-use Rattle.std.proofs.Common.{◌≡◌, ℕ, zero, suc, ◌+◌, ◌<◌, List, [], ◌∷◌, ◌++◌, map, drop, length, get_or, Bool, true, false, cond, refl, sym, ap, subst, ◌∙◌, arith, append_assoc, inl, inr}
+use Rattle.std.proofs.Common.{◌≡◌, ℕ, zero, suc, ◌+◌, ◌<◌, List, [], ◌∷◌, ◌++◌, map, drop, Bool, true, false, cond, refl, sym, ap, ◌∙◌, arith, append_assoc, inl, inr}
 use Rattle.std.specs.Prelude.{slice_get, Some, None, ◌&&◌}
 use Rattle.std.specs.List.{AllByRecursion, filter}
 use Rattle.std.specs.Str.{bytes_eq}
@@ -7,48 +7,28 @@ use Rattle.std.proofs.lemmas.List.{at_drop_all, append-nil}
 use Rattle.std.proofs.lemmas.List.Elements.{filter-append}
 use Rattle.std.proofs.lemmas.Option.{same_Some, slice_get_cases}
 use Rattle.wot_terms.specs.declared.kind.Kind.{Kind}
-use Rattle.wot_terms.specs.declared.affordance.Affordance.{Affordance}
 use Rattle.thing_core.specs.State.{Latest}
 use Rattle.wot_terms.specs.declared.kind.Kind.TheVariants as kind
 use Rattle.thing_site.specs.Site.{Placed, affordance_named, is_emitter, is_kind, of_kind}
 use Rattle.thing_core.specs.Thing.{is_readable}
 use Rattle.thing_core.specs.State.{silent}
-use Rattle.thing_site.specs.Exposing.{placed_all}
 use Rattle.thing_core.specs.Performing.{AllStand}
 
--- the next affordance, where there is a slot for it
-next_placed : (affordances : List Affordance) (slots : List ℕ) (i : ℕ) (a : Affordance) (slot : ℕ)
-    → i < length affordances → a ≡ get_or affordances i a → slice_get slots i ≡ Some slot
-    → placed_all (drop i affordances) (drop i slots) ≡ record { affordance = a; slot = slot } ∷ placed_all (drop (i + 1) affordances) (drop (i + 1) slots)
-next_placed [] slots i a slot within at given = absurd (omega arith)
-next_placed (b ∷ affordances) [] i a slot within at given = absurd cc
-next_placed (b ∷ affordances) (s ∷ slots) zero a slot within at given =
-    let same : s ≡ slot = same_Some s slot given in
-    λ k. record { affordance = sym at k; slot = same k } ∷ placed_all affordances slots
-next_placed (b ∷ affordances) (s ∷ slots) (suc i) a slot within at given =
-    let e : suc (i + 1) ≡ suc i + 1 = omega arith in
-    subst (λ (n : ℕ). placed_all (drop i affordances) (drop i slots) ≡ record { affordance = a; slot = slot } ∷ placed_all (drop n (b ∷ affordances)) (drop n (s ∷ slots)))
-    e (next_placed affordances slots i a slot (omega arith) at given)
+-- the next one
+next_placed : (ps : List Placed) (i : ℕ) (p : Placed) → slice_get ps i ≡ Some p → drop i ps ≡ p ∷ drop (i + 1) ps
+next_placed [] i p given = absurd cc
+next_placed (q ∷ ps) zero p given = ap (λ (x : Placed). x ∷ ps) (same_Some q p given)
+next_placed (q ∷ ps) (suc i) p given = next_placed ps i p given ∙ (let e : suc (i + 1) ≡ suc i + 1 = omega arith in ap (λ (n : ℕ). p ∷ drop n (q ∷ ps)) e)
 
-pub placed_more : {Y : Type 0} (F : List Placed → Y) (affordances : List Affordance) (slots : List ℕ) (i : ℕ) (a : Affordance) (slot : ℕ)
-    → i < length affordances → a ≡ get_or affordances i a → slice_get slots i ≡ Some slot
-    → F (placed_all (drop i affordances) (drop i slots)) ≡ F (record { affordance = a; slot = slot } ∷ placed_all (drop (i + 1) affordances) (drop (i + 1) slots))
-placed_more F affordances slots i a slot within at given = ap F (next_placed affordances slots i a slot within at given)
+pub placed_more : {Y : Type 0} (F : List Placed → Y) (ps : List Placed) (i : ℕ) (p : Placed) → slice_get ps i ≡ Some p → F (drop i ps) ≡ F (p ∷ drop (i + 1) ps)
+placed_more F ps i p given = ap F (next_placed ps i p given)
 
--- where there is none, no further affordance is placed
-no_slots : (affordances : List Affordance) → placed_all affordances [] ≡ []
-no_slots [] = refl
-no_slots (a ∷ affordances) = refl
-
-none_left : (slots : List ℕ) (i : ℕ) → slice_get slots i ≡ None → drop i slots ≡ []
-none_left slots i given = elim (slice_get_cases slots i).1 [
-  | inl stands ↦ absurd (let stood : slice_get slots i ≡ Some stands.0 = stands.2 in cc)
-  | inr past ↦ at_drop_all (λ (s : List ℕ). s) slots i past.0
+-- there is none
+pub placed_end : {Y : Type 0} (F : List Placed → Y) (ps : List Placed) (i : ℕ) → slice_get ps i ≡ None → F (drop i ps) ≡ F []
+placed_end F ps i given = elim (slice_get_cases ps i).1 [
+  | inl stands ↦ absurd (let stood : slice_get ps i ≡ Some stands.0 = stands.2 in cc)
+  | inr past ↦ at_drop_all F ps i past.0
 ]
-
-pub placed_end : {Y : Type 0} (F : List Placed → Y) (affordances : List Affordance) (slots : List ℕ) (i : ℕ) → slice_get slots i ≡ None → F (placed_all (drop i affordances) (drop i slots)) ≡ F []
-placed_end F affordances slots i given =
-    ap (λ (s : List ℕ). F (placed_all (drop i affordances) s)) (none_left slots i given) ∙ ap F (no_slots (drop i affordances))
 
 -- the affordance of a kind and name is this one, or another after it
 pub named_here : (k : Kind) (name : List ℕ) (p : Placed) (ps : List Placed) → (is_kind k p.affordance.kind && bytes_eq name p.affordance.name) ≡ true → affordance_named k name (p ∷ ps) ≡ Some p

@@ -5,11 +5,10 @@ use Rattle.wot_json.specs.Tree.{Json}
 use Rattle.thing_ops.specs.declared.outcome.Outcome.{Outcome}
 use Rattle.thing_ops.specs.declared.outcome.Outcome.TheVariants as outcome
 use Rattle.thing_handler.specs.Handler.{Seen}
-use Rattle.thing_core.specs.declared.field.Field.{Field}
 use Rattle.thing_site.specs.Site.{Placed}
 use Rattle.thing_core.specs.Course.{Course}
 use Rattle.thing_core.specs.Thing.{only, ReadsEach}
-use Rattle.thing_core.specs.Performing.{Leads, MakesDone, ReadsOne, open_object, room_of_fields}
+use Rattle.thing_core.specs.Performing.{Leads, MakesDone, ReadsOne, open_object, room_of_all}
 use Rattle.thing_core.proofs.MoveLaws.{done_alone, leads_none, leads_then, leads_end, made_unseen}
 
 -- of all these, some were read, and these are left
@@ -50,6 +49,6 @@ all_read all text whole c d a b far is =
     (made_unseen (ReadsEach [] far.members (only (outcome.Content whole))) d.state d.state b (ap (λ (l : List ℕ). only (outcome.Content l)) written, record { next = refl; saw = refl })))
     far.pending
 
-pub two_or_more : (fields : List Field) → 2 ≤ room_of_fields fields
+pub two_or_more : (fields : List Placed) → 2 ≤ room_of_all fields
 two_or_more [] = omega arith
 two_or_more (f ∷ fields) = omega (arith, two_or_more fields)

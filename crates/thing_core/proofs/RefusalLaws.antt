@@ -1,6 +1,6 @@
 -- Refusals of acts, and of requests that ask for them.
 use Rattle.std.proofs.Common.{◌≡◌, List, [], ◌∷◌, ◌++◌, refl, sym, ap, subst, inl, inr, ◌∙◌}
-use Rattle.std.specs.Prelude.{◌⊎◌, Option, Some, None, option_and_then}
+use Rattle.std.specs.Prelude.{Option, Some, None, option_and_then}
 use Rattle.thing_ops.specs.declared.outcome.Outcome.{Outcome}
 use Rattle.thing_ops.specs.declared.outcome.Outcome.TheVariants as outcome
 use Rattle.thing_ops.specs.declared.allow.Allow.{Allow}
@@ -8,7 +8,7 @@ use Rattle.thing_ops.specs.declared.routing.RouteKind.{RouteKind}
 use Rattle.thing_ops.specs.Requests.{PlainRequest}
 use Rattle.thing_ops.specs.Routes.{route_of}
 use Rattle.thing_ops.specs.Verbs.{verbs_in, verbs_of}
-use Rattle.thing_site.specs.declared.input.Input.{Input as InputInCode}
+use Rattle.thing_site.specs.Refusals.{Input}
 use Rattle.thing_site.specs.Places.{Place, Act, act_at, flags_of}
 use Rattle.thing_site.specs.Refusals.{Refusal, no_invocation_left, refusals_by_request, Holding, StandsByRequest, IsAnswer, IsFirst, IsNone}
 use Rattle.thing_site.specs.HandedIn.{IsRefusedByRequest, IsUnrefused}
@@ -20,10 +20,10 @@ use Rattle.thing_core.specs.Performing.{IsActRefused, IsFree}
 -- ---- from the request alone to the state
 
 -- none stands against an act that needs no state
-pub act_is_free : (act : Act) (s : State) (q : PlainRequest) (inputs : List InputInCode) → IsUnrefused act q inputs → ¬ (HasNoInvocationLeft s act) → IsFree act s q inputs
+pub act_is_free : (act : Act) (s : State) (q : PlainRequest) (inputs : List Input) → IsUnrefused act q inputs → ¬ (HasNoInvocationLeft s act) → IsFree act s q inputs
 act_is_free act s q inputs given free = (given.0, (given.1.0, (given.1.1.0, (given.1.1.1.0, (given.1.1.1.1.0, (given.1.1.1.1.1.0, (free, tt)))))))
 
-pub act_is_full : (act : Act) (s : State) (q : PlainRequest) (inputs : List InputInCode) → IsUnrefused act q inputs → HasNoInvocationLeft s act → IsActRefused act s q outcome.InvocationsFull
+pub act_is_full : (act : Act) (s : State) (q : PlainRequest) (inputs : List Input) → IsUnrefused act q inputs → HasNoInvocationLeft s act → IsActRefused act s q outcome.InvocationsFull
 act_is_full act s q inputs given full =
     inr (inr (given.1.0, inr (given.1.1.0, inr (given.1.1.1.0, inr (given.1.1.1.1.0, inr (given.1.1.1.1.1.0, inl (full, refl)))))))
 

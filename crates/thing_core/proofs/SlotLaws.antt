@@ -1,11 +1,10 @@
 -- The affordances that a request asks for stand in a rack that the site fits, and an act that is admitted may be done.
-use Rattle.std.proofs.Common.{◌≡◌, ◌≤◌, ◌<◌, ℕ, List, [], ◌∷◌, ◌++◌, map, length, Bool, true, false, cond, refl, sym, ap, subst, arith, inl, inr}
+use Rattle.std.proofs.Common.{◌≡◌, ◌≤◌, ◌<◌, ℕ, List, [], ◌∷◌, ◌++◌, length, Bool, true, false, cond, refl, sym, subst, arith, inl, inr}
 use Rattle.std.specs.Prelude.{Option, Some, None, IsSome, option_and_then, slice_get}
 use Rattle.std.specs.List.{AllByRecursion}
 use Rattle.std.specs.Str.{bytes_eq}
 use Rattle.std.proofs.lemmas.Option.{same_Some, slice_get_within}
 use Rattle.wot_json.specs.Json.{text_of}
-use Rattle.wot_json.specs.Meaning.{json_of}
 use Rattle.wot_terms.specs.declared.kind.Kind.{Kind}
 use Rattle.wot_terms.specs.declared.kind.Kind.TheVariants as kind
 use Rattle.thing_ops.specs.Routes.{route_of}
@@ -15,7 +14,7 @@ use Rattle.thing_ops.specs.declared.routing.RouteKind.TheVariants as route
 use Rattle.thing_ops.specs.declared.verb.Verb.{Verb}
 use Rattle.thing_ops.specs.declared.verb.Verb.TheVariants as verb
 use Rattle.thing_handler.specs.Handler.{Seen}
-use Rattle.thing_site.specs.declared.input.Input.{Input as InputInCode}
+use Rattle.thing_site.specs.Refusals.{Input}
 use Rattle.thing_site.specs.Site.{Placed, ExposedThing, Site, affordance_named, thing_named, events_of, those_of}
 use Rattle.thing_core.specs.State.{State, Invocation, invocation_named, running_count, most_invocations}
 use Rattle.thing_site.specs.Places.{Place, description, all_properties, property, observed, action, invocation, event, subscribed, thing_in, affordance_in, place_at, where_observable, Act, invokes, queries, cancels, act_at, act_of, flags_of, is_listed}
@@ -23,7 +22,6 @@ use Rattle.thing_core.specs.Places.{where_stands}
 use Rattle.thing_site.specs.Refusals.{Input, inputs_of, longest_value, IsLong, SomeInput, Holding}
 use Rattle.thing_core.specs.Refusals.{Asked, act_asked, place_asked, refusals, HasNoInvocationLeft, NoneStands}
 use Rattle.thing_site.specs.Fits.{FitsSlot, Fits}
-use Rattle.thing_site.specs.HandedIn.{input_of}
 use Rattle.thing_core.specs.Performing.{AllStand, InputsFit, MayBeDone, affordances_of_act}
 use Rattle.thing_core.proofs.Handed.{came_of, made_of, named_has, InputsHave, handed_have}
 use Rattle.thing_core.proofs.PlacedLists.{events_stand}
@@ -221,17 +219,17 @@ may_be_done count a act all e none =
 
 -- ---- inputs
 
-none_long : (count : ℕ) (inputs : List InputInCode) → InputsHave (λ (x : Placed). x.slot < count) (map input_of inputs) → ¬ (SomeInput IsLong (map input_of inputs)) → InputsFit count inputs
+none_long : (count : ℕ) (inputs : List Input) → InputsHave (λ (x : Placed). x.slot < count) inputs → ¬ (SomeInput IsLong inputs) → InputsFit count inputs
 none_long count [] stand short = tt
 none_long count (i ∷ inputs) stand short =
-    let here : ¬ (longest_value < length (text_of (json_of i.value))) = λ long. short (inl long) in (
-      (stand.0, omega (arith, here, ap length i.written)),
+    let here : ¬ (longest_value < length (text_of i.value)) = λ long. short (inl long) in (
+      (stand.0, omega (arith, here)),
       none_long count inputs stand.1 (λ further. short (inr further)),
     )
 
-pub inputs_fit : (count : ℕ) (a : Asked) (act : Act) (inputs : List InputInCode) → SiteStands count a.site → act_asked a ≡ Some act → inputs_of act a.request.body ≡ Some (map input_of inputs)
+pub inputs_fit : (count : ℕ) (a : Asked) (act : Act) (inputs : List Input) → SiteStands count a.site → act_asked a ≡ Some act → inputs_of act a.request.body ≡ Some inputs
     → NoneStands refusals a → InputsFit count inputs
 inputs_fit count a act inputs all e given none =
-    none_long count inputs (handed_have (λ (x : Placed). x.slot < count) act a.request.body (map input_of inputs) (slots_stand count a act all e) given)
+    none_long count inputs (handed_have (λ (x : Placed). x.slot < count) act a.request.body inputs (slots_stand count a act all e) given)
     (λ long. none.1.1.1.1.1.0 (subst (λ (x : Option Act). Holding (λ y. Holding (SomeInput IsLong) (inputs_of y a.request.body)) x) (sym e)
     (subst (λ (x : Option (List Input)). Holding (SomeInput IsLong) x) (sym given) long)))

@@ -1,23 +1,14 @@
 -- Polling all events is what polling one event after another is.
 use Rattle.std.proofs.Common.{◌≡◌, List, [], ◌∷◌, ◌++◌, map, refl, sym, ap, ◌∙◌}
+use Rattle.std.proofs.lemmas.List.Elements.{filter_map-append}
 use Rattle.servient_base.specs.Moves.{Each}
 use Rattle.thing_handler.specs.Turns.{HandlerCall}
 use Rattle.thing_site.specs.Site.{Placed, Site, events_of}
 use Rattle.thing_core.specs.State.{State, Emission}
 use Rattle.thing_core.specs.Thing.{PollsEach}
-use Rattle.thing_core.specs.Ticks.{TickSeen, calls, hands_out, calls_in, emissions_in, PollsAndHandsOut, IsSameInTurn}
+use Rattle.thing_core.specs.Ticks.{TickSeen, calls, hands_out, call_in, emission_in, calls_in, emissions_in, PollsAndHandsOut, IsSameInTurn}
 
 -- ---- what is in a trace
-
-calls_then : (a b : List TickSeen) → calls_in (a ++ b) ≡ calls_in a ++ calls_in b
-calls_then [] b = refl
-calls_then (calls c ∷ a) b = ap (λ (l : List HandlerCall). c ∷ l) (calls_then a b)
-calls_then (hands_out e ∷ a) b = calls_then a b
-
-emissions_then : (a b : List TickSeen) → emissions_in (a ++ b) ≡ emissions_in a ++ emissions_in b
-emissions_then [] b = refl
-emissions_then (calls c ∷ a) b = emissions_then a b
-emissions_then (hands_out e ∷ a) b = ap (λ (l : List Emission). e ∷ l) (emissions_then a b)
 
 calls_of_one : (made : List HandlerCall) (es : List Emission) → calls_in (map calls made ++ map hands_out es) ≡ made
 calls_of_one [] [] = refl
@@ -31,10 +22,10 @@ emissions_of_one (c ∷ made) es = emissions_of_one made es
 
 -- one event, and then others
 calls_of_more : (made : List HandlerCall) (es : List Emission) (rest : List TickSeen) → calls_in ((map calls made ++ map hands_out es) ++ rest) ≡ made ++ calls_in rest
-calls_of_more made es rest = calls_then (map calls made ++ map hands_out es) rest ∙ ap (λ (l : List HandlerCall). l ++ calls_in rest) (calls_of_one made es)
+calls_of_more made es rest = filter_map-append call_in (map calls made ++ map hands_out es) rest ∙ ap (λ (l : List HandlerCall). l ++ calls_in rest) (calls_of_one made es)
 
 emissions_of_more : (made : List HandlerCall) (es : List Emission) (rest : List TickSeen) → emissions_in ((map calls made ++ map hands_out es) ++ rest) ≡ es ++ emissions_in rest
-emissions_of_more made es rest = emissions_then (map calls made ++ map hands_out es) rest ∙ ap (λ (l : List Emission). l ++ emissions_in rest) (emissions_of_one made es)
+emissions_of_more made es rest = filter_map-append emission_in (map calls made ++ map hands_out es) rest ∙ ap (λ (l : List Emission). l ++ emissions_in rest) (emissions_of_one made es)
 
 -- ---- both ways
 

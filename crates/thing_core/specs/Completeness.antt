@@ -76,8 +76,8 @@ pub data Succeeds (S : Outcome → Type 0) (o : Outcome) (t : State) : Type 0 wh
   lacks_memory : o ≡ outcome.Memory → Succeeds S o t
   lacks_numbers : o ≡ outcome.CallsUsed → t.turns ≡ most_turns → Succeeds S o t
 
--- Where no refusal stands against a request, and the handlers that its act may call answer in kind, it comes to the success
--- of its act; or memory is out, or the run has no number left for a turn.
+-- Where no refusal stands against a request, and the handlers that its act may call answer in kind, it comes to the
+-- success of its act; or memory is out, or the run has no number left for a turn.
 abbrev pub IsComplete : Site → PlainRequest → Type 0
 IsComplete site q =
     (act : Act) (done : Done) (s t : State) (seen : List HandlerCall) → Acts site q done s seen t

@@ -6,8 +6,8 @@ use Rattle.thing_core.specs.declared.state.Progress.TheVariants as progress
 use Rattle.thing_site.specs.Refusals.{longest_value}
 use Rattle.thing_core.specs.State.{Status, running, completed, Invocation, Latest, State}
 
--- the state of the machine, the targets of emissions that weren't handed out yet, and how many more of these can be kept
--- without taking memory
+-- the state of the machine, the targets of emissions that weren't handed out yet, and how many more of these can be
+-- kept without taking memory
 pub record Course : Type 0 where
   pub state : State
   pub pending : List ℕ

@@ -18,8 +18,8 @@ AreAnsweredBy answers (missed slot ∷ calls) = AreAnsweredBy answers calls
 abbrev pub HadMemory : Done → Type 0
 HadMemory done = done.outcome ≢ outcome.Memory
 
--- One request is done twice from one state, with the same answers and with memory: then its calls, what it comes to, what it
--- emits and the state afterwards are the same.
+-- One request is done twice from one state, with the same answers and with memory: then its calls, what it comes to,
+-- what it emits and the state afterwards are the same.
 abbrev pub IsDetermined : Site → PlainRequest → Type 0
 IsDetermined site q =
     (answers : ℕ → Answer) (done other : Done) (s t u : State) (calls more : List HandlerCall)

@@ -3,7 +3,7 @@ use Rattle.std.specs.Prelude.{◌≡◌, ◌<◌, ◌≤◌, ◌+◌, ◌⊎◌,
 use Rattle.std.specs.List.{AllByRecursion}
 use Rattle.servient_base.specs.Moves.{Makes}
 use Rattle.wot_json.specs.Tree.{Json, members_of}
-use Rattle.wot_json.specs.Json.{text_of, members_text}
+use Rattle.wot_json.specs.Json.{text_of, json_string, members_text}
 use Rattle.wot_json.specs.Meaning.{json_of}
 use Rattle.wot_json.specs.declared.tree.Tree.{Tree}
 use Rattle.thing_ops.specs.declared.outcome.Outcome.{Outcome}
@@ -14,8 +14,6 @@ use Rattle.thing_handler.specs.declared.handler.Answer.{Answer}
 use Rattle.thing_handler.specs.declared.handler.Answer.TheVariants as answer
 use Rattle.thing_handler.specs.Handler.{Seen}
 use Rattle.thing_handler.specs.Turns.{HandlerCall, RackShows}
-use Rattle.thing_site.specs.declared.input.Input.{Input as InputInCode}
-use Rattle.thing_core.specs.declared.field.Field.{Field}
 use Rattle.thing_core.specs.declared.admitting.Task.{Task}
 use Rattle.thing_site.specs.Site.{Placed}
 use Rattle.thing_core.specs.State.{State, Emission, Invocation, completed, running, status_text, invocation_named, running_count, most_invocations}
@@ -24,15 +22,14 @@ use Rattle.thing_site.specs.Places.{Act, describes, reads_all, writes_many, read
 use Rattle.thing_site.specs.Refusals.{Input, longest_value, inputs_of, IsAnswer, IsFirst, IsNone}
 use Rattle.thing_core.specs.Refusals.{Asked, act_asked, refusals, refusals_of_acts, StandsAgainst, IsRefusedBy, NoneStands}
 use Rattle.thing_core.specs.Thing.{Move, Done, only, Called, no_number, no_memory, gives, Calls, Decides, IsTaken, GivesValue, Answers, WritesEach, ReadsEach, PollsEach, Polls, emissions_of_write, place_of_invocation, IsInvoked, IsQueried, IsCancelled, Acts}
-use Rattle.thing_site.specs.HandedIn.{input_of}
 use Rattle.thing_site.specs.Found.{found_act}
 use Rattle.thing_core.specs.Kept.{Kept}
 
 -- ---- judging a request
 
 -- nothing stands against an act, and this is handed in
-abbrev pub IsFree : Act → State → PlainRequest → List InputInCode → Type 0
-IsFree act s q inputs = (inputs_of act q.body ≡ Some (map input_of inputs)) × IsNone (λ r. StandsAgainst r act s q) refusals_of_acts
+abbrev pub IsFree : Act → State → PlainRequest → List Input → Type 0
+IsFree act s q inputs = (inputs_of act q.body ≡ Some inputs) × IsNone (λ r. StandsAgainst r act s q) refusals_of_acts
 
 -- an act is refused, or memory is out
 abbrev pub IsActRefused : Act → State → PlainRequest → Outcome → Type 0
@@ -42,7 +39,7 @@ IsActRefused act s q o = (o ≡ outcome.Memory) ⊎ IsFirst (λ r. StandsAgainst
 abbrev pub IsAdmitted : Asked → Result Task Outcome → Type 0
 IsAdmitted a (Ok task) =
     (act_asked a ≡ Some (found_act task.act))
-    × (inputs_of (found_act task.act) a.request.body ≡ Some (map input_of task.inputs.items))
+    × (inputs_of (found_act task.act) a.request.body ≡ Some task.inputs.items)
     × NoneStands refusals a
 IsAdmitted a (Err o) = (o ≡ outcome.Memory) ⊎ IsRefusedBy refusals a o
 
@@ -66,8 +63,8 @@ affordances_of_act (reads_event p) = []
 affordances_of_act (waits p) = []
 
 -- each input has such a slot, and is no longer than is taken
-abbrev pub InputsFit : ℕ → List InputInCode → Type 0
-InputsFit count inputs = AllByRecursion (λ i. (i.spot.slot < count) × (length i.text ≤ longest_value)) inputs
+abbrev pub InputsFit : ℕ → List Input → Type 0
+InputsFit count inputs = AllByRecursion (λ i. (i.affordance.slot < count) × (length (text_of i.value) ≤ longest_value)) inputs
 
 -- ---- acting
 
@@ -134,13 +131,10 @@ open_object members = codes "{" ++ members_text (members_of members)
 abbrev pub with_member : List ℕ → List ℕ → List ℕ → List ℕ
 with_member text name value = text ++ (if nat_lt 1 (length text) then codes "," else []) ++ name ++ codes ":" ++ value
 
--- properties that are to be read, and how many bytes an object has room in that has them with the longest values
-abbrev pub spots_of : List Field → List Placed
-spots_of fields = map (λ f. f.spot) fields
-
-abbrev pub room_of_fields : List Field → ℕ
-room_of_fields [] = 2
-room_of_fields (f ∷ fields) = room_of_fields fields + (length f.name + (longest_value + 2))
+-- how many bytes an object has room in that has these properties with the longest values
+abbrev pub room_of_all : List Placed → ℕ
+room_of_all [] = 2
+room_of_all (p ∷ ps) = room_of_all ps + (length (json_string p.affordance.name) + (longest_value + 2))
 
 -- a property was read after others: its value is a further member, or it stops there
 abbrev pub ReadsOne : Placed → Option Outcome → List ℕ → List ℕ → Course → Course → List Seen → List Seen → Type 0
@@ -191,11 +185,6 @@ pub record PollsSome (ps : List Placed) (old new : Course) (before after : List 
   pub leads : (qs : List Placed) → Leads (PollsEach qs) (λ later. PollsEach (ps ++ qs) (emissions ++ later)) old.state new.state before after
 
 -- ---- actions
-
--- the value that inputs hand in to an action
-abbrev pub HandsIn : List InputInCode → Option Tree → Type 0
-HandsIn [] handed = handed ≡ None
-HandsIn (i ∷ inputs) handed = handed ≡ Some i.value
 
 -- what an invocation comes to that finished with this output
 abbrev pub OutputComesTo : Option Json → Option Tree → Outcome → Type 0

@@ -89,8 +89,8 @@ last_after (e ∷ emissions) last = last_after emissions (map (renewed e) last)
 
 -- ---- the state
 
--- The invocations, the oldest first; the id of the next invocation, counted over all actions; the last value of each affordance that
--- may emit; and how many turns the run has.
+-- The invocations, the oldest first; the id of the next invocation, counted over all actions; the last value of each
+-- affordance that may emit; and how many turns the run has.
 pub record State : Type 0 where
   pub invocations : List Invocation
   pub next_invocation : ℕ

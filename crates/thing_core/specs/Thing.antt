@@ -1,6 +1,6 @@
--- The Thing machine: what a request to Things does and comes to, and what polling their events does, as moves over a state
--- (servient_base/specs/Moves.antt). What is seen of a move are the calls of device handlers: those that were answered, which
--- are turns, and those for which a handler was out of memory.
+-- The Thing machine: what a request to Things does and comes to, and what polling their events does, as moves over a
+-- state (servient_base/specs/Moves.antt). What is seen of a move are the calls of device handlers: those that were
+-- answered, which are turns, and those for which a handler was out of memory.
 use Rattle.std.specs.Prelude.{◌≡◌, ◌<◌, ◌≤◌, ◌+◌, ◌⊎◌, ℕ, List, [], ◌∷◌, ◌++◌, length, decimal, Bool, not, Option, Some, None, Result, Ok, Err, if◌then◌else◌}
 use Rattle.std.specs.List.{filter}
 use Rattle.servient_base.specs.Moves.{Becomes, Stays, Then, Passing}
@@ -125,8 +125,8 @@ abbrev pub IfDone : Called → Move → Move → Move
 IfDone (gives answer.Done) further otherwise = further
 IfDone called further otherwise = otherwise
 
--- several values are written, one after another, until one isn't done; beside what was emitted so far. What was written stays and was
--- emitted.
+-- several values are written, one after another, until one isn't done; beside what was emitted so far. What was
+-- written stays and was emitted.
 abbrev pub WritesEach : List Input → List Emission → Done → Move
 WritesEach [] emitted done s seen t = Stops outcome.Changed emitted done s seen t
 WritesEach (i ∷ inputs) emitted done s seen t =

@@ -1,5 +1,6 @@
 -- Polling all events, as one event after another.
-use Rattle.std.specs.Prelude.{◌≡◌, List, [], ◌∷◌, ◌++◌, map}
+use Rattle.std.specs.Prelude.{◌≡◌, List, ◌++◌, map, Option, Some, None}
+use Rattle.std.specs.List.{filter_map}
 use Rattle.servient_base.specs.Moves.{Each}
 use Rattle.thing_handler.specs.Turns.{HandlerCall}
 use Rattle.thing_site.specs.Site.{Placed, Site, events_of}
@@ -11,16 +12,21 @@ pub data TickSeen : Type 0 where
   calls : HandlerCall → TickSeen
   hands_out : Emission → TickSeen
 
+-- the call, and the emission, that one of these is
+abbrev pub call_in : TickSeen → Option HandlerCall
+call_in (calls c) = Some c
+call_in (hands_out e) = None
+
+abbrev pub emission_in : TickSeen → Option Emission
+emission_in (calls c) = None
+emission_in (hands_out e) = Some e
+
 -- the calls among these, and the emissions, each in order
 abbrev pub calls_in : List TickSeen → List HandlerCall
-calls_in [] = []
-calls_in (calls c ∷ seen) = c ∷ calls_in seen
-calls_in (hands_out e ∷ seen) = calls_in seen
+calls_in = filter_map call_in
 
 abbrev pub emissions_in : List TickSeen → List Emission
-emissions_in [] = []
-emissions_in (calls c ∷ seen) = emissions_in seen
-emissions_in (hands_out e ∷ seen) = e ∷ emissions_in seen
+emissions_in = filter_map emission_in
 
 -- an event is polled, and then its emissions are handed out
 abbrev pub PollsAndHandsOut : Placed → State → List TickSeen → State → Type 0
@@ -31,9 +37,9 @@ PollsAndHandsOut p s seen t =
 abbrev pub PollsInTurn : Site → State → List TickSeen → State → Type 0
 PollsInTurn site = Each PollsAndHandsOut (events_of site)
 
--- Whatever is done one event after another is done too where all events are polled first and all emissions are handed out
--- afterwards, and the other way round: with the same calls, the same emissions, each in the same order, and the same state
--- in the end.
+-- Whatever is done one event after another is done too where all events are polled first and all emissions are handed
+-- out afterwards, and the other way round: with the same calls, the same emissions, each in the same order, and the
+-- same state in the end.
 abbrev pub IsSameInTurn : Site → Type 0
 IsSameInTurn site =
     ((s t : State) (seen : List TickSeen) → PollsInTurn site s seen t → Polls site (emissions_in seen) s (calls_in seen) t)

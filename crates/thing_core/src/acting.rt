@@ -1,12 +1,11 @@
 //! Doing what a request asks.
 
 ghost use Rattle.std.specs.Prelude.{◌≡◌, length, map, option_map};
-ghost use Rattle.wot_json.specs.Json.{json_text};
+ghost use Rattle.wot_json.specs.Json.{text_of as text_of_value};
 ghost use Rattle.thing_ops.specs.Requests.{plain_request};
 ghost use Rattle.thing_core.specs.State.{last_of};
 ghost use Rattle.thing_core.specs.Thing.{event_outcome, Performs};
 ghost use Rattle.thing_site.specs.Found.{found_act};
-ghost use Rattle.thing_site.specs.HandedIn.{input_of};
 ghost use Rattle.thing_core.specs.Performing.{affordances_of_act, AllStand, InputsFit, IsOrMemory, MakesDone, MayBeDone, OrMemory};
 
 use crate::admitting::Task;
@@ -18,8 +17,8 @@ use crate::writing::write_each;
 use std::alloc::Global;
 use thing_handler::Handlers;
 use thing_ops::{Outcome, Request};
-use thing_site::Act;
-use wot_json::{Bytes, Tree, text_of};
+use thing_site::{Act, HeldThing};
+use wot_json::{Bytes, text_of};
 
 /// Does an act.
 pub fn act<R: Handlers>(
@@ -32,11 +31,11 @@ pub fn act<R: Handlers>(
     requires slots { AllStand (length (R.slots rack.old)) (affordances_of_act (found_act task.act)) }
     requires inputs { InputsFit (length (R.slots rack.old)) task.inputs.items }
     requires state { MayBeDone (found_act task.act) machine.old.state }
-    ensures { MakesDone (OrMemory (Performs (found_act task.entry.act) (plain_request request.now) (map input_of task.entry.inputs.items))) result machine.old machine.new (R.slots rack.old) (R.slots rack.new) }
+    ensures { MakesDone (OrMemory (Performs (found_act task.entry.act) (plain_request request.now) task.entry.inputs.items)) result machine.old machine.new (R.slots rack.old) (R.slots rack.new) }
 {
     let Task { act, inputs } = task;
     match act {
-        Act::Describes(thing) => describe(alloc, &thing.tree, request.accept.td),
+        Act::Describes(thing) => describe(alloc, thing, request.accept.td),
         Act::ReadsAll(thing) => read_all(alloc, thing, machine, rack),
         Act::Reads(spot) => read(alloc, spot, machine, rack),
         Act::WritesMany(_) => write_each(inputs, machine, rack),
@@ -59,10 +58,10 @@ pub fn act<R: Handlers>(
 }
 
 /// A description as it is sent.
-fn describe(alloc: Global, tree: &Tree, td: bool) -> Outcome
-    ensures { IsOrMemory (Outcome.Description (json_text tree.now) td) result }
+fn describe(alloc: Global, thing: &HeldThing, td: bool) -> Outcome
+    ensures { IsOrMemory (Outcome.Description (text_of_value thing.now.description) td) result }
 {
-    match text_of(alloc, tree) {
+    match text_of(alloc, thing.description()) {
         Ok(text) => Outcome::Description(text, td),
         Err(_) => Outcome::Memory,
     }

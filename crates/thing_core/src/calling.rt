@@ -14,8 +14,8 @@ use thing_site::{LONGEST_VALUE, is_accepted};
 use wot_json::{Tree, write};
 use wot_schema::Schema;
 
-/// Calls the handler in a slot: its answer; else what the request comes to, where the handler is out of memory or the run has no
-/// number left for a turn.
+/// Calls the handler in a slot: its answer; else what the request comes to, where the handler is out of memory or the
+/// run has no number left for a turn.
 pub fn call<R: Handlers>(
     machine: &mut Machine,
     rack: &mut R,
@@ -29,17 +29,13 @@ pub fn call<R: Handlers>(
     if number == MOST_TURNS {
         return Err(Outcome::CallsUsed);
     }
-    match rack.call(slot as usize, number, what) {
-        Ok(answer) => {
-            machine.count_turn();
-            Ok(answer)
-        }
-        Err(_) => Err(Outcome::Memory),
-    }
+    let answer = rack.call(slot as usize, number, what)?;
+    machine.count_turn();
+    Ok(answer)
 }
 
-/// What a request comes to whose device answers so, where that isn't a success: a refusal and a fault of the device as they
-/// are; any other answer is one that it mustn't give.
+/// What a request comes to whose device answers so, where that isn't a success: a refusal and a fault of the device
+/// as they are; any other answer is one that it mustn't give.
 pub fn failure(answer: &Answer) -> Outcome
     ensures { result ≡ failure_of (gives answer.now) }
 {

@@ -91,8 +91,8 @@ impl Exposed {
         }
     }
 
-    /// Polls the handler of each event once, in the order of Things and names. It takes no memory of its own: an event is left
-    /// out only where its handler is out of memory, or where the run has no number left for a turn.
+    /// Polls the handler of each event once, in the order of Things and names. It takes no memory of its own: an
+    /// event is left out only where its handler is out of memory, or where the run has no number left for a turn.
     pub fn tick<R: Handlers>(&mut self, rack: &mut R)
         requires fits { Fits self.old.site (R.slots rack.old) }
         requires pending { self.old.pending ≡ [] }

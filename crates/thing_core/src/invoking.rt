@@ -3,9 +3,8 @@
 ghost use Rattle.std.specs.Prelude.{◌≡◌, ◌≤◌, ◌<◌, ℕ, List, [], length, map, IfOk, IfSome, IsSome};
 ghost use Rattle.thing_core.specs.Ids.{IdsRise};
 ghost use Rattle.thing_core.specs.State.{invocation_named, is_running as is_running_one, most_invocations, running, running_count, status_text};
-ghost use Rattle.thing_core.specs.Thing.{place_of_invocation, Cancels, Invokes, OnInvocation, Queries};
-ghost use Rattle.thing_site.specs.HandedIn.{input_of};
-ghost use Rattle.thing_core.specs.Performing.{HandsIn, IsTold, MakesDone, OrMemory, OutputComesTo, SettlesCancel, SettlesInvocation, SettlesQuery};
+ghost use Rattle.thing_core.specs.Thing.{place_of_invocation, Cancels, Invokes, IsHandedIn, OnInvocation, Queries};
+ghost use Rattle.thing_core.specs.Performing.{IsTold, MakesDone, OrMemory, OutputComesTo, SettlesCancel, SettlesInvocation, SettlesQuery};
 
 use crate::NoMemory;
 use crate::calling::{call, failure, taken_text};
@@ -75,18 +74,14 @@ pub fn invoke<R: Handlers>(
     requires status { prepared.status ≡ status_text machine.old.state.next_invocation running }
     requires output { prepared.output ≡ [] }
     ensures { (path : List (List ℕ)) → prepared.place ≡ place_of_invocation path machine.old.state.next_invocation
-        → MakesDone (Invokes spot.entry path (map input_of inputs.entry.items)) result machine.old machine.new (R.slots rack.old) (R.slots rack.new) }
+        → MakesDone (Invokes spot.entry path inputs.entry.items) result machine.old machine.new (R.slots rack.old) (R.slots rack.new) }
 {
+    let input = handed_in(inputs);
     if machine.turns() == MOST_TURNS {
         return Outcome::CallsUsed;
     }
     let id = machine.next_invocation() as u32;
-    match call(
-        machine,
-        rack,
-        spot.slot(),
-        &CallKind::Invoke(id, handed_in(inputs)),
-    ) {
+    match call(machine, rack, spot.slot(), &CallKind::Invoke(id, input)) {
         Ok(answer) => settle(spot, prepared, answer, machine),
         Err(outcome) => outcome,
     }
@@ -94,10 +89,13 @@ pub fn invoke<R: Handlers>(
 
 /// The value that is handed in to an action.
 fn handed_in(inputs: Vec<Input<'_>>) -> Option<Tree>
-    ensures { HandsIn inputs.entry.items result }
+    ensures { IsHandedIn inputs.entry.items result }
 {
     match inputs.into_iter().next() {
-        Some(input) => Some(input.value),
+        Some(input) => {
+            let (_, value, _) = input.into_parts();
+            Some(value)
+        }
         None => None,
     }
 }

@@ -1,7 +1,7 @@
 //! Things as they are exposed: what a request to Things does.
 //!
-//! `Exposed::new` takes the Things of a site (`thing_site`), or says what stands against exposing them. `perform` does what a
-//! request asks: it goes through the refusals in their order, and then does the act.
+//! `Exposed::new` takes the Things of a site (`thing_site`), or says what stands against exposing them. `perform`
+//! does what a request asks: it goes through the refusals in their order, and then does the act.
 //!
 //! ```text
 //! let mut slots = Slots::new(alloc);
@@ -12,10 +12,10 @@
 //! assert_eq!(lamp.accounts().calls, 1);
 //! ```
 //!
-//! Contracts see the site, which is constant (`Site` of `thing_site`), and the state of the Thing machine (`specs/State.antt`). The
-//! contract in a sentence: what `perform` answers, calls and leaves is a move of that machine (`Acts` of `specs/Thing.antt`), what
-//! `tick` calls and leaves is one of its polls (`Polls`), and the rack shows the calls of it. Memory is taken before the first
-//! call of a handler, and by `tick` never.
+//! Contracts see the site, which is constant (`Site` of `thing_site`), and the state of the Thing machine
+//! (`specs/State.antt`). The contract in a sentence: what `perform` answers, calls and leaves is a move of that
+//! machine (`Acts` of `specs/Thing.antt`), what `tick` calls and leaves is one of its polls (`Polls`), and the rack
+//! shows the calls of it. Memory is taken before the first call of a handler, and by `tick` never.
 #![tactic(auto)]
 
 mod acting;

@@ -163,7 +163,8 @@ impl Machine {
         self.next_invocation += 1;
     }
 
-    /// The next invocation begins, of the action in this slot. Where as many stand as may, the oldest that is completed goes.
+    /// The next invocation begins, of the action in this slot. Where as many stand as may, the oldest that is
+    /// completed goes.
     pub fn start(&mut self, slot: u32)
         requires id { self.old.state.next_invocation ≤ self.old.state.turns }
         requires running { spec.running_count self.old.state.invocations < spec.most_invocations }

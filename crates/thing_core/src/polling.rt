@@ -2,51 +2,40 @@
 
 ghost use Rattle.std.specs.Prelude.{◌≡◌, ◌≤◌, ◌<◌, ◌+◌, ◌∷◌, [], length};
 ghost use Rattle.std.specs.List.{filter};
-ghost use Rattle.thing_site.specs.Site.{events_of, of_kind};
-ghost use Rattle.thing_site.specs.Exposing.{held_site, placed_all};
+ghost use Rattle.thing_site.specs.Site.{events_of, of_kind, those_of};
 ghost use Rattle.thing_core.specs.Performing.{AllStand, PollsSome};
 
 use crate::calling::{call, fired, taken_text};
 use crate::machine::Machine;
 use thing_handler::{CallKind, Handlers};
-use thing_site::{HeldThing, LONGEST_VALUE, Spot, is_kind, slot_at};
-use wot_terms::{Affordance, Kind};
+use thing_site::{HeldThing, LONGEST_VALUE, Spot, is_kind};
+use wot_terms::Kind;
 
 /// Polls each event, in the order of Things and affordances.
 pub fn poll_all<R: Handlers>(things: &[HeldThing], machine: &mut Machine, rack: &mut R)
-    requires slots { AllStand (length (R.slots rack.old)) (events_of (held_site things.now)) }
-    requires room { length (events_of (held_site things.now)) ≤ machine.old.room }
-    ensures { PollsSome (events_of (held_site things.now)) machine.old machine.new (R.slots rack.old) (R.slots rack.new) }
+    requires slots { AllStand (length (R.slots rack.old)) (events_of things.now) }
+    requires room { length (events_of things.now) ≤ machine.old.room }
+    ensures { PollsSome (events_of things.now) machine.old machine.new (R.slots rack.old) (R.slots rack.new) }
 {
     for thing in things {
-        poll_thing(
-            thing.affordances.affordances(),
-            thing.slots.as_slice(),
-            machine,
-            rack,
-        );
+        poll_thing(thing, machine, rack);
     }
 }
 
-/// Polls each event among the affordances of a Thing.
-fn poll_thing<R: Handlers>(
-    affordances: &[Affordance],
-    slots: &[u32],
-    machine: &mut Machine,
-    rack: &mut R,
-)
-    requires slots { AllStand (length (R.slots rack.old)) (filter (of_kind Kind.Event) (placed_all affordances.now slots.now)) }
-    requires room { length (filter (of_kind Kind.Event) (placed_all affordances.now slots.now)) ≤ machine.old.room }
-    ensures polled { PollsSome (filter (of_kind Kind.Event) (placed_all affordances.now slots.now)) machine.old machine.new (R.slots rack.old) (R.slots rack.new) }
-    ensures room { machine.old.room ≤ machine.new.room + length (filter (of_kind Kind.Event) (placed_all affordances.now slots.now)) }
+/// Polls each event of a Thing.
+fn poll_thing<R: Handlers>(thing: &HeldThing, machine: &mut Machine, rack: &mut R)
+    requires slots { AllStand (length (R.slots rack.old)) (those_of Kind.Event thing.now) }
+    requires room { length (those_of Kind.Event thing.now) ≤ machine.old.room }
+    ensures polled { PollsSome (those_of Kind.Event thing.now) machine.old machine.new (R.slots rack.old) (R.slots rack.new) }
+    ensures room { machine.old.room ≤ machine.new.room + length (those_of Kind.Event thing.now) }
     ensures slots { length (R.slots rack.new) ≡ length (R.slots rack.old) }
 {
-    for (index, affordance) in affordances.iter().enumerate() {
-        let slot = match slot_at(slots, index) {
-            Some(slot) => slot,
+    for index in 0..thing.len() {
+        let spot = match thing.spot(index) {
+            Some(spot) => spot,
             None => return,
         };
-        poll_if_event(Spot::of(affordance, slot), machine, rack);
+        poll_if_event(spot, machine, rack);
     }
 }
 

@@ -2,10 +2,10 @@
 
 ghost use Rattle.std.specs.Prelude.{◌≡◌, ◌≤◌, ◌<◌, ◌+◌, ◌++◌, ◌∷◌, [], length, vec_len, vec_capacity, IfOk, IfSome, OnOk};
 ghost use Rattle.std.specs.List.{filter};
+ghost use Rattle.wot_json.specs.Json.{json_string};
 ghost use Rattle.thing_site.specs.Site.{of_kind};
 ghost use Rattle.thing_core.specs.Thing.{is_readable, readable, Reads, ReadsEach};
-ghost use Rattle.thing_site.specs.Exposing.{held_thing, placed_all};
-ghost use Rattle.thing_core.specs.Performing.{with_member, room_of_fields, spots_of, AllStand, CallsFor, IsValueOf, MakesDone, OrMemory, ReadsOne};
+ghost use Rattle.thing_core.specs.Performing.{with_member, room_of_all, AllStand, CallsFor, IsValueOf, MakesDone, OrMemory, ReadsOne};
 
 use crate::NoMemory;
 use crate::calling::{call, taken_text, value_of};
@@ -14,9 +14,9 @@ use crate::machine::Machine;
 use std::alloc::Global;
 use thing_handler::{CallKind, Handlers};
 use thing_ops::Outcome;
-use thing_site::{HeldThing, LONGEST_VALUE, Spot, slot_at};
-use wot_json::{Bytes, Tree, quoted};
-use wot_terms::{Affordance, Kind};
+use thing_site::{HeldThing, LONGEST_VALUE, Spot};
+use wot_json::{Bytes, Tree};
+use wot_terms::Kind;
 
 /// Reads a property. The room for its text is taken before the call.
 pub fn read<R: Handlers>(
@@ -75,14 +75,10 @@ pub fn read_all<R: Handlers>(
     machine: &mut Machine,
     rack: &mut R,
 ) -> Outcome
-    requires { AllStand (length (R.slots rack.old)) (held_thing thing.now).affordances }
-    ensures { MakesDone (OrMemory (ReadsEach (readable (held_thing thing.now)) [])) result machine.old machine.new (R.slots rack.old) (R.slots rack.new) }
+    requires { AllStand (length (R.slots rack.old)) thing.now.affordances }
+    ensures { MakesDone (OrMemory (ReadsEach (readable thing.now) [])) result machine.old machine.new (R.slots rack.old) (R.slots rack.new) }
 {
-    let fields = match fields_of(
-        alloc,
-        thing.affordances.affordances(),
-        thing.slots.as_slice(),
-    ) {
+    let fields = match fields_of(alloc, thing) {
         Ok(fields) => fields,
         Err(_) => return Outcome::Memory,
     };
@@ -99,11 +95,11 @@ fn read_fields<R: Handlers>(
     machine: &mut Machine,
     rack: &mut R,
 ) -> Outcome
-    requires slots { AllStand (length (R.slots rack.old)) (spots_of fields.now) }
+    requires slots { AllStand (length (R.slots rack.old)) fields.now }
     requires empty { text.items ≡ [] }
     requires len { vec_len text ≡ 0 }
-    requires room { room_of_fields fields.now ≤ vec_capacity text }
-    ensures { MakesDone (ReadsEach (spots_of fields.now) []) result machine.old machine.new (R.slots rack.old) (R.slots rack.new) }
+    requires room { room_of_all fields.now ≤ vec_capacity text }
+    ensures { MakesDone (ReadsEach fields.now []) result machine.old machine.new (R.slots rack.old) (R.slots rack.new) }
 {
     text.push_reserved(b'{');
     for field in fields {
@@ -123,22 +119,23 @@ fn read_one<R: Handlers>(
     machine: &mut Machine,
     rack: &mut R,
 ) -> Option<Outcome>
-    requires slot { field.now.spot.slot < length (R.slots rack.old) }
-    requires room { vec_len text.old + length field.now.name + LONGEST_VALUE + 2 ≤ vec_capacity text.old }
-    ensures read { ReadsOne field.now.spot result text.old.items text.new.items machine.old machine.new (R.slots rack.old) (R.slots rack.new) }
+    requires slot { field.now.slot < length (R.slots rack.old) }
+    requires room { vec_len text.old + length (json_string field.now.affordance.name) + LONGEST_VALUE + 2 ≤ vec_capacity text.old }
+    ensures read { ReadsOne field.now result text.old.items text.new.items machine.old machine.new (R.slots rack.old) (R.slots rack.new) }
     ensures pending { machine.new.pending ≡ machine.old.pending }
     ensures slots { length (R.slots rack.new) ≡ length (R.slots rack.old) }
-    ensures len { vec_len text.new ≤ vec_len text.old + length field.now.name + LONGEST_VALUE + 2 }
+    ensures len { vec_len text.new ≤ vec_len text.old + length (json_string field.now.affordance.name) + LONGEST_VALUE + 2 }
     ensures places { vec_capacity text.old ≤ vec_capacity text.new }
 {
-    let value = match read_value(&field.spot, machine, rack) {
+    let property = field.spot();
+    let value = match read_value(property, machine, rack) {
         Ok(value) => value,
         Err(outcome) => return Some(outcome),
     };
     let mut buffer = [0; LONGEST_VALUE];
-    match taken_text(&field.spot.affordance().output, &value, &mut buffer) {
+    match taken_text(&property.affordance().output, &value, &mut buffer) {
         Some(value) => {
-            put_member(text, field.name.as_slice(), value);
+            put_member(text, field.name(), value);
             None
         }
         None => Some(Outcome::BadAnswer),
@@ -160,21 +157,17 @@ fn put_member(text: &mut Vec<u8>, name: &[u8], value: &[u8])
     text.extend_from_slice(value).unwrap();
 }
 
-/// The properties that are to be read among these affordances.
-fn fields_of<'a>(
-    alloc: Global,
-    affordances: &'a [Affordance],
-    slots: &[u32],
-) -> Result<Vec<Field<'a>>, NoMemory>
-    ensures { IfOk result (λ fields. spots_of fields.items ≡ filter is_readable (filter (of_kind Kind.Property) (placed_all affordances.now slots.now))) }
+/// The properties of a Thing that are to be read.
+fn fields_of(alloc: Global, thing: &HeldThing) -> Result<Vec<Field<'_>>, NoMemory>
+    ensures { IfOk result (λ fields. fields.items ≡ readable thing.now) }
 {
     let mut fields = Vec::new(alloc);
-    for (index, affordance) in affordances.iter().enumerate() {
-        let slot = match slot_at(slots, index) {
-            Some(slot) => slot,
+    for index in 0..thing.len() {
+        let spot = match thing.spot(index) {
+            Some(spot) => spot,
             None => return Ok(fields),
         };
-        push_if_readable(alloc, &mut fields, Spot::of(affordance, slot))?;
+        push_if_readable(alloc, &mut fields, spot)?;
     }
     Ok(fields)
 }
@@ -185,15 +178,14 @@ fn push_if_readable<'a>(
     fields: &mut Vec<Field<'a>>,
     spot: Spot<'a>,
 ) -> Result<(), NoMemory>
-    ensures { OnOk result (spots_of fields.new.items ≡ spots_of fields.old.items ++ filter is_readable (filter (of_kind Kind.Property) (spot.entry ∷ []))) }
+    ensures { OnOk result (fields.new.items ≡ fields.old.items ++ filter is_readable (filter (of_kind Kind.Property) (spot.entry ∷ []))) }
 {
     let is_property = match spot.affordance().kind {
         Kind::Property => true,
         Kind::Action | Kind::Event => false,
     };
     if is_property && !spot.affordance().write_only {
-        let name = quoted(alloc, spot.affordance().name.as_str())?;
-        fields.push(Field { spot, name })?;
+        fields.push(Field::of(alloc, spot)?)?;
     }
     Ok(())
 }
@@ -202,7 +194,7 @@ fn push_if_readable<'a>(
 fn room_for(alloc: Global, fields: &[Field<'_>]) -> Option<Vec<u8>>
     ensures empty { IfSome result (λ text. text.items ≡ []) }
     ensures len { IfSome result (λ text. vec_len text ≡ 0) }
-    ensures room { IfSome result (λ text. room_of_fields fields.now ≤ vec_capacity text) }
+    ensures room { IfSome result (λ text. room_of_all fields.now ≤ vec_capacity text) }
 {
     match size_of_all(fields) {
         Some(size) => Vec::with_capacity(alloc, size).ok(),
@@ -212,11 +204,11 @@ fn room_for(alloc: Global, fields: &[Field<'_>]) -> Option<Vec<u8>>
 
 /// How many bytes the text of these properties with their values has at most, where that is a number of bytes.
 fn size_of_all(fields: &[Field<'_>]) -> Option<usize>
-    ensures { IfSome result (λ size. size ≡ room_of_fields fields.now) }
+    ensures { IfSome result (λ size. size ≡ room_of_all fields.now) }
 {
     let mut size = 2_usize;
     for field in fields {
-        size = match size_with(size, field.name.len()) {
+        size = match size_with(size, field.name().len()) {
             Some(size) => size,
             None => return None,
         };

@@ -1,10 +1,10 @@
 //! Writing properties: one, or several of a Thing.
 
 ghost use Rattle.std.specs.Prelude.{◌≡◌, ◌≤◌, ◌<◌, ◌+◌, ◌++◌, [], length, map};
+ghost use Rattle.wot_json.specs.Json.{text_of};
 ghost use Rattle.thing_core.specs.State.{last_after};
 ghost use Rattle.thing_site.specs.Refusals.{longest_value};
 ghost use Rattle.thing_core.specs.Thing.{WritesEach};
-ghost use Rattle.thing_site.specs.HandedIn.{input_of};
 ghost use Rattle.thing_core.specs.Performing.{emissions_of_text, InputsFit, MakesDone, OrMemory, WritesOne};
 
 use crate::calling::{call, write_failure};
@@ -13,15 +13,15 @@ use thing_handler::{CallKind, Handlers};
 use thing_ops::Outcome;
 use thing_site::{Input, Spot};
 
-/// Writes values to properties, one after another, until one isn't done. Room for the emissions is taken before the first
-/// call.
+/// Writes values to properties, one after another, until one isn't done. Room for the emissions is taken before the
+/// first call.
 pub fn write_each<R: Handlers>(
     inputs: Vec<Input<'_>>,
     machine: &mut Machine,
     rack: &mut R,
 ) -> Outcome
     requires { InputsFit (length (R.slots rack.old)) inputs.items }
-    ensures { MakesDone (OrMemory (WritesEach (map input_of inputs.entry.items) [])) result machine.old machine.new (R.slots rack.old) (R.slots rack.new) }
+    ensures { MakesDone (OrMemory (WritesEach inputs.entry.items [])) result machine.old machine.new (R.slots rack.old) (R.slots rack.new) }
 {
     if machine.reserve(inputs.len()).is_err() {
         return Outcome::Memory;
@@ -33,7 +33,7 @@ pub fn write_each<R: Handlers>(
 fn write_all<R: Handlers>(inputs: Vec<Input<'_>>, machine: &mut Machine, rack: &mut R) -> Outcome
     requires inputs { InputsFit (length (R.slots rack.old)) inputs.items }
     requires room { length inputs.items ≤ machine.old.room }
-    ensures { MakesDone (WritesEach (map input_of inputs.entry.items) []) result machine.old machine.new (R.slots rack.old) (R.slots rack.new) }
+    ensures { MakesDone (WritesEach inputs.entry.items []) result machine.old machine.new (R.slots rack.old) (R.slots rack.new) }
 {
     for input in inputs {
         match write_one(input, machine, rack) {
@@ -46,25 +46,21 @@ fn write_all<R: Handlers>(inputs: Vec<Input<'_>>, machine: &mut Machine, rack: &
 
 /// Writes a value to a property, which emits it if it is observable; or what it comes to where it isn't done.
 fn write_one<R: Handlers>(input: Input<'_>, machine: &mut Machine, rack: &mut R) -> Option<Outcome>
-    requires slot { input.spot.slot < length (R.slots rack.old) }
-    requires text { length input.text ≤ longest_value }
+    requires slot { input.affordance.slot < length (R.slots rack.old) }
+    requires text { length (text_of input.value) ≤ longest_value }
     requires room { 0 < machine.old.room }
-    ensures written { WritesOne (input_of input.entry) result machine.old machine.new (R.slots rack.old) (R.slots rack.new) }
+    ensures written { WritesOne input.entry result machine.old machine.new (R.slots rack.old) (R.slots rack.new) }
     ensures room { machine.old.room ≤ machine.new.room + 1 }
     ensures slots { length (R.slots rack.new) ≡ length (R.slots rack.old) }
 {
-    let answer = match call(
-        machine,
-        rack,
-        input.spot.slot(),
-        &CallKind::Write(input.value),
-    ) {
+    let (spot, value, text) = input.into_parts();
+    let answer = match call(machine, rack, spot.slot(), &CallKind::Write(value)) {
         Ok(answer) => answer,
         Err(outcome) => return Some(outcome),
     };
     match write_failure(&answer) {
         None => {
-            emit_written(&input.spot, input.text.as_slice(), machine);
+            emit_written(&spot, text.as_slice(), machine);
             None
         }
         Some(outcome) => Some(outcome),

@@ -3,7 +3,7 @@
 ghost use Rattle.std.specs.Prelude.{◌≡◌, option_map};
 ghost use Rattle.thing_ops.specs.Outcomes.{text_of};
 
-use crate::{Allow, Segments};
+use crate::{Allow, NoMemory, Segments};
 use wot_json::{Bytes, Text};
 
 /// What a request comes to. `specs/Outcomes.antt` says how each is answered.
@@ -61,6 +61,17 @@ pub enum Outcome {
     DirectoryFull,
     /// Out of memory.
     Memory,
+}
+
+impl From<NoMemory> for Outcome {
+    ghost use Rattle.std.specs.Prelude.{◌≡◌};
+    ghost use Rattle.thing_ops.specs.declared.outcome.Outcome.TheVariants as outcome;
+
+    ghost from_gives = { λ _ o. o ≡ outcome.Memory };
+
+    fn from(_: NoMemory) -> Self {
+        Outcome::Memory
+    }
 }
 
 impl Outcome {

@@ -1,8 +1,8 @@
 -- Which affordance a search by halving finds among affordances that rise.
-use Rattle.std.proofs.Common.{◌≡◌, ℕ, zero, suc, ◌+◌, ◌<◌, List, [], ◌∷◌, length, get_or, true, false, refl, sym, ap, inl, inr, ◌∙◌, arith}
-use Rattle.std.specs.Prelude.{Option, None, slice_get, option_map, ◌&&◌}
+use Rattle.std.proofs.Common.{◌≡◌, ℕ, zero, suc, ◌+◌, ◌<◌, ◌≤◌, List, [], ◌∷◌, length, get_or, true, false, refl, sym, ap, inl, inr, ◌∙◌, arith}
+use Rattle.std.specs.Prelude.{Option, Some, None, slice_get, option_map, ◌&&◌}
 use Rattle.std.specs.Str.{bytes_eq}
-use Rattle.std.specs.Ordering.{nat_cmp, ordering_index, ordering_reverse, is_eq, is_lt}
+use Rattle.std.specs.Ordering.{nat_cmp, ordering_index, ordering_reverse, ordering_then, is_eq, is_lt}
 use Rattle.std.specs.declared.cmp.Ordering.{Ordering}
 use Rattle.std.specs.declared.cmp.Ordering.TheVariants.{Less, Equal, Greater}
 use Rattle.std.specs.Cmp.Lexicographic.{slice_cmp, nat_list_cmp_total}
@@ -40,6 +40,15 @@ earlier_before [] rising i j d below within = absurd (omega arith)
 earlier_before (a ∷ list) rising i zero d below within = absurd (omega arith)
 earlier_before (a ∷ list) rising zero (suc j) d below within = first_before a list rising j d (omega arith)
 earlier_before (a ∷ list) rising (suc i) (suc j) d below within = earlier_before list (rest_rising a list rising) i j d (omega arith) (omega arith)
+
+-- keys compare by their ranks first
+pub then_by_name : (x y : ℕ) (m n : List ℕ) → Equal ≡ nat_cmp x y → slice_cmp nat_cmp m n ≡ slice_cmp nat_cmp (x ∷ m) (y ∷ n)
+then_by_name x y m n same = ap (λ (o : Ordering). ordering_then o (slice_cmp nat_cmp m n)) same
+
+pub by_rank : (x y : ℕ) (m n : List ℕ) (o : Ordering) → ¬ (o ≡ Equal) → o ≡ nat_cmp x y → o ≡ slice_cmp nat_cmp (x ∷ m) (y ∷ n)
+by_rank x y m n Less other is = ap (λ (o : Ordering). ordering_then o (slice_cmp nat_cmp m n)) is
+by_rank x y m n Greater other is = ap (λ (o : Ordering). ordering_then o (slice_cmp nat_cmp m n)) is
+by_rank x y m n Equal other is = absurd (other refl)
 
 -- how one compares to the one that is looked for
 abbrev pub order_of : Kind → List ℕ → Affordance → Ordering
@@ -99,3 +108,30 @@ missing_by_halving list slots k name i d rising parted =
       | inl below ↦ (Less, parts.0 j d (omega arith) below, refl)
       | inr above ↦ (Greater, parts.1 j d above within, refl)
     ])
+
+-- ---- affordances with their slots, by number
+
+pub spot_here : (list : List Affordance) (slots : List ℕ) (i : ℕ) (a : Affordance) (slot : Option ℕ) → i < length list → a ≡ get_or list i a → slot ≡ slice_get slots i
+    → option_map (placed_by a) slot ≡ slice_get (placed_all list slots) i
+spot_here [] slots i a slot within is of = absurd (omega arith)
+spot_here (b ∷ list) [] zero a slot within is of = ap (λ (o : Option ℕ). option_map (placed_by a) o) of
+spot_here (b ∷ list) [] (suc i) a slot within is of = ap (λ (o : Option ℕ). option_map (placed_by a) o) of
+spot_here (b ∷ list) (s ∷ slots) zero a slot within is of = ap (λ (o : Option ℕ). option_map (placed_by a) o) of ∙ ap (λ (x : Affordance). Some (placed_by x s)) is
+spot_here (b ∷ list) (s ∷ slots) (suc i) a slot within is of = spot_here list slots i a slot (omega arith) is of
+
+pub no_spot : (list : List Affordance) (slots : List ℕ) (i : ℕ) → length list ≤ i → None ≡ slice_get (placed_all list slots) i
+no_spot [] slots i past = refl
+no_spot (a ∷ list) [] i past = refl
+no_spot (a ∷ list) (s ∷ slots) zero past = absurd (omega arith)
+no_spot (a ∷ list) (s ∷ slots) (suc i) past = no_spot list slots i (omega arith)
+
+pub as_many_slots : (list : List Affordance) (slots : List ℕ) → length slots ≤ length list → length slots ≡ length (placed_all list slots)
+as_many_slots [] [] fewer = refl
+as_many_slots [] (s ∷ slots) fewer = absurd (omega arith)
+as_many_slots (a ∷ list) [] fewer = refl
+as_many_slots (a ∷ list) (s ∷ slots) fewer = ap suc (as_many_slots list slots (omega arith))
+
+pub as_many_affordances : (list : List Affordance) (slots : List ℕ) → length list ≤ length slots → length list ≡ length (placed_all list slots)
+as_many_affordances [] slots fewer = refl
+as_many_affordances (a ∷ list) [] fewer = absurd (omega arith)
+as_many_affordances (a ∷ list) (s ∷ slots) fewer = ap suc (as_many_affordances list slots (omega arith))

@@ -1,10 +1,12 @@
 -- Judging affordances one after another.
-use Rattle.std.proofs.Common.{◌≡◌, ℕ, ◌+◌, ◌<◌, List, [], ◌∷◌, ◌++◌, map, drop, length, get_or, refl, sym, ap, subst, ◌∙◌}
+use Rattle.std.proofs.Common.{◌≡◌, ℕ, ◌+◌, ◌<◌, ◌≤◌, List, [], ◌∷◌, ◌++◌, map, drop, length, get_or, refl, sym, ap, subst, ◌∙◌, append_assoc}
 use Rattle.std.specs.Prelude.{slice_get, Some, Ok, Err}
-use Rattle.std.proofs.lemmas.List.{at_drop_more}
+use Rattle.std.specs.List.{AllByRecursion}
+use Rattle.std.proofs.lemmas.List.{append-nil, at_drop_all, at_drop_more}
 use Rattle.wot_json.specs.Tree.{Json}
 use Rattle.wot_json.specs.Meaning.{json_of}
 use Rattle.wot_terms.specs.Affordances.{affordances_of}
+use Rattle.wot_terms.specs.Faults.{IsValid}
 use Rattle.wot_terms.specs.declared.thing.Thing.{Thing}
 use Rattle.wot_terms.specs.ThingLists.{kept_thing, kept_things}
 use Rattle.wot_terms.specs.declared.kind.Kind.{Kind}
@@ -12,9 +14,8 @@ use Rattle.wot_terms.specs.declared.affordance.Affordance.{Affordance}
 use Rattle.thing_site.specs.declared.fault.ExposeFault.{ExposeFault}
 use Rattle.thing_site.specs.declared.fault.ExposeFault.TheVariants.{NoSlot, KindDiffers, SlotTwice, NoMemory}
 use Rattle.thing_site.specs.declared.wanted.Wanted.{Wanted}
-use Rattle.thing_site.specs.declared.held.HeldThing.{HeldThing}
-use Rattle.thing_site.specs.Site.{Slots, placed, wanted_by, wanted_of_thing, wanted_of, expose_faults, faults_from, slots_in}
-use Rattle.thing_site.specs.Exposing.{placed_all, IsFirst, IsJudged, IsPlaced, HaveNoFault, HaveFault, slot_or_0}
+use Rattle.thing_site.specs.Site.{Slots, ExposedThing, exposed, placed, site_of, wanted_by, wanted_of_thing, wanted_of, expose_faults, faults_from, slots_in}
+use Rattle.thing_site.specs.Exposing.{placed_all, ArePlaced, IsFirst, IsJudged, IsPlaced, HaveNoFault, HaveFault, slot_or_0}
 
 -- the head of a list of faults is their first
 pub is_first : (faults : List ExposeFault) (f : ExposeFault) → slice_get faults 0 ≡ Some f → IsFirst faults f
@@ -40,16 +41,17 @@ placed_as_given slots segment [] = refl
 placed_as_given slots segment (a ∷ more) = ap (λ ps. placed slots segment a ∷ ps) (placed_as_given slots segment more)
 
 -- a Thing whose affordances have no fault is exposed with the slots that they are given
-pub placed_well : (kinds : List Kind) (slots : Slots) (thing : List ℕ × Json) (earlier after : List ℕ) (held : HeldThing) (ws : List Wanted)
-    → held.segment ≡ thing.0 → json_of held.tree ≡ thing.1 → held.affordances ≡ affordances_of thing.1
-    → ws ≡ wanted_of_thing slots thing → held.slots.items ≡ map slot_or_0 ws → HaveNoFault kinds earlier after ws
+pub placed_well : (kinds : List Kind) (slots : Slots) (thing : List ℕ × Json) (earlier after : List ℕ) (held : ExposedThing) (own : List Affordance) (given : List ℕ) (ws : List Wanted)
+    → held.segment ≡ thing.0 → held.description ≡ thing.1 → held.affordances ≡ placed_all own given → own ≡ affordances_of thing.1
+    → ws ≡ wanted_of_thing slots thing → given ≡ map slot_or_0 ws → HaveNoFault kinds earlier after ws
     → IsPlaced kinds slots thing earlier after (Ok held)
-placed_well kinds slots thing earlier after held ws segment tree affordances wanted given clear = (
-  let places : placed_all held.affordances held.slots.items ≡ map (placed slots thing.0) (affordances_of thing.1) =
-      ap (λ (list : List Affordance). placed_all list held.slots.items) affordances
-      ∙ ap (λ (ss : List ℕ). placed_all (affordances_of thing.1) ss) (given ∙ ap (λ (vs : List Wanted). map slot_or_0 vs) wanted)
+placed_well kinds slots thing earlier after held own given ws segment description placed_are affordances wanted given_are clear = (
+  let places : held.affordances ≡ map (placed slots thing.0) (affordances_of thing.1) =
+      placed_are
+      ∙ ap (λ (list : List Affordance). placed_all list given) affordances
+      ∙ ap (λ (ss : List ℕ). placed_all (affordances_of thing.1) ss) (given_are ∙ ap (λ (vs : List Wanted). map slot_or_0 vs) wanted)
       ∙ placed_as_given slots thing.0 (affordances_of thing.1) in
-      λ i. record { segment = segment i; description = tree i; affordances = places i },
+      λ i. record { segment = segment i; description = description i; affordances = places i },
   subst (λ (vs : List Wanted). HaveNoFault kinds earlier after vs) wanted clear,
 )
 
@@ -71,3 +73,55 @@ all_faulty kinds slots things earlier i item f clear within at faulty =
     ≡ faults_from kinds earlier (wanted_of_thing slots (kept_thing item) ++ wanted_of slots (kept_things (drop (i + 1) things))) =
     ap (λ (t : Thing). faults_from kinds earlier (wanted_of_thing slots (kept_thing t) ++ wanted_of slots (kept_things (drop (i + 1) things)))) (sym at) in
     subst (λ (fs : List ExposeFault). IsFirst fs f) (sym (clear ∙ step ∙ here)) (faulty (wanted_of slots (kept_things (drop (i + 1) things))))
+
+-- ---- one Thing more
+
+abbrev pub AreValid : List Thing → Type 0
+AreValid things = AllByRecursion (λ t. IsValid (json_of t.tree)) things
+
+-- the first of those that are left, and those after it
+valid_ones : (things : List Thing) (i : ℕ) (item : Thing) → i < length things → AreValid (drop i things) → AreValid (get_or things i item ∷ drop (i + 1) things)
+valid_ones things i item within valid = subst AreValid (at_drop_more (λ (ts : List Thing). ts) things i item within) valid
+
+pub valid_first : (things : List Thing) (i : ℕ) (item : Thing) → i < length things → item ≡ get_or things i item → AreValid (drop i things) → IsValid (json_of item.tree)
+valid_first things i item within at valid = subst (λ (t : Thing). IsValid (json_of t.tree)) (sym at) (valid_ones things i item within valid).0
+
+pub valid_rest : (things : List Thing) (i : ℕ) (item : Thing) → i < length things → AreValid (drop i things) → AreValid (drop (i + 1) things)
+valid_rest things i item within valid = (valid_ones things i item within valid).1
+
+-- the site grows by it
+pub site_grows : (slots : Slots) (things : List Thing) (i : ℕ) (item : Thing) (held more : List ExposedThing) (one : ExposedThing)
+    → held ++ site_of slots (kept_things (drop i things)) ≡ site_of slots (kept_things things)
+    → i < length things → item ≡ get_or things i item → one ≡ exposed slots (kept_thing item) → more ≡ held ++ one ∷ []
+    → more ++ site_of slots (kept_things (drop (i + 1) things)) ≡ site_of slots (kept_things things)
+site_grows slots things i item held more one so_far within at same grown =
+    let rest = site_of slots (kept_things (drop (i + 1) things)) in
+    ap (λ (hs : List ExposedThing). hs ++ rest) grown
+    ∙ append_assoc held (one ∷ []) rest
+    ∙ ap (λ (t : ExposedThing). held ++ t ∷ rest) (same ∙ ap (λ (t : Thing). exposed slots (kept_thing t)) at)
+    ∙ ap (λ (ts : List ExposedThing). held ++ ts) (sym (at_drop_more (λ (ts : List Thing). site_of slots (kept_things ts)) things i item within))
+    ∙ so_far
+
+-- it has no fault, and those after it have what is left
+pub faults_left : (kinds : List Kind) (slots : Slots) (things : List Thing) (earlier after : List ℕ) (i : ℕ) (item : Thing)
+    → faults_from kinds [] (wanted_of slots (kept_things things)) ≡ faults_from kinds earlier (wanted_of slots (kept_things (drop i things)))
+    → i < length things → item ≡ get_or things i item → HaveNoFault kinds earlier after (wanted_of_thing slots (kept_thing item))
+    → faults_from kinds [] (wanted_of slots (kept_things things)) ≡ faults_from kinds after (wanted_of slots (kept_things (drop (i + 1) things)))
+faults_left kinds slots things earlier after i item clear within at none =
+    let rest = wanted_of slots (kept_things (drop (i + 1) things)) in
+    clear
+    ∙ at_drop_more (λ (ts : List Thing). faults_from kinds earlier (wanted_of slots (kept_things ts))) things i item within
+    ∙ ap (λ (t : Thing). faults_from kinds earlier (wanted_of_thing slots (kept_thing t) ++ rest)) (sym at)
+    ∙ none rest
+
+-- none is left
+pub all_placed : (kinds : List Kind) (slots : Slots) (things : List Thing) (held : List ExposedThing) (earlier : List ℕ) (i : ℕ)
+    → held ++ site_of slots (kept_things (drop i things)) ≡ site_of slots (kept_things things)
+    → faults_from kinds [] (wanted_of slots (kept_things things)) ≡ faults_from kinds earlier (wanted_of slots (kept_things (drop i things)))
+    → length things ≤ i → ArePlaced kinds slots (kept_things things) held
+all_placed kinds slots things held earlier i so_far clear done = (
+  sym (append-nil held)
+      ∙ ap (λ (ts : List ExposedThing). held ++ ts) (sym (at_drop_all (λ (ts : List Thing). site_of slots (kept_things ts)) things i done))
+      ∙ so_far,
+  clear ∙ at_drop_all (λ (ts : List Thing). faults_from kinds earlier (wanted_of slots (kept_things ts))) things i done,
+)

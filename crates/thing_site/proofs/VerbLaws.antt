@@ -1,6 +1,5 @@
 -- A verb is taken where the table of verbs has it.
-use Rattle.std.proofs.Common.{◌≡◌, List, [], ◌∷◌, Bool, true, false, cond, refl, sym, ap, ◌∙◌}
-use Rattle.std.specs.Prelude.{◌&&◌}
+use Rattle.std.proofs.Common.{◌≡◌, List, [], ◌∷◌, Bool, true, false, refl, sym, ap, ◌∙◌}
 use Rattle.std.specs.List.{filter}
 use Rattle.thing_ops.specs.declared.allow.Allow.{Allow}
 use Rattle.thing_ops.specs.declared.verb.Verb.{Verb}

@@ -1,34 +1,23 @@
 -- What giving the affordances of Things their handlers promises.
 use Rattle.std.specs.Prelude.{◌≡◌, ℕ, List, [], ◌∷◌, ◌++◌, map, slice_get, Some, unwrap_or, Result, Ok, Err}
 use Rattle.wot_json.specs.Tree.{Json}
-use Rattle.wot_json.specs.Meaning.{json_of}
 use Rattle.wot_terms.specs.declared.kind.Kind.{Kind}
 use Rattle.wot_terms.specs.declared.affordance.Affordance.{Affordance}
 use Rattle.thing_handler.specs.Handler.{Seen}
 use Rattle.thing_site.specs.declared.fault.ExposeFault.{ExposeFault}
 use Rattle.thing_site.specs.declared.fault.ExposeFault.TheVariants.{NoSlot, KindDiffers, SlotTwice, NoMemory}
 use Rattle.thing_site.specs.declared.wanted.Wanted.{Wanted}
-use Rattle.thing_site.specs.declared.held.HeldThing.{HeldThing}
-use Rattle.thing_site.specs.Site.{Placed, ExposedThing, Site, Slots, exposed, site_of, wanted_of_thing, fault_of, faults_from, expose_faults}
+use Rattle.thing_site.specs.Site.{Placed, ExposedThing, Slots, exposed, site_of, wanted_of_thing, fault_of, faults_from, expose_faults}
 
 -- the kinds of the handlers of a rack
 abbrev pub kinds_of : List Seen → List Kind
 kinds_of slots = map (λ h. h.kind) slots
-
--- ---- what the code keeps of a Thing
 
 -- affordances with their slots
 abbrev pub placed_all : List Affordance → List ℕ → List Placed
 placed_all [] slots = []
 placed_all (a ∷ more) [] = []
 placed_all (a ∷ more) (slot ∷ slots) = record { affordance = a; slot = slot } ∷ placed_all more slots
-
-abbrev pub held_thing : HeldThing → ExposedThing
-held_thing h =
-    record { segment = h.segment; description = json_of h.tree; affordances = placed_all h.affordances h.slots.items }
-
-abbrev pub held_site : List HeldThing → Site
-held_site things = map held_thing things
 
 -- ---- judging
 
@@ -57,11 +46,11 @@ slot_or_0 w = unwrap_or w.slot 0
 
 -- ---- a Thing and all Things
 
-abbrev pub IsPlaced : List Kind → Slots → List ℕ × Json → List ℕ → List ℕ → Result HeldThing ExposeFault → Type 0
+abbrev pub IsPlaced : List Kind → Slots → List ℕ × Json → List ℕ → List ℕ → Result ExposedThing ExposeFault → Type 0
 IsPlaced kinds slots thing earlier after (Ok held) =
-    (held_thing held ≡ exposed slots thing) × HaveNoFault kinds earlier after (wanted_of_thing slots thing)
+    (held ≡ exposed slots thing) × HaveNoFault kinds earlier after (wanted_of_thing slots thing)
 IsPlaced kinds slots thing earlier after (Err fault) = HaveFault kinds earlier (wanted_of_thing slots thing) fault
 
 -- the Things as they are exposed, where nothing is wrong, or the first fault
-abbrev pub ArePlaced : List Kind → Slots → List (List ℕ × Json) → List HeldThing → Type 0
-ArePlaced kinds slots things held = (held_site held ≡ site_of slots things) × (expose_faults kinds slots things ≡ [])
+abbrev pub ArePlaced : List Kind → Slots → List (List ℕ × Json) → List ExposedThing → Type 0
+ArePlaced kinds slots things held = (held ≡ site_of slots things) × (expose_faults kinds slots things ≡ [])

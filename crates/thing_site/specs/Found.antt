@@ -10,11 +10,10 @@ use Rattle.thing_site.specs.declared.place.Place.TheVariants as found
 use Rattle.thing_site.specs.declared.place.Act.{Act as FoundAct}
 use Rattle.thing_site.specs.declared.place.Act.TheVariants as act
 use Rattle.thing_site.specs.Places.{Place, description, all_properties, property, observed, action, invocation, event, subscribed, thing_in, affordance_in, where_observable, Act, describes, reads_all, writes_many, reads, writes, invokes, queries, cancels, reads_event, waits}
-use Rattle.thing_site.specs.Exposing.{held_thing}
 
 abbrev pub found_place : FoundPlace → Place
-found_place (found.Description thing) = description (held_thing thing.now)
-found_place (found.AllProperties thing) = all_properties (held_thing thing.now)
+found_place (found.Description thing) = description thing.now
+found_place (found.AllProperties thing) = all_properties thing.now
 found_place (found.Property spot) = property spot
 found_place (found.Observed spot) = observed spot
 found_place (found.Action spot) = action spot
@@ -23,9 +22,9 @@ found_place (found.Event spot) = event spot
 found_place (found.Subscribed spot) = subscribed spot
 
 abbrev pub found_act : FoundAct → Act
-found_act (act.Describes thing) = describes (held_thing thing.now)
-found_act (act.ReadsAll thing) = reads_all (held_thing thing.now)
-found_act (act.WritesMany thing) = writes_many (held_thing thing.now)
+found_act (act.Describes thing) = describes thing.now
+found_act (act.ReadsAll thing) = reads_all thing.now
+found_act (act.WritesMany thing) = writes_many thing.now
 found_act (act.Reads spot) = reads spot
 found_act (act.Writes spot) = writes spot
 found_act (act.Invokes spot) = invokes spot

@@ -1,24 +1,28 @@
 -- What judging a request promises, as far as no state counts.
-use Rattle.std.specs.Prelude.{◌≡◌, ◌⊎◌, List, map, Option, Some, None}
-use Rattle.wot_json.specs.Meaning.{json_of}
+use Rattle.std.specs.Prelude.{◌≡◌, ◌⊎◌, List, Option, Some, None, refl}
+use Rattle.std.specs.Coded.{Coded, code_by, coded×}
+use Rattle.wot_json.specs.Tree.{Json}
+use Rattle.wot_json.specs.JsonCodes.{json_code}
 use Rattle.thing_ops.specs.declared.outcome.Outcome.{Outcome}
 use Rattle.thing_ops.specs.declared.outcome.Outcome.TheVariants as outcome
 use Rattle.thing_ops.specs.Requests.{PlainRequest}
-use Rattle.thing_site.specs.declared.input.Input.{Input as InputInCode}
+use Rattle.thing_site.specs.Site.{Placed}
+use Rattle.thing_site.specs.SiteCodes.{placed_code}
 use Rattle.thing_site.specs.Places.{Act}
 use Rattle.thing_site.specs.Refusals.{Input, inputs_of, refusals_by_request, StandsByRequest, IsAnswer, IsFirst, IsNone}
-
-abbrev pub input_of : InputInCode → Input
-input_of i = record { affordance = i.spot; value = json_of i.value }
 
 -- a body isn't as wanted, or memory is out
 abbrev pub HasNoInputs : Option (List Input) → Outcome → Type 0
 HasNoInputs expected o = (o ≡ outcome.Memory) ⊎ ((expected ≡ None) × (o ≡ outcome.BadValue))
 
 -- a request hands this in to an act, and nothing that needs no state stands against it
-abbrev pub IsUnrefused : Act → PlainRequest → List InputInCode → Type 0
-IsUnrefused act q inputs = (inputs_of act q.body ≡ Some (map input_of inputs)) × IsNone (λ r. StandsByRequest r act q) refusals_by_request
+abbrev pub IsUnrefused : Act → PlainRequest → List Input → Type 0
+IsUnrefused act q inputs = (inputs_of act q.body ≡ Some inputs) × IsNone (λ r. StandsByRequest r act q) refusals_by_request
 
 -- the first such refusal decides, or memory is out
 abbrev pub IsRefusedByRequest : Act → PlainRequest → Outcome → Type 0
 IsRefusedByRequest act q o = (o ≡ outcome.Memory) ⊎ IsFirst (λ r. StandsByRequest r act q) IsAnswer refusals_by_request o
+
+-- how the logic keeps what is handed in
+abbrev pub input_code : Coded Input
+input_code = code_by (Placed × Json) (coded× placed_code json_code) (λ i. (i.affordance, i.value)) (λ q. record { affordance = q.0; value = q.1 }) (λ _. refl)

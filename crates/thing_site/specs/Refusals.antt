@@ -83,7 +83,8 @@ is_acceptable (writes_many thing) accept = true
 is_acceptable (writes p) accept = true
 is_acceptable (cancels p id) accept = true
 
--- the formats in which a body is taken: JSON, which is also what a body is that names none; for a description that of descriptions too
+-- the formats in which a body is taken: JSON, which is also what a body is that names none; for a description that of
+-- descriptions too
 abbrev pub is_description : Act → Bool
 is_description (describes thing) = true
 is_description act = false

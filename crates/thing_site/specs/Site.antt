@@ -1,5 +1,5 @@
--- Things as they are exposed: each with its description, its affordances and the slots of their handlers. This is what is
--- constant in a run.
+-- Things as they are exposed: each with its description, its affordances and the slots of their handlers. This is
+-- what is constant in a run.
 use Rattle.std.specs.Prelude.{ℕ, List, [], ◌∷◌, ◌++◌, map, slice_get, Bool, true, false, ◌==◌, ◌&&◌, is_none, Option, Some, None, option_and_then, unwrap_or, if◌then◌else◌}
 use Rattle.std.specs.List.{flat_map, filter}
 use Rattle.std.specs.Str.{bytes_eq}
@@ -30,7 +30,8 @@ pub record ExposedThing : Type 0 where
 abbrev pub Site : Type 0
 Site = List ExposedThing
 
--- which handler serves which affordance: the segment of a Thing, the pointer to an affordance in its description, a slot
+-- which handler serves which affordance: the segment of a Thing, the pointer to an affordance in its description, a
+-- slot
 abbrev pub Slots : Type 0
 Slots = List (List ℕ × List ℕ × ℕ)
 
@@ -61,8 +62,8 @@ site_of slots = map (exposed slots)
 
 -- ---- why Things and slots don't fit a rack
 
--- An affordance that is to have a handler is a `Wanted`: the segment of its Thing, its pointer, its kind, and the slot that
--- it is given.
+-- An affordance that is to have a handler is a `Wanted`: the segment of its Thing, its pointer, its kind, and the
+-- slot that it is given.
 
 abbrev pub wanted_by : Slots → List ℕ → Affordance → Wanted
 wanted_by slots segment a =
@@ -95,8 +96,8 @@ is_among earlier None = false
 is_among [] (Some slot) = false
 is_among (other ∷ earlier) (Some slot) = if other == slot then true else is_among earlier (Some slot)
 
--- its fault, where earlier affordances have these slots: it has no slot of the rack, or one whose handler is of another kind,
--- or one that is taken
+-- its fault, where earlier affordances have these slots: it has no slot of the rack, or one whose handler is of
+-- another kind, or one that is taken
 abbrev pub fault_of : List Kind → List ℕ → Wanted → List ExposeFault
 fault_of kinds earlier w =
     if is_none (handler_kind kinds w) then NoSlot w.segment w.pointer ∷ []

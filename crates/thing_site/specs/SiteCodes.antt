@@ -10,10 +10,10 @@ use Rattle.thing_site.specs.Site.{Placed, ExposedThing, Site}
 abbrev pub placed_code : Coded Placed
 placed_code = code_by (Affordance × ℕ) (coded× affordance_code coded_ℕ) (λ p. (p.affordance, p.slot)) (λ q. record { affordance = q.0; slot = q.1 }) (λ _. refl)
 
-abbrev ThingParts : Type 0
+abbrev pub ThingParts : Type 0
 ThingParts = List ℕ × (Json × List Placed)
 
-abbrev thing_code : Coded ExposedThing
+abbrev pub thing_code : Coded ExposedThing
 thing_code =
     code_by ThingParts (coded× (coded_list coded_ℕ) (coded× json_code (coded_list placed_code)))
     (λ t. (t.segment, (t.description, t.affordances))) (λ q. record { segment = q.0; description = q.1.0; affordances = q.1.1 }) (λ _. refl)

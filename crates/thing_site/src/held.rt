@@ -1,17 +1,95 @@
 //! A Thing as it is kept.
 
-ghost use Rattle.std.specs.Prelude.{◌≡◌, true};
-ghost use Rattle.thing_site.specs.Order.{are_rising};
-
+use crate::Spot;
+use crate::site::{spot_at, spot_count, spot_named};
+use std::marker::Model;
 use wot_json::{Text, Tree};
-use wot_terms::Description;
+use wot_terms::{Description, Kind};
 
-/// A Thing with the slots of its handlers, one for each affordance, in the order of the affordances.
+/// A Thing with the slots of its handlers, one for each affordance, in the order of the affordances. Contracts see
+/// its segment, its description, and its affordances with their slots.
 #[derive(Drop)]
 pub struct HeldThing {
-    pub segment: Text,
-    pub tree: Tree,
-    pub affordances: Description,
-    pub slots: Vec<u32>,
-    ghost rising: { are_rising affordances ≡ true },
+    segment: Text,
+    tree: Tree,
+    affordances: Description,
+    slots: Vec<u32>,
+}
+
+impl Model for HeldThing {
+    ghost use Rattle.std.specs.Prelude.{◌≡◌, true};
+    ghost use Rattle.wot_json.specs.Meaning.{json_of};
+    ghost use Rattle.thing_site.specs.Order.{are_rising};
+    ghost use Rattle.thing_site.specs.Site.{ExposedThing};
+    ghost use Rattle.thing_site.specs.SiteCodes.{thing_code};
+    ghost use Rattle.thing_site.specs.Exposing.{placed_all};
+
+    ghost Value = { ExposedThing };
+
+    ghost coded = { thing_code };
+
+    ghost view = { λ h. record { segment = h.segment; description = json_of h.tree; affordances = placed_all h.affordances h.slots.items } };
+
+    ghost invariant = { λ h. are_rising h.affordances ≡ true };
+}
+
+impl HeldThing {
+    ghost use Rattle.std.specs.Prelude.{◌≡◌, length, slice_get, true};
+    ghost use Rattle.wot_json.specs.Meaning.{json_of};
+    ghost use Rattle.thing_site.specs.Order.{are_rising};
+    ghost use Rattle.thing_site.specs.Site.{affordance_named};
+    ghost use Rattle.thing_site.specs.Exposing.{placed_all};
+
+    /// A Thing with the slots of its affordances, in their order.
+    pub(crate) fn of(segment: Text, tree: Tree, affordances: Description, slots: Vec<u32>) -> Self
+        requires { are_rising affordances ≡ true }
+        ensures { result ≡ record { segment = segment; description = json_of tree; affordances = placed_all affordances slots.items } }
+    {
+        HeldThing {
+            segment,
+            tree,
+            affordances,
+            slots,
+        }
+    }
+
+    /// The segment with which its paths begin.
+    pub(crate) fn segment(&self) -> &str
+        ensures { result.now ≡ self.now.segment }
+    {
+        self.segment.as_str()
+    }
+
+    /// Its description.
+    pub fn description(&self) -> &Tree
+        ensures { json_of result.now ≡ self.now.description }
+    {
+        &self.tree
+    }
+
+    /// How many affordances it has.
+    pub fn len(&self) -> usize
+        ensures { result ≡ length self.now.affordances }
+    {
+        spot_count(self.affordances.affordances(), self.slots.as_slice())
+    }
+
+    /// Its affordance with this number.
+    pub fn spot(&self, index: usize) -> Option<Spot<'_>>
+        ensures { result ≡ slice_get self.now.affordances index }
+    {
+        spot_at(self.affordances.affordances(), self.slots.as_slice(), index)
+    }
+
+    /// The affordance of this kind and name, found by halving.
+    pub fn affordance(&self, kind: Kind, name: &[u8]) -> Option<Spot<'_>>
+        ensures { result ≡ affordance_named kind name.now self.now.affordances }
+    {
+        spot_named(
+            self.affordances.affordances(),
+            self.slots.as_slice(),
+            kind,
+            name,
+        )
+    }
 }

@@ -6,7 +6,7 @@ ghost use Rattle.std.specs.List.Sorted.{IsBinarySearchResult, IsSearchInRange};
 ghost use Rattle.wot_terms.specs.Faults.{IsValid};
 ghost use Rattle.thing_site.specs.Site.{expose_faults, site_of, thing_named as thing_of};
 ghost use Rattle.thing_site.specs.Fits.{Fits};
-ghost use Rattle.thing_site.specs.Exposing.{held_site, held_thing, kinds_of, IsFirst};
+ghost use Rattle.thing_site.specs.Exposing.{kinds_of, IsFirst};
 ghost use Rattle.thing_site.specs.Index.{segment_at as segment_in, segment_order, Indexes};
 
 use crate::placing::place_all;
@@ -28,16 +28,15 @@ pub struct IndexedThings {
 impl Model for IndexedThings {
     ghost use Rattle.thing_site.specs.Site.{Site};
     ghost use Rattle.thing_site.specs.SiteCodes.{site_code};
-    ghost use Rattle.thing_site.specs.Exposing.{held_site};
     ghost use Rattle.thing_site.specs.Index.{Indexes};
 
     ghost Value = { Site };
 
     ghost coded = { site_code };
 
-    ghost view = { λ t. held_site t.things.items };
+    ghost view = { λ t. t.things.items };
 
-    ghost invariant = { λ t. Indexes (held_site t.things.items) t.index.items (held_site t.things.items) };
+    ghost invariant = { λ t. Indexes t.things.items t.index.items t.things.items };
 }
 
 impl IndexedThings {
@@ -60,7 +59,7 @@ impl IndexedThings {
 
     /// These Things, with their index.
     fn of(alloc: Global, things: Vec<HeldThing>) -> Result<IndexedThings, NoMemory>
-        ensures { IfOk result (λ t. t ≡ held_site things.items) }
+        ensures { IfOk result (λ t. t ≡ things.items) }
     {
         let index = index_of(alloc, things.as_slice())?;
         Ok(IndexedThings { things, index })
@@ -68,14 +67,14 @@ impl IndexedThings {
 
     /// The Things in their order.
     pub fn as_slice(&self) -> &[HeldThing]
-        ensures { held_site result.now ≡ self.now }
+        ensures { result.now ≡ self.now }
     {
         self.things.as_slice()
     }
 
     /// The Thing of this segment, found by halving.
     pub fn named(&self, segment: &[u8]) -> Option<&HeldThing>
-        ensures { option_map (λ t. held_thing t.now) result ≡ thing_of segment.now self.now }
+        ensures { option_map (λ t. t.now) result ≡ thing_of segment.now self.now }
     {
         thing_named(self.things.as_slice(), self.index.as_slice(), segment)
     }
@@ -87,8 +86,8 @@ fn thing_named<'a>(
     index: &[usize],
     segment: &[u8],
 ) -> Option<&'a HeldThing>
-    requires { Indexes (held_site things.now) index.now (held_site things.now) }
-    ensures { option_map (λ t. held_thing t.now) result ≡ thing_of segment.now (held_site things.now) }
+    requires { Indexes things.now index.now things.now }
+    ensures { option_map (λ t. t.now) result ≡ thing_of segment.now things.now }
 {
     match search(things, index, segment) {
         Ok(place) => thing_at(things, index[place]),
@@ -99,34 +98,34 @@ fn thing_named<'a>(
 /// Where the number of the Thing of this segment is in an index, or where it would be.
 fn search(things: &[HeldThing], index: &[usize], segment: &[u8]) -> Result<usize, usize>
     ensures bound { IsSearchInRange result (length index.now) }
-    ensures place { IsBinarySearchResult (segment_order (held_site things.now) segment.now) index.now result }
+    ensures place { IsBinarySearchResult (segment_order things.now segment.now) index.now result }
 {
     let order = |number: &usize| -> Ordering
-        ensures { result ≡ segment_order (held_site things.entry.now) segment.entry.now number.now }
+        ensures { result ≡ segment_order things.entry.now segment.entry.now number.now }
     { segment_at(things, *number).cmp(segment) };
     index.binary_search_by(order)
 }
 
 /// The Thing of this number.
 fn thing_at(things: &[HeldThing], number: usize) -> Option<&HeldThing>
-    ensures { option_map (λ t. held_thing t.now) result ≡ slice_get (held_site things.now) number }
+    ensures { option_map (λ t. t.now) result ≡ slice_get things.now number }
 {
     things.get(number)
 }
 
 /// The segment of the Thing of this number.
 fn segment_at(things: &[HeldThing], number: usize) -> &[u8]
-    ensures { result.now ≡ segment_in (held_site things.now) number }
+    ensures { result.now ≡ segment_in things.now number }
 {
     match thing_at(things, number) {
-        Some(thing) => thing.segment.as_str().as_bytes(),
+        Some(thing) => thing.segment().as_bytes(),
         None => &[],
     }
 }
 
 /// The index of these Things.
 fn index_of(alloc: Global, things: &[HeldThing]) -> Result<Vec<usize>, NoMemory>
-    ensures { IfOk result (λ index. Indexes (held_site things.now) index.items (held_site things.now)) }
+    ensures { IfOk result (λ index. Indexes things.now index.items things.now) }
 {
     let mut index = Vec::new(alloc);
     for number in 0..things.len() {
@@ -138,8 +137,8 @@ fn index_of(alloc: Global, things: &[HeldThing]) -> Result<Vec<usize>, NoMemory>
 /// Puts the number of a Thing into an index of those before it, unless one of these has its segment.
 fn add_number(index: &mut Vec<usize>, things: &[HeldThing], number: usize) -> Result<(), NoMemory>
     requires number { number < length things.now }
-    requires index { Indexes (held_site things.now) index.old.items (take number (held_site things.now)) }
-    ensures { OnOk result (Indexes (held_site things.now) index.new.items (take (number + 1) (held_site things.now))) }
+    requires index { Indexes things.now index.old.items (take number things.now) }
+    ensures { OnOk result (Indexes things.now index.new.items (take (number + 1) things.now)) }
 {
     match search(things, index.as_slice(), segment_at(things, number)) {
         Ok(_) => Ok(()),

@@ -4,7 +4,6 @@ ghost use Rattle.std.specs.Prelude.{◌≡◌, Some, None, MatchResult, option_a
 ghost use Rattle.thing_ops.specs.Routes.{route_of};
 ghost use Rattle.thing_ops.specs.Verbs.{verbs_in, verbs_of};
 ghost use Rattle.thing_site.specs.Places as spec;
-ghost use Rattle.thing_site.specs.Exposing.{held_site, held_thing};
 ghost use Rattle.thing_site.specs.Found.{found_act, found_place, kind_by, place_by, spot_by, thing_by};
 
 use crate::{HeldThing, IndexedThings, Spot};
@@ -59,7 +58,7 @@ fn place_from<'a>(
     thing: Option<&'a HeldThing>,
     spot: Option<Spot<'a>>,
 ) -> Option<Place<'a>>
-    ensures { option_map found_place result ≡ place_by route (option_map (λ t. held_thing t.now) thing.entry) spot.entry }
+    ensures { option_map found_place result ≡ place_by route (option_map (λ t. t.now) thing.entry) spot.entry }
 {
     match route {
         RouteKind::Root | RouteKind::Thing => description(thing),
@@ -80,7 +79,7 @@ fn thing_at<'a>(
     path: &Segments,
     route: RouteKind,
 ) -> Option<&'a HeldThing>
-    ensures { option_map (λ t. held_thing t.now) result ≡ thing_by route path.now things.now }
+    ensures { option_map (λ t. t.now) result ≡ thing_by route path.now things.now }
 {
     match route {
         RouteKind::Root => root_of(things.as_slice()),
@@ -118,7 +117,7 @@ fn kind_at(route: RouteKind) -> Option<Kind>
 
 /// The root Thing.
 fn root_of(things: &[HeldThing]) -> Option<&HeldThing>
-    ensures { option_map (λ t. held_thing t.now) result ≡ slice_get (held_site things.now) 0 }
+    ensures { option_map (λ t. t.now) result ≡ slice_get things.now 0 }
 {
     match things {
         [] => None,
@@ -128,7 +127,7 @@ fn root_of(things: &[HeldThing]) -> Option<&HeldThing>
 
 /// The Thing that the first segment names.
 fn thing_in<'a>(things: &'a IndexedThings, path: &Segments) -> Option<&'a HeldThing>
-    ensures { option_map (λ t. held_thing t.now) result ≡ spec.thing_in path.now things.now }
+    ensures { option_map (λ t. t.now) result ≡ spec.thing_in path.now things.now }
 {
     match path.get(0) {
         Some(segment) => things.named(segment),
@@ -151,7 +150,7 @@ fn affordance_in<'a>(things: &'a IndexedThings, path: &Segments, kind: Kind) -> 
 
 /// The description of a Thing.
 fn description<'a>(thing: Option<&'a HeldThing>) -> Option<Place<'a>>
-    ensures { option_map found_place result ≡ option_map spec.description (option_map (λ t. held_thing t.now) thing.entry) }
+    ensures { option_map found_place result ≡ option_map spec.description (option_map (λ t. t.now) thing.entry) }
 {
     match thing {
         Some(there) => Some(Place::Description(there)),
@@ -161,7 +160,7 @@ fn description<'a>(thing: Option<&'a HeldThing>) -> Option<Place<'a>>
 
 /// The properties of a Thing together.
 fn all_properties<'a>(thing: Option<&'a HeldThing>) -> Option<Place<'a>>
-    ensures { option_map found_place result ≡ option_map spec.all_properties (option_map (λ t. held_thing t.now) thing.entry) }
+    ensures { option_map found_place result ≡ option_map spec.all_properties (option_map (λ t. t.now) thing.entry) }
 {
     match thing {
         Some(there) => Some(Place::AllProperties(there)),

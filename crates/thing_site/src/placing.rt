@@ -44,7 +44,8 @@ fn push_thing(held: &mut Vec<HeldThing>, one: HeldThing) -> Result<(), NoMemory>
     Ok(())
 }
 
-/// Gives the affordances of a Thing their handlers, where earlier ones have these slots, and puts their slots after those.
+/// Gives the affordances of a Thing their handlers, where earlier ones have these slots, and puts their slots after
+/// those.
 fn place<R: Handlers>(
     alloc: Global,
     rack: &R,
@@ -67,12 +68,7 @@ fn place<R: Handlers>(
     let slots = judge_all(alloc, rack, wanted, earlier)?;
     let segment = Text::copy_of(alloc, thing.segment.as_str())?;
     let tree = copy(alloc, &thing.tree)?;
-    Ok(HeldThing {
-        segment,
-        tree,
-        affordances,
-        slots,
-    })
+    Ok(HeldThing::of(segment, tree, affordances, slots))
 }
 
 /// The slots of affordances none of which has a fault, where earlier ones have these slots, and puts them after those.

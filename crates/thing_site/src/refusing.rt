@@ -1,28 +1,27 @@
 //! Why a request is refused whatever the state is.
 
-ghost use Rattle.std.specs.Prelude.{◌≡◌, ◌↔◌, ◌++◌, map, option_map, option_and_then, ◌⊎◌, Some, None, IfOk, IfErr, OnOk, IsTrue, false};
+ghost use Rattle.std.specs.Prelude.{◌≡◌, ◌↔◌, ◌++◌, option_map, option_and_then, ◌⊎◌, Some, None, IfOk, IfErr, OnOk, IsTrue, false};
 ghost use Rattle.wot_json.specs.Reading.{tree_of};
 ghost use Rattle.wot_json.specs.Tree.{members_of};
 ghost use Rattle.wot_json.specs.Meaning.{json_of};
 ghost use Rattle.thing_ops.specs.Requests.{plain_request};
 ghost use Rattle.thing_site.specs.Refusals as refusal;
-ghost use Rattle.thing_site.specs.Exposing.{held_thing};
 ghost use Rattle.thing_site.specs.Found.{found_act};
-ghost use Rattle.thing_site.specs.HandedIn.{input_of, HasNoInputs, IsRefusedByRequest, IsUnrefused};
+ghost use Rattle.thing_site.specs.HandedIn.{HasNoInputs, IsRefusedByRequest, IsUnrefused};
 
-use crate::{Act, HeldThing, Input, Spot};
+use crate::{Act, HeldThing, Input, NoMemory, Spot};
 use std::alloc::Global;
 use thing_ops::{Accept, Format, Outcome, Request};
-use wot_json::{Members, ReadFault, Tree, read, text_of};
+use wot_json::{Members, ReadFault, Tree, read};
 use wot_schema::Schema;
 use wot_terms::Kind;
 
 /// How long the text of a value may be that is handed in or comes back, in bytes.
 pub const LONGEST_VALUE: usize = 1024;
 
-/// What a request hands in to an act, where nothing stands against it that needs no state; else what the request comes to: it
-/// isn't acceptable, or its body has another format, isn't as wanted, is too long or refused by a schema, in this order; or
-/// memory is out.
+/// What a request hands in to an act, where nothing stands against it that needs no state; else what the request
+/// comes to: it isn't acceptable, or its body has another format, isn't as wanted, is too long or refused by a
+/// schema, in this order; or memory is out.
 pub fn judge<'a>(
     alloc: Global,
     act: &Act<'a>,
@@ -96,7 +95,7 @@ fn is_description(act: &Act<'_>) -> bool
 
 /// What a body hands in to an act.
 fn inputs_of<'a>(alloc: Global, act: &Act<'a>, body: &[u8]) -> Result<Vec<Input<'a>>, Outcome>
-    ensures ok { IfOk result (λ inputs. refusal.inputs_of (found_act act.now) body.now ≡ Some (map input_of inputs.items)) }
+    ensures ok { IfOk result (λ inputs. refusal.inputs_of (found_act act.now) body.now ≡ Some inputs.items) }
     ensures fault { IfErr result (λ o. HasNoInputs (refusal.inputs_of (found_act act.now) body.now) o) }
 {
     match act {
@@ -115,7 +114,7 @@ fn inputs_of<'a>(alloc: Global, act: &Act<'a>, body: &[u8]) -> Result<Vec<Input<
 
 /// No body is wanted.
 fn no_inputs<'a>(alloc: Global, body: &[u8]) -> Result<Vec<Input<'a>>, Outcome>
-    ensures ok { IfOk result (λ inputs. refusal.no_inputs body.now ≡ Some (map input_of inputs.items)) }
+    ensures ok { IfOk result (λ inputs. refusal.no_inputs body.now ≡ Some inputs.items) }
     ensures fault { IfErr result (λ o. HasNoInputs (refusal.no_inputs body.now) o) }
 {
     if body.is_empty() {
@@ -127,7 +126,7 @@ fn no_inputs<'a>(alloc: Global, body: &[u8]) -> Result<Vec<Input<'a>>, Outcome>
 
 /// What is handed in to an action, which takes a body exactly where it has an input schema.
 fn invoke_inputs<'a>(alloc: Global, spot: Spot<'a>, body: &[u8]) -> Result<Vec<Input<'a>>, Outcome>
-    ensures ok { IfOk result (λ inputs. refusal.invoke_inputs spot.entry spot.entry.affordance.input body.now ≡ Some (map input_of inputs.items)) }
+    ensures ok { IfOk result (λ inputs. refusal.invoke_inputs spot.entry spot.entry.affordance.input body.now ≡ Some inputs.items) }
     ensures fault { IfErr result (λ o. HasNoInputs (refusal.invoke_inputs spot.entry spot.entry.affordance.input body.now) o) }
 {
     match &spot.affordance().input {
@@ -138,7 +137,7 @@ fn invoke_inputs<'a>(alloc: Global, spot: Spot<'a>, body: &[u8]) -> Result<Vec<I
 
 /// The body is one value.
 fn one_input<'a>(alloc: Global, spot: Spot<'a>, body: &[u8]) -> Result<Vec<Input<'a>>, Outcome>
-    ensures ok { IfOk result (λ inputs. option_map (refusal.only_input spot.entry) (tree_of body.now) ≡ Some (map input_of inputs.items)) }
+    ensures ok { IfOk result (λ inputs. option_map (refusal.only_input spot.entry) (tree_of body.now) ≡ Some inputs.items) }
     ensures fault { IfErr result (λ o. HasNoInputs (option_map (refusal.only_input spot.entry) (tree_of body.now)) o) }
 {
     let value = value_in(alloc, body)?;
@@ -161,24 +160,17 @@ fn value_in(alloc: Global, body: &[u8]) -> Result<Tree, Outcome>
     }
 }
 
-/// Puts a value with its text at the end; or memory is out.
+/// Puts a value with its text at the end.
 fn push_input<'a>(
     alloc: Global,
     inputs: &mut Vec<Input<'a>>,
     spot: Spot<'a>,
     value: Tree,
-) -> Result<(), Outcome>
-    ensures ok { OnOk result (map input_of inputs.new.items ≡ map input_of inputs.old.items ++ refusal.only_input spot.entry (json_of value)) }
-    ensures fault { IfErr result (λ o. o ≡ Outcome.Memory) }
+) -> Result<(), NoMemory>
+    ensures { OnOk result (inputs.new.items ≡ inputs.old.items ++ refusal.only_input spot.entry (json_of value)) }
 {
-    let text = match text_of(alloc, &value) {
-        Ok(text) => text,
-        Err(_) => return Err(Outcome::Memory),
-    };
-    match inputs.push(Input { spot, value, text }) {
-        Ok(()) => Ok(()),
-        Err(_) => Err(Outcome::Memory),
-    }
+    inputs.push(Input::of(alloc, spot, value)?)?;
+    Ok(())
 }
 
 /// The body is an object whose members name properties that may be written.
@@ -187,8 +179,8 @@ fn object_inputs<'a>(
     thing: &'a HeldThing,
     body: &[u8],
 ) -> Result<Vec<Input<'a>>, Outcome>
-    ensures ok { IfOk result (λ inputs. option_and_then (refusal.object_inputs (held_thing thing.now)) (tree_of body.now) ≡ Some (map input_of inputs.items)) }
-    ensures fault { IfErr result (λ o. HasNoInputs (option_and_then (refusal.object_inputs (held_thing thing.now)) (tree_of body.now)) o) }
+    ensures ok { IfOk result (λ inputs. option_and_then (refusal.object_inputs thing.now) (tree_of body.now) ≡ Some inputs.items) }
+    ensures fault { IfErr result (λ o. HasNoInputs (option_and_then (refusal.object_inputs thing.now) (tree_of body.now)) o) }
 {
     let value = value_in(alloc, body)?;
     match value {
@@ -205,8 +197,8 @@ fn member_inputs<'a>(
     thing: &'a HeldThing,
     members: Members,
 ) -> Result<Vec<Input<'a>>, Outcome>
-    ensures ok { IfOk result (λ inputs. refusal.member_inputs (held_thing thing.now) (members_of members) ≡ Some (map input_of inputs.items)) }
-    ensures fault { IfErr result (λ o. HasNoInputs (refusal.member_inputs (held_thing thing.now) (members_of members)) o) }
+    ensures ok { IfOk result (λ inputs. refusal.member_inputs thing.now (members_of members) ≡ Some inputs.items) }
+    ensures fault { IfErr result (λ o. HasNoInputs (refusal.member_inputs thing.now (members_of members)) o) }
 {
     let mut inputs = Vec::new(alloc);
     for (name, value) in members.into_vec() {
@@ -221,7 +213,7 @@ fn member_inputs<'a>(
 
 /// The property of this name that may be written.
 fn writable<'a>(thing: &'a HeldThing, name: &[u8]) -> Option<Spot<'a>>
-    ensures { result ≡ refusal.written_property (held_thing thing.now) name.now }
+    ensures { result ≡ refusal.written_property thing.now name.now }
 {
     match thing.affordance(Kind::Property, name) {
         Some(spot) => {
@@ -237,10 +229,10 @@ fn writable<'a>(thing: &'a HeldThing, name: &[u8]) -> Option<Spot<'a>>
 
 /// Some value is longer than is taken.
 fn is_any_long(inputs: &[Input<'_>]) -> bool
-    ensures { IsTrue result ↔ refusal.SomeInput refusal.IsLong (map input_of inputs.now) }
+    ensures { IsTrue result ↔ refusal.SomeInput refusal.IsLong inputs.now }
 {
     for input in inputs {
-        if LONGEST_VALUE < input.text.len() {
+        if LONGEST_VALUE < input.text().len() {
             return true;
         }
     }
@@ -249,10 +241,10 @@ fn is_any_long(inputs: &[Input<'_>]) -> bool
 
 /// A schema refuses some value.
 fn is_any_refused(inputs: &[Input<'_>]) -> bool
-    ensures { IsTrue result ↔ refusal.SomeInput refusal.IsRefusedBySchema (map input_of inputs.now) }
+    ensures { IsTrue result ↔ refusal.SomeInput refusal.IsRefusedBySchema inputs.now }
 {
     for input in inputs {
-        if !is_accepted(&input.spot.affordance().input, &input.value) {
+        if !is_accepted(&input.spot().affordance().input, input.value()) {
             return true;
         }
     }

@@ -1,13 +1,12 @@
 //! What is constant in a run: the Things, their affordances and the slots of their handlers.
 
-ghost use Rattle.std.specs.Prelude.{◌≡◌, option_map, slice_get, true};
+ghost use Rattle.std.specs.Prelude.{◌≡◌, length, option_map, slice_get, true};
 ghost use Rattle.thing_site.specs.Site.{affordance_named, is_emitter as is_emitter_of, is_kind as is_kind_of};
 ghost use Rattle.std.specs.Cmp.Lexicographic.{slice_cmp};
 ghost use Rattle.std.specs.Ordering.{nat_cmp};
 ghost use Rattle.thing_site.specs.Order.{key, key_of, rank as rank_of, are_rising};
-ghost use Rattle.thing_site.specs.Exposing.{held_thing, placed_all};
+ghost use Rattle.thing_site.specs.Exposing.{placed_all};
 
-use crate::HeldThing;
 use std::cmp::Ordering;
 use std::marker::Model;
 use wot_terms::{Affordance, Kind};
@@ -63,22 +62,34 @@ impl<'a> Spot<'a> {
     }
 }
 
-impl HeldThing {
-    /// The affordance of this kind and name, found by halving.
-    pub fn affordance(&self, kind: Kind, name: &[u8]) -> Option<Spot<'_>>
-        ensures { result ≡ affordance_named kind name.now (held_thing self.now).affordances }
-    {
-        spot_named(
-            self.affordances.affordances(),
-            self.slots.as_slice(),
-            kind,
-            name,
-        )
+/// How many of these affordances have a slot.
+pub(crate) fn spot_count(affordances: &[Affordance], slots: &[u32]) -> usize
+    ensures { result ≡ length (placed_all affordances.now slots.now) }
+{
+    if slots.len() < affordances.len() {
+        slots.len()
+    } else {
+        affordances.len()
+    }
+}
+
+/// The affordance with this number, where it has a slot.
+pub(crate) fn spot_at<'a>(
+    affordances: &'a [Affordance],
+    slots: &[u32],
+    index: usize,
+) -> Option<Spot<'a>>
+    ensures { result ≡ slice_get (placed_all affordances.now slots.now) index }
+{
+    if index < affordances.len() {
+        spot_of(&affordances[index], slot_at(slots, index))
+    } else {
+        None
     }
 }
 
 /// The one of these affordances of this kind and name.
-fn spot_named<'a>(
+pub(crate) fn spot_named<'a>(
     affordances: &'a [Affordance],
     slots: &[u32],
     kind: Kind,
@@ -128,7 +139,7 @@ fn rank(kind: Kind) -> u8
 }
 
 /// The slot with this number.
-pub fn slot_at(slots: &[u32], index: usize) -> Option<u32>
+fn slot_at(slots: &[u32], index: usize) -> Option<u32>
     ensures { result ≡ slice_get slots.now index }
 {
     slots.get(index).copied()
@@ -147,12 +158,12 @@ pub fn is_kind(left: Kind, right: Kind) -> bool
 }
 
 /// The affordance may emit.
-pub fn is_emitter(affordance: &Affordance) -> bool
-    ensures { result ≡ is_emitter_of (record { affordance = affordance.now; slot = 0 }) }
+pub fn is_emitter(spot: &Spot<'_>) -> bool
+    ensures { result ≡ is_emitter_of spot.now }
 {
-    match affordance.kind {
+    match spot.affordance().kind {
         Kind::Event => true,
-        Kind::Property => affordance.observable,
+        Kind::Property => spot.affordance().observable,
         Kind::Action => false,
     }
 }

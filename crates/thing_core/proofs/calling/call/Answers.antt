@@ -1,5 +1,6 @@
 use Rattle.std.proofs.Common.{ℕ, refl, sym, subst, ◌∙◌, arith}
 use Rattle.std.specs.Prelude.{Ok, Err}
+use Rattle.std.proofs.lemmas.Result.{err_from_is_err_and}
 use Rattle.thing_ops.specs.declared.outcome.Outcome.TheVariants as outcome
 use Rattle.thing_handler.specs.Handler.{CallsHandler}
 use Rattle.thing_core.specs.Thing.{no_number, no_memory, gives}
@@ -12,17 +13,19 @@ returns-then-number-eq-MOST_TURNS g c =
     calls_for (λ called. ComesAs called (Err outcome.CallsUsed)) c.args.slot c.args.what.now no_number c.args.machine.now c.args.machine.now (g.R.Handlers.slots c.args.rack.now) (g.R.Handlers.slots c.args.rack.now) refl
     (call_full c.args.machine.now (g.R.Handlers.slots c.args.rack.now) c.args.slot c.args.what.now (sym c.turns-number.ensures.turns ∙ c.if-number-eq-MOST_TURNS.true))
 
-pub returns-in-Ok : goal.returns-in-Ok
-returns-in-Ok g c =
-    calls_for (λ called. ComesAs called (Ok c.in-Ok.answer)) c.args.slot c.args.what.now (gives c.in-Ok.answer) c.args.machine.now c.count_turn.new.self (g.R.Handlers.slots c.args.rack.now) (g.R.Handlers.slots c.call.new.self) refl
-    (call_answered c.args.machine.now c.count_turn.new.self (g.R.Handlers.slots c.args.rack.now) (g.R.Handlers.slots c.call.new.self) c.args.slot c.args.what.now c.in-Ok.answer
+pub returns : goal.returns
+returns g c =
+    calls_for (λ called. ComesAs called (Ok c.in_ok-answer.answer)) c.args.slot c.args.what.now (gives c.in_ok-answer.answer) c.args.machine.now c.count_turn.new.self (g.R.Handlers.slots c.args.rack.now) (g.R.Handlers.slots c.call.new.self) refl
+    (call_answered c.args.machine.now c.count_turn.new.self (g.R.Handlers.slots c.args.rack.now) (g.R.Handlers.slots c.call.new.self) c.args.slot c.args.what.now c.in_ok-answer.answer
     (omega (arith, c.turns-number.ensures.turns, c.turns-number.ensures.bound, c.if-number-eq-MOST_TURNS.false))
-    (subst (λ (n : ℕ). CallsHandler (g.R.Handlers.slots c.args.rack.now) (g.R.Handlers.slots c.call.new.self) c.args.slot n c.args.what.now (Ok c.in-Ok.answer)) c.turns-number.ensures.turns c.in-Ok.ensures)
+    (subst (λ (n : ℕ). CallsHandler (g.R.Handlers.slots c.args.rack.now) (g.R.Handlers.slots c.call.new.self) c.args.slot n c.args.what.now (Ok c.in_ok-answer.answer)) c.turns-number.ensures.turns c.in_ok-answer.ensures)
     c.count_turn.ensures)
 
-pub returns-in-Err : goal.returns-in-Err
-returns-in-Err g c =
-    calls_for (λ called. ComesAs called (Err outcome.Memory)) c.args.slot c.args.what.now no_memory c.args.machine.now c.args.machine.now (g.R.Handlers.slots c.args.rack.now) (g.R.Handlers.slots c.call.new.self) refl
-    (call_missed c.args.machine.now (g.R.Handlers.slots c.args.rack.now) (g.R.Handlers.slots c.call.new.self) c.args.slot c.args.what.now c.in-Err.field-0
+pub returns-in_err-answer : goal.returns-in_err-answer
+returns-in_err-answer g c =
+    let p = err_from_is_err_and c.from_residual.result c.from_residual.ensures.1 in
+    rw (p.1, p.2)
+    (calls_for (λ called. ComesAs called (Err outcome.Memory)) c.args.slot c.args.what.now no_memory c.args.machine.now c.args.machine.now (g.R.Handlers.slots c.args.rack.now) (g.R.Handlers.slots c.call.new.self) refl
+    (call_missed c.args.machine.now (g.R.Handlers.slots c.args.rack.now) (g.R.Handlers.slots c.call.new.self) c.args.slot c.args.what.now c.in_err-answer.field-0.0
     (omega (arith, c.turns-number.ensures.turns, c.turns-number.ensures.bound, c.if-number-eq-MOST_TURNS.false))
-    (subst (λ (n : ℕ). CallsHandler (g.R.Handlers.slots c.args.rack.now) (g.R.Handlers.slots c.call.new.self) c.args.slot n c.args.what.now (Err c.in-Err.field-0)) c.turns-number.ensures.turns c.in-Err.ensures))
+    (subst (λ (n : ℕ). CallsHandler (g.R.Handlers.slots c.args.rack.now) (g.R.Handlers.slots c.call.new.self) c.args.slot n c.args.what.now (Err c.in_err-answer.field-0.0)) c.turns-number.ensures.turns c.in_err-answer.ensures)))

@@ -5,32 +5,31 @@ use Rattle.thing_handler.specs.declared.handler.CallKind.TheVariants as call
 use Rattle.thing_core.specs.Thing.{no_number, gives}
 use Rattle.thing_core.specs.Performing.{ComesAs, MakesCall}
 use Rattle.thing_core.proofs.MoveLaws.{call_full, makes_answered, makes_call}
-use Rattle.thing_core.proofs.InvokeLaws.{some_handed, invoke_done, invoked_after, unanswered_invoke}
+use Rattle.thing_core.proofs.InvokeLaws.{invoke_done, invoked_after, unanswered_invoke}
 use Rattle.thing_core.proofs.invoking.invoke.Goals as goal
 
 pub returns-then-turns-eq-MOST_TURNS : goal.returns-then-turns-eq-MOST_TURNS
 returns-then-turns-eq-MOST_TURNS g c = λ path place.
-    let handed = some_handed c.args.inputs.items in
-    invoke_done c.args.spot path c.args.inputs.items handed.0 no_number outcome.CallsUsed c.args.machine.now c.args.machine.now c.args.machine.now
-    (g.R.Handlers.slots c.args.rack.now) (g.R.Handlers.slots c.args.rack.now) handed.1
-    (call_full c.args.machine.now (g.R.Handlers.slots c.args.rack.now) c.args.spot.slot (call.Invoke c.args.machine.now.state.next_invocation handed.0) (sym c.turns.ensures.turns ∙ c.if-turns-eq-MOST_TURNS.true))
+    invoke_done c.args.spot path c.args.inputs.items c.handed_in-input.result no_number outcome.CallsUsed c.args.machine.now c.args.machine.now c.args.machine.now
+    (g.R.Handlers.slots c.args.rack.now) (g.R.Handlers.slots c.args.rack.now) c.handed_in-input.ensures
+    (call_full c.args.machine.now (g.R.Handlers.slots c.args.rack.now) c.args.spot.slot (call.Invoke c.args.machine.now.state.next_invocation c.handed_in-input.result) (sym c.turns.ensures.turns ∙ c.if-turns-eq-MOST_TURNS.true))
     (refl, record { next = refl; saw = refl }) refl
 
 pub returns-in-Err : goal.returns-in-Err
 returns-in-Err g c = λ path place.
     let k = c.in-Err.ensures in
-    invoke_done c.args.spot path c.args.inputs.items c.handed_in.result k.called c.in-Err.outcome c.args.machine.now c.call.new.machine c.call.new.machine
-    (g.R.Handlers.slots c.args.rack.now) (g.R.Handlers.slots c.call.new.rack) c.handed_in.ensures
-    (subst (λ (n : ℕ). MakesCall c.args.spot.slot (call.Invoke n c.handed_in.result) k.called c.args.machine.now c.call.new.machine (g.R.Handlers.slots c.args.rack.now) (g.R.Handlers.slots c.call.new.rack))
+    invoke_done c.args.spot path c.args.inputs.items c.handed_in-input.result k.called c.in-Err.outcome c.args.machine.now c.call.new.machine c.call.new.machine
+    (g.R.Handlers.slots c.args.rack.now) (g.R.Handlers.slots c.call.new.rack) c.handed_in-input.ensures
+    (subst (λ (n : ℕ). MakesCall c.args.spot.slot (call.Invoke n c.handed_in-input.result) k.called c.args.machine.now c.call.new.machine (g.R.Handlers.slots c.args.rack.now) (g.R.Handlers.slots c.call.new.rack))
     c.next_invocation-id.ensures.id
-    (makes_call (λ called. ComesAs called (Err c.in-Err.outcome)) c.slot.result c.args.spot.slot (call.Invoke c.next_invocation-id.result c.handed_in.result) c.args.machine.now c.call.new.machine (g.R.Handlers.slots c.args.rack.now) (g.R.Handlers.slots c.call.new.rack) c.slot.ensures k))
+    (makes_call (λ called. ComesAs called (Err c.in-Err.outcome)) c.slot.result c.args.spot.slot (call.Invoke c.next_invocation-id.result c.handed_in-input.result) c.args.machine.now c.call.new.machine (g.R.Handlers.slots c.args.rack.now) (g.R.Handlers.slots c.call.new.rack) c.slot.ensures k))
     (unanswered_invoke c.args.spot path c.args.machine.now.state.next_invocation c.call.new.machine.state k.called c.in-Err.outcome k.comes) refl
 
 pub returns-in-Ok : goal.returns-in-Ok
 returns-in-Ok g c = λ path place.
-    let k : MakesCall c.args.spot.slot (call.Invoke c.args.machine.now.state.next_invocation c.handed_in.result) (gives c.in-Ok.answer) c.args.machine.now c.call.new.machine (g.R.Handlers.slots c.args.rack.now) (g.R.Handlers.slots c.call.new.rack) =
-    subst (λ (n : ℕ). MakesCall c.args.spot.slot (call.Invoke n c.handed_in.result) (gives c.in-Ok.answer) c.args.machine.now c.call.new.machine (g.R.Handlers.slots c.args.rack.now) (g.R.Handlers.slots c.call.new.rack))
+    let k : MakesCall c.args.spot.slot (call.Invoke c.args.machine.now.state.next_invocation c.handed_in-input.result) (gives c.in-Ok.answer) c.args.machine.now c.call.new.machine (g.R.Handlers.slots c.args.rack.now) (g.R.Handlers.slots c.call.new.rack) =
+    subst (λ (n : ℕ). MakesCall c.args.spot.slot (call.Invoke n c.handed_in-input.result) (gives c.in-Ok.answer) c.args.machine.now c.call.new.machine (g.R.Handlers.slots c.args.rack.now) (g.R.Handlers.slots c.call.new.rack))
     c.next_invocation-id.ensures.id
-    (makes_answered c.slot.result c.args.spot.slot (call.Invoke c.next_invocation-id.result c.handed_in.result) c.in-Ok.answer c.args.machine.now c.call.new.machine (g.R.Handlers.slots c.args.rack.now) (g.R.Handlers.slots c.call.new.rack) c.slot.ensures c.in-Ok.ensures) in
-    invoked_after c.args.spot path c.args.prepared.place c.args.inputs.items c.handed_in.result c.in-Ok.answer c.settle.result c.args.machine.now c.call.new.machine c.settle.new.machine
-    (g.R.Handlers.slots c.args.rack.now) (g.R.Handlers.slots c.call.new.rack) c.handed_in.ensures k place c.settle.ensures
+    (makes_answered c.slot.result c.args.spot.slot (call.Invoke c.next_invocation-id.result c.handed_in-input.result) c.in-Ok.answer c.args.machine.now c.call.new.machine (g.R.Handlers.slots c.args.rack.now) (g.R.Handlers.slots c.call.new.rack) c.slot.ensures c.in-Ok.ensures) in
+    invoked_after c.args.spot path c.args.prepared.place c.args.inputs.items c.handed_in-input.result c.in-Ok.answer c.settle.result c.args.machine.now c.call.new.machine c.settle.new.machine
+    (g.R.Handlers.slots c.args.rack.now) (g.R.Handlers.slots c.call.new.rack) c.handed_in-input.ensures k place c.settle.ensures

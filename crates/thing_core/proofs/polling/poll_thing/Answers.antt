@@ -1,9 +1,7 @@
-use Rattle.std.proofs.Common.{◌≡◌, ◌+◌, ◌∙◌, ℕ, List, [], ◌∷◌, ◌++◌, ◌<◌, drop, get_or, length, length-append, refl, sym, ap, subst, arith, append_assoc}
+use Rattle.std.proofs.Common.{◌≡◌, ◌+◌, ◌∙◌, ℕ, List, [], ◌∷◌, ◌++◌, drop, length, length-append, refl, sym, ap, subst, arith, append_assoc}
 use Rattle.std.specs.Prelude.{slice_get, Some}
-use Rattle.wot_terms.specs.declared.affordance.Affordance.{Affordance}
 use Rattle.std.proofs.lemmas.List.{append-nil, at_drop_all}
 use Rattle.thing_site.specs.Site.{Placed}
-use Rattle.thing_site.specs.Exposing.{placed_all}
 use Rattle.thing_core.specs.Performing.{AllStand, PollsSome}
 use Rattle.thing_core.proofs.PlacedLists.{placed_more, placed_end, events_among, events_more, stands_first, stands_rest}
 use Rattle.thing_core.proofs.PollLaws.{none_polled, polled_then}
@@ -13,47 +11,41 @@ pub loop-index-init : goal.loop-index-init
 loop-index-init g c = (([], refl, none_polled c.args.machine.now (g.R.Handlers.slots c.args.rack.now)), c.requires.slots, omega arith, refl)
 
 -- what is left begins with this affordance
-split : (affordances : List Affordance) (slots : List ℕ) (i : ℕ) (a : Affordance) (slot : ℕ) → i < length affordances → a ≡ get_or affordances i a → slice_get slots i ≡ Some slot
-    → events_among (placed_all (drop i affordances) (drop i slots))
-    ≡ events_among (record { affordance = a; slot = slot } ∷ []) ++ events_among (placed_all (drop (i + 1) affordances) (drop (i + 1) slots))
-split affordances slots i a slot within at given =
-    placed_more events_among affordances slots i a slot within at given
-    ∙ events_more (record { affordance = a; slot = slot }) (placed_all (drop (i + 1) affordances) (drop (i + 1) slots))
+split : (ps : List Placed) (i : ℕ) (p : Placed) → slice_get ps i ≡ Some p → events_among (drop i ps) ≡ events_among (p ∷ []) ++ events_among (drop (i + 1) ps)
+split ps i p given = placed_more events_among ps i p given ∙ events_more p (drop (i + 1) ps)
 
 pub returns-in-None-clause-polled : goal.returns-in-None-clause-polled
 returns-in-None-clause-polled g c =
     let done : List Placed = c.loop-index.invariant.0.0 in
     subst (λ (ps : List Placed). PollsSome ps c.args.machine.now c.loop-index.machine (g.R.Handlers.slots c.args.rack.now) (g.R.Handlers.slots c.loop-index.rack))
     (sym (append-nil done)
-    ∙ ap (λ (l : List Placed). done ++ l) (sym (placed_end events_among c.args.affordances.now c.args.slots.now c.loop-index.index (sym c.slot_at.ensures ∙ c.in-None.is)))
+    ∙ ap (λ (l : List Placed). done ++ l) (sym (placed_end events_among c.args.thing.now.affordances c.loop-index.index (sym c.spot.ensures ∙ c.in-None.is)))
     ∙ c.loop-index.invariant.0.1)
     c.loop-index.invariant.0.2
 
 pub poll_if_event-requires-clause-slots : goal.poll_if_event-requires-clause-slots
 poll_if_event-requires-clause-slots g c =
-    let p : Placed = record { affordance = c.index-affordances-index.result; slot = c.in-Some.slot } in
-    let rest : List Placed = events_among (placed_all (drop (c.loop-index.index + 1) c.args.affordances.now) (drop (c.loop-index.index + 1) c.args.slots.now)) in
-    subst (λ (q : Placed). AllStand (length (g.R.Handlers.slots c.loop-index.rack)) (events_among (q ∷ []))) (sym c.of.ensures)
-    (stands_first (length (g.R.Handlers.slots c.loop-index.rack)) (events_among (p ∷ [])) rest
+    let p : Placed = c.in-Some.spot in
+    let rest : List Placed = events_among (drop (c.loop-index.index + 1) c.args.thing.now.affordances) in
+    stands_first (length (g.R.Handlers.slots c.loop-index.rack)) (events_among (p ∷ [])) rest
     (subst (λ (ps : List Placed). AllStand (length (g.R.Handlers.slots c.loop-index.rack)) ps)
-    (split c.args.affordances.now c.args.slots.now c.loop-index.index c.index-affordances-index.result c.in-Some.slot c.loop-index-test.true c.index-affordances-index.is (sym c.slot_at.ensures ∙ c.in-Some.is))
-    c.loop-index.invariant.1))
+    (split c.args.thing.now.affordances c.loop-index.index c.in-Some.spot (sym c.spot.ensures ∙ c.in-Some.is))
+    c.loop-index.invariant.1)
 
 pub poll_if_event-requires-clause-room : goal.poll_if_event-requires-clause-room
 poll_if_event-requires-clause-room g c =
-    let p : Placed = record { affordance = c.index-affordances-index.result; slot = c.in-Some.slot } in
-    let rest : List Placed = events_among (placed_all (drop (c.loop-index.index + 1) c.args.affordances.now) (drop (c.loop-index.index + 1) c.args.slots.now)) in
+    let p : Placed = c.in-Some.spot in
+    let rest : List Placed = events_among (drop (c.loop-index.index + 1) c.args.thing.now.affordances) in
     let counts = length-append (events_among (p ∷ [])) rest in
-    let lengths = ap length (split c.args.affordances.now c.args.slots.now c.loop-index.index c.index-affordances-index.result c.in-Some.slot c.loop-index-test.true c.index-affordances-index.is (sym c.slot_at.ensures ∙ c.in-Some.is)) in
-    let same = ap (λ (q : Placed). length (events_among (q ∷ []))) c.of.ensures in
-    omega (arith, counts, lengths, same, c.loop-index.invariant.2, c.requires.room)
+    let lengths = ap length (split c.args.thing.now.affordances c.loop-index.index c.in-Some.spot (sym c.spot.ensures ∙ c.in-Some.is)) in
+    omega (arith, counts, lengths, c.loop-index.invariant.2, c.requires.room)
 
 pub loop-index-preserved : goal.loop-index-preserved
 loop-index-preserved g c =
-    let p : Placed = record { affordance = c.index-affordances-index.result; slot = c.in-Some.slot } in
-    let rest : List Placed = events_among (placed_all (drop (c.loop-index.index + 1) c.args.affordances.now) (drop (c.loop-index.index + 1) c.args.slots.now)) in
-    let e : events_among (placed_all (drop c.loop-index.index c.args.affordances.now) (drop c.loop-index.index c.args.slots.now)) ≡ events_among (p ∷ []) ++ rest =
-    split c.args.affordances.now c.args.slots.now c.loop-index.index c.index-affordances-index.result c.in-Some.slot c.loop-index-test.true c.index-affordances-index.is (sym c.slot_at.ensures ∙ c.in-Some.is) in
+    let p : Placed = c.in-Some.spot in
+    let rest : List Placed = events_among (drop (c.loop-index.index + 1) c.args.thing.now.affordances) in
+    let e : events_among (drop c.loop-index.index c.args.thing.now.affordances) ≡ events_among (p ∷ []) ++ rest =
+    split c.args.thing.now.affordances c.loop-index.index c.in-Some.spot (sym c.spot.ensures ∙ c.in-Some.is) in
     let done : List Placed = c.loop-index.invariant.0.0 in
     let counts = length-append (events_among (p ∷ [])) rest in (
       (
@@ -61,12 +53,12 @@ loop-index-preserved g c =
         append_assoc done (events_among (p ∷ [])) rest ∙ ap (λ (l : List Placed). done ++ l) (sym e) ∙ c.loop-index.invariant.0.1,
         polled_then done (events_among (p ∷ [])) c.args.machine.now c.loop-index.machine c.poll_if_event.new.machine
             (g.R.Handlers.slots c.args.rack.now) (g.R.Handlers.slots c.loop-index.rack) (g.R.Handlers.slots c.poll_if_event.new.rack) c.loop-index.invariant.0.2
-            (subst (λ (q : Placed). PollsSome (events_among (q ∷ [])) c.loop-index.machine c.poll_if_event.new.machine (g.R.Handlers.slots c.loop-index.rack) (g.R.Handlers.slots c.poll_if_event.new.rack)) c.of.ensures c.poll_if_event.ensures.polled),
+            c.poll_if_event.ensures.polled,
       ),
       subst (λ (n : ℕ). AllStand n rest) (sym c.poll_if_event.ensures.slots)
           (stands_rest (length (g.R.Handlers.slots c.loop-index.rack)) (events_among (p ∷ [])) rest
           (subst (λ (ps : List Placed). AllStand (length (g.R.Handlers.slots c.loop-index.rack)) ps) e c.loop-index.invariant.1)),
-      omega (arith, counts, ap length e, ap (λ (q : Placed). length (events_among (q ∷ []))) c.of.ensures, c.loop-index.invariant.2, c.poll_if_event.ensures.room),
+      omega (arith, counts, ap length e, c.loop-index.invariant.2, c.poll_if_event.ensures.room),
       c.poll_if_event.ensures.slots ∙ c.loop-index.invariant.3,
     )
 
@@ -76,6 +68,6 @@ returns-clause-polled g c =
     subst (λ (ps : List Placed). PollsSome ps c.args.machine.now c.loop-index.machine (g.R.Handlers.slots c.args.rack.now) (g.R.Handlers.slots c.loop-index.rack))
     (sym (append-nil done)
     ∙ ap (λ (l : List Placed). done ++ l)
-    (sym (at_drop_all (λ (l : List Affordance). events_among (placed_all l (drop c.loop-index.index c.args.slots.now))) c.args.affordances.now c.loop-index.index (omega (arith, c.loop-index-test.false))))
+    (sym (at_drop_all events_among c.args.thing.now.affordances c.loop-index.index (omega (arith, c.loop-index-test.false, c.len-index-end.ensures))))
     ∙ c.loop-index.invariant.0.1)
     c.loop-index.invariant.0.2

@@ -1,21 +1,20 @@
-use Rattle.std.proofs.Common.{◌≡◌, ◌∙◌, List, [], length, refl, sym, ap, subst}
+use Rattle.std.proofs.Common.{◌≡◌, ◌∙◌, List, [], length, refl, sym, subst}
 use Rattle.thing_site.specs.Site.{Placed}
 use Rattle.thing_core.specs.Thing.{readable, ReadsEach}
-use Rattle.thing_site.specs.Exposing.{held_thing, placed_all}
-use Rattle.thing_core.specs.Performing.{AllStand, spots_of}
+use Rattle.thing_core.specs.Performing.{AllStand}
 use Rattle.thing_core.proofs.MoveLaws.{memory_out}
 use Rattle.thing_core.proofs.PlacedLists.{readable_of, readable_stand}
 use Rattle.thing_core.proofs.reading.read_all.Goals as goal
 
 pub returns-in-Err : goal.returns-in-Err
-returns-in-Err g c = memory_out (ReadsEach (readable (held_thing c.args.thing.now)) []) c.args.machine.now c.args.machine.now (g.R.Handlers.slots c.args.rack.now) refl refl
+returns-in-Err g c = memory_out (ReadsEach (readable c.args.thing.now) []) c.args.machine.now c.args.machine.now (g.R.Handlers.slots c.args.rack.now) refl refl
 
 pub read_fields-requires-clause-slots : goal.read_fields-requires-clause-slots
 read_fields-requires-clause-slots g c =
-    let e : spots_of c.as_slice-in-Some.result.now ≡ readable_of (held_thing c.args.thing.now).affordances =
-    ap spots_of c.as_slice-in-Some.ensures.value ∙ c.in-Ok.ensures ∙ (λ k. readable_of (placed_all (c.affordances.ensures k) (c.as_slice.ensures.value k))) in
+    let e : c.as_slice-in-Some.result.now ≡ readable_of c.args.thing.now.affordances =
+    c.as_slice-in-Some.ensures.value ∙ c.in-Ok.ensures in
     subst (λ (ps : List Placed). AllStand (length (g.R.Handlers.slots c.args.rack.now)) ps) (sym e)
-    (readable_stand (length (g.R.Handlers.slots c.args.rack.now)) (held_thing c.args.thing.now).affordances c.requires)
+    (readable_stand (length (g.R.Handlers.slots c.args.rack.now)) c.args.thing.now.affordances c.requires)
 
 pub returns : goal.returns
-returns g c = memory_out (ReadsEach (readable (held_thing c.args.thing.now)) []) c.args.machine.now c.args.machine.now (g.R.Handlers.slots c.args.rack.now) refl refl
+returns g c = memory_out (ReadsEach (readable c.args.thing.now) []) c.args.machine.now c.args.machine.now (g.R.Handlers.slots c.args.rack.now) refl refl

@@ -1,6 +1,5 @@
-use Rattle.std.proofs.Common.{◌≡◌, List, Bool, true, false, cond, sym, ap, ◌∙◌}
-use Rattle.std.specs.Prelude.{Option, Some, None}
-use Rattle.thing_ops.specs.declared.verb.Verb.{Verb}
+use Rattle.std.proofs.Common.{◌≡◌, Bool, true, false, cond, sym, ap, ◌∙◌}
+use Rattle.std.specs.Prelude.{Some, None}
 use Rattle.thing_ops.specs.Verbs.{verbs_of}
 use Rattle.thing_site.specs.Places.{Act, act_of, flags_of, is_listed}
 use Rattle.thing_site.specs.Found.{found_place}

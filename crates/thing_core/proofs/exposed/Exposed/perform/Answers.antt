@@ -1,4 +1,4 @@
-use Rattle.std.proofs.Common.{◌≡◌, List, map, length, sym, ap, subst, ◌∙◌}
+use Rattle.std.proofs.Common.{◌≡◌, List, length, sym, ap, subst, ◌∙◌}
 use Rattle.thing_ops.specs.Requests.{PlainRequest, plain_request}
 use Rattle.thing_handler.specs.Handler.{Seen}
 use Rattle.thing_site.specs.Site.{Site}
@@ -6,7 +6,6 @@ use Rattle.thing_core.specs.Refusals.{Asked}
 use Rattle.thing_site.specs.Found.{found_act}
 use Rattle.thing_site.specs.Fits.{Fits}
 use Rattle.thing_core.specs.Kept.{Kept}
-use Rattle.thing_site.specs.HandedIn.{input_of}
 use Rattle.thing_core.specs.Performing.{MakesAct}
 use Rattle.thing_core.proofs.SlotLaws.{SiteStands, site_stands, slots_stand, inputs_fit, may_be_done}
 use Rattle.thing_core.proofs.LastLaws.{act_keeps}
@@ -39,7 +38,7 @@ act-requires-clause-state g c =
 
 pub invariant_of-self : goal.invariant_of-self
 invariant_of-self g c =
-    act_keeps (found_act c.in-Ok.task.act) (plain_request c.args.request.now) (map input_of c.in-Ok.task.inputs.items) c.act.ensures.done c.self.inside.machine.state c.act.ensures.made.seen c.act.new.machine.state
+    act_keeps (found_act c.in-Ok.task.act) (plain_request c.args.request.now) c.in-Ok.task.inputs.items c.act.ensures.done c.self.inside.machine.state c.act.ensures.made.seen c.act.new.machine.state
     c.act.ensures.made.move
     ∙ c.self.invariant
 
@@ -48,7 +47,7 @@ returns-in-Ok g c =
     let q : PlainRequest = plain_request c.args.request.now in
     let new : Kept = record { site = c.self.inside.things; state = c.act.new.machine.state; pending = c.act.new.machine.pending } in
     subst (λ (k : Kept). MakesAct k new q c.act.result (g.R.Handlers.slots c.args.rack.now) (g.R.Handlers.slots c.act.new.rack)) c.self.view_is
-    (done_makes c.self.inside.things q (found_act c.in-Ok.task.act) (map input_of c.in-Ok.task.inputs.items) c.act.result c.self.inside.machine c.act.new.machine
+    (done_makes c.self.inside.things q (found_act c.in-Ok.task.act) c.in-Ok.task.inputs.items c.act.result c.self.inside.machine c.act.new.machine
     (g.R.Handlers.slots c.args.rack.now) (g.R.Handlers.slots c.act.new.rack) (ap (λ (k : Kept). k.pending) c.self.view_is ∙ c.requires.pending) c.in-Ok.ensures.0 c.in-Ok.ensures.1 c.in-Ok.ensures.2 c.act.ensures)
 
 pub returns-in-Err : goal.returns-in-Err

@@ -1,6 +1,5 @@
 use Rattle.std.proofs.Common.{◌≡◌, [], ◌++◌, length, refl, sym, ap, subst, ◌∙◌, arith}
 use Rattle.thing_site.specs.Site.{Site, events_of, emitters_of}
-use Rattle.thing_site.specs.Exposing.{held_site}
 use Rattle.thing_site.specs.Fits.{Fits}
 use Rattle.thing_core.specs.Kept.{Kept}
 use Rattle.thing_core.specs.Performing.{MakesPolls, PollsSome}
@@ -11,8 +10,8 @@ use Rattle.thing_core.proofs.exposed.Exposed.tick.Goals as goal
 
 pub poll_all-requires-clause-slots : goal.poll_all-requires-clause-slots
 poll_all-requires-clause-slots g c =
-    all_events_stand (length (g.R.Handlers.slots c.args.rack.now)) (held_site c.as_slice.result.now)
-    (site_stands (g.R.Handlers.slots c.args.rack.now) (held_site c.as_slice.result.now)
+    all_events_stand (length (g.R.Handlers.slots c.args.rack.now)) c.as_slice.result.now
+    (site_stands (g.R.Handlers.slots c.args.rack.now) c.as_slice.result.now
     (subst (λ (x : Site). Fits x (g.R.Handlers.slots c.args.rack.now)) (sym (ap (λ (k : Kept). k.site) c.self.view_is) ∙ sym c.as_slice.ensures) c.requires.fits))
 
 pub poll_all-requires-clause-room : goal.poll_all-requires-clause-room
@@ -31,7 +30,7 @@ poll_all-requires-clause-room g c =
 pub invariant_of-self : goal.invariant_of-self
 invariant_of-self g c =
     let k = c.poll_all.ensures in
-    polls_keep (events_of (held_site c.as_slice.result.now) ++ []) (k.emissions ++ []) c.self.inside.machine.state ((k.leads []).seen ++ []) c.poll_all.new.machine.state
+    polls_keep (events_of c.as_slice.result.now ++ []) (k.emissions ++ []) c.self.inside.machine.state ((k.leads []).seen ++ []) c.poll_all.new.machine.state
     ((k.leads []).leads [] [] c.poll_all.new.machine.state (refl, record { next = refl; saw = refl }))
     ∙ c.self.invariant
 

@@ -16,7 +16,8 @@ use std::alloc::Global;
 use std::collections::VecDeque;
 use std::marker::Model;
 
-/// The state of the machine, and the targets of emissions that weren't handed out yet.
+/// The state of the machine, and the targets of emissions that weren't handed out yet. An invocation that goes gives
+/// its room back.
 #[derive(Drop)]
 pub struct Machine {
     /// The oldest first.

@@ -17,7 +17,7 @@ use std::marker::Model;
 use thing_handler::Handlers;
 use wot_terms::Things;
 
-/// Things in their order, with an index. Contracts see the Things.
+/// Things in their order, in which they are polled, with an index. Contracts see the Things.
 #[derive(Drop)]
 pub struct IndexedThings {
     things: Vec<HeldThing>,

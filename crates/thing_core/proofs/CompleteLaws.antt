@@ -1,4 +1,4 @@
--- A request that nothing stands against, and whose devices answer in kind, comes to the success of its act.
+-- A request that nothing is against, and whose devices answer in kind, has the success of its act as its outcome.
 use Rattle.std.proofs.Common.{◌≡◌, ℕ, List, [], ◌∷◌, ◌++◌, refl, sym, ap, subst, ◌∙◌, inl, inr}
 use Rattle.std.specs.Prelude.{◌⊎◌, Result, Ok, Err, Option, Some, None}
 use Rattle.std.specs.List.{AllByRecursion}
@@ -211,7 +211,7 @@ act_succeeds (cancels p id) q inputs done s t seen x given all = cancels_succeed
 act_succeeds (reads_event p) q inputs done s t seen x given all = emission_read done (last_of p.slot s.last) t x.0
 act_succeeds (waits p) q inputs done s t seen x given all = succeeds (outcome_is done _ x.0)
 
--- the first that stands is one that stands
+-- the first that holds is one that holds
 pub none_is_first : (S : Refusal → Type 0) (A : Refusal → Outcome → Type 0) (rs : List Refusal) (o : Outcome) → IsFirst S A rs o → IsNone S rs → ⊥
 none_is_first S A [] o first none = first
 none_is_first S A (r ∷ rs) o (inl stands) none = none.0 stands.0

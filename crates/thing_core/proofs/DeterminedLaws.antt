@@ -1,4 +1,4 @@
--- What a request comes to is determined by the state, the request and the answers, where memory isn't out.
+-- The outcome of a request is determined by the state, the request and the answers, where nothing is out of memory.
 use Rattle.std.proofs.Common.{◌≡◌, ◌≢◌, ℕ, Bool, false, List, [], ◌∷◌, ◌++◌, refl, sym, ap, ap₂, subst, ◌∙◌, arith, inl, inr}
 use Rattle.std.specs.Prelude.{◌==◌, ◌||◌, Result, Ok, Err, Option, Some, None}
 use Rattle.std.proofs.lemmas.Option.{same_Some}

@@ -1,4 +1,4 @@
--- Invocations whose ids rise: what a search by halving finds, and what keeps the order.
+-- Invocations whose ids rise: what a binary search finds, and what keeps the order.
 use Rattle.std.proofs.Common.{◌≡◌, ℕ, zero, suc, ◌+◌, ◌<◌, ◌≤◌, List, [], ◌∷◌, ◌++◌, length, get_or, Bool, true, false, cond, not, refl, sym, ap, subst, inl, inr, ◌∙◌, arith}
 use Rattle.std.specs.Prelude.{Option, Some, None, ◌==◌, ◌&&◌, nat_lt}
 use Rattle.std.specs.List.{AllByRecursion, HoldsAt, position, position_or_len}
@@ -31,7 +31,7 @@ earlier_id (x ∷ xs) rise i zero d below within = absurd (omega arith)
 earlier_id (x ∷ xs) rise zero (suc j) d below within = later_id x.id xs j d rise.0 (omega arith)
 earlier_id (x ∷ xs) rise (suc i) (suc j) d below within = earlier_id xs rise.1 i j d (omega arith) (omega arith)
 
--- ---- a search by halving
+-- ---- a binary search
 
 -- how an invocation compares to the id that is looked for
 abbrev pub id_order : ℕ → Invocation → Ordering

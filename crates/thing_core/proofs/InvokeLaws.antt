@@ -77,7 +77,7 @@ unanswered_cancel id s no_number o e = (ap only e, record { next = refl; saw = r
 unanswered_cancel id s no_memory o e = (ap only e, record { next = refl; saw = refl })
 unanswered_cancel id s (gives answer) o e = absurd e
 
--- ---- how an invocation stands
+-- ---- the status of an invocation
 
 pub some_of : {A : Type 0} (o : Option A) → IsSome o → (x : A) × (o ≡ Some x)
 some_of None is = absurd cc

@@ -99,7 +99,7 @@ leads_end P W i s m t a b c one last = record {
 pub made_unseen : (P : Move) (s t : State) (slots : List Seen) → P s [] t → Makes RackShows P s t slots slots
 made_unseen P s t slots p = record { seen = []; move = p; shows = rack_shows_in_order.none slots }
 
--- a part is the same whatever state it leads on from, where nothing is seen between
+-- a part is the same from every state that it leads on from, where nothing is seen between
 pub leads_unseen : {I : Type 0} (P Q W : I → Move) (s m n : State) (a b : List Seen) → Leads Q W s m a b → ((i : I) (later : List HandlerCall) (t : State) → P i n later t → Q i m later t) → Leads P W s n a b
 leads_unseen P Q W s m n a b one on = record {
   seen = one.seen;
@@ -164,7 +164,7 @@ done_alone P o c d a b made same = record {
   made = made;
 }
 
--- it may also be that memory was out
+-- it may also be that it was out of memory
 pub or_memory : (P : Done → Move) (o : Outcome) (c d : Course) (a b : List Seen) → MakesDone P o c d a b → MakesDone (OrMemory P) o c d a b
 or_memory P o c d a b k = record {
   done = k.done;

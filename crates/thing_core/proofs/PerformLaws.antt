@@ -39,7 +39,7 @@ done_makes site q act inputs o c d before after none asked given free k = record
   };
 }
 
--- the request is refused, or memory is out
+-- the request is refused, or it is out of memory
 pub refusal_makes : (site : Site) (q : PlainRequest) (o : Outcome) (c : Course) (slots : List Seen) → c.pending ≡ []
     → (o ≡ outcome.Memory) ⊎ IsRefusedBy refusals (record { site = site; state = c.state; request = q }) o
     → MakesAct (record { site = site; state = c.state; pending = c.pending }) (record { site = site; state = c.state; pending = c.pending }) q o slots slots

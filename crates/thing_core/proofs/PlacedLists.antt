@@ -71,7 +71,7 @@ readable_more p ps =
 pub events_more : (p : Placed) (ps : List Placed) → events_among (p ∷ ps) ≡ events_among (p ∷ []) ++ events_among ps
 events_more p ps = filter_more (of_kind kind.Event) p ps
 
--- ---- slots that stand
+-- ---- slots that a rack has
 
 -- a part of all has what all have
 pub filter_has : (P : Placed → Type 0) (f : Placed → Bool) (ps : List Placed) → AllByRecursion P ps → AllByRecursion P (filter f ps)
@@ -89,7 +89,7 @@ readable_stand count ps all =
 pub events_stand : (count : ℕ) (ps : List Placed) → AllStand count ps → AllStand count (events_among ps)
 events_stand count ps all = filter_has (λ (x : Placed). x.slot < count) (of_kind kind.Event) ps all
 
--- of two lists of affordances whose slots stand, the slots of each stand
+-- of two lists of affordances whose slots a rack has, it has the slots of each
 pub stands_first : (count : ℕ) (ps qs : List Placed) → AllStand count (ps ++ qs) → AllStand count ps
 stands_first count [] qs all = tt
 stands_first count (p ∷ ps) qs all = (all.0, stands_first count ps qs all.1)

@@ -19,7 +19,7 @@ use Rattle.thing_core.specs.Performing.{IsActRefused, IsFree}
 
 -- ---- from the request alone to the state
 
--- none stands against an act that needs no state
+-- none holds of an act that needs no state
 pub act_is_free : (act : Act) (s : State) (q : PlainRequest) (inputs : List Input) → IsUnrefused act q inputs → ¬ (HasNoInvocationLeft s act) → IsFree act s q inputs
 act_is_free act s q inputs given free = (given.0, (given.1.0, (given.1.1.0, (given.1.1.1.0, (given.1.1.1.1.0, (given.1.1.1.1.1.0, (free, tt)))))))
 

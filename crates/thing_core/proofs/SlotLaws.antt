@@ -1,4 +1,5 @@
--- The affordances that a request asks for stand in a rack that the site fits, and an act that is admitted may be done.
+-- The affordances that a request asks for have slots of a rack that the site fits, and an act that
+-- is admitted may be done.
 use Rattle.std.proofs.Common.{◌≡◌, ◌≤◌, ◌<◌, ℕ, List, [], ◌∷◌, ◌++◌, length, Bool, true, false, cond, refl, sym, subst, arith, inl, inr}
 use Rattle.std.specs.Prelude.{Option, Some, None, IsSome, option_and_then, slice_get}
 use Rattle.std.specs.List.{AllByRecursion}
@@ -26,7 +27,7 @@ use Rattle.thing_core.specs.Performing.{AllStand, InputsFit, MayBeDone, affordan
 use Rattle.thing_core.proofs.Handed.{came_of, made_of, named_has, InputsHave, handed_have}
 use Rattle.thing_core.proofs.PlacedLists.{events_stand}
 
--- ---- what fits stands
+-- ---- what fits has slots
 
 fits_stand : (slots : List Seen) (ps : List Placed) → AllByRecursion (FitsSlot slots) ps → AllStand (length slots) ps
 fits_stand slots [] all = tt
@@ -72,7 +73,7 @@ in_thing_stands count k path site p all e =
 
 -- ---- places and acts
 
--- what a place is about stands
+-- what a place is about has slots
 abbrev HasSlots : ℕ → Place → Type 0
 HasSlots count (description thing) = AllStand count thing.affordances
 HasSlots count (all_properties thing) = AllStand count thing.affordances

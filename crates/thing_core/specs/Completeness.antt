@@ -1,4 +1,4 @@
--- What a request comes to that nothing stands against, and whose devices answer as they should.
+-- The outcome of a request that nothing is against, and whose devices answer as they should.
 use Rattle.std.specs.Prelude.{◌≡◌, ◌⊎◌, ℕ, List, [], ◌∷◌, Option, Some, None}
 use Rattle.std.specs.List.{AllByRecursion}
 use Rattle.wot_json.specs.Tree.{Json}
@@ -51,13 +51,13 @@ AnswersInKind (missed slot ∷ calls) p = AnswersInKind calls p
 abbrev pub IsContent : Outcome → Type 0
 IsContent o = (text : List ℕ) × (o ≡ outcome.Content text)
 
--- an action is finished, without an output or with one, or goes on
+-- an action is finished, without an output or with one, or runs
 abbrev pub IsInvocation : Outcome → Type 0
 IsInvocation o =
     (o ≡ outcome.Changed)
     ⊎ (((text : List ℕ) × (o ≡ outcome.Output text)) ⊎ ((place : List (List ℕ)) × (text : List ℕ) × (o ≡ outcome.Started place text)))
 
--- what each act comes to where it succeeds, by the table of acts
+-- the outcome of each act where it succeeds, by the table of acts
 abbrev pub IsSuccess : Act → PlainRequest → Outcome → Type 0
 IsSuccess (describes thing) q o = o ≡ outcome.Description (text_of thing.description) q.accept.td
 IsSuccess (reads_all thing) q o = IsContent o
@@ -70,14 +70,14 @@ IsSuccess (cancels p id) q o = o ≡ outcome.Deleted
 IsSuccess (reads_event p) q o = (o ≡ outcome.Empty) ⊎ IsContent o
 IsSuccess (waits p) q o = o ≡ outcome.Wait p.slot
 
--- a success; or memory is out, or the run has no number left for a turn
+-- a success; or it is out of memory, or the run has no number left for a turn
 pub data Succeeds (S : Outcome → Type 0) (o : Outcome) (t : State) : Type 0 where
   succeeds : S o → Succeeds S o t
   lacks_memory : o ≡ outcome.Memory → Succeeds S o t
   lacks_numbers : o ≡ outcome.CallsUsed → t.turns ≡ most_turns → Succeeds S o t
 
--- Where no refusal stands against a request, and the handlers that its act may call answer in kind, it comes to the
--- success of its act; or memory is out, or the run has no number left for a turn.
+-- Where no refusal holds of a request, and the handlers that its act may call answer in kind, its outcome is the
+-- success of its act; or it is out of memory, or the run has no number left for a turn.
 abbrev pub IsComplete : Site → PlainRequest → Type 0
 IsComplete site q =
     (act : Act) (done : Done) (s t : State) (seen : List HandlerCall) → Acts site q done s seen t

@@ -13,13 +13,13 @@ pub record Course : Type 0 where
   pub pending : List ℕ
   pub room : ℕ
 
--- how an invocation stands, by its progress and what is in the room of its output
+-- the status of an invocation, by its progress and what is in the room of its output
 abbrev pub status_of : Progress → List ℕ → Status
 status_of progress.Running output = running
 status_of progress.Finished output = completed None
 status_of progress.Gave output = completed (Some output)
 
--- the output of an invocation that stands so
+-- the output of an invocation of this status
 abbrev pub IsOutput : Status → Option (List ℕ) → Type 0
 IsOutput running o = o ≡ None
 IsOutput (completed output) o = o ≡ output

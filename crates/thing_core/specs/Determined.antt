@@ -1,4 +1,4 @@
--- What a request comes to is determined by the state, the request, and what the handlers answer.
+-- The outcome of a request is determined by the state, the request, and what the handlers answer.
 use Rattle.std.specs.Prelude.{◌≡◌, ◌≢◌, ℕ, List, [], ◌∷◌}
 use Rattle.thing_ops.specs.declared.outcome.Outcome.TheVariants as outcome
 use Rattle.thing_ops.specs.Requests.{PlainRequest}
@@ -14,11 +14,11 @@ AreAnsweredBy answers [] = Unit {0}
 AreAnsweredBy answers (answered turn ∷ calls) = (turn.answer ≡ answers turn.number) × AreAnsweredBy answers calls
 AreAnsweredBy answers (missed slot ∷ calls) = AreAnsweredBy answers calls
 
--- a request that a handler or the machine had no memory for comes to that, and to nothing else
+-- a request for which a handler or the machine was out of memory has that outcome, and no other
 abbrev pub HadMemory : Done → Type 0
 HadMemory done = done.outcome ≢ outcome.Memory
 
--- One request is done twice from one state, with the same answers and with memory: then its calls, what it comes to,
+-- One request is done twice from one state, with the same answers and never out of memory: then its calls, its outcome,
 -- what it emits and the state afterwards are the same.
 abbrev pub IsDetermined : Site → PlainRequest → Type 0
 IsDetermined site q =

@@ -1,4 +1,4 @@
--- The order in which invocations are kept.
+-- The order in which invocations are kept: by their ids, which are counted up and never used again.
 use Rattle.std.specs.Prelude.{ℕ, List, [], ◌∷◌, ◌<◌}
 use Rattle.std.specs.List.{AllByRecursion}
 use Rattle.thing_core.specs.State.{Invocation}

@@ -7,7 +7,7 @@ use Rattle.thing_core.specs.Thing.{most_turns}
 use Rattle.thing_core.specs.declared.machine.Machine.TheInside.{Inside}
 
 -- the run has no more turns than it may, and each id that was used one of them; the ids of invocations rise, and are
--- below the next; each invocation and each further one that may stand has a room; and all places were taken
+-- below the next; each invocation and each further one that may come has a room; and all places were taken
 pub record IsKept (m : Inside) : Type 0 where
   pub turns : m.turns ≤ most_turns
   pub ids : m.next_invocation ≤ m.turns + 1

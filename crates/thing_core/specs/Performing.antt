@@ -27,15 +27,15 @@ use Rattle.thing_core.specs.Kept.{Kept}
 
 -- ---- judging a request
 
--- nothing stands against an act, and this is handed in
+-- nothing is against an act, and this is handed in
 abbrev pub IsFree : Act → State → PlainRequest → List Input → Type 0
 IsFree act s q inputs = (inputs_of act q.body ≡ Some inputs) × IsNone (λ r. StandsAgainst r act s q) refusals_of_acts
 
--- an act is refused, or memory is out
+-- an act is refused, or it is out of memory
 abbrev pub IsActRefused : Act → State → PlainRequest → Outcome → Type 0
 IsActRefused act s q o = (o ≡ outcome.Memory) ⊎ IsFirst (λ r. StandsAgainst r act s q) IsAnswer refusals_of_acts o
 
--- a request is admitted, with its act and what is handed in; or it is refused, or memory is out
+-- a request is admitted, with its act and what is handed in; or it is refused, or out of memory
 abbrev pub IsAdmitted : Asked → Result Task Outcome → Type 0
 IsAdmitted a (Ok task) =
     (act_asked a ≡ Some (found_act task.act))
@@ -45,7 +45,7 @@ IsAdmitted a (Err o) = (o ≡ outcome.Memory) ⊎ IsRefusedBy refusals a o
 
 -- ---- the slots of what is called
 
--- these affordances have slots of a rack of so many
+-- these affordances have slots of a rack of n
 abbrev pub AllStand : ℕ → List Placed → Type 0
 AllStand count ps = AllByRecursion (λ p. p.slot < count) ps
 
@@ -75,13 +75,13 @@ pub record MakesCall (slot : ℕ) (what : CallKind) (called : Called) (old new :
   pub room : new.room ≡ old.room
   pub slots : length after ≡ length before
 
--- there was no answer, and this is what the request comes to
+-- there was no answer, and this is the outcome of the request
 abbrev pub IsUnanswered : Called → Outcome → Type 0
 IsUnanswered no_number o = o ≡ outcome.CallsUsed
 IsUnanswered no_memory o = o ≡ outcome.Memory
 IsUnanswered (gives answer) o = ⊥
 
--- an answer, or what the request comes to where there was none
+-- an answer, or the outcome of the request where there was none
 abbrev pub ComesAs : Called → Result Answer Outcome → Type 0
 ComesAs called (Ok answer) = called ≡ gives answer
 ComesAs called (Err o) = IsUnanswered called o
@@ -95,22 +95,23 @@ pub record CallsFor (P : Called → Type 0) (slot : ℕ) (what : CallKind) (old 
   pub room : new.room ≡ old.room
   pub slots : length after ≡ length before
 
--- an act was done, which came to this; its emissions are to be handed out after those that were
+-- an act was done, with this outcome; its emissions wait to be handed out after those that were
 pub record MakesDone (move : Done → Move) (o : Outcome) (old new : Course) (before after : List Seen) : Type 0 where
   pub done : Done
   pub outcome : done.outcome ≡ o
   pub pending : new.pending ≡ old.pending ++ map (λ e. e.target) done.emissions
   pub made : Makes RackShows (move done) old.state new.state before after
 
--- the act is done, or memory was out before any call
+-- the act is done, or it was out of memory before any call
 abbrev pub OrMemory : (Done → Move) → Done → Move
 OrMemory P done s seen t = P done s seen t ⊎ Answers outcome.Memory done s seen t
 
--- it is this, or memory was out
+-- it is this, or it was out of memory
 abbrev pub IsOrMemory : Outcome → Outcome → Type 0
 IsOrMemory o result = (result ≡ o) ⊎ (result ≡ outcome.Memory)
 
--- a part of some moves was made: whatever follows, the whole is what was seen so far and then that
+-- A part of some moves was made: for all that follows, the whole is what was seen so far and then that. Loops over
+-- properties and events keep it, and the law of two parts is proved once.
 pub record Leads {I : Type 0} (rest whole : I → Move) (s mid : State) (before after : List Seen) : Type 0 where
   pub seen : List HandlerCall
   pub shows : RackShows before after seen
@@ -118,7 +119,7 @@ pub record Leads {I : Type 0} (rest whole : I → Move) (s mid : State) (before 
 
 -- ---- reading
 
--- the value that a call for one gave, or what it comes to
+-- the value that a call for one gave, or the outcome
 abbrev pub IsValueOf : Called → Result Tree Outcome → Type 0
 IsValueOf called (Ok value) = called ≡ gives (answer.Value value)
 IsValueOf called (Err o) = (schema : Option Json) → GivesValue schema called (Err o)
@@ -156,7 +157,7 @@ is_done called = false
 abbrev pub emissions_of_text : Placed → List ℕ → List Emission
 emissions_of_text p text = if p.affordance.observable then record { target = p.slot; text = text } ∷ [] else []
 
--- a property was written after others: its emission is to be handed out, or it stops there
+-- a property was written after others: its emission waits to be handed out, or it stops there
 abbrev pub WritesOne : Input → Option Outcome → Course → Course → List Seen → List Seen → Type 0
 WritesOne i None old new before after =
     (new.pending ≡ old.pending ++ map (λ e. e.target) (emissions_of_write i))
@@ -178,7 +179,7 @@ abbrev pub IsFired : Called → Option Tree → Type 0
 IsFired called (Some value) = called ≡ gives (answer.Fired value)
 IsFired called None = has_fired called ≡ false
 
--- events were polled, one after another; their emissions are to be handed out
+-- events were polled, one after another; their emissions wait to be handed out
 pub record PollsSome (ps : List Placed) (old new : Course) (before after : List Seen) : Type 0 where
   pub emissions : List Emission
   pub pending : new.pending ≡ old.pending ++ map (λ e. e.target) emissions
@@ -186,7 +187,7 @@ pub record PollsSome (ps : List Placed) (old new : Course) (before after : List 
 
 -- ---- actions
 
--- what an invocation comes to that finished with this output
+-- the outcome of an invocation that finished with this output
 abbrev pub OutputComesTo : Option Json → Option Tree → Outcome → Type 0
 OutputComesTo schema None o = o ≡ outcome.Changed
 OutputComesTo schema (Some tree) o = Decides (IsTaken schema (json_of tree)) (outcome.Output (text_of (json_of tree))) outcome.BadAnswer o
@@ -210,16 +211,17 @@ IsTold found id (Ok o) =
     (i : Invocation) × (output : Option (List ℕ)) × (found ≡ Some i) × (i.status ≡ completed output) × (o ≡ outcome.Content (status_text id (completed output)))
 IsTold found id (Err room) = IfSome found (λ i. i.status ≡ running) × (room ≡ [])
 
--- what an act asks of the state: the invocation that it is about stands, and where it begins one, a further one may run
+-- what an act asks of the state: the invocation that it is about is there, and where it begins
+-- one, a further one may run
 abbrev pub MayBeDone : Act → State → Type 0
 MayBeDone (invokes p) s = running_count s.invocations < most_invocations
 MayBeDone (queries p id) s = IsSome (invocation_named p.slot id s.invocations)
 MayBeDone (cancels p id) s = IsSome (invocation_named p.slot id s.invocations)
 MayBeDone act s = Unit {0}
 
--- ---- what a call comes to
+-- ---- the outcome of a call
 
--- what a request came to: a move of the Thing machine; its emissions are to be handed out
+-- what a request did: a move of the Thing machine; its emissions wait to be handed out
 pub record MakesAct (old new : Kept) (q : PlainRequest) (o : Outcome) (before after : List Seen) : Type 0 where
   pub done : Done
   pub outcome : done.outcome ≡ o
@@ -227,7 +229,7 @@ pub record MakesAct (old new : Kept) (q : PlainRequest) (o : Outcome) (before af
   pub site : new.site ≡ old.site
   pub made : Makes RackShows (Acts old.site q done) old.state new.state before after
 
--- what polling all events came to: a move of the Thing machine; its emissions are to be handed out
+-- what polling all events did: a move of the Thing machine; its emissions wait to be handed out
 pub record MakesPolls (old new : Kept) (before after : List Seen) : Type 0 where
   pub emissions : List Emission
   pub pending : new.pending ≡ map (λ e. e.target) emissions

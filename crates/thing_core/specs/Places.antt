@@ -5,15 +5,15 @@ use Rattle.thing_site.specs.Site.{Site}
 use Rattle.thing_site.specs.Places.{Place, invocation, place_at, target_at}
 use Rattle.thing_core.specs.State.{Invocation, invocation_named}
 
--- an invocation is there only where it stands among these, under its own action; what else a path leads to is there
+-- an invocation is there only where it is among these, under its own action; what else a path leads to is there
 abbrev pub where_stands : List Invocation → Place → Option Place
 where_stands invocations (invocation p id) = option_map (λ _. invocation p id) (invocation_named p.slot id invocations)
 where_stands invocations place = Some place
 
--- what a path leads to, where these invocations stand
+-- what a path leads to, where there are these invocations
 abbrev pub place_of : List (List ℕ) → Site → List Invocation → Option Place
 place_of path site invocations = option_and_then (where_stands invocations) (place_at (route_of path) path site)
 
--- what the own path of an observable property or an event stands for: the slot of its affordance
+-- what the own path of an observable property or an event means: the slot of its affordance
 abbrev pub target_of : List (List ℕ) → Site → List Invocation → Option ℕ
 target_of path site invocations = target_at (place_of path site invocations)

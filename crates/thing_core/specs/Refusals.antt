@@ -31,7 +31,8 @@ place_asked a = place_of a.request.path a.site a.state.invocations
 abbrev pub act_asked : Asked → Option Act
 act_asked a = option_and_then (λ place. act_at (route_of a.request.path) place a.request.verb) (place_asked a)
 
--- those against an act that is there
+-- Those against an act that is there, apart from the two before it: code that judges an act says what it finds of that
+-- act, and one lemma puts it after "nothing is there" and "the verb isn't taken". A further refusal is one more line.
 abbrev pub refusals_of_acts : List Refusal
 refusals_of_acts = refusals_by_request ++ no_invocation_left ∷ []
 
@@ -39,13 +40,13 @@ refusals_of_acts = refusals_by_request ++ no_invocation_left ∷ []
 abbrev pub refusals : List Refusal
 refusals = nothing_there ∷ verb_not_taken ∷ refusals_of_acts
 
--- when each of them stands against an act that is asked for
+-- when each of them holds of an act that is asked for
 abbrev pub StandsAgainst : Refusal → Act → State → PlainRequest → Type 0
--- an action is to be invoked, and no further invocation may run
+-- an action would be invoked, and no further invocation may run
 StandsAgainst no_invocation_left act s q = HasNoInvocationLeft s act
 StandsAgainst r act s q = StandsByRequest r act q
 
--- when each of them stands
+-- when each of them holds
 abbrev pub Stands : Refusal → Asked → Type 0
 -- there is nothing at the path
 Stands nothing_there a = place_asked a ≡ None

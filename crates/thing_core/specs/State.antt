@@ -4,18 +4,18 @@ use Rattle.thing_site.specs.Site.{Placed, Site, emitters_of}
 
 -- ---- invocations of actions
 
--- how an invocation stands: it runs, or is completed, with the text of its output where it has one
+-- the status of an invocation: it runs, or is completed, with the text of its output where it has one
 pub data Status : Type 0 where
   running : Status
   completed : (output : Option (List ℕ)) → Status
 
--- an invocation: its id, the slot of its action, and how it stands
+-- an invocation: its id, the slot of its action, and its status
 pub record Invocation : Type 0 where
   pub id : ℕ
   pub slot : ℕ
   pub status : Status
 
--- how many invocations may run at a time, and stand at a time, running and completed together
+-- how many invocations may run at a time, and be there at a time, running and completed together
 abbrev pub most_invocations : ℕ
 most_invocations = 64
 
@@ -48,13 +48,13 @@ abbrev pub without_oldest_completed : List Invocation → List Invocation
 without_oldest_completed [] = []
 without_oldest_completed (i ∷ invocations) = if is_running i then i ∷ without_oldest_completed invocations else invocations
 
--- with a further one that runs; where as many stand as may, the oldest completed one goes
+-- with a further one that runs; where there are as many as may be, the oldest completed one goes
 abbrev pub with_running : ℕ → ℕ → List Invocation → List Invocation
 with_running id slot invocations =
     (if length invocations == most_invocations then without_oldest_completed invocations else invocations)
     ++ record { id = id; slot = slot; status = running } ∷ []
 
--- how it stands, as a JSON text
+-- its status as a JSON text
 abbrev pub output_text : Option (List ℕ) → List ℕ
 output_text None = []
 output_text (Some text) = codes ",\"output\":" ++ text

@@ -1,4 +1,4 @@
--- The Thing machine: what a request to Things does and comes to, and what polling their events does, as moves over a
+-- The Thing machine: what a request to Things does and its outcome, and what polling their events does, as moves over a
 -- state (servient_base/specs/Moves.antt). What is seen of a move are the calls of device handlers: those that were
 -- answered, which are turns, and those for which a handler was out of memory.
 use Rattle.std.specs.Prelude.{◌≡◌, ◌<◌, ◌≤◌, ◌+◌, ◌⊎◌, ℕ, List, [], ◌∷◌, ◌++◌, length, decimal, Bool, not, Option, Some, None, Result, Ok, Err, if◌then◌else◌}
@@ -27,7 +27,7 @@ use Rattle.thing_core.specs.Refusals.{act_asked, refusals, IsRefusedBy, NoneStan
 abbrev pub Move : Type 1
 Move = State → List HandlerCall → State → Type 0
 
--- what a request comes to, and what is emitted meanwhile, in order
+-- the outcome of a request, and what is emitted meanwhile, in order
 pub record Done : Type 0 where
   pub outcome : Outcome
   pub emissions : List Emission
@@ -53,7 +53,7 @@ Calls slot what (gives a) s seen t =
     (s.turns < most_turns)
     × Becomes (record s { turns = s.turns + 1 }) (answered (record { number = s.turns; slot = slot; what = what; answer = a }) ∷ []) seen t
 
--- what it comes to where that isn't a success of its act: a refusal and a fault of the device as they are; any other
+-- the outcome where that isn't a success of its act: a refusal and a fault of the device as they are; any other
 -- answer is one that it mustn't give
 abbrev pub failure_of : Called → Outcome
 failure_of no_number = outcome.CallsUsed
@@ -62,7 +62,8 @@ failure_of (gives (answer.Refused n)) = outcome.Refused n
 failure_of (gives (answer.DeviceFault n)) = outcome.DeviceFault n
 failure_of (gives a) = outcome.BadAnswer
 
--- a value of a device is taken where its schema, if it has one, accepts it, and its text is at most so long
+-- a value of a device is taken where its schema, if it has one, accepts it, and its text is no
+-- longer than a value may be
 abbrev pub IsTaken : Option Json → Json → Type 0
 IsTaken schema value = IsAccepted schema value × (length (text_of value) ≤ longest_value)
 
@@ -72,7 +73,7 @@ Decides P one otherwise result = (P × (result ≡ one)) ⊎ ((¬ P) × (result 
 
 -- ---- properties
 
--- the value that a call for one gives, or what it comes to instead
+-- the value that a call for one gives, or the outcome instead
 abbrev pub GivesValue : Option Json → Called → Result Json Outcome → Type 0
 GivesValue schema (gives (answer.Value tree)) r = Decides (IsTaken schema (json_of tree)) (Ok (json_of tree)) (Err outcome.BadAnswer) r
 GivesValue schema called r = r ≡ Err (failure_of called)
@@ -95,7 +96,7 @@ is_readable p = not p.affordance.write_only
 abbrev pub readable : ExposedThing → List Placed
 readable thing = filter is_readable (those_of kind.Property thing)
 
--- several are read, one after another, until one fails; beside those that were read so far
+-- several are read, one after another, until one fails; with those that were read so far
 abbrev pub ReadsEach : List Placed → List (List ℕ × Json) → Done → Move
 ReadsEach [] got done s seen t = (done ≡ only (outcome.Content (text_of (object (members_of got))))) × Stays s seen t
 ReadsEach (p ∷ ps) got done s seen t =
@@ -116,7 +117,7 @@ emission p value = record { target = p.slot; text = text_of value }
 abbrev pub emissions_of_write : Input → List Emission
 emissions_of_write i = if i.affordance.affordance.observable then emission i.affordance i.value ∷ [] else []
 
--- it comes to this, with what was emitted so far
+-- this is the outcome, with what was emitted so far
 abbrev pub Stops : Outcome → List Emission → Done → Move
 Stops o emitted done s seen t = (done ≡ record { outcome = o; emissions = emitted }) × Stays s seen t
 
@@ -125,7 +126,7 @@ abbrev pub IfDone : Called → Move → Move → Move
 IfDone (gives answer.Done) further otherwise = further
 IfDone called further otherwise = otherwise
 
--- several values are written, one after another, until one isn't done; beside what was emitted so far. What was
+-- several values are written, one after another, until one isn't done; with what was emitted so far. What was
 -- written stays and was emitted.
 abbrev pub WritesEach : List Input → List Emission → Done → Move
 WritesEach [] emitted done s seen t = Stops outcome.Changed emitted done s seen t
@@ -142,7 +143,7 @@ abbrev pub IsHandedIn : List Input → Option Tree → Type 0
 IsHandedIn [] handed = handed ≡ None
 IsHandedIn (i ∷ inputs) handed = (tree : Tree) × (json_of tree ≡ i.value) × (handed ≡ Some tree)
 
--- an invocation that was answered uses its id, whatever the answer
+-- an invocation that was answered uses its id, with any answer
 abbrev pub with_id_used : State → State
 with_id_used s = record s { next_invocation = s.next_invocation + 1 }
 
@@ -208,7 +209,7 @@ abbrev pub Cancels : Placed → ℕ → Status → Done → Move
 Cancels p id running done s seen t = Passing (Calls p.slot (call.Cancel id)) (IsCancelled id done) s seen t
 Cancels p id (completed output) done s seen t = Removes id done s seen t
 
--- what is done to an invocation depends on how it stands
+-- what is done to an invocation depends on its status
 abbrev pub OnInvocation : Placed → ℕ → (Status → Done → Move) → Done → Move
 OnInvocation p id ByStatus done s seen t =
     (i : Invocation) × (invocation_named p.slot id s.invocations ≡ Some i) × ByStatus i.status done s seen t
@@ -237,14 +238,14 @@ Performs (cancels p id) q inputs done s seen t = OnInvocation p id (Cancels p id
 Performs (reads_event p) q inputs done s seen t = Answers (event_outcome (last_of p.slot s.last)) done s seen t
 Performs (waits p) q inputs done s seen t = Answers (outcome.Wait p.slot) done s seen t
 
--- A request to Things: what it comes to.
+-- A request to Things, and its outcome.
 pub data Acts (site : Site) (q : PlainRequest) (done : Done) (s : State) (seen : List HandlerCall) (t : State) : Type 0 where
-  -- the first refusal that stands decides, and no handler is called
+  -- the first refusal that holds decides, and no handler is called
   refuses : (o : Outcome) → IsRefusedBy refusals (record { site = site; state = s; request = q }) o → Answers o done s seen t
       → Acts site q done s seen t
-  -- memory may be out before the first call of a handler
+  -- it may be out of memory before the first call of a handler
   has_no_memory : Answers outcome.Memory done s seen t → Acts site q done s seen t
-  -- none stands, and the act is done
+  -- none holds, and the act is done
   performs : (act : Act) → (inputs : List Input) → NoneStands refusals (record { site = site; state = s; request = q })
       → act_asked (record { site = site; state = s; request = q }) ≡ Some act → inputs_of act q.body ≡ Some inputs
       → Performs act q inputs done s seen t → Acts site q done s seen t

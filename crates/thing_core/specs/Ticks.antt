@@ -37,7 +37,7 @@ PollsAndHandsOut p s seen t =
 abbrev pub PollsInTurn : Site → State → List TickSeen → State → Type 0
 PollsInTurn site = Each PollsAndHandsOut (events_of site)
 
--- Whatever is done one event after another is done too where all events are polled first and all emissions are handed
+-- All that is done one event after another is done too where all events are polled first and all emissions are handed
 -- out afterwards, and the other way round: with the same calls, the same emissions, each in the same order, and the
 -- same state in the end.
 abbrev pub IsSameInTurn : Site → Type 0

@@ -1,4 +1,4 @@
-//! Doing what a request asks.
+//! The acts that requests ask for, each done with its calls of handlers.
 
 ghost use Rattle.std.specs.Prelude.{◌≡◌, length, map, option_map};
 ghost use Rattle.wot_json.specs.Json.{text_of as text_of_value};

@@ -14,14 +14,14 @@ use std::alloc::Global;
 use thing_ops::{Outcome, Request, route};
 use thing_site::{Act, IndexedThings, Input, act_at, judge};
 
-/// An act that is to be done, with what is handed in to it.
+/// An act to do, with what is handed in to it.
 #[derive(Drop)]
 pub struct Task<'a> {
     pub act: Act<'a>,
     pub inputs: Vec<Input<'a>>,
 }
 
-/// The act that a request asks for, where nothing stands against it; else what it comes to.
+/// The act that a request asks for, where nothing is against it; else the outcome.
 pub fn admitted<'a>(
     alloc: Global,
     things: &'a IndexedThings,
@@ -48,7 +48,7 @@ pub fn admitted<'a>(
     Ok(Task { act, inputs })
 }
 
-/// An action is to be invoked, and no further invocation may run.
+/// An action would be invoked, and no further invocation may run.
 fn has_none_left(act: &Act<'_>, invocations: &[Invocation]) -> bool
     ensures { (s : state.State) → s.invocations ≡ invocations.now → IsTrue result ↔ refusal.HasNoInvocationLeft s (found_act act.now) }
 {

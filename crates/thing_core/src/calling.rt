@@ -1,4 +1,4 @@
-//! Calls of handlers, and what comes of them.
+//! Calls of handlers: an answer, or the outcome of the request; and what an answer that is no success means, said once.
 
 ghost use Rattle.std.specs.Prelude.{◌≡◌, ◌<◌, length, true, false, MatchOption};
 ghost use Rattle.wot_json.specs.Json.{json_text};
@@ -14,7 +14,7 @@ use thing_site::{LONGEST_VALUE, is_accepted};
 use wot_json::{Tree, write};
 use wot_schema::Schema;
 
-/// Calls the handler in a slot: its answer; else what the request comes to, where the handler is out of memory or the
+/// Calls the handler in a slot: its answer; else the outcome of the request, where the handler is out of memory or the
 /// run has no number left for a turn.
 pub fn call<R: Handlers>(
     machine: &mut Machine,
@@ -34,7 +34,7 @@ pub fn call<R: Handlers>(
     Ok(answer)
 }
 
-/// What a request comes to whose device answers so, where that isn't a success: a refusal and a fault of the device
+/// The outcome of a request whose device answers so, where that isn't a success: a refusal and a fault of the device
 /// as they are; any other answer is one that it mustn't give.
 pub fn failure(answer: &Answer) -> Outcome
     ensures { result ≡ failure_of (gives answer.now) }
@@ -53,7 +53,7 @@ pub fn failure(answer: &Answer) -> Outcome
     }
 }
 
-/// The value that a device answered with, or what the request comes to where it gave none.
+/// The value that a device answered with, or the outcome of the request where it gave none.
 pub fn value_of(answer: Answer) -> Result<Tree, Outcome>
     ensures { IsValueOf (gives answer) result }
 {
@@ -74,7 +74,7 @@ pub fn value_of(answer: Answer) -> Result<Tree, Outcome>
     }
 }
 
-/// What a request to write comes to where the device answers so and the value wasn't written.
+/// The outcome of a request to write where the device answers so and the value wasn't written.
 pub fn write_failure(answer: &Answer) -> Option<Outcome>
     ensures { MatchOption result (is_done (gives answer.now) ≡ true)
         (λ o. (is_done (gives answer.now) ≡ false) × (o ≡ failure_of (gives answer.now))) }

@@ -1,4 +1,4 @@
-//! What may emit.
+//! The affordances that may emit, each with the place of its last value.
 
 ghost use Rattle.std.specs.Prelude.{◌≡◌, [], ◌∷◌, ◌++◌, map, IfOk, OnOk};
 ghost use Rattle.std.specs.List.{filter};

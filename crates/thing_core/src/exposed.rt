@@ -52,7 +52,7 @@ impl Model for Exposed {
 pub struct Accounts {
     /// The turns of the run.
     pub calls: u64,
-    /// The invocations that stand, running and completed together.
+    /// The invocations that there are, running and completed together.
     pub invocations: u32,
 }
 

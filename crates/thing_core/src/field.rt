@@ -1,4 +1,4 @@
-//! What is read of a Thing.
+//! A property that is read among all of a Thing.
 
 use crate::NoMemory;
 use std::alloc::Global;
@@ -6,7 +6,7 @@ use std::marker::Model;
 use thing_site::Spot;
 use wot_json::{Bytes, quoted};
 
-/// A property that is to be read, and its name as a JSON text. Contracts see the property.
+/// A property to read, and its name as a JSON text. Contracts see the property.
 #[derive(Drop)]
 pub struct Field<'a> {
     spot: Spot<'a>,
@@ -32,7 +32,7 @@ impl<'a> Field<'a> {
     ghost use Rattle.std.specs.Prelude.{◌≡◌, IfOk};
     ghost use Rattle.wot_json.specs.Json.{json_string};
 
-    /// A property that is to be read. The text of its name is made here.
+    /// A property to read. The text of its name is made here.
     pub fn of(alloc: Global, spot: Spot<'a>) -> Result<Field<'a>, NoMemory>
         ensures { IfOk result (λ f. f ≡ spot.entry) }
     {

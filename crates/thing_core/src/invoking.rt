@@ -21,7 +21,8 @@ use thing_site::{Input, LONGEST_VALUE, Spot};
 use wot_json::{Bytes, Tree};
 use wot_schema::Schema;
 
-/// What an invocation may need once it was answered.
+/// What an invocation may need once it was answered, taken before the call, so that a request that its device answered
+/// takes no more memory.
 #[derive(Drop)]
 pub struct Prepared {
     /// Its path.
@@ -134,7 +135,7 @@ fn settle(spot: Spot<'_>, prepared: Prepared, answer: Answer, machine: &mut Mach
     }
 }
 
-/// What an invocation comes to that is finished at once.
+/// The outcome of an invocation that is finished at once.
 fn finished(mut room: Room, schema: &Option<Schema>, output: Option<Tree>) -> Outcome
     requires { room ≡ [] }
     ensures { OutputComesTo schema.now output result }
@@ -153,7 +154,7 @@ fn finished(mut room: Room, schema: &Option<Schema>, output: Option<Tree>) -> Ou
     }
 }
 
-/// Asks how an invocation stands.
+/// Asks for the status of an invocation.
 pub fn query<R: Handlers>(
     alloc: Global,
     spot: Spot<'_>,

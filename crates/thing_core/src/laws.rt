@@ -36,8 +36,8 @@ pub fn a_rack_fits_on_after_polls()
         → MakesPolls old new before after → Fits old.site before → Fits new.site after }
 {}
 
-/// A request that nothing stands against, and whose devices answer in kind, comes to the success of its act, but
-/// where memory is out or the run has no number left for a turn.
+/// A request that nothing is against, and whose devices answer in kind, has the success of its act as its outcome, but
+/// where it is out of memory or the run has no number left for a turn.
 pub fn requests_are_complete()
     ensures { (site : Site) → (q : PlainRequest) → IsComplete site q }
 {}
@@ -47,8 +47,8 @@ pub fn polls_are_the_same_in_turn()
     ensures { (site : Site) → IsSameInTurn site }
 {}
 
-/// What a request comes to, what it emits, its calls and the state afterwards are determined by the state, the
-/// request and the answers, where memory isn't out.
+/// The outcome of a request, what it emits, its calls and the state afterwards are determined by the state, the request
+/// and the answers, where nothing is out of memory.
 pub fn requests_are_determined()
     ensures { (site : Site) → (q : PlainRequest) → IsDetermined site q }
 {}

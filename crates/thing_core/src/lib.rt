@@ -1,6 +1,6 @@
 //! Things as they are exposed: what a request to Things does.
 //!
-//! `Exposed::new` takes the Things of a site (`thing_site`), or says what stands against exposing them. `perform`
+//! `Exposed::new` takes the Things of a site (`thing_site`), or says what is against exposing them. `perform`
 //! does what a request asks: it goes through the refusals in their order, and then does the act.
 //!
 //! ```text

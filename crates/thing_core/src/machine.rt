@@ -1,4 +1,7 @@
 //! What the Thing machine keeps in a run, in places that were all taken at its beginning.
+//!
+//! All that changes is one type with a Model: each of its calls is an equation on the state, and the acts above it see
+//! no vector, no room and no capacity.
 
 ghost use Rattle.std.specs.Prelude.{◌≡◌, ◌≤◌, ◌<◌, ◌+◌, length, map, option_map, not, position, remove, vec_len, vec_capacity, IfOk};
 ghost use Rattle.thing_core.specs.Rooms.{room_size};
@@ -13,7 +16,8 @@ use std::alloc::Global;
 use std::collections::VecDeque;
 use std::marker::Model;
 
-/// The state of the machine, and the targets of emissions that weren't handed out yet.
+/// The state of the machine, and the targets of emissions that weren't handed out yet. An invocation that goes gives
+/// its room back.
 #[derive(Drop)]
 pub struct Machine {
     /// The oldest first.
@@ -72,7 +76,7 @@ impl Machine {
         })
     }
 
-    /// The invocations that stand, the oldest first.
+    /// The invocations that there are, the oldest first.
     pub fn invocations(&self) -> &[Invocation]
         ensures items { result.now ≡ self.now.state.invocations }
         ensures rise { IdsRise result.now }
@@ -80,7 +84,7 @@ impl Machine {
         self.invocations.as_slice()
     }
 
-    /// How many invocations stand, running and completed together.
+    /// How many invocations there are, running and completed together.
     pub fn standing(&self) -> u32
         ensures { result ≡ length self.now.state.invocations }
     {
@@ -110,7 +114,7 @@ impl Machine {
         self.last.as_slice()
     }
 
-    /// How many affordances may emit. So many emissions can be kept where none waits to be handed out.
+    /// How many affordances may emit. As many emissions can be kept where none waits to be handed out.
     pub fn emitters(&self) -> usize
         ensures count { result ≡ length self.now.state.last }
         ensures room { self.now.pending ≡ [] → result ≤ self.now.room }
@@ -126,7 +130,7 @@ impl Machine {
         self.turns += 1;
     }
 
-    /// Takes room for so many further emissions.
+    /// Takes room for this many further emissions.
     pub fn reserve(&mut self, emissions: usize) -> Result<(), NoMemory>
         ensures state { self.new.state ≡ self.old.state }
         ensures pending { self.new.pending ≡ self.old.pending }
@@ -163,7 +167,7 @@ impl Machine {
         self.next_invocation += 1;
     }
 
-    /// The next invocation begins, of the action in this slot. Where as many stand as may, the oldest that is
+    /// The next invocation begins, of the action in this slot. Where there are as many as may be, the oldest that is
     /// completed goes.
     pub fn start(&mut self, slot: u32)
         requires id { self.old.state.next_invocation ≤ self.old.state.turns }
@@ -201,7 +205,7 @@ impl Machine {
     }
 }
 
-/// As many empty rooms as invocations may stand.
+/// As many empty rooms as there may be invocations.
 fn empty_rooms(alloc: Global) -> Result<Vec<Room>, NoMemory>
     ensures count { IfOk result (λ rooms. vec_len rooms ≡ spec.most_invocations) }
     ensures places { IfOk result (λ rooms. spec.most_invocations ≤ vec_capacity rooms) }

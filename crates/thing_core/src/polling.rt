@@ -1,4 +1,4 @@
-//! Polling events.
+//! Polls of events, and what they emit.
 
 ghost use Rattle.std.specs.Prelude.{◌≡◌, ◌≤◌, ◌<◌, ◌+◌, ◌∷◌, [], length};
 ghost use Rattle.std.specs.List.{filter};

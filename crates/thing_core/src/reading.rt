@@ -1,4 +1,4 @@
-//! Reading properties: one, or all of a Thing.
+//! How properties are read: one, or all of a Thing.
 
 ghost use Rattle.std.specs.Prelude.{◌≡◌, ◌≤◌, ◌<◌, ◌+◌, ◌++◌, ◌∷◌, [], length, vec_len, vec_capacity, IfOk, IfSome, OnOk};
 ghost use Rattle.std.specs.List.{filter};
@@ -43,7 +43,7 @@ pub fn read<R: Handlers>(
     }
 }
 
-/// The value that a property's device gives, or what the request comes to where it gives none.
+/// The value that a property's device gives, or the outcome of the request where it gives none.
 fn read_value<R: Handlers>(
     spot: &Spot<'_>,
     machine: &mut Machine,
@@ -112,7 +112,7 @@ fn read_fields<R: Handlers>(
     Outcome::Content(Bytes::from_vec(text))
 }
 
-/// Reads a property, and puts it after the others into the text of an object; or what it comes to where that fails.
+/// Reads a property, and puts it after the others into the text of an object; or the outcome where that fails.
 fn read_one<R: Handlers>(
     field: &Field<'_>,
     text: &mut Vec<u8>,
@@ -157,7 +157,7 @@ fn put_member(text: &mut Vec<u8>, name: &[u8], value: &[u8])
     text.extend_from_slice(value).unwrap();
 }
 
-/// The properties of a Thing that are to be read.
+/// The properties of a Thing to read.
 fn fields_of(alloc: Global, thing: &HeldThing) -> Result<Vec<Field<'_>>, NoMemory>
     ensures { IfOk result (λ fields. fields.items ≡ readable thing.now) }
 {
@@ -172,7 +172,7 @@ fn fields_of(alloc: Global, thing: &HeldThing) -> Result<Vec<Field<'_>>, NoMemor
     Ok(fields)
 }
 
-/// Puts a property at the end, where it is to be read.
+/// Puts a property at the end, where it is read.
 fn push_if_readable<'a>(
     alloc: Global,
     fields: &mut Vec<Field<'a>>,

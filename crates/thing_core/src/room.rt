@@ -8,7 +8,7 @@ use std::alloc::Global;
 use std::marker::Model;
 use wot_json::Bytes;
 
-/// How many bytes a room has: the text of a value, and what the status of an invocation has besides.
+/// How many bytes a room has: the text of a value, and what else the status of an invocation has.
 pub const ROOM_SIZE: usize = 1152;
 
 /// Room for a text of at most `ROOM_SIZE` bytes. Contracts see the text in it. Filling it takes no memory.

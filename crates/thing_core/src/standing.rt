@@ -1,4 +1,4 @@
-//! What the path of a request leads to: an invocation is there only where it stands.
+//! What the path of a request leads to: an invocation only where there is one of this id.
 
 ghost use Rattle.std.specs.Prelude.{◌≡◌, ◌==◌, Some, None, if◌then◌else◌, option_map};
 ghost use Rattle.thing_site.specs.Found.{found_place};
@@ -10,7 +10,7 @@ use crate::state::{Invocation, place_by_id};
 use thing_ops::Segments;
 use thing_site::{IndexedThings, Place, place_at};
 
-/// What a path leads to, where it leads anywhere and these invocations stand.
+/// What a path leads to, where it leads anywhere and there are these invocations.
 pub fn place_of<'a>(
     things: &'a IndexedThings,
     invocations: &[Invocation],
@@ -25,7 +25,7 @@ pub fn place_of<'a>(
     }
 }
 
-/// A place, unless it is an invocation that doesn't stand.
+/// A place, unless it is an invocation that isn't there.
 fn where_stands<'a>(place: Place<'a>, invocations: &[Invocation]) -> Option<Place<'a>>
     requires { IdsRise invocations.now }
     ensures { option_map found_place result ≡ spec.where_stands invocations.now (found_place place.entry) }
@@ -45,7 +45,8 @@ fn where_stands<'a>(place: Place<'a>, invocations: &[Invocation]) -> Option<Plac
     }
 }
 
-/// The invocation of this id under the action in this slot, found by halving.
+/// The invocation of this id under the action in this slot, found by binary search over the ids, which rise; its slot
+/// is compared afterwards.
 pub fn invocation_in(invocations: &[Invocation], slot: u32, id: u32) -> Option<&Invocation>
     requires { IdsRise invocations.now }
     ensures { option_map (λ i. i.now) result ≡ invocation_of slot id invocations.now }

@@ -12,13 +12,13 @@ use std::alloc::Global;
 use std::cmp::Ordering;
 use std::marker::Model;
 
-/// How many invocations may run at a time, and stand at a time.
+/// How many invocations may run at a time, and be there at a time.
 pub const MOST_INVOCATIONS: usize = 64;
 
 /// How many turns a run may have.
 pub const MOST_TURNS: u64 = 4_294_967_295;
 
-/// How an invocation stands.
+/// The progress of an invocation.
 #[derive(Clone, Copy, Debug, PartialEq, Eq, Drop)]
 pub enum Progress {
     Running,
@@ -123,7 +123,7 @@ impl Invocation {
     }
 }
 
-/// The place of the invocation of this id, found by halving.
+/// The place of the invocation of this id, found by binary search.
 pub fn place_by_id(invocations: &[Invocation], id: u32) -> Option<usize>
     requires { IdsRise invocations.now }
     ensures { result ≡ position (λ i. i.id == id) invocations.now }

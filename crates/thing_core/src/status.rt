@@ -1,4 +1,4 @@
-//! The status of an invocation as a JSON text.
+//! The status of an invocation as a JSON text, written into a room.
 
 ghost use Rattle.std.specs.Prelude.{◌≡◌, ◌≤◌, ◌++◌, [], length, option_map};
 ghost use Rattle.thing_core.specs.State.{completed, output_text, running, status_text};

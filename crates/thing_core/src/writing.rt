@@ -1,4 +1,4 @@
-//! Writing properties: one, or several of a Thing.
+//! How properties are written: one, or several of a Thing.
 
 ghost use Rattle.std.specs.Prelude.{◌≡◌, ◌≤◌, ◌<◌, ◌+◌, ◌++◌, [], length, map};
 ghost use Rattle.wot_json.specs.Json.{text_of};
@@ -44,7 +44,7 @@ fn write_all<R: Handlers>(inputs: Vec<Input<'_>>, machine: &mut Machine, rack: &
     Outcome::Changed
 }
 
-/// Writes a value to a property, which emits it if it is observable; or what it comes to where it isn't done.
+/// Writes a value to a property, which emits it if it is observable; or the outcome where it isn't done.
 fn write_one<R: Handlers>(input: Input<'_>, machine: &mut Machine, rack: &mut R) -> Option<Outcome>
     requires slot { input.affordance.slot < length (R.slots rack.old) }
     requires text { length (text_of input.value) ≤ longest_value }

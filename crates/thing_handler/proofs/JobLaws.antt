@@ -1,4 +1,4 @@
--- Where an invocation stands in the list of those that run.
+-- Where an invocation is in the list of those that run.
 use Rattle.std.proofs.Common.{◌≡◌, ℕ, zero, suc, ◌+◌, ◌-◌, ◌<◌, ◌≤◌, List, [], ◌∷◌, length, get_or, set, Bool, true, false, cond, not, eqb, ltb, leb, refl, sym, ap, subst, ◌∙◌, arith}
 use Rattle.std.specs.Prelude.{Some, None}
 use Rattle.std.proofs.lemmas.Bool.{ltb-true, ltb-false, lt-leb}
@@ -13,7 +13,7 @@ use Rattle.thing_handler.specs.JobChanges.{queried_at, StandsAt}
 abbrev place_or_all : ℕ → List Run → ℕ
 place_or_all id runs = position_or_len (λ r. eqb r.id id) runs
 
--- where it is below the length, the earliest stands there; else none does
+-- where it is below the length, the earliest is there; else none is
 record Earliest (id : ℕ) (runs : List Run) (place : ℕ) : Type 0 where
   there : place < length runs → StandsAt id runs (Some place)
   nowhere : length runs ≤ place → StandsAt id runs None

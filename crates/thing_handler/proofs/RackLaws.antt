@@ -94,7 +94,7 @@ rack_shows_answer before after slot number what answer c =
           (misses_set [] slot 0 slot before c.before c.after (omega arith) c.was (omega (arith, c.call.2)) (λ other differs. refl));
     }
 
--- a call that found no memory
+-- a call that was out of memory
 pub rack_shows_miss : (before after : List Seen) (slot number : ℕ) (what : CallKind) (e : AllocError) → CallsHandler before after slot number what (Err e) → RackShows before after (missed slot ∷ [])
 rack_shows_miss before after slot number what e c = record {
   slots = tt;

@@ -7,7 +7,7 @@ use Rattle.thing_handler.specs.declared.handler.CallKind.{CallKind}
 use Rattle.thing_handler.specs.declared.handler.Answer.{Answer}
 use Rattle.thing_handler.specs.declared.handler.Turn.{Turn}
 
--- a handler: its kind, its turns so far in order, and how often it found no memory
+-- a handler: its kind, its turns so far in order, and how often it was out of memory
 pub record Seen : Type 0 where
   pub kind : Kind
   pub turns : List Turn
@@ -18,8 +18,8 @@ abbrev pub fresh_handler : Kind → Seen
 fresh_handler kind = record { kind = kind; turns = []; misses = 0 }
 
 -- A call that is answered makes exactly one turn, of this number, call and answer, and leaves the count of misses as it
--- was. A call that finds no memory makes no turn, and raises that count by one, up to its last value. The kind never
--- changes.
+-- was. A call that is out of memory makes no turn, and raises that count by exactly one, up to its last value, because
+-- a body that calls a handler again after a miss must be refused. The kind never changes.
 abbrev pub AnswersCall : Seen → Seen → ℕ → CallKind → Result Answer AllocError → Type 0
 AnswersCall old new number what (Ok answer) =
     (new.kind ≡ old.kind)

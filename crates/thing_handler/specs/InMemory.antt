@@ -1,5 +1,5 @@
 -- What the handlers in memory hold and answer. Each table has a row for each call, and a second one says what is held
--- after the call was answered. Where a handler finds no memory, it holds what it held.
+-- after the call was answered. Where a handler is out of memory, it holds what it held.
 use Rattle.std.specs.Prelude.{ℕ, ◌+◌, ◌-◌, ◌/◌, ◌%◌, ◌==◌, nat_le, pos, List, [], ◌∷◌, ◌++◌, drop, Option, Some, None, if◌then◌else◌}
 use Rattle.wot_json.specs.declared.tree.Tree.{Tree}
 use Rattle.wot_json.specs.declared.tree.Tree.TheVariants as json
@@ -57,7 +57,8 @@ length_of j = j.turns
 abbrev pub runs_in : Job → List Run
 runs_in j = j.runs.items
 
--- the invocation of this id, the earliest where several have it
+-- The invocation of this id, the earliest where several have it: ids differ in a run, and a handler that replaced one
+-- would lose the promise of its turn.
 abbrev pub run_of : ℕ → List Run → Option Run
 run_of id [] = None
 run_of id (r ∷ runs) = if r.id == id then Some r else run_of id runs
@@ -85,7 +86,7 @@ abbrev pub cancel_answer : Option Run → Answer
 cancel_answer None = Refused 1
 cancel_answer (Some r) = Cancelled
 
--- what a job answers whose invocations run for so many queries, where these run
+-- what a job answers whose invocations run for n queries, where these run
 abbrev pub job_answer : ℕ → List Run → CallKind → Answer
 job_answer turns runs Read = Refused 0
 job_answer turns runs (Write value) = Refused 0
@@ -117,7 +118,7 @@ period_of p = p.period
 abbrev pub polls_of : Pulse → ℕ
 polls_of p = p.polls
 
--- what a pulse of this period answers when it has answered so many polls: the first multiple of the period fires 1
+-- what a pulse of this period answers when it has answered n polls: the first multiple of the period fires 1
 abbrev pub pulse_answer : ℕ → ℕ → CallKind → Answer
 pulse_answer period polls Read = Refused 0
 pulse_answer period polls (Write value) = Refused 0

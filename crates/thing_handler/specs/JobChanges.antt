@@ -12,7 +12,7 @@ queried_at place [] = []
 queried_at zero (r ∷ runs) = record r { left = r.left - 1 } ∷ runs
 queried_at (suc place) (r ∷ runs) = r ∷ queried_at place runs
 
--- The earliest invocation of an id stands at this place, or none of that id runs.
+-- The earliest invocation of an id is at this place, or none of that id runs.
 abbrev pub StandsAt : ℕ → List Run → Option ℕ → Type 0
 StandsAt id runs None = (run_of id runs ≡ None) × (ended id runs ≡ runs)
 StandsAt id runs (Some place) =
@@ -29,7 +29,7 @@ changed (IsQueried place) runs = queried_at place runs
 changed (Ends place) runs = remove runs place
 
 -- A change can be made to a list of this length and capacity: there is room for an invocation that begins, and another
--- stands at its place.
+-- is at its place.
 abbrev pub CanBeMade : Change → ℕ → ℕ → Type 0
 CanBeMade Stays count capacity = Unit {0}
 CanBeMade (Begins r) count capacity = count < capacity

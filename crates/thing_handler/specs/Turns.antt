@@ -18,7 +18,7 @@ pub record RunTurn : Type 0 where
 pub data HandlerCall : Type 0 where
   -- the handler answered, which is a turn
   answered : RunTurn → HandlerCall
-  -- the handler in this slot found no memory
+  -- the handler in this slot was out of memory
   missed : ℕ → HandlerCall
 
 -- the turns among some calls, in order
@@ -29,7 +29,7 @@ turn_in (missed slot) = None
 abbrev pub turns_in : List HandlerCall → List RunTurn
 turns_in = filter_map turn_in
 
--- the slots of the handlers that found no memory, in order
+-- the slots of the handlers that were out of memory, in order
 abbrev pub miss_in : HandlerCall → Option ℕ
 miss_in (answered turn) = None
 miss_in (missed slot) = Some slot
@@ -64,7 +64,7 @@ abbrev pub times : ℕ → List ℕ → ℕ
 times slot [] = 0
 times slot (m ∷ slots) = if m == slot then suc (times slot slots) else times slot slots
 
--- each handler, from this slot on, counted exactly the calls of its slot that found no memory
+-- each handler, from this slot on, counted exactly the calls of its slot that were out of memory
 abbrev pub CountMisses : List ℕ → ℕ → List Seen → List Seen → Type 0
 CountMisses misses slot [] [] = Unit {0}
 CountMisses misses slot (old ∷ before) (new ∷ after) =
@@ -73,7 +73,7 @@ CountMisses misses slot [] (new ∷ after) = ⊥
 CountMisses misses slot (old ∷ before) [] = ⊥
 
 -- What the handlers of a rack show from one time to another: these calls and no others. Each turn is one of a handler
--- of the rack, each handler kept its own turns in their order, and each counted the calls that found no memory.
+-- of the rack, each handler kept its own turns in their order, and each counted the calls that were out of memory.
 pub record RackShows (before after : List Seen) (calls : List HandlerCall) : Type 0 where
   pub slots : AllByRecursion (λ t. t.slot < length before) (turns_in calls)
   pub turns : GrewBy (turns_in calls) 0 before after

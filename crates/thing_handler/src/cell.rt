@@ -1,4 +1,4 @@
-//! A property that holds a value.
+//! A property in memory, which holds a value.
 
 ghost use Rattle.std.specs.Prelude.{◌≡◌, IfOk, unwrap_or};
 ghost use Rattle.thing_handler.specs.Handler.{fresh_handler};

@@ -14,7 +14,7 @@ pub enum CallKind {
     Write(Tree),
     /// To begin an invocation of this id, with an input or without one.
     Invoke(u32, Option<Tree>),
-    /// How the invocation of this id stands.
+    /// The status of the invocation of this id.
     Query(u32),
     /// To end the invocation of this id before it is finished.
     Cancel(u32),
@@ -64,14 +64,14 @@ pub trait Handler: Drop {
     ghost use Rattle.std.specs.Prelude.{◌≡◌};
     ghost use Rattle.thing_handler.specs.Handler.{Seen, AnswersCall};
 
-    /// Its kind, its turns and how often it found no memory.
+    /// Its kind, its turns and how often it was out of memory.
     ghost seen: { Self → Seen };
 
     /// The kind of its affordance; this never changes.
     fn kind(&self) -> Kind
         ensures { result ≡ (seen self.now).kind };
 
-    /// One call. It makes exactly one turn, or finds no memory.
+    /// One call. It makes exactly one turn, or is out of memory.
     fn call(&mut self, alloc: Global, number: u64, what: &CallKind) -> Result<Answer, NoMemory>
         ensures { AnswersCall (seen self.old) (seen self.new) number what.now result };
 

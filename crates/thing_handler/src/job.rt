@@ -85,7 +85,7 @@ ghost use Rattle.thing_handler.specs.JobChanges.{changed, CanBeMade, StandsAt};
 ghost use Rattle.std.specs.Prelude.{◌==◌};
 ghost use Rattle.std.specs.List.{position};
 
-/// What an Invoke comes to.
+/// The answer to an Invoke.
 fn invoked(
     alloc: Global,
     runs: &mut Vec<Run>,
@@ -107,7 +107,7 @@ fn invoked(
     Ok((Answer::Started, Change::Begins(Run { id, input, left })))
 }
 
-/// What a Query comes to.
+/// The answer to a Query.
 fn queried(alloc: Global, runs: &Vec<Run>, id: u32) -> Result<(Answer, Change), NoMemory>
     ensures answer { IfOk result (λ t. t.0 ≡ query_answer (run_of id runs.now.items)) }
     ensures runs { IfOk result (λ t. changed t.1 runs.now.items ≡ query_after (run_of id runs.now.items) id runs.now.items) }
@@ -126,7 +126,7 @@ fn queried(alloc: Global, runs: &Vec<Run>, id: u32) -> Result<(Answer, Change), 
     }
 }
 
-/// What a Cancel comes to.
+/// The answer to a Cancel.
 fn cancelled(runs: &Vec<Run>, id: u32) -> (Answer, Change)
     ensures answer { result.0 ≡ cancel_answer (run_of id runs.now.items) }
     ensures runs { changed result.1 runs.now.items ≡ ended id runs.now.items }

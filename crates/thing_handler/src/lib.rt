@@ -1,7 +1,7 @@
 //! The device handlers of affordances, and the rack that holds them.
 //!
-//! A handler is seen as its kind, the turns that it made and how often it found no memory (`Seen` of
-//! `specs/Handler.antt`). Each call makes exactly one turn, or finds no memory and is counted. What a device answers
+//! A handler is seen as its kind, the turns that it made and how often it was out of memory (`Seen` of
+//! `specs/Handler.antt`). Each call makes exactly one turn, or is out of memory and is counted. What a device answers
 //! is its own.
 //!
 //! ```text
@@ -12,13 +12,14 @@
 //! assert_eq!(fade.turns().len(), 3);
 //! ```
 //!
-//! The handlers in memory are tables of `specs/InMemory.antt`: for what a handler holds and what it is called with, what it
-//! answers and what it holds then. `shipped_in` gives the handlers of the shipped rack, by the table of
-//! `specs/Shipped.antt`. The contract in a sentence: each call answers what its table says, makes one turn of that answer and
-//! leaves what the table says; or it finds no memory, makes no turn, counts one miss and leaves what was held.
+//! The handlers in memory are tables of `specs/InMemory.antt`: for what a handler holds and what it is called
+//! with, what it answers and what it holds then. `shipped_in` gives the handlers of the shipped rack, by the
+//! table of `specs/Shipped.antt`. The contract in a sentence: each call answers what its table says, makes one
+//! turn of that answer and leaves what the table says; or it is out of memory, makes no turn, counts one miss
+//! and leaves what was held.
 //!
-//! The crates above use a rack through the trait `Handlers`, and say what a rack did as the list of its calls (`RackShows` of
-//! `specs/Turns.antt`).
+//! The crates above use a rack through the trait `Handlers`, and say what a rack did as the list of its calls
+//! (`RackShows` of `specs/Turns.antt`).
 #![tactic(auto)]
 
 mod cell;

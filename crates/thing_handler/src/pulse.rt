@@ -1,4 +1,4 @@
-//! An event that comes about at regular polls.
+//! An event in memory, which comes about at regular polls.
 
 ghost use Rattle.std.specs.Prelude.{◌≡◌, ◌≤◌, IfOk};
 ghost use Rattle.thing_handler.specs.Handler.{fresh_handler};
@@ -36,7 +36,8 @@ impl Pulse {
         }
     }
 
-    /// The answer to a call, and the number of polls with it. There is no memory for the turns of 2^63 polls.
+    /// The answer to a call, and the number of polls with it. It is out of memory at the 2^63rd poll: no
+    /// list has room for that many turns, and the number of a poll has to fit a JSON number.
     fn turned(&self, what: &CallKind) -> Result<(Answer, u64), NoMemory>
         ensures answer { IfOk result (λ t. t.0 ≡ pulse_answer (period_of self.now) (polls_of self.now) what.now) }
         ensures polls { IfOk result (λ t. t.1 ≡ pulse_after (polls_of self.now) what.now) }
@@ -69,7 +70,7 @@ impl Pulse {
     }
 }
 
-/// More turns than this find no memory anywhere: a list takes fewer than 2^63 bytes.
+/// More turns than this are out of memory on any machine: a list takes fewer than 2^63 bytes.
 const MOST_POLLS: u64 = 0x7fff_ffff_ffff_ffff;
 
 impl Handler for Pulse {

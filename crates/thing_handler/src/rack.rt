@@ -14,7 +14,8 @@ pub struct Rack {
     ghost few: { vec_len list < 2 ^ 32 },
 }
 
-/// What a rack does. The crates above take any rack by this trait.
+/// What a rack does. The crates above take any rack by this trait, as a type parameter, because the check of the kit
+/// can't judge a function there that takes a rack of boxed handlers by reference.
 pub trait Handlers: Drop {
     ghost use Rattle.std.specs.Prelude.{◌≡◌, ◌<◌, ◌^◌, List, length, slice_get, IfSome};
     ghost use Rattle.thing_handler.specs.Handler.{Seen, CallsHandler};
@@ -37,7 +38,9 @@ pub trait Handlers: Drop {
         requires { slot < length (slots self.now) }
         ensures { IfSome (slice_get (slots self.now) slot) (λ h. result.now ≡ h.turns) };
 
-    /// One call of the handler in this slot. The others keep their turns and their counts.
+    /// One call of the handler in this slot. The others keep their turns and their counts. It takes no
+    /// allocator: a rack keeps the one that it was made with. That the rack has the slot is the caller's to
+    /// know, since a site fits its rack.
     fn call(&mut self, slot: usize, number: u64, what: &CallKind) -> Result<Answer, NoMemory>
         requires { slot < length (slots self.old) }
         ensures { CallsHandler (slots self.old) (slots self.new) slot number what.now result };

@@ -1,4 +1,4 @@
-//! A handler that answers from a list.
+//! A handler in memory that answers from a list.
 
 ghost use Rattle.std.specs.Prelude.{◌≡◌, IfOk, OnErr};
 ghost use Rattle.thing_handler.specs.Handler.{fresh_handler};
@@ -11,7 +11,7 @@ use std::alloc::Global;
 /// The number of the refusal when no answer is left.
 const NOTHING_LEFT: u16 = 9;
 
-/// A handler that gives the answers of a list in order, whatever it is asked, and then `Refused(9)`.
+/// A handler that gives the answers of a list in order, for all that it is asked, and then `Refused(9)`.
 #[derive(Drop)]
 pub struct Scripted {
     kind: Kind,

@@ -1,4 +1,4 @@
-//! The turns that a handler in memory made, and how often it found no memory.
+//! The turns that a handler in memory made, and how often it was out of memory.
 
 ghost use Rattle.std.specs.Prelude.{◌≡◌, [], ◌∷◌, ◌++◌, IfOk, OnOk, OnErr};
 ghost use Rattle.servient_base.specs.Count.{raised};
@@ -8,7 +8,7 @@ use servient_base::NoMemory;
 use std::alloc::Global;
 use wot_json::{Tree, copy};
 
-/// The turns of one handler, in order, and the count of calls that found no memory.
+/// The turns of one handler, in order, and the count of calls that were out of memory.
 #[derive(Drop)]
 pub struct TurnLog {
     pub turns: Vec<Turn>,
@@ -27,8 +27,8 @@ impl TurnLog {
         }
     }
 
-    /// Keeps the turn of a call and hands its answer on. Where there was no memory for the answer, or is none for
-    /// keeping the turn, the call is counted instead.
+    /// Keeps the turn of a call and hands its answer on. Where the answer, or keeping the turn, was out of
+    /// memory, the call is counted instead.
     pub fn keep(
         &mut self,
         alloc: Global,

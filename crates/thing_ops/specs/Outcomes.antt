@@ -11,7 +11,7 @@ pub data Payload : Type 0 where
   word : List ℕ → Payload
   nothing : Payload
 
--- how an outcome is answered; None: it can't come to that over this protocol
+-- how an outcome is answered; None: there is no such outcome over this protocol
 pub record Answer : Type 0 where
   pub status : Option ℕ
   pub code : Option ℕ
@@ -35,7 +35,8 @@ http_alone status payload = record { status = Some status; code = None; payload 
 abbrev pub coap_alone : ℕ → Payload → Answer
 coap_alone code payload = record { status = None; code = Some code; payload = payload }
 
--- The table of outcomes. The place of what was started or created is said beside the payload (Location in HTTP,
+-- The table of outcomes, with those of the directory and of requests that wait, so that a later stage adds no row. The
+-- place of what was started or created is said besides the payload (Location in HTTP,
 -- Location-Path in CoAP). A request that waits gets no answer over HTTP for the time being; CoAP has no such requests
 -- and no directory.
 abbrev pub answer_of : Outcome → Answer

@@ -11,7 +11,7 @@ use Rattle.thing_ops.specs.declared.routing.RouteKind.TheVariants as route
 abbrev pub the : List ℕ → List ℕ → Bool
 the word segment = bytes_eq segment word
 
--- nothing: a name that somebody chose
+-- nothing: any name
 abbrev pub any : List ℕ → Bool
 any segment = true
 
@@ -43,7 +43,8 @@ abbrev pub invocation_in : List (List ℕ) → ℕ
 invocation_in (thing ∷ actions ∷ name ∷ id ∷ rest) = digits_value 10 id
 invocation_in path = 0
 
--- The table of paths, the rows that name the first segment first: of two rows that a path fits, the first counts.
+-- The table of paths, the rows that name the first segment first: of two rows that a path fits, the first counts. The
+-- path `things`, `properties`, N fits none of those, so it leads to a property of a Thing `things`, which no Thing is.
 abbrev pub route_of : List (List ℕ) → RouteKind
 route_of path =
     if has_form (the (codes ".well-known") ∷ the (codes "wot") ∷ []) path then route.Root

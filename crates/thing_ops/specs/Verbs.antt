@@ -50,8 +50,8 @@ names_of (v ∷ vs) = verb_name v ++ further_names vs
 abbrev pub name_at : ℕ → Verb → List ℕ
 name_at at v = if at == 0 then verb_name v else codes ", " ++ verb_name v
 
--- a property's verbs: it is read with GET and HEAD unless it is write-only, and written with PUT unless it is read-only
--- (TD 1.1, section 5.3.2.1)
+-- A property's verbs: it is read with GET and HEAD unless it is write-only, and written with PUT unless it is read-only
+-- (TD 1.1, section 5.3.2.1). Whether it is observable changes no verbs, but whether there is a path for that.
 abbrev pub property_verbs : Flags → List Verb
 property_verbs flags =
     (if flags.write_only then [] else verb.Get ∷ verb.Head ∷ []) ++ (if flags.read_only then [] else verb.Put ∷ [])

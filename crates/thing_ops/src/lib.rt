@@ -1,8 +1,8 @@
-//! What a Thing is asked and what comes of it, whichever protocol carries it.
+//! What a Thing is asked and what comes of it, over either protocol.
 //!
-//! A `Request` has a verb, the segments of a path, and what HTTP (RFC 9110) and CoAP (RFC 7252) both say beside them.
-//! `route` tells what a path leads to, and `allowed` which verbs are taken there. An `Outcome` is what a request comes
-//! to; its HTTP status, its CoAP code and its payload are three columns of one table.
+//! A `Request` has a verb, the segments of a path, and what else HTTP (RFC 9110) and CoAP (RFC 7252) both say.
+//! `route` says what a path leads to, and `allowed` which verbs are taken there. An `Outcome` is the result of a
+//! request; its HTTP status, its CoAP code and its payload are three columns of one table.
 //!
 //! ```text
 //! let mut path = Segments::new(alloc);

@@ -1,4 +1,4 @@
-//! What a request comes to.
+//! The outcomes of requests.
 
 ghost use Rattle.std.specs.Prelude.{◌≡◌, option_map};
 ghost use Rattle.thing_ops.specs.Outcomes.{text_of};
@@ -6,7 +6,7 @@ ghost use Rattle.thing_ops.specs.Outcomes.{text_of};
 use crate::{Allow, NoMemory, Segments};
 use wot_json::{Bytes, Text};
 
-/// What a request comes to. `specs/Outcomes.antt` says how each is answered.
+/// The outcome of a request. `specs/Outcomes.antt` says how each is answered.
 #[derive(Debug, Drop)]
 pub enum Outcome {
     /// A value, as a JSON text.
@@ -19,7 +19,7 @@ pub enum Outcome {
     Changed,
     /// What an action gave, as a JSON text.
     Output(Bytes),
-    /// An action goes on: the path of its invocation, and the invocation's status as a JSON text.
+    /// An action runs: the path of its invocation, and the invocation's status as a JSON text.
     Started(Segments, Bytes),
     /// What was at the path is gone.
     Deleted,
@@ -37,7 +37,7 @@ pub enum Outcome {
     NotAcceptable,
     /// The body isn't in a format that is taken here.
     Format,
-    /// The body is missing or not wanted, can't be read, or isn't what the schema asks.
+    /// The body is missing or unwanted, can't be read, or isn't what the schema asks.
     BadValue,
     /// The value is longer than is taken here.
     TooLarge,
@@ -47,7 +47,7 @@ pub enum Outcome {
     DeviceFault(u16),
     /// The device answered what it mustn't.
     BadAnswer,
-    /// No further invocation can run beside those that do.
+    /// No further invocation can run with those that do.
     InvocationsFull,
     /// The run has no number left for another call of a handler.
     CallsUsed,

@@ -1,4 +1,4 @@
-//! Requests as both protocols see them.
+//! Requests as both protocols see them: verb, path, formats and body.
 
 use crate::{Segments, Verb};
 

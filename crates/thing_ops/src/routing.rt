@@ -1,4 +1,4 @@
-//! What a path leads to.
+//! What a path leads to, by the table of paths.
 
 ghost use Rattle.std.specs.Prelude.{◌≡◌, ◌∷◌, [], if◌then◌else◌};
 ghost use Rattle.std.specs.Str.{bytes_eq, is_utf8};

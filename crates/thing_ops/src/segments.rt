@@ -1,4 +1,4 @@
-//! The segments of a path.
+//! The segments of a path, in one buffer.
 
 ghost use Rattle.std.specs.Prelude.{◌≡◌, ◌++◌, ◌∷◌, ◌<◌, ◌≤◌, ◌↔◌, [], List, ℕ, length, option_map, slice_get, slice_index, slice_range, Some, IfOk, IsTrue, OnErr, OnOk};
 ghost use Rattle.thing_ops.specs.Segments.{pieces, with_longer_last, AreEnds};
@@ -8,7 +8,8 @@ use smallvec::SmallVec;
 use std::alloc::Global;
 use std::marker::Model;
 
-/// How many segments a path has without further memory: no path that leads anywhere has more.
+/// How many segments a path has without further memory: no path that leads anywhere has more. That a path is one piece
+/// of memory no contract can say.
 const FEW: usize = 4;
 
 /// The segments of a path: any bytes each, percent-encoding already taken away (RFC 3986, sections 2.1 and 3.3).

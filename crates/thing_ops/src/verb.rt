@@ -1,4 +1,4 @@
-//! Verbs of requests.
+//! The verbs of requests, and their names.
 
 ghost use Rattle.std.specs.Prelude.{◌≡◌, ◌≤◌, length};
 ghost use Rattle.thing_ops.specs.Verbs.{verb_name};

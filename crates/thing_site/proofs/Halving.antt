@@ -1,4 +1,4 @@
--- Which affordance a search by halving finds among affordances that rise.
+-- Which affordance a binary search finds among affordances that rise.
 use Rattle.std.proofs.Common.{◌≡◌, ℕ, zero, suc, ◌+◌, ◌<◌, ◌≤◌, List, [], ◌∷◌, length, get_or, true, false, refl, sym, ap, inl, inr, ◌∙◌, arith}
 use Rattle.std.specs.Prelude.{Option, Some, None, slice_get, option_map, ◌&&◌}
 use Rattle.std.specs.Str.{bytes_eq}

@@ -1,4 +1,4 @@
--- Which Thing a search by halving finds over an index, and how an index is made.
+-- Which Thing a binary search over an index finds, and how an index is made.
 use Rattle.std.proofs.Common.{◌≡◌, ℕ, zero, suc, ◌+◌, ◌<◌, ◌≤◌, List, [], ◌∷◌, ◌++◌, length, take, get_or, Bool, true, false, cond, refl, sym, ap, subst, inl, inr, ◌∙◌, arith}
 use Rattle.std.specs.Prelude.{Option, Some, None, slice_get, insert}
 use Rattle.std.specs.List.{AllByRecursion, HoldsAt}
@@ -36,7 +36,7 @@ earlier_segment site (n ∷ ns) rise i zero d below within = absurd (omega arith
 earlier_segment site (n ∷ ns) rise zero (suc j) d below within = at_place (λ m. between site n m ≡ Less) ns j d rise.0 (omega arith)
 earlier_segment site (n ∷ ns) rise (suc i) (suc j) d below within = earlier_segment site ns rise.1 i j d (omega arith) (omega arith)
 
--- ---- a search by halving
+-- ---- a binary search
 
 segments_rise : (site : Site) (ns segment : List ℕ) → SegmentsRise site ns → IsNonDecreasingBy (λ n. ordering_index (segment_order site segment n)) ns
 segments_rise site ns segment rise = searchable_from_sorted nat_list_cmp_total (segment_at site) ns segment

@@ -1,4 +1,4 @@
--- What stands against a request, and what doesn't, as far as no state is needed.
+-- Which refusals hold of a request, and which don't, as far as no state is needed.
 use Rattle.std.proofs.Common.{◌≡◌, List, true, false, refl, sym, subst, inl, inr}
 use Rattle.std.specs.Prelude.{Option, Some, None}
 use Rattle.thing_ops.specs.declared.outcome.Outcome.{Outcome}
@@ -28,7 +28,7 @@ none_refused act q inputs accepted formatted given short taken = (
   ),
 )
 
--- ---- each of the refusals, where those before it don't stand
+-- ---- each of the refusals, where those before it don't hold
 
 abbrev IsFormatTaken : Act → PlainRequest → Type 0
 IsFormatTaken act q = ¬ ((¬ (IsEmptyBody q.body)) × (is_taken_format act q.format ≡ false))

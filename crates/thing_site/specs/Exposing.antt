@@ -33,7 +33,7 @@ abbrev pub IsJudged : List Kind → List ℕ → Wanted → Result ℕ ExposeFau
 IsJudged kinds earlier w (Ok slot) = (fault_of kinds earlier w ≡ []) × (w.slot ≡ Some slot)
 IsJudged kinds earlier w (Err fault) = fault_of kinds earlier w ≡ fault ∷ []
 
--- the same of several, whatever further ones follow; the slots of those that were judged are then these
+-- the same of several, for all further ones that follow; the slots of those that were judged are then these
 abbrev pub HaveNoFault : List Kind → List ℕ → List ℕ → List Wanted → Type 0
 HaveNoFault kinds earlier after ws = (rest : List Wanted) → faults_from kinds earlier (ws ++ rest) ≡ faults_from kinds after rest
 

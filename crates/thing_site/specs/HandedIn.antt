@@ -11,15 +11,15 @@ use Rattle.thing_site.specs.SiteCodes.{placed_code}
 use Rattle.thing_site.specs.Places.{Act}
 use Rattle.thing_site.specs.Refusals.{Input, inputs_of, refusals_by_request, StandsByRequest, IsAnswer, IsFirst, IsNone}
 
--- a body isn't as wanted, or memory is out
+-- a body isn't as it should be, or it is out of memory
 abbrev pub HasNoInputs : Option (List Input) → Outcome → Type 0
 HasNoInputs expected o = (o ≡ outcome.Memory) ⊎ ((expected ≡ None) × (o ≡ outcome.BadValue))
 
--- a request hands this in to an act, and nothing that needs no state stands against it
+-- a request hands this in to an act, and nothing that needs no state is against it
 abbrev pub IsUnrefused : Act → PlainRequest → List Input → Type 0
 IsUnrefused act q inputs = (inputs_of act q.body ≡ Some inputs) × IsNone (λ r. StandsByRequest r act q) refusals_by_request
 
--- the first such refusal decides, or memory is out
+-- the first such refusal decides, or it is out of memory
 abbrev pub IsRefusedByRequest : Act → PlainRequest → Outcome → Type 0
 IsRefusedByRequest act q o = (o ≡ outcome.Memory) ⊎ IsFirst (λ r. StandsByRequest r act q) IsAnswer refusals_by_request o
 

@@ -40,7 +40,7 @@ affordance_in k path site =
 abbrev pub where_observable : Placed → Option Place
 where_observable p = if p.affordance.observable then Some (observed p) else None
 
--- what a path of this form leads to; an invocation, whether it stands or not
+-- what a path of this form leads to; an invocation, whether there is one of this id or not
 abbrev pub place_at : RouteKind → List (List ℕ) → Site → Option Place
 place_at route.Root path site = option_map description (slice_get site 0)
 place_at route.Thing path site = option_map description (thing_in path site)
@@ -111,7 +111,7 @@ act_at form place v = if is_listed v (verbs_of form (flags_of place)) then Some 
 
 -- ---- targets
 
--- what the own path of an observable property or an event stands for: the slot of its affordance
+-- what the own path of an observable property or an event means: the slot of its affordance
 abbrev pub target_at : Option Place → Option ℕ
 target_at (Some (property p)) = if p.affordance.observable then Some p.slot else None
 target_at (Some (event p)) = Some p.slot

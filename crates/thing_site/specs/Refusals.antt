@@ -1,4 +1,4 @@
--- What a request hands in to an act, and why it is refused whatever the state is.
+-- What a request hands in to an act, and why it is refused in every state.
 use Rattle.std.specs.Prelude.{◌≡◌, ◌<◌, ◌⊎◌, ℕ, List, [], ◌∷◌, ◌++◌, length, Bool, true, false, ◌||◌, IfSome, Option, Some, None, option_map, option_and_then, if◌then◌else◌}
 use Rattle.wot_json.specs.Tree.{Json, object, Members, no_members, member}
 use Rattle.wot_json.specs.Json.{text_of}
@@ -45,7 +45,7 @@ abbrev pub object_inputs : ExposedThing → Json → Option (List Input)
 object_inputs thing (object ms) = member_inputs thing ms
 object_inputs thing value = None
 
--- no body is wanted
+-- no body is taken
 abbrev pub no_inputs : List ℕ → Option (List Input)
 no_inputs [] = Some []
 no_inputs (byte ∷ body) = None
@@ -55,7 +55,7 @@ abbrev pub invoke_inputs : Placed → Option Json → List ℕ → Option (List 
 invoke_inputs p None body = no_inputs body
 invoke_inputs p (Some schema) body = option_map (only_input p) (tree_of body)
 
--- What a body hands in to an act; None: the act wants a body and has none that can be read, or the other way round.
+-- What a body hands in to an act; None: the act takes a body and has none that can be read, or the other way round.
 abbrev pub inputs_of : Act → List ℕ → Option (List Input)
 inputs_of (describes thing) body = no_inputs body
 inputs_of (reads_all thing) body = no_inputs body
@@ -118,7 +118,8 @@ IsRefusedBySchema input = ¬ (IsAccepted input.affordance.affordance.input input
 pub data Refusal : Type 0 where
   nothing_there verb_not_taken answer_not_acceptable format_not_taken body_not_as_wanted value_too_large refused_by_schema no_invocation_left : Refusal
 
--- those of an act that is there for which no state counts, in the order in which they are judged
+-- Those of an act that is there for which no state counts, in the order in which they are judged. They are apart from
+-- the two before an act is there, because code that judges an act says what it finds of that act alone.
 abbrev pub refusals_by_request : List Refusal
 refusals_by_request = answer_not_acceptable ∷ format_not_taken ∷ body_not_as_wanted ∷ value_too_large ∷ refused_by_schema ∷ []
 
@@ -130,13 +131,13 @@ Holding P (Some a) = P a
 abbrev pub IsEmptyBody : List ℕ → Type 0
 IsEmptyBody body = body ≡ []
 
--- when each of them stands against an act that is asked for, whatever the state
+-- when each of them holds of an act that is asked for, in every state
 abbrev pub StandsByRequest : Refusal → Act → PlainRequest → Type 0
 -- the sender takes no format that the answer has
 StandsByRequest answer_not_acceptable act q = is_acceptable act q.accept ≡ false
 -- it has a body in a format that isn't taken there
 StandsByRequest format_not_taken act q = (¬ (IsEmptyBody q.body)) × (is_taken_format act q.format ≡ false)
--- its body is missing, not wanted, can't be read, or isn't an object of properties that may be written
+-- its body is missing, unwanted, can't be read, or isn't an object of properties that may be written
 StandsByRequest body_not_as_wanted act q = inputs_of act q.body ≡ None
 -- a value is longer than is taken
 StandsByRequest value_too_large act q = Holding (SomeInput IsLong) (inputs_of act q.body)
@@ -155,12 +156,12 @@ IsAnswer refused_by_schema o = o ≡ outcome.BadValue
 IsAnswer no_invocation_left o = o ≡ outcome.InvocationsFull
 IsAnswer r o = ⊥
 
--- the first of these that stands decides the outcome
+-- the first of these that holds decides the outcome
 abbrev pub IsFirst : (Refusal → Type 0) → (Refusal → Outcome → Type 0) → List Refusal → Outcome → Type 0
 IsFirst S Answers [] o = ⊥
 IsFirst S Answers (r ∷ rs) o = (S r × Answers r o) ⊎ ((¬ (S r)) × IsFirst S Answers rs o)
 
--- none of these stands
+-- none of these holds
 abbrev pub IsNone : (Refusal → Type 0) → List Refusal → Type 0
 IsNone S [] = Unit {0}
 IsNone S (r ∷ rs) = (¬ (S r)) × IsNone S rs

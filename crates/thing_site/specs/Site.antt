@@ -62,7 +62,7 @@ site_of slots = map (exposed slots)
 
 -- ---- why Things and slots don't fit a rack
 
--- An affordance that is to have a handler is a `Wanted`: the segment of its Thing, its pointer, its kind, and the
+-- An affordance that needs a handler is a `Wanted`: the segment of its Thing, its pointer, its kind, and the
 -- slot that it is given.
 
 abbrev pub wanted_by : Slots → List ℕ → Affordance → Wanted

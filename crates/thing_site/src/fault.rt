@@ -1,4 +1,4 @@
-//! Why Things can't be exposed.
+//! The faults for which Things can't be exposed.
 
 use servient_base::NoMemory;
 use thiserror::Error;

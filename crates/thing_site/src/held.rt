@@ -1,4 +1,4 @@
-//! A Thing as it is kept.
+//! A Thing as it is kept: its description, its affordances and their slots.
 
 use crate::Spot;
 use crate::site::{spot_at, spot_count, spot_named};
@@ -6,8 +6,9 @@ use std::marker::Model;
 use wot_json::{Text, Tree};
 use wot_terms::{Description, Kind};
 
-/// A Thing with the slots of its handlers, one for each affordance, in the order of the affordances. Contracts see
-/// its segment, its description, and its affordances with their slots.
+/// A Thing with the slots of its handlers, one for each affordance, in the order of the affordances: in a list of their
+/// own, because `Description` hands out a slice alone. The description is a copy for the same reason. Contracts see its
+/// segment, its description, and its affordances with their slots.
 #[derive(Drop)]
 pub struct HeldThing {
     segment: Text,
@@ -81,7 +82,7 @@ impl HeldThing {
         spot_at(self.affordances.affordances(), self.slots.as_slice(), index)
     }
 
-    /// The affordance of this kind and name, found by halving.
+    /// The affordance of this kind and name, found by binary search.
     pub fn affordance(&self, kind: Kind, name: &[u8]) -> Option<Spot<'_>>
         ensures { result ≡ affordance_named kind name.now self.now.affordances }
     {

@@ -17,7 +17,7 @@ use std::marker::Model;
 use thing_handler::Handlers;
 use wot_terms::Things;
 
-/// Things in their order, with an index. Contracts see the Things.
+/// Things in their order, in which they are polled, with an index. Contracts see the Things.
 #[derive(Drop)]
 pub struct IndexedThings {
     things: Vec<HeldThing>,
@@ -40,7 +40,8 @@ impl Model for IndexedThings {
 }
 
 impl IndexedThings {
-    /// Things as they are exposed by these slots of a rack.
+    /// Things as they are exposed by these slots of a rack. It asks neither that there is a Thing, without which the
+    /// root leads nowhere, nor that segments differ: the first Thing of a segment counts.
     pub fn new<R: Handlers>(
         alloc: Global,
         things: Things,
@@ -72,7 +73,7 @@ impl IndexedThings {
         self.things.as_slice()
     }
 
-    /// The Thing of this segment, found by halving.
+    /// The Thing of this segment, found by binary search.
     pub fn named(&self, segment: &[u8]) -> Option<&HeldThing>
         ensures { option_map (λ t. t.now) result ≡ thing_of segment.now self.now }
     {

@@ -1,4 +1,4 @@
-//! What a request hands in.
+//! A value that a request hands in, with the affordance that it is for.
 
 use crate::{NoMemory, Spot};
 use std::alloc::Global;

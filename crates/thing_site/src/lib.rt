@@ -1,9 +1,9 @@
 //! Which Things there are, which handler serves which affordance, and where a path leads: what is constant in a run.
 //!
 //! `IndexedThings::new` gives the affordances of Things the handlers of a rack, by a list of slots, or names the
-//! first that has none, one of another kind, or one that is taken. `place_at` says what a path leads to, `act_at`
-//! what a verb asks for there, and `judge` what a request hands in to that act, or why it is refused whatever the
-//! state of the Things.
+//! first that has none, one of another kind, or one that is taken. `place_at` says what a path leads to,
+//! `act_at` what a verb asks for there, and `judge` what a request hands in to that act, or why it is refused in
+//! every state of the Things.
 //!
 //! ```
 //! use thing_handler::{Kind, Rack};
@@ -19,7 +19,8 @@
 //! Contracts see a site (`specs/Site.antt`): the Things, each with its affordances and the slots of their handlers.
 //! The contract in a sentence: `IndexedThings::new` is `site_of`, which fits the rack, or the first of
 //! `expose_faults`; what is found in it is what the site has there (`specs/Places.antt`), and a request is judged by
-//! the first of its refusals (`specs/Refusals.antt`).
+//! the first of its refusals (`specs/Refusals.antt`). Judging is cut where the state begins: that no further invocation
+//! may run, and whether an invocation is there, is for `thing_core`.
 #![tactic(auto)]
 
 mod fault;

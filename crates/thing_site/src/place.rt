@@ -19,7 +19,8 @@ pub enum Place<'a> {
     /// Where a property is observed.
     Observed(Spot<'a>),
     Action(Spot<'a>),
-    /// An invocation of an action, by its id.
+    /// An invocation of an action, by its id and not by what is there, because a place then borrows the Things alone
+    /// and the state may change while it is held.
     Invocation(Spot<'a>, u32),
     Event(Spot<'a>),
     /// Where an event is subscribed to.
@@ -41,7 +42,7 @@ pub enum Act<'a> {
     Waits(Spot<'a>),
 }
 
-/// What a path leads to, where it leads anywhere: to an invocation of an action also where none of this id stands.
+/// What a path leads to, where it leads anywhere: to an invocation of an action also where there is none of this id.
 #[tactic(auto, using(crate::proofs::PlaceLaws::place_by_parts))]
 pub fn place_at<'a>(things: &'a IndexedThings, path: &Segments) -> Option<Place<'a>>
     ensures { option_map found_place result ≡ spec.place_at (route_of path.now) path.now things.now }
@@ -248,7 +249,8 @@ pub fn act_at<'a>(route: RouteKind, place: Place<'a>, verb: Verb) -> Result<Act<
     }
 }
 
-/// What a verb asks to be done at a place where it is taken.
+/// What a verb asks to be done at a place where it is taken. Which verbs these are is `verbs_of`
+/// alone, which `act_at` asks.
 fn act_of<'a>(place: Place<'a>, verb: Verb) -> Act<'a>
     ensures { found_act result ≡ spec.act_of (found_place place.entry) verb }
 {
@@ -282,7 +284,7 @@ fn flags_of(place: &Place<'_>) -> Flags
     }
 }
 
-/// What the own path of an observable property or an event stands for: the slot of its affordance.
+/// What the own path of an observable property or an event means: the slot of its affordance.
 pub fn target_at(place: Option<Place<'_>>) -> Option<u32>
     ensures { result ≡ spec.target_at (option_map found_place place.entry) }
 {

@@ -1,4 +1,4 @@
-//! Why a request is refused whatever the state is.
+//! Why a request is refused in every state of the Things.
 
 ghost use Rattle.std.specs.Prelude.{◌≡◌, ◌↔◌, ◌++◌, option_map, option_and_then, ◌⊎◌, Some, None, IfOk, IfErr, OnOk, IsTrue, false};
 ghost use Rattle.wot_json.specs.Reading.{tree_of};
@@ -19,9 +19,9 @@ use wot_terms::Kind;
 /// How long the text of a value may be that is handed in or comes back, in bytes.
 pub const LONGEST_VALUE: usize = 1024;
 
-/// What a request hands in to an act, where nothing stands against it that needs no state; else what the request
-/// comes to: it isn't acceptable, or its body has another format, isn't as wanted, is too long or refused by a
-/// schema, in this order; or memory is out.
+/// What a request hands in to an act, where nothing is against it that needs no state; else the outcome: it
+/// isn't acceptable, or its body has another format, isn't as it should be, is too long or refused by a schema, in this
+/// order; or it is out of memory.
 pub fn judge<'a>(
     alloc: Global,
     act: &Act<'a>,
@@ -112,7 +112,7 @@ fn inputs_of<'a>(alloc: Global, act: &Act<'a>, body: &[u8]) -> Result<Vec<Input<
     }
 }
 
-/// No body is wanted.
+/// No body is taken.
 fn no_inputs<'a>(alloc: Global, body: &[u8]) -> Result<Vec<Input<'a>>, Outcome>
     ensures ok { IfOk result (λ inputs. refusal.no_inputs body.now ≡ Some inputs.items) }
     ensures fault { IfErr result (λ o. HasNoInputs (refusal.no_inputs body.now) o) }

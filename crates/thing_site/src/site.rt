@@ -51,7 +51,7 @@ impl<'a> Spot<'a> {
         self.slot
     }
 
-    /// The same again.
+    /// The same again: a Model on a struct that borrows rules out `Copy`.
     pub fn again(&self) -> Spot<'a>
         ensures { result ≡ self.now }
     {

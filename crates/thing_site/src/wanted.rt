@@ -1,4 +1,4 @@
-//! Affordances that are to have handlers.
+//! Affordances with the slots that they are given, before these are judged.
 
 ghost use Rattle.std.specs.Prelude.{◌≡◌, map, IfOk};
 ghost use Rattle.thing_site.specs.Site.{pointer_of as pointer_to, wanted_by};
@@ -9,7 +9,7 @@ use std::alloc::Global;
 use wot_json::{Text, below};
 use wot_terms::{Affordance, Kind};
 
-/// An affordance that is to have a handler.
+/// An affordance that needs a handler.
 #[derive(Debug, Drop)]
 pub struct Wanted {
     /// The segment of its Thing.

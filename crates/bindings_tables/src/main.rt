@@ -1,6 +1,6 @@
-//! Tables of the bindings: CoAP messages, what they ask for, exchanges, watchers, and the server; HTTP requests at the front of a
-//! stream, their targets, the heads of replies, outcomes, and the connections of an HTTP server. Each argument names a
-//! file: the table of that name.
+//! Tables of the bindings: CoAP messages, what they ask for, exchanges, watchers, and the server; HTTP requests at the
+//! front of a stream, their targets, the heads of replies, outcomes, and the connections of an HTTP server. Each
+//! argument names a file: the table of that name.
 //!
 //! A row is what is given, ` => `, and what comes of it. The program prints each row with what does come of it, and
 //! each other line as it is: so it prints its files, if all is right. Most rows stand alone. In some files rows are

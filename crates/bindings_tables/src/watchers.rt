@@ -1,6 +1,6 @@
-//! Watchers of a CoAP server, of which there may be four, or as many as the first line of a history says (`capacity 2`). A
-//! step is `register ENDPOINT TOKEN TARGET`, `cancel ENDPOINT TOKEN`, `emit TARGET`, `acked ENDPOINT ID`, `reset ENDPOINT ID`
-//! or `next MOMENT ID`, and what it comes to.
+//! Watchers of a CoAP server, of which there may be four, or as many as the first line of a history says
+//! (`capacity 2`). A step is `register ENDPOINT TOKEN TARGET`, `cancel ENDPOINT TOKEN`, `emit TARGET`,
+//! `acked ENDPOINT ID`, `reset ENDPOINT ID` or `next MOMENT ID`, and what it comes to.
 
 ghost use Rattle.std.specs.Prelude.{◌≤◌};
 

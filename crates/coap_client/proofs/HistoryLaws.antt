@@ -12,6 +12,7 @@ use Rattle.coap_client.specs.Exchange.{at_moment, IsNew, request_for, Delivers, 
 use Rattle.coap_client.specs.Answers.{meaning, is_for_request, is_for_observation}
 use Rattle.coap_msg.specs.Endpoints.{is_same_endpoint}
 use Rattle.coap_msg.specs.Transmission.{first_timeout}
+use Rattle.coap_msg.proofs.SameEndpoints.{both, same_endpoint}
 use Rattle.coap_client.specs.Times.{transmission_end, deadline, retransmissions_by}
 use Rattle.coap_client.specs.Laws.{Did, nothing, asked, refused, took, retransmitted, RetransmissionsEnd, TakenFromTheAsked, TakenFromAPeer, IdsRest}
 use Rattle.coap_client.proofs.StepLaws.{Follows, IsSame, Keeps, keeps_self, keeps_after, keeps_due, follows_kept, follows_later, follows_asked}
@@ -77,35 +78,23 @@ retransmissions_end sent s t now n old new did later comes =
     )
 
 -- what tests say
-both : (b c : Bool) → (b && c) ≡ true → (b ≡ true) × (c ≡ true)
-both true c e = (refl, e)
-both false c e = cc
-
 either : (b c : Bool) → (b || c) ≡ true → (b ≡ true) ⊎ (c ≡ true)
 either true c e = inl refl
 either false c e = inr e
-
-same_end : (a b : Endpoint) → is_same_endpoint a b ≡ true → a ≡ b
-same_end a b e =
-    let h = both (a.host == b.host) (a.port == b.port) e in
-    let host : a.host ≡ b.host = let one = h.0 in grind (arith, nat_tests) in
-    let port : a.port ≡ b.port = let one = h.1 in grind (arith, nat_tests) in
-    let at : ℕ → ℕ → Endpoint = λ x y. record { host = x; port = y } in
-    ap (λ (x : ℕ). at x a.port) host ∙ ap (λ (y : ℕ). at b.host y) port
 
 for_request : (x : Option Outstanding) (from : Endpoint) (token : List ℕ) → is_for_request x from token ≡ true
     → (o : Outstanding) × (x ≡ Some o) × (from ≡ o.peer) × (token ≡ o.token)
 for_request None from token e = cc
 for_request (Some o) from token e =
     let h = both (is_same_endpoint from o.peer) (bytes_eq token o.token) e in
-    (o, refl, same_end from o.peer h.0, (bytes_eq-Decides token o.token).0 h.1)
+    (o, refl, same_endpoint from o.peer h.0, (bytes_eq-Decides token o.token).0 h.1)
 
 for_observation : (x : Option Observation) (from : Endpoint) (token : List ℕ) → is_for_observation x from token ≡ true
     → (o : Observation) × (x ≡ Some o) × (from ≡ o.peer) × (token ≡ o.token)
 for_observation None from token e = cc
 for_observation (Some o) from token e =
     let h = both (is_same_endpoint from o.peer) (bytes_eq token o.token) e in
-    (o, refl, same_end from o.peer h.0, (bytes_eq-Decides token o.token).0 h.1)
+    (o, refl, same_endpoint from o.peer h.0, (bytes_eq-Decides token o.token).0 h.1)
 
 pub taken_from_a_peer : TakenFromAPeer
 taken_from_a_peer s from m e =

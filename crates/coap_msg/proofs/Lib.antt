@@ -7,3 +7,4 @@ pub mod WholeOptions
 pub mod FaultLaws
 pub mod OneFault
 pub mod OptionParts
+pub mod SameEndpoints

@@ -12,7 +12,8 @@ use Rattle.coap_observe.specs.Sending.{Sent}
 use Rattle.coap_observe.specs.Watching.{Watching, is_from, is_pair, is_busy, is_sent_as, is_of_target, is_due, is_free, newcomer, replaced, marked, acknowledged, resent, renewed, notified, where_so, with_reset, hopeless, GivesUp, nobody, endpoint, IsNotice, Sends, same, newer, first, nothing, Notifies}
 use Rattle.coap_observe.specs.Laws.{Goes, registers, cancels, emits, acknowledges, rejects, sends, Any, Comes, begins, goes_on, count, IsAbsent, is_for}
 use Rattle.coap_observe.proofs.Counts.{count_map, count_filter, count_push, count_push_other, none_counted, count_first, count_first_other, any_filter, any_without, any_map, any_first, any_push, found_fails, none_passes, found_passes, gone_once}
-use Rattle.coap_observe.proofs.Endpoints.{both, same_endpoint, itself, same_token, own_token}
+use Rattle.coap_msg.proofs.SameEndpoints.{both, same_endpoint, itself}
+use Rattle.coap_observe.proofs.Tokens.{same_token, own_token}
 
 -- ---- a change of those that pass a test
 

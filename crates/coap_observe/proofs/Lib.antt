@@ -2,6 +2,6 @@ mod Changed
 mod Due
 mod Counts
 mod Found
-mod Endpoints
+mod Tokens
 mod CallLaws
 mod NumberLaws

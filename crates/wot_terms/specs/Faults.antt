@@ -167,7 +167,7 @@ abbrev pub security_definitions : MembersJudge
 security_definitions ms =
     required_member (codes "securityDefinitions") (object_of_some (object_with (required_member (codes "scheme") (is (is_text_with (bytes_eq (codes "nosec"))))))) ms
 
--- 5: `security` (section 5.3.1.1): names of security definitions, of any form, because row 4 judges that
+-- 5: `security` (section 5.3.1.1): names of security definitions, of any form, because condition 4 judges that
 abbrev pub has_member : Option Json → List ℕ → Bool
 has_member (Some (object ms)) name = is_some (value_under name ms)
 has_member v name = false

@@ -1,9 +1,7 @@
--- Endpoints and tokens that are one.
-use Rattle.std.proofs.Common.{◌≡◌, ℕ, ◌==◌, ◌&&◌, Bool, true, false, List, refl, ap, ◌∙◌}
+-- Endpoints that are one.
+use Rattle.std.proofs.Common.{◌≡◌, ℕ, ◌==◌, ◌&&◌, Bool, true, false, refl, ap, ◌∙◌}
 use native.Mathlib.Omega.{arith}
-use Rattle.std.specs.Str.{bytes_eq}
 use Rattle.std.proofs.lemmas.Bool.Decides.{nat_tests}
-use Rattle.std.proofs.lemmas.Slice.Eq.{bytes_eq-Decides}
 use Rattle.std.proofs.lemmas.Grind.{common_steps}
 use Rattle.coap_msg.specs.declared.endpoint.Endpoint.{Endpoint}
 use Rattle.coap_msg.specs.Endpoints.{is_same_endpoint}
@@ -22,9 +20,3 @@ same_endpoint a b e =
 
 pub itself : (a : Endpoint) → is_same_endpoint a a ≡ true
 itself a = grind (arith, nat_tests, common_steps)
-
-pub same_token : (xs ys : List ℕ) → bytes_eq xs ys ≡ true → xs ≡ ys
-same_token xs ys e = (bytes_eq-Decides xs ys).0 e
-
-pub own_token : (xs : List ℕ) → bytes_eq xs xs ≡ true
-own_token xs = (bytes_eq-Decides xs xs).1 refl

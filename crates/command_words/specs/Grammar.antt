@@ -17,8 +17,8 @@ use Rattle.command_words.specs.declared.command.Command.TheVariants.{Replay, Ser
 use Rattle.command_words.specs.declared.command.Consumption.{Consumption}
 use Rattle.command_words.specs.declared.command.Operation.{Operation}
 use Rattle.command_words.specs.declared.command.Operation.TheVariants as operation
-use Rattle.command_words.specs.declared.command.Scheme.{Scheme}
-use Rattle.command_words.specs.declared.command.Scheme.TheVariants as scheme
+use Rattle.wot_forms.specs.declared.scheme.Scheme.{Scheme}
+use Rattle.wot_forms.specs.declared.scheme.Scheme.TheVariants as scheme
 
 -- one part, and where it is there what follows of it
 abbrev pub with_part : {A B : Type 0} → Option A → (A → Option B) → Option B

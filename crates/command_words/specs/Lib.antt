@@ -1,4 +1,5 @@
 pub mod Words
 pub mod Grammar
+pub mod Operations
 pub mod Parts
 pub mod Line

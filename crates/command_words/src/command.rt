@@ -2,6 +2,7 @@
 
 ghost use Rattle.std.specs.Prelude.{◌≡◌, IfOk};
 ghost use Rattle.command_words.specs.Grammar.{check_form, check_of, consume_form, consume_of, consumption_of, derive_form, derive_of, meaning_after, meaning_by, meaning_of, replay_form, replay_of, serve_form, serve_of, storm_form, storm_of};
+ghost use Rattle.command_words.specs.Operations.{form_operation};
 ghost use Rattle.command_words.specs.Parts.{Reads, texts};
 ghost use Rattle.command_words.specs.Line.{AreTexts};
 
@@ -10,7 +11,9 @@ use crate::parts::{events, file, name, number, number_or, operation, optional, r
 use crate::values::Given;
 use servient_base::NoMemory;
 use std::alloc::Global;
+use wot_forms::Scheme;
 use wot_json::Text;
+use wot_terms::Op;
 
 /// A command, with all that its words say.
 #[derive(Debug, Drop)]
@@ -71,11 +74,19 @@ pub enum Operation {
     ObserveProperty,
 }
 
-/// The scheme of a form's URL.
-#[derive(Clone, Copy, Debug, Drop, PartialEq, Eq)]
-pub enum Scheme {
-    Http,
-    Coap,
+impl Operation {
+    /// The operation as forms name it.
+    pub fn op(self) -> Op
+        ensures { result ≡ form_operation self }
+    {
+        match self {
+            Operation::ReadProperty => Op::ReadProperty,
+            Operation::WriteProperty => Op::WriteProperty,
+            Operation::InvokeAction => Op::InvokeAction,
+            Operation::ReadAllProperties => Op::ReadAllProperties,
+            Operation::ObserveProperty => Op::ObserveProperty,
+        }
+    }
 }
 
 impl Command {

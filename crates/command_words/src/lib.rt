@@ -17,5 +17,6 @@ mod fault;
 mod parts;
 mod values;
 
-pub use command::{Command, Consumption, Operation, Scheme};
+pub use command::{Command, Consumption, Operation};
 pub use fault::WordsFault;
+pub use wot_forms::Scheme;

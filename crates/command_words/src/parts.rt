@@ -5,10 +5,11 @@ ghost use Rattle.std.specs.Option.{option_map_or};
 ghost use Rattle.command_words.specs.Grammar.{file_of, is_file_name as names_file, name_of, number_between, operation_of, scheme_of};
 ghost use Rattle.command_words.specs.Parts.{Reads, text_in};
 
-use crate::command::{Operation, Scheme};
+use crate::command::Operation;
 use crate::fault::WordsFault;
 use servient_base::parse_decimal;
 use std::alloc::Global;
+use wot_forms::Scheme;
 use wot_json::Text;
 
 /// The text of a word that has to be there.

@@ -35,7 +35,7 @@ fn put_optional(said: &mut String, text: &Option<Text>) -> Result<(), AllocError
 fn put_consumption(said: &mut String, consumption: &Consumption) -> Result<(), AllocError> {
     said.push_str("consume")?;
     put_text(said, &consumption.description)?;
-    write!(said, " {:?}", consumption.operation)?;
+    write!(said, " {:?}", consumption.operation.op())?;
     put_text(said, &consumption.name)?;
     match consumption.scheme {
         Some(scheme) => write!(said, " {scheme:?}")?,

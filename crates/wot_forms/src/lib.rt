@@ -21,6 +21,7 @@ mod generation;
 mod href;
 mod listing;
 mod ops;
+mod scheme;
 mod urls;
 
 pub use bases::Bases;
@@ -29,3 +30,4 @@ pub use generation::generate;
 pub use href::{HrefFault, resolve};
 pub use listing::forms_of;
 pub use ops::{Ops, default_ops};
+pub use scheme::Scheme;

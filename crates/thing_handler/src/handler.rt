@@ -48,7 +48,7 @@ pub enum Answer {
 }
 
 /// The number of the refusal of a call that is none for the handler's kind.
-pub(crate) const NOT_ITS_KIND: u16 = 0;
+pub const NOT_ITS_KIND: u16 = 0;
 
 /// One call and its answer.
 #[derive(Debug, Drop)]

@@ -32,11 +32,12 @@ mod shipped;
 mod turn_log;
 
 pub use cell::Cell;
-pub use handler::{Answer, CallKind, Handler, Turn};
+pub use handler::{Answer, CallKind, Handler, NOT_ITS_KIND, Turn};
 pub use job::Job;
 pub use pulse::Pulse;
 pub use rack::{Handlers, Rack};
 pub use scripted::Scripted;
 pub use servient_base::NoMemory;
 pub use shipped::{SHIPPED_SLOTS, Shipped, shipped_in};
+pub use turn_log::{PreparedTurn, TurnLog};
 pub use wot_terms::Kind;

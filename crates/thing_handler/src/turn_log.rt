@@ -1,6 +1,6 @@
-//! The turns that a handler in memory made, and how often it was out of memory.
+//! The turns that a handler made, and how often it was out of memory: what each handler keeps.
 
-ghost use Rattle.std.specs.Prelude.{◌≡◌, [], ◌∷◌, ◌++◌, IfOk, OnOk, OnErr};
+ghost use Rattle.std.specs.Prelude.{◌≡◌, ◌<◌, [], ◌∷◌, ◌++◌, IfOk, OnOk, OnErr, vec_len, vec_capacity};
 ghost use Rattle.servient_base.specs.Count.{raised};
 
 use crate::{Answer, CallKind, Turn};
@@ -13,6 +13,13 @@ use wot_json::{Tree, copy};
 pub struct TurnLog {
     pub turns: Vec<Turn>,
     pub misses: u64,
+}
+
+/// A turn whose memory is taken, and which lacks only its answer.
+#[derive(Debug, Drop)]
+pub struct PreparedTurn {
+    pub number: u64,
+    pub what: CallKind,
 }
 
 impl TurnLog {
@@ -45,9 +52,53 @@ impl TurnLog {
     {
         let kept = kept_turn(alloc, &mut self.turns, number, what, answer);
         if kept.is_err() {
-            self.misses = self.misses.saturating_add(1);
+            self.count_miss();
         }
         kept
+    }
+
+    /// Takes the memory of a call's turn before its device is touched, so that `finish` takes none. Where there is
+    /// none the call is counted.
+    pub fn prepare(
+        &mut self,
+        alloc: Global,
+        number: u64,
+        what: &CallKind,
+    ) -> Result<PreparedTurn, NoMemory>
+        ensures ok { IfOk result (λ p. p ≡ record { number = number; what = what.now }) }
+        ensures room { OnOk result (vec_len self.new.turns < vec_capacity self.new.turns) }
+        ensures unchanged { self.new.turns.items ≡ self.old.turns.items }
+        ensures no_miss { OnOk result (self.new.misses ≡ self.old.misses) }
+        ensures missed { OnErr result (self.new.misses ≡ raised 1 self.old.misses) }
+    {
+        let prepared = prepared_turn(alloc, &mut self.turns, number, what);
+        if prepared.is_err() {
+            self.count_miss();
+        }
+        prepared
+    }
+
+    /// Keeps a prepared turn with its answer.
+    pub fn finish(&mut self, prepared: PreparedTurn, answer: Answer)
+        requires { vec_len self.old.turns < vec_capacity self.old.turns }
+        ensures turn { self.new.turns.items ≡ self.old.turns.items
+            ++ record { number = prepared.number; what = prepared.what; answer = answer } ∷ [] }
+        ensures misses { self.new.misses ≡ self.old.misses }
+    {
+        let PreparedTurn { number, what } = prepared;
+        self.turns.push_reserved(Turn {
+            number,
+            what,
+            answer,
+        });
+    }
+
+    /// Counts a call that was out of memory.
+    fn count_miss(&mut self)
+        ensures missed { self.new.misses ≡ raised 1 self.old.misses }
+        ensures turns { self.new.turns ≡ self.old.turns }
+    {
+        self.misses = self.misses.saturating_add(1);
     }
 }
 
@@ -65,13 +116,40 @@ fn kept_turn(
     ensures unchanged { OnErr result (turns.new.items ≡ turns.old.items) }
 {
     let answer = answer?;
-    let turn = Turn {
-        number,
-        what: copy_call(alloc, what)?,
-        answer: copy_answer(alloc, &answer)?,
-    };
+    let turn = turn_of(alloc, number, what, &answer)?;
     turns.push(turn)?;
     Ok(answer)
+}
+
+/// A turn with an equal call and an equal answer.
+fn turn_of(alloc: Global, number: u64, what: &CallKind, answer: &Answer) -> Result<Turn, NoMemory>
+    ensures { IfOk result (λ t. t ≡ record { number = number; what = what.now; answer = answer.now }) }
+{
+    let what = copy_call(alloc, what)?;
+    let answer = copy_answer(alloc, answer)?;
+    Ok(Turn {
+        number,
+        what,
+        answer,
+    })
+}
+
+/// A turn without its answer, and room for it among the turns.
+fn prepared_turn(
+    alloc: Global,
+    turns: &mut Vec<Turn>,
+    number: u64,
+    what: &CallKind,
+) -> Result<PreparedTurn, NoMemory>
+    ensures ok { IfOk result (λ p. p ≡ record { number = number; what = what.now }) }
+    ensures room { OnOk result (vec_len turns.new < vec_capacity turns.new) }
+    ensures unchanged { turns.new.items ≡ turns.old.items }
+{
+    turns.reserve(1)?;
+    Ok(PreparedTurn {
+        number,
+        what: copy_call(alloc, what)?,
+    })
 }
 
 /// An equal call.

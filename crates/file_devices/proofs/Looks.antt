@@ -1,0 +1,44 @@
+-- From what the steps of a device give to what its handler answers.
+use Rattle.std.proofs.Common.{◌≡◌, ◌≤◌, ◌<◌, ℕ, List, Option, Some, length, refl, subst, arith}
+use Rattle.std.specs.Prelude.{Result, Ok, Err, IfOk}
+use Rattle.std.specs.declared.alloc.AllocError.{AllocError}
+use Rattle.wot_json.specs.Json.{json_text}
+use Rattle.wot_json.specs.declared.tree.Tree.{Tree}
+use Rattle.servient_outside.specs.declared.files.Got.TheVariants.{Whole, Failed}
+use Rattle.thing_handler.specs.declared.handler.Answer.{Answer}
+use Rattle.std.specs.Option.{option_or}
+use Rattle.file_devices.specs.declared.event.Polled.{Polled}
+use Rattle.file_devices.specs.declared.fault.FileFault.{FileFault}
+use Rattle.file_devices.specs.declared.fault.FileFault.TheVariants as fault
+use Rattle.file_devices.specs.declared.notation.Notation.{Notation}
+use Rattle.file_devices.specs.Files.{FilesSeen, Reads}
+use Rattle.file_devices.specs.Values.{longest, trimmed, Says, ComesTo, value, long_text}
+use Rattle.file_devices.specs.Devices.{Finds, content, Puts, put_answer, DevicePuts, put, EventPolls, EventLooks, polled}
+
+pub value_comes : (way : Notation) (bytes text : List ℕ) (o : Option Tree) (v : Tree) → text ≡ trimmed bytes → Says way text o → o ≡ Some v
+    → (written : List ℕ) (count : ℕ) → written ≡ json_text v → count ≡ length written → count ≤ longest → ComesTo way bytes (Ok v)
+value_comes way bytes text o v cut says some written count is counted short =
+    let short_text : length (json_text v) ≤ longest = subst (λ (t : List ℕ). length t ≤ longest) is (omega arith) in
+    value v (subst (λ t. Says way t (Some v)) cut (subst (Says way text) some says)) short_text refl
+
+pub long_comes : (way : Notation) (bytes text : List ℕ) (o : Option Tree) (v : Tree) → text ≡ trimmed bytes → Says way text o → o ≡ Some v
+    → (written : List ℕ) (count : ℕ) → written ≡ json_text v → count ≡ length written → longest < count → ComesTo way bytes (Err fault.TooLong)
+long_comes way bytes text o v cut says some written count is counted long =
+    let long_one : longest < length (json_text v) = subst (λ (t : List ℕ). longest < length t) is (omega arith) in
+    long_text v (subst (λ t. Says way t (Some v)) cut (subst (Says way text) some says)) long_one refl
+
+pub content_found : (before now : FilesSeen) (name : List ℕ) (way : Notation) (bytes : List ℕ) (r : Result (Result Tree FileFault) AllocError)
+    → Reads before now name longest Whole bytes → IfOk r (ComesTo way bytes) → IfOk r (Finds before now name way)
+content_found before now name way bytes (Ok found) reads comes = content bytes reads.answer.0 reads.answer.1 comes (reads.same (λ (e : Whole ≡ Failed). absurd cc))
+content_found before now name way bytes (Err e) reads comes = tt
+
+pub puts_device : (before now : FilesSeen) (name called : List ℕ) (wanted text : Option (List ℕ)) (meant answer : Answer) (was : Result (Unit {0}) FileFault) → called ≡ name → text ≡ wanted
+    → Puts before now called text was → answer ≡ put_answer meant was → DevicePuts before now name wanted meant answer
+puts_device before now name called wanted text meant answer was same says puts is =
+    put was (subst (λ t. Puts before now name t was) says (subst (λ n. Puts before now n text was) same puts)) is
+
+pub event_looks : (before now : FilesSeen) (name : List ℕ) (way : Notation) (last : Option Tree) (found : Result Tree FileFault) (r : Result Polled AllocError)
+    → Finds before now name way found → IfOk r (λ p. EventPolls last (option_or p.found last) found p.answer)
+    → IfOk r (λ p. EventLooks before now name way last (option_or p.found last) p.answer)
+event_looks before now name way last found (Ok p) finds polls = polled found finds polls
+event_looks before now name way last found (Err e) finds polls = tt

@@ -1,0 +1,135 @@
+-- What the handlers of devices behind files answer.
+use Rattle.std.specs.Prelude.{◌≡◌, ◌≢◌, ◌≤◌, ◌<◌, ℕ, List, Option, Some, None, IfSome, IsSomeAnd, Result, Ok, Err, length}
+use Rattle.wot_json.specs.Meaning.{json_of}
+use Rattle.wot_json.specs.declared.tree.Tree.{Tree}
+use Rattle.servient_outside.specs.Files.{content_of}
+use Rattle.thing_handler.specs.declared.handler.CallKind.{CallKind}
+use Rattle.thing_handler.specs.declared.handler.CallKind.TheVariants.{Read, Write, Invoke, Query, Cancel, Poll}
+use Rattle.thing_handler.specs.declared.handler.Answer.{Answer}
+use Rattle.thing_handler.specs.declared.handler.Answer.TheVariants.{Value, Done, Finished, Quiet, Fired, Refused, DeviceFault}
+use Rattle.file_devices.specs.declared.fault.FileFault.{FileFault}
+use Rattle.file_devices.specs.declared.fault.FileFault.TheVariants as fault
+use Rattle.file_devices.specs.declared.files.Wrote.TheVariants as wrote
+use Rattle.file_devices.specs.declared.notation.Notation.{Notation}
+use Rattle.file_devices.specs.Files.{FilesSeen, Fails, Writes}
+use Rattle.file_devices.specs.Values.{longest, ComesTo, text_written, input_written}
+
+-- the numbers of the faults
+abbrev pub fault_number : FileFault → ℕ
+fault_number fault.Absent = 1
+fault_number fault.Failed = 2
+fault_number fault.TooLong = 3
+fault_number fault.NoValue = 4
+fault_number fault.NoText = 5
+
+-- ---- looking
+
+-- What a look at the file of this name finds. It changes nothing, but that a failed one is counted.
+pub data Finds (before now : FilesSeen) (name : List ℕ) (way : Notation) (found : Result Tree FileFault) : Type 0 where
+  content : (bytes : List ℕ) → length bytes ≤ longest → IfSome before.held (λ files. content_of files name ≡ Some bytes)
+      → ComesTo way bytes found → now ≡ before → Finds before now name way found
+  absent : IfSome before.held (λ files. content_of files name ≡ None) → now ≡ before → found ≡ Err fault.Absent → Finds before now name way found
+  too_long : IfSome before.held (λ files. IsSomeAnd (content_of files name) (λ bytes. longest < length bytes))
+      → now ≡ before → found ≡ Err fault.TooLong → Finds before now name way found
+  failed : Fails before now → now.held ≡ before.held → found ≡ Err fault.Failed → Finds before now name way found
+
+-- ---- writing
+
+-- Putting this text into the file of this name: it is written once. Where there is no text to write, nothing is written.
+pub data PutsText (before now : FilesSeen) (name text : List ℕ) (put : Result (Unit {0}) FileFault) : Type 0 where
+  was_written : Writes before now name text wrote.Done → put ≡ Ok tt → PutsText before now name text put
+  was_absent : Writes before now name text wrote.Absent → put ≡ Err fault.Absent → PutsText before now name text put
+  has_failed : Writes before now name text wrote.Failed → put ≡ Err fault.Failed → PutsText before now name text put
+
+abbrev pub Puts : FilesSeen → FilesSeen → List ℕ → Option (List ℕ) → Result (Unit {0}) FileFault → Type 0
+Puts before now name None put = (now ≡ before) × (put ≡ Err fault.NoText)
+Puts before now name (Some text) put = PutsText before now name text put
+
+-- ---- properties
+
+-- what a property answers to a Read that found this
+abbrev pub value_answer : Result Tree FileFault → Answer
+value_answer (Ok v) = Value v
+value_answer (Err f) = DeviceFault (fault_number f)
+
+-- what a device answers to what was put, where the answer is this if that was done
+abbrev pub put_answer : Answer → Result (Unit {0}) FileFault → Answer
+put_answer answer (Ok u) = answer
+put_answer answer (Err f) = DeviceFault (fault_number f)
+
+-- A Read answers what the file holds now, and a Write writes the value's text.
+pub data PropertyReads (before now : FilesSeen) (name : List ℕ) (way : Notation) (answer : Answer) : Type 0 where
+  read : (found : Result Tree FileFault) → Finds before now name way found → answer ≡ value_answer found → PropertyReads before now name way answer
+
+-- A Write or an Invoke puts a text, and answers what came of it; this where it was written.
+pub data DevicePuts (before now : FilesSeen) (name : List ℕ) (text : Option (List ℕ)) (done answer : Answer) : Type 0 where
+  put : (put : Result (Unit {0}) FileFault) → Puts before now name text put → answer ≡ put_answer done put → DevicePuts before now name text done answer
+
+-- a call that is none for the kind of the device, or for no invocation that runs
+abbrev pub Refuses : FilesSeen → FilesSeen → ℕ → Answer → Type 0
+Refuses before now number answer = (now ≡ before) × (answer ≡ Refused number)
+
+abbrev pub PropertyAnswers : FilesSeen → FilesSeen → List ℕ → Notation → CallKind → Answer → Type 0
+PropertyAnswers before now name way Read answer = PropertyReads before now name way answer
+PropertyAnswers before now name way (Write v) answer = DevicePuts before now name (text_written way v) Done answer
+PropertyAnswers before now name way (Invoke id input) answer = Refuses before now 0 answer
+PropertyAnswers before now name way (Query id) answer = Refuses before now 0 answer
+PropertyAnswers before now name way (Cancel id) answer = Refuses before now 0 answer
+PropertyAnswers before now name way Poll answer = Refuses before now 0 answer
+
+-- the text that a call writes, and the answer where it was written
+abbrev pub call_text : Notation → CallKind → Option (List ℕ)
+call_text way Read = None
+call_text way (Write v) = text_written way v
+call_text way (Invoke id input) = input_written way input
+call_text way (Query id) = None
+call_text way (Cancel id) = None
+call_text way Poll = None
+
+abbrev pub done_answer : CallKind → Answer
+done_answer Read = Done
+done_answer (Write v) = Done
+done_answer (Invoke id input) = Finished None
+done_answer (Query id) = Done
+done_answer (Cancel id) = Done
+done_answer Poll = Done
+
+-- ---- actions
+
+-- An Invoke writes the input's text and is finished, so that no invocation runs that could be queried or ended.
+abbrev pub ActionAnswers : FilesSeen → FilesSeen → List ℕ → Notation → CallKind → Answer → Type 0
+ActionAnswers before now name way Read answer = Refuses before now 0 answer
+ActionAnswers before now name way (Write v) answer = Refuses before now 0 answer
+ActionAnswers before now name way (Invoke id input) answer = DevicePuts before now name (input_written way input) (Finished None) answer
+ActionAnswers before now name way (Query id) answer = Refuses before now 1 answer
+ActionAnswers before now name way (Cancel id) answer = Refuses before now 1 answer
+ActionAnswers before now name way Poll answer = Refuses before now 0 answer
+
+-- ---- events
+
+-- A Poll that finds this value comes about where it isn't the one that was found before.
+pub data FiresIfOther (before v : Tree) (answer : Answer) : Type 0 where
+  same : json_of before ≡ json_of v → answer ≡ Quiet → FiresIfOther before v answer
+  other : json_of before ≢ json_of v → answer ≡ Fired v → FiresIfOther before v answer
+
+-- What a Poll answers that finds this, where the last one that found a value found that, and what the last one is then.
+-- The first has nothing to compare with, and one that fails leaves the last one.
+abbrev pub EventPolls : Option Tree → Option Tree → Result Tree FileFault → Answer → Type 0
+EventPolls last next (Err f) answer = (next ≡ last) × (answer ≡ DeviceFault (fault_number f))
+EventPolls None next (Ok v) answer = (next ≡ Some v) × (answer ≡ Quiet)
+EventPolls (Some before) next (Ok v) answer = (next ≡ Some v) × FiresIfOther before v answer
+
+pub data EventLooks (before now : FilesSeen) (name : List ℕ) (way : Notation) (last next : Option Tree) (answer : Answer) : Type 0 where
+  polled : (found : Result Tree FileFault) → Finds before now name way found → EventPolls last next found answer → EventLooks before now name way last next answer
+
+-- a call that is no Poll
+abbrev pub EventRefuses : FilesSeen → FilesSeen → Option Tree → Option Tree → Answer → Type 0
+EventRefuses before now last next answer = Refuses before now 0 answer × (next ≡ last)
+
+abbrev pub EventAnswers : FilesSeen → FilesSeen → List ℕ → Notation → Option Tree → Option Tree → CallKind → Answer → Type 0
+EventAnswers before now name way last next Read answer = EventRefuses before now last next answer
+EventAnswers before now name way last next (Write v) answer = EventRefuses before now last next answer
+EventAnswers before now name way last next (Invoke id input) answer = EventRefuses before now last next answer
+EventAnswers before now name way last next (Query id) answer = EventRefuses before now last next answer
+EventAnswers before now name way last next (Cancel id) answer = EventRefuses before now last next answer
+EventAnswers before now name way last next Poll answer = EventLooks before now name way last next answer

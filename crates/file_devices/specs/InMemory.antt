@@ -1,0 +1,43 @@
+-- What is seen of devices' files in memory.
+use Rattle.std.specs.Prelude.{◌≡◌, ◌≤◌, ◌<◌, ℕ, Bool, List, Some, None, IsSome, length}
+use Rattle.std.specs.Str.{bytes_eq}
+use Rattle.servient_outside.specs.declared.files.Got.{Got}
+use Rattle.servient_outside.specs.declared.files.Got.TheVariants.{Whole, Absent, TooLong, Failed, NoMemory}
+use Rattle.servient_outside.specs.declared.files.HeldFile.{HeldFile}
+use Rattle.file_devices.specs.declared.files_memory.DeviceFilesMemory.{DeviceFilesMemory}
+use Rattle.servient_outside.specs.Files.{content_of}
+use Rattle.file_devices.specs.declared.files.Wrote.{Wrote}
+use Rattle.file_devices.specs.declared.files.Wrote.TheVariants as wrote
+use Rattle.file_devices.specs.Files.{FilesSeen, with_content}
+
+-- what they hold
+abbrev pub held_files : DeviceFilesMemory → List HeldFile
+held_files f = f.files.items
+
+-- which calls of the two are to fail, and how many were made
+abbrev pub failing_calls : DeviceFilesMemory → List ℕ
+failing_calls f = f.fails
+
+abbrev pub calls_made : DeviceFilesMemory → ℕ
+calls_made f = f.made
+
+abbrev pub seen_of : DeviceFilesMemory → FilesSeen
+seen_of f = record { held = Some (held_files f); faults = f.faults }
+
+-- a file has this name
+abbrev pub is_named : List ℕ → HeldFile → Bool
+is_named name file = bytes_eq file.name name
+
+-- a read of a file that has this content
+abbrev pub ReadsContent : List ℕ → ℕ → Got → List ℕ → Type 0
+ReadsContent content limit Whole into = (length into ≤ limit) × (content ≡ into)
+ReadsContent content limit TooLong into = limit < length content
+ReadsContent content limit NoMemory into = Unit {0}
+ReadsContent content limit Absent into = ⊥
+ReadsContent content limit Failed into = ⊥
+
+-- a write among files that doesn't fail
+abbrev pub WritesAmong : List HeldFile → List ℕ → List ℕ → Wrote → List HeldFile → Type 0
+WritesAmong before name content wrote.Done now = IsSome (content_of before name) × (now ≡ with_content name content before)
+WritesAmong before name content wrote.Absent now = (content_of before name ≡ None) × (now ≡ before)
+WritesAmong before name content wrote.Failed now = ⊥

@@ -1,0 +1,5 @@
+pub mod Files
+pub mod Values
+pub mod Devices
+pub mod InMemory
+pub mod Seen

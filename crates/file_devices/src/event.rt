@@ -1,0 +1,129 @@
+//! An event that comes about when the value in a file changes.
+
+ghost use Rattle.std.specs.Prelude.{◌≡◌, None, IfOk, OnErr};
+ghost use Rattle.std.specs.Option.{option_or};
+ghost use Rattle.wot_terms.specs.declared.kind.Kind.TheVariants as kind;
+ghost use Rattle.thing_handler.specs.Handler.{fresh_handler};
+ghost use Rattle.file_devices.specs.Devices.{EventLooks, EventPolls};
+ghost use Rattle.file_devices.specs.Seen.{event_seen};
+
+use crate::device::Device;
+use crate::{DeviceFiles, FileFault, Notation};
+use servient_base::NoMemory;
+use std::alloc::Global;
+use thing_handler::{Answer, CallKind, Handler, Kind, NOT_ITS_KIND, Turn};
+use wot_json::{Text, Tree, copy, is_equal};
+
+/// An event that comes about at a Poll that finds another value in a file than the last one that found a value.
+#[derive(Drop)]
+pub struct FileEvent<D: DeviceFiles> {
+    device: Device<D>,
+    last: Option<Tree>,
+}
+
+/// What a Poll comes to.
+#[derive(Drop)]
+struct Polled {
+    answer: Answer,
+    /// The value that it found, where it found one.
+    found: Option<Tree>,
+}
+
+impl<D: DeviceFiles> FileEvent<D> {
+    /// The event of the file of this name, which wasn't polled yet.
+    pub fn new(alloc: Global, files: D, name: Text, notation: Notation) -> Self
+        ensures seen { event_seen result ≡ fresh_handler kind.Event }
+        ensures files { result.device.files ≡ files }
+        ensures name { result.device.name ≡ name }
+        ensures notation { result.device.notation ≡ notation }
+        ensures last { result.last ≡ None }
+    {
+        FileEvent {
+            device: Device::new(alloc, files, name, notation),
+            last: None,
+        }
+    }
+
+    /// What a Poll comes to.
+    fn poll(&mut self, alloc: Global) -> Result<Polled, NoMemory>
+        ensures looks { IfOk result (λ polled. EventLooks (D.seen self.old.device.files) (D.seen self.new.device.files)
+            self.old.device.name self.old.device.notation self.old.last (option_or polled.found self.old.last) polled.answer) }
+        ensures held { (D.seen self.new.device.files).held ≡ (D.seen self.old.device.files).held }
+        ensures name { self.new.device.name ≡ self.old.device.name }
+        ensures notation { self.new.device.notation ≡ self.old.device.notation }
+        ensures log { self.new.device.log ≡ self.old.device.log }
+        ensures last { self.new.last ≡ self.old.last }
+    {
+        let found = self.device.value(alloc)?;
+        judge_found(alloc, &self.last, found)
+    }
+}
+
+/// What a Poll comes to that found this, where `last` was found last.
+fn judge_found(
+    alloc: Global,
+    last: &Option<Tree>,
+    found: Result<Tree, FileFault>,
+) -> Result<Polled, NoMemory>
+    ensures { IfOk result (λ polled. EventPolls last.now (option_or polled.found last.now) found polled.answer) }
+{
+    let value = match found {
+        Ok(value) => value,
+        Err(fault) => {
+            return Ok(Polled {
+                answer: Answer::DeviceFault(fault.number()),
+                found: None,
+            });
+        }
+    };
+    let answer = match last {
+        Some(before) if !is_equal(before, &value) => Answer::Fired(copy(alloc, &value)?),
+        _ => Answer::Quiet,
+    };
+    Ok(Polled {
+        answer,
+        found: Some(value),
+    })
+}
+
+impl<D: DeviceFiles> Handler for FileEvent<D> {
+    ghost use Rattle.std.specs.Prelude.{◌≡◌, IfOk, OnErr};
+    ghost use Rattle.thing_handler.specs.Handler.{AnswersCall};
+    ghost use Rattle.file_devices.specs.Devices.{EventAnswers};
+    ghost use Rattle.file_devices.specs.Seen.{event_seen};
+
+    ghost seen = { event_seen };
+
+    fn kind(&self) -> Kind {
+        Kind::Event
+    }
+
+    fn call(&mut self, alloc: Global, number: u64, what: &CallKind) -> Result<Answer, NoMemory>
+        ensures turn { AnswersCall (event_seen self.old) (event_seen self.new) number what.now result }
+        ensures answer { IfOk result (EventAnswers (D.seen self.old.device.files) (D.seen self.new.device.files)
+            self.old.device.name self.old.device.notation self.old.last self.new.last what.now) }
+        ensures unchanged { OnErr result (self.new.last ≡ self.old.last) }
+        ensures unwritten { OnErr result ((D.seen self.new.device.files).held ≡ (D.seen self.old.device.files).held) }
+        ensures name { self.new.device.name ≡ self.old.device.name }
+        ensures notation { self.new.device.notation ≡ self.old.device.notation }
+    {
+        let (answer, found) = match what {
+            CallKind::Poll => match self.poll(alloc) {
+                Ok(polled) => (Ok(polled.answer), polled.found),
+                Err(error) => (Err(error), None),
+            },
+            _ => (Ok(Answer::Refused(NOT_ITS_KIND)), None),
+        };
+        let kept = self.device.log.keep(alloc, number, what, answer);
+        if kept.is_ok()
+            && let Some(value) = found
+        {
+            self.last = Some(value);
+        }
+        kept
+    }
+
+    fn turns(&self) -> &[Turn] {
+        self.device.log.turns.as_slice()
+    }
+}

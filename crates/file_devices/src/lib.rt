@@ -1,0 +1,35 @@
+//! Devices behind files, as the handlers of affordances: Linux shows sensors, lamps and pins as files (hwmon, IIO, LEDs,
+//! PWM, thermal zones, 1-wire), and any program can write or read one.
+//!
+//! A property is read from its file and written into it, an action writes its input, and an event comes about when the
+//! file's value changed since the last poll. Nothing is remembered in place of reading. All memory, that of the turn
+//! too, is taken before a file is written: where a call is out of memory nothing was written.
+//!
+//! ```text
+//! let mut level = FileProperty::new(alloc, files, path("/sys/class/leds/lamp/brightness"), Notation::Json);
+//! assert!(matches!(level.call(alloc, 0, &CallKind::Write(Tree::Int(42)))?, Answer::Done));
+//! assert!(matches!(level.call(alloc, 1, &CallKind::Read)?, Answer::Value(Tree::Int(42))));
+//! ```
+//!
+//! What the handlers answer is `specs/Devices.antt`. What a file's content says and how a value is written is
+//! `specs/Values.antt`. The files are a trait, `DeviceFiles`, so that what is read and written is said of files in
+//! memory.
+#![tactic(auto)]
+
+mod action;
+mod device;
+mod event;
+mod fault;
+mod files;
+mod files_memory;
+mod notation;
+mod property;
+mod values;
+
+pub use action::FileAction;
+pub use event::FileEvent;
+pub use fault::FileFault;
+pub use files::{DeviceFiles, Wrote};
+pub use files_memory::DeviceFilesMemory;
+pub use notation::Notation;
+pub use property::FileProperty;

@@ -1,0 +1,10 @@
+//! How a file's content writes a value.
+
+/// How the content of a device's file writes a value.
+#[derive(Clone, Copy, Debug, PartialEq, Eq)]
+pub enum Notation {
+    /// The content is the value's JSON text (RFC 8259).
+    Json,
+    /// The content is a text in UTF-8, and the value is that text.
+    Text,
+}

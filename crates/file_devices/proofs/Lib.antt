@@ -1,2 +1,3 @@
 mod Looks
+mod ListRead
 mod Named

@@ -3,3 +3,4 @@ pub mod Values
 pub mod Devices
 pub mod InMemory
 pub mod Seen
+pub mod Entries

@@ -18,6 +18,7 @@
 
 mod action;
 mod device;
+mod entries;
 mod event;
 mod fault;
 mod files;
@@ -27,6 +28,7 @@ mod property;
 mod values;
 
 pub use action::FileAction;
+pub use entries::{Entries, EntriesFault, Entry, read_entries};
 pub use event::FileEvent;
 pub use fault::FileFault;
 pub use files::{DeviceFiles, Wrote};

@@ -4,3 +4,4 @@ pub mod Devices
 pub mod InMemory
 pub mod Seen
 pub mod Entries
+pub mod Slots

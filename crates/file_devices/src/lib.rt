@@ -25,6 +25,7 @@ mod files;
 mod files_memory;
 mod notation;
 mod property;
+mod slot_handler;
 mod values;
 
 pub use action::FileAction;
@@ -35,3 +36,4 @@ pub use files::{DeviceFiles, Wrote};
 pub use files_memory::DeviceFilesMemory;
 pub use notation::Notation;
 pub use property::FileProperty;
+pub use slot_handler::{SlotHandler, file_handler, shipped_handler};

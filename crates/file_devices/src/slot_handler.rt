@@ -1,0 +1,81 @@
+//! What stands in a slot of a gateway's rack: a device behind a file, or else the handler in memory that the product
+//! ships for the slot.
+
+ghost use Rattle.std.specs.Prelude.{◌≡◌, ◌<◌, IfOk};
+ghost use Rattle.thing_handler.specs.Handler.{fresh_handler};
+ghost use Rattle.thing_handler.specs.Shipped.{device_kind, shipped_device};
+ghost use Rattle.file_devices.specs.Slots.{slot_seen};
+
+use crate::{DeviceFiles, Entry, FileAction, FileEvent, FileProperty};
+use servient_base::NoMemory;
+use std::alloc::Global;
+use thing_handler::{Answer, CallKind, Handler, Kind, Shipped, Turn, shipped_in};
+use wot_json::Text;
+
+/// The handler of a slot. A library can't hand out a boxed one, so its callers box this.
+#[derive(Drop)]
+pub enum SlotHandler<D: DeviceFiles> {
+    Shipped(Shipped),
+    Property(FileProperty<D>),
+    Action(FileAction<D>),
+    Event(FileEvent<D>),
+}
+
+/// The handler of a device, which wasn't called yet.
+pub fn file_handler<D: DeviceFiles>(
+    alloc: Global,
+    files: D,
+    entry: &Entry,
+) -> Result<SlotHandler<D>, NoMemory>
+    ensures { IfOk result (λ handler. slot_seen handler ≡ fresh_handler entry.now.kind) }
+{
+    let path = Text::copy_of(alloc, entry.path.as_str())?;
+    Ok(match entry.kind {
+        Kind::Property => {
+            SlotHandler::Property(FileProperty::new(alloc, files, path, entry.notation))
+        }
+        Kind::Action => SlotHandler::Action(FileAction::new(alloc, files, path, entry.notation)),
+        Kind::Event => SlotHandler::Event(FileEvent::new(alloc, files, path, entry.notation)),
+    })
+}
+
+/// The handler that the product ships for this slot.
+pub fn shipped_handler<D: DeviceFiles>(alloc: Global, slot: usize) -> SlotHandler<D>
+    requires { slot < 64 }
+    ensures { slot_seen result ≡ fresh_handler (device_kind (shipped_device slot)) }
+{
+    SlotHandler::Shipped(shipped_in(alloc, slot))
+}
+
+impl<D: DeviceFiles> Handler for SlotHandler<D> {
+    ghost use Rattle.file_devices.specs.Slots.{slot_seen};
+
+    ghost seen = { slot_seen };
+
+    fn kind(&self) -> Kind {
+        match self {
+            SlotHandler::Shipped(handler) => handler.kind(),
+            SlotHandler::Property(handler) => handler.kind(),
+            SlotHandler::Action(handler) => handler.kind(),
+            SlotHandler::Event(handler) => handler.kind(),
+        }
+    }
+
+    fn call(&mut self, alloc: Global, number: u64, what: &CallKind) -> Result<Answer, NoMemory> {
+        match self {
+            SlotHandler::Shipped(handler) => handler.call(alloc, number, what),
+            SlotHandler::Property(handler) => handler.call(alloc, number, what),
+            SlotHandler::Action(handler) => handler.call(alloc, number, what),
+            SlotHandler::Event(handler) => handler.call(alloc, number, what),
+        }
+    }
+
+    fn turns(&self) -> &[Turn] {
+        match self {
+            SlotHandler::Shipped(handler) => handler.turns(),
+            SlotHandler::Property(handler) => handler.turns(),
+            SlotHandler::Action(handler) => handler.turns(),
+            SlotHandler::Event(handler) => handler.turns(),
+        }
+    }
+}

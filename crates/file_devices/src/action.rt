@@ -33,6 +33,13 @@ impl<D: DeviceFiles> FileAction<D> {
             device: Device::new(alloc, files, name, notation),
         }
     }
+
+    /// The files among which its file is.
+    pub fn files(&self) -> &D
+        ensures { result.now ≡ self.now.device.files }
+    {
+        &self.device.files
+    }
 }
 
 impl<D: DeviceFiles> Handler for FileAction<D> {

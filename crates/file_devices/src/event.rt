@@ -44,6 +44,13 @@ impl<D: DeviceFiles> FileEvent<D> {
         }
     }
 
+    /// The files among which its file is.
+    pub fn files(&self) -> &D
+        ensures { result.now ≡ self.now.device.files }
+    {
+        &self.device.files
+    }
+
     /// What a Poll comes to.
     fn poll(&mut self, alloc: Global) -> Result<Polled, NoMemory>
         ensures looks { IfOk result (λ polled. EventLooks (D.seen self.old.device.files) (D.seen self.new.device.files)

@@ -32,6 +32,13 @@ impl<D: DeviceFiles> FileProperty<D> {
         }
     }
 
+    /// The files among which its file is.
+    pub fn files(&self) -> &D
+        ensures { result.now ≡ self.now.device.files }
+    {
+        &self.device.files
+    }
+
     /// The answer to a Read.
     fn read(&mut self, alloc: Global) -> Result<Answer, NoMemory>
         ensures answer { IfOk result (PropertyReads (D.seen self.old.device.files) (D.seen self.new.device.files)

@@ -1,10 +1,10 @@
 //! What stands in a slot of a gateway's rack: a device behind a file, or else the handler in memory that the product
 //! ships for the slot.
 
-ghost use Rattle.std.specs.Prelude.{◌≡◌, ◌<◌, IfOk};
+ghost use Rattle.std.specs.Prelude.{◌≡◌, ◌<◌, IfOk, option_map};
 ghost use Rattle.thing_handler.specs.Handler.{fresh_handler};
 ghost use Rattle.thing_handler.specs.Shipped.{device_kind, shipped_device};
-ghost use Rattle.file_devices.specs.Slots.{slot_seen};
+ghost use Rattle.file_devices.specs.Slots.{slot_files, slot_seen};
 
 use crate::{DeviceFiles, Entry, FileAction, FileEvent, FileProperty};
 use servient_base::NoMemory;
@@ -45,6 +45,20 @@ pub fn shipped_handler<D: DeviceFiles>(alloc: Global, slot: usize) -> SlotHandle
     ensures { slot_seen result ≡ fresh_handler (device_kind (shipped_device slot)) }
 {
     SlotHandler::Shipped(shipped_in(alloc, slot))
+}
+
+impl<D: DeviceFiles> SlotHandler<D> {
+    /// The files among which the handler's file is, where it has one.
+    pub fn files(&self) -> Option<&D>
+        ensures { option_map (λ files. files.now) result ≡ slot_files self.now }
+    {
+        match self {
+            SlotHandler::Shipped(_) => None,
+            SlotHandler::Property(handler) => Some(handler.files()),
+            SlotHandler::Action(handler) => Some(handler.files()),
+            SlotHandler::Event(handler) => Some(handler.files()),
+        }
+    }
 }
 
 impl<D: DeviceFiles> Handler for SlotHandler<D> {

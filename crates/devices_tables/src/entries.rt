@@ -1,0 +1,37 @@
+//! Lists of devices: what they say, or the place of what is wrong first.
+
+use case_notation::bytes_of;
+use file_devices::{EntriesFault, Entry, read_entries};
+use std::alloc::{AllocError, Global};
+use std::fmt::Write;
+use wot_json::read;
+
+/// Writes a device.
+fn put_entry(text: &mut String, entry: &Entry) -> Result<(), AllocError> {
+    write!(
+        text,
+        "{} {:?} {} {:?}",
+        entry.slot, entry.kind, entry.path, entry.notation
+    )
+}
+
+/// Writes what a list of devices says.
+pub fn put_entries(text: &mut String, alloc: Global, given: &str) -> Result<(), AllocError> {
+    let bytes = bytes_of(alloc, given)?;
+    let Ok(tree) = read(alloc, bytes.as_slice()) else {
+        return text.push_str("no JSON");
+    };
+    match read_entries(alloc, &tree) {
+        Ok(entries) => {
+            for (place, entry) in entries.as_slice().iter().enumerate() {
+                if place > 0 {
+                    text.push_str("; ")?;
+                }
+                put_entry(text, entry)?;
+            }
+            Ok(())
+        }
+        Err(EntriesFault::At(place)) => write!(text, "wrong at \"{place}\""),
+        Err(EntriesFault::NoMemory) => Err(AllocError),
+    }
+}

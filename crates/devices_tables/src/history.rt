@@ -176,37 +176,59 @@ fn put_step(
     put_answer(text, alloc, &answer)
 }
 
-/// Writes a history with what comes of its steps.
-fn put_history(text: &mut String, alloc: Global, block: &str) -> Result<(), AllocError> {
+/// The device of a history.
+fn device_in(alloc: Global, block: &str) -> Result<Option<Device>, AllocError> {
     let mut before = Before {
         files: Held::new(alloc),
         fails: Calls::new(alloc),
         contents: Vec::new(alloc),
     };
-    let mut lines = block.lines();
-    let mut made = None;
-    for line in lines.by_ref() {
-        text.push_str(line)?;
-        text.push_str("\n")?;
+    for line in block.lines() {
         let (word, rest) = line.split_once(' ').unwrap_or((line, ""));
         if let Some(kind) = kind_of(word) {
-            made = Some((kind, rest));
-            break;
+            return Ok(Some(device_of(alloc, before, kind, rest)?));
         }
         before.take(alloc, line)?;
     }
-    let Some((kind, rest)) = made else {
-        return Ok(());
-    };
-    let mut device = device_of(alloc, before, kind, rest)?;
-    for line in lines {
-        let (step, _wanted) = line.split_once(" => ").unwrap_or((line, ""));
-        text.push_str(step)?;
-        text.push_str(" => ")?;
-        put_step(text, alloc, &mut device, step)?;
-        text.push_str("\n")?;
+    Ok(None)
+}
+
+/// Writes the lines of a history that are no steps.
+fn put_setting(text: &mut String, block: &str) -> Result<(), AllocError> {
+    for line in block.lines() {
+        if line.split_once(" => ").is_none() {
+            text.push_str(line)?;
+            text.push_str("\n")?;
+        }
     }
     Ok(())
+}
+
+/// Writes the steps of a history, each with what comes of it.
+fn put_steps(
+    text: &mut String,
+    alloc: Global,
+    device: &mut Device,
+    block: &str,
+) -> Result<(), AllocError> {
+    for line in block.lines() {
+        if let Some((step, _wanted)) = line.split_once(" => ") {
+            text.push_str(step)?;
+            text.push_str(" => ")?;
+            put_step(text, alloc, device, step)?;
+            text.push_str("\n")?;
+        }
+    }
+    Ok(())
+}
+
+/// Writes a history with what comes of its steps.
+fn put_history(text: &mut String, alloc: Global, block: &str) -> Result<(), AllocError> {
+    put_setting(text, block)?;
+    match device_in(alloc, block)? {
+        Some(mut device) => put_steps(text, alloc, &mut device, block),
+        None => Ok(()),
+    }
 }
 
 /// Writes the histories of a file, each with what comes of it.

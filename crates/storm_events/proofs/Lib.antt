@@ -1,1 +1,1 @@
-mod StormLaws
+pub mod StormLaws

@@ -31,6 +31,7 @@ use Rattle.servient_outside.specs.Out.{OutSeen}
 use Rattle.servient_cli.specs.Command.{IsFaultless, HasFaultlessFiles, IsReported, Ends, NothingFailed, IsWell, Does, Commands, is_built, is_serving, is_no_command, is_command, words_memory}
 use Rattle.servient_cli.proofs.FaultlessStages.{GoesOn, EndsWell, by_memory, same_status, HasTrouble, what_trouble, rose_some, then_well, read_well, tree_well, judge_well, derive_well, print_well, planned_well, with_events, inputs_well, run_on_well}
 use Rattle.servient_cli.proofs.ServedStages.{IsServed, serving_well}
+use Rattle.servient_cli.proofs.StormStages.{storm_well}
 
 -- the command did what it is for, was out of memory, or served and has spent its budget
 abbrev IsDone : Command → Outcome (Unit {0}) → Type 0
@@ -68,7 +69,7 @@ does_well held files kinds (Derive plan) seen o is_held fine quiet stage = inl (
     any_things r (inr nine) = inr nine
 does_well held files kinds (Serve plan events idle) seen o is_held fine quiet stage = served_done plan events idle o (serving_well held files kinds plan events idle fine seen o is_held quiet stage)
 does_well held files kinds (Consume consumption) seen o is_held fine quiet stage = absurd fine
-does_well held files kinds (Storm seed events) seen o is_held fine quiet stage = absurd fine
+does_well held files kinds (Storm seed events) seen o is_held fine quiet stage = inl (storm_well kinds seed events fine seen o quiet stage)
 
 command_well : (held : Option (List HeldFile)) (kinds : List Kind) (words : List (List ℕ)) (seen : List Deed) (o : Outcome (Unit {0})) → IsFaultless words held kinds → ¬ (HasTrouble seen) → Commands held kinds words seen o
     → EndsWell o ⊎ ((is_serving (meaning_of words) ≡ true) × (o ≡ ends 8))

@@ -49,7 +49,7 @@ by_memory o nine = inr nine
 same_value : {A : Type 0} (a b : A) → goes_on a ≡ goes_on b → a ≡ b
 same_value a b e = cc
 
-on_no_end : {A : Type 0} (a : A) (status : ℕ) → ends status ≡ goes_on a → ⊥
+pub on_no_end : {A : Type 0} (a : A) (status : ℕ) → ends status ≡ goes_on a → ⊥
 on_no_end a status e = cc
 
 end_no_on : {A : Type 0} (a : A) (status : ℕ) → goes_on a ≡ ends status → ⊥

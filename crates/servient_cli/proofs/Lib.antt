@@ -10,4 +10,6 @@ mod CommandStages
 mod UsageStages
 mod RunLaws
 mod ModelStages
+mod CountLaws
+mod StormStages
 mod MergeLaws

@@ -28,10 +28,10 @@ begins_later number first slot (t ∷ turns) less numbered = elim (cases_eq t.sl
 ]
 
 -- the turns of a slot, where the first of a run is its own, and where it is another's
-first_is : (slot : ℕ) (t : RunTurn) (more : List RunTurn) → t.slot ≡ slot → turns_of_slot slot (t ∷ more) ≡ kept_turn t ∷ turns_of_slot slot more
+pub first_is : (slot : ℕ) (t : RunTurn) (more : List RunTurn) → t.slot ≡ slot → turns_of_slot slot (t ∷ more) ≡ kept_turn t ∷ turns_of_slot slot more
 first_is slot t more same = let e : eqb t.slot slot ≡ true = eq-eqb t.slot slot same in rw e refl
 
-first_is_not : (slot : ℕ) (t : RunTurn) (more : List RunTurn) → t.slot ≢ slot → turns_of_slot slot (t ∷ more) ≡ turns_of_slot slot more
+pub first_is_not : (slot : ℕ) (t : RunTurn) (more : List RunTurn) → t.slot ≢ slot → turns_of_slot slot (t ∷ more) ≡ turns_of_slot slot more
 first_is_not slot t more other = let f : eqb t.slot slot ≡ false = ne_eqb t.slot slot other in rw f refl
 
 begins_itself : (number : ℕ) (t : RunTurn) (turns : List Turn) → t.number ≡ number → begins_with number (kept_turn t ∷ turns) ≡ true

@@ -26,7 +26,7 @@ use Rattle.servient_cli.specs.Replaying.{run_events}
 
 -- ---- the events of a run
 
-is_the_stop : (w : What) → is_stop w ≡ true → w ≡ what.Stop
+pub is_the_stop : (w : What) → is_stop w ≡ true → w ≡ what.Stop
 is_the_stop (what.Opened c) is = absurd cc
 is_the_stop (what.Bytes c count) is = absurd cc
 is_the_stop (what.Ended c) is = absurd cc

@@ -20,7 +20,9 @@ use Rattle.servient_outside.specs.declared.files.HeldFile.{HeldFile}
 use Rattle.servient_outside.specs.declared.net.EventWithBytes.{EventWithBytes}
 use Rattle.servient_cli.specs.Stages.{Around, Deed, Outcome, goes_on, ends, AndThen, ends_first, goes_further}
 use Rattle.servient_cli.specs.Reading.{ReadsFile, is_read, is_absent, is_unreadable, is_long, file_memory, ReadsTree, is_tree, has_no_tree, tree_memory, longest_json, longest_script}
-use Rattle.servient_cli.specs.Replaying.{Plans, is_built_in, built_in_memory, plan_name, ReadsEvents, ReadsInputs, HasRead, has_read, RunsOn, ReadsScript, is_script, is_no_script, script_memory, RunsScript, is_whole, is_spent, run_memory}
+use Rattle.servient_cli.specs.Replaying.{Plans, TakesBuiltIn, is_built_in, built_in_memory, plan_name, ReadsEvents, ReadsInputs, HasRead, has_read, RunsOn, ReadsScript, is_script, is_no_script, script_memory, RunsScript, is_whole, is_spent, run_memory}
+use Rattle.servient_cli.specs.declared.storming.TheConstants.{STORM_EXCHANGES}
+use Rattle.servient_cli.specs.Storming.{RunsStorm, is_counted, storm_memory, Storms, StormsOn, with_few_exchanges}
 use Rattle.servient_cli.specs.Opening.{Exposes, is_exposed, is_misfit, expose_memory, Opens}
 use Rattle.servient_cli.specs.Listening.{Listens, is_listening, cannot_listen, place_memory, listen_memory, ServesEvents, has_served, ServesPlanned}
 use Rattle.servient_cli.specs.Checking.{Checks, Judges, is_valid, is_refused, judge_memory}
@@ -159,6 +161,15 @@ serving_not name kinds budget idle p seen o stage =
     (λ site s r st. then_not (Listens (place_of p.plan (idle * 1000))) (λ _. ServesEvents budget p.plan.exchanges site) s r (listen_not (place_of p.plan (idle * 1000)))
     (λ u. serve_not budget p.plan.exchanges site) st) stage
 
+storm_run_not : (seed n exchanges : ℕ) (site : Site) (seen : List Deed) (o : Outcome (Unit {0})) → RunsStorm seed n exchanges site seen o → NotUsage o
+storm_run_not seed n exchanges site seen o (is_counted ran end a e) = by_status o 0 e.1 (omega arith)
+storm_run_not seed n exchanges site seen o (storm_memory ran end count a e) = by_status o 9 e.1 (omega arith)
+
+storm_not : (kinds : List Kind) (seed n : ℕ) (seen : List Deed) (o : Outcome (Unit {0})) → Storms kinds seed n seen o → NotUsage o
+storm_not kinds seed n seen o stage =
+    then_not TakesBuiltIn (λ p. StormsOn kinds seed n (with_few_exchanges p)) seen o (plans_not None None)
+    (λ p s r st. then_not (Opens (plan_name None) kinds (with_few_exchanges p)) (RunsStorm seed n STORM_EXCHANGES) s r (open_not (plan_name None) kinds (with_few_exchanges p)) (storm_run_not seed n STORM_EXCHANGES) st) stage
+
 does_not_end_so : (held : Option (List HeldFile)) (kinds : List Kind) (command : Command) (seen : List Deed) (o : Outcome (Unit {0})) → Does held kinds command seen o → NotUsage o
 does_not_end_so held kinds (Replay script plan events) seen o stage =
     then_not (ReadsInputs held plan script) (RunsOn (plan_name plan) kinds events) seen o (inputs_not held plan script) (run_on_not (plan_name plan) kinds events) stage
@@ -171,7 +182,7 @@ does_not_end_so held kinds (Derive plan) seen o stage =
 does_not_end_so held kinds (Serve plan events idle) seen o stage =
     then_not (ReadsPlanned held plan) (ServesPlanned plan kinds events idle) seen o (planned_not held plan) (serving_not plan kinds events idle) stage
 does_not_end_so held kinds (Consume consumption) seen o stage = absurd stage
-does_not_end_so held kinds (Storm seed events) seen o stage = absurd stage
+does_not_end_so held kinds (Storm seed events) seen o stage = storm_not kinds seed events seen o stage
 
 -- the words lead to status 2 exactly where they are no command, unless it is out of memory for them
 two_is_no_command : (held : Option (List HeldFile)) (kinds : List Kind) (words : List (List ℕ)) (seen : List Deed) (status : ℕ) → Commands held kinds words seen (ends status)

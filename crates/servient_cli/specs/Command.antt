@@ -1,11 +1,13 @@
 -- The commands, and what the program reports of them.
 --
--- What the words mean is the grammar's, `meaning_of` of `command_words`. Four of its commands are built so far.
+-- What the words mean is the grammar's, `meaning_of` of `command_words`. Five of its commands are built so far, all but
+-- `consume`.
 -- `replay SCRIPT [PLAN]` reads the plan and its models, if a plan is named, and the script, runs its events, and prints
 -- the acts and the turns. `serve PLAN` reads a plan and its models, listens at the plan's place, and serves what comes
 -- there. `check TD` reads a Thing Description and says whether it is valid, or its first fault. `derive PLAN` reads a
--- plan and its models, and prints the descriptions of its Things, or the first fault. Each is a row of stages, in a
--- file of its own. A further command adds its file and a row.
+-- plan and its models, and prints the descriptions of its Things, or the first fault. `storm SEED N` runs events that
+-- are drawn from a seed on the built-in Thing, and counts what came of them. Each is a row of stages, in a file of its
+-- own. A further command adds its file and a row.
 use Rattle.std.specs.Prelude.{◌≡◌, ◌≤◌, ◌⊎◌, ℕ, Bool, true, false, List, [], ◌++◌, Option, Some, None, Ok, IfSome, length}
 use Rattle.servient_base.specs.Count.{Rose}
 use Rattle.wot_json.specs.Tree.{Json}
@@ -14,7 +16,7 @@ use Rattle.thing_site.specs.Site.{expose_faults}
 use Rattle.thing_site.specs.Exposing.{kinds_of}
 use Rattle.command_words.specs.Grammar.{meaning_of}
 use Rattle.command_words.specs.declared.command.Command.{Command}
-use Rattle.command_words.specs.declared.command.Command.TheVariants.{Replay, Serve, Check, Derive}
+use Rattle.command_words.specs.declared.command.Command.TheVariants.{Replay, Serve, Check, Derive, Consume, Storm}
 use Rattle.servient_outside.specs.declared.files.HeldFile.{HeldFile}
 use Rattle.servient_outside.specs.Told.{Continues}
 use Rattle.servient_outside.specs.Files.{content_of}
@@ -24,6 +26,7 @@ use Rattle.servient_cli.specs.Lines.{usage_line}
 use Rattle.servient_cli.specs.Stages.{Deed, text_in, Outcome, ends, EndsWith, RunsOut, AndThen, Around, ShowsDeeds}
 use Rattle.servient_cli.specs.Reading.{ReadsFile, longest_script, longest_json}
 use Rattle.servient_cli.specs.Replaying.{Replays, IsFaultlessScript, built_in}
+use Rattle.servient_cli.specs.Storming.{Storms}
 use Rattle.servient_cli.specs.Listening.{ServesPlan}
 use Rattle.servient_cli.specs.Checking.{Checks, IsFaultlessDescription}
 use Rattle.servient_cli.specs.Deriving.{ReadsPlanned, DerivesAndPrints, IsFaultlessPlan, derived_of}
@@ -36,7 +39,8 @@ is_built (Replay script plan events) = true
 is_built (Serve plan events idle) = true
 is_built (Check description) = true
 is_built (Derive plan) = true
-is_built command = false
+is_built (Storm seed events) = true
+is_built (Consume consumption) = false
 
 -- What each of them does, where the files hold this, so far as that is recorded, and the rack has
 -- handlers of these kinds.
@@ -45,14 +49,20 @@ Does held kinds (Replay script plan events) = Replays held kinds script plan eve
 Does held kinds (Serve plan events idle) = ServesPlan held kinds plan events idle
 Does held kinds (Check description) = AndThen (ReadsFile held longest_json description) (Checks description)
 Does held kinds (Derive plan) = AndThen (ReadsPlanned held plan) DerivesAndPrints
-Does held kinds command = λ seen o. ⊥
+Does held kinds (Storm seed events) = Storms kinds seed events
+Does held kinds (Consume consumption) = λ seen o. ⊥
 
 -- the words mean that a plan is served
 abbrev pub is_serving : Option Command → Bool
 is_serving (Some (Serve plan events idle)) = true
 is_serving command = false
 
--- the words are outside the grammar, or mean a command that isn't built yet
+-- the words mean a storm
+abbrev pub is_storm : Option Command → Bool
+is_storm (Some (Storm seed events)) = true
+is_storm command = false
+
+-- the words are outside the grammar, or mean a command that isn't built yet, which is `consume` alone
 abbrev pub IsNoCommand : List (List ℕ) → Type 0
 IsNoCommand words = IfSome (meaning_of words) (λ command. is_built command ≡ false)
 
@@ -119,13 +129,20 @@ pub record IsFaultlessDerivation (files : List HeldFile) (plan : List ℕ) : Typ
   pub by_plan : HoldsFaultless files longest_json plan (IsFaultlessPlan files planned)
   pub derived_is : derived_of planned ≡ Ok things
 
+-- nothing is wrong with a storm: the built-in Thing is derived, and fits the rack
+pub record IsFaultlessStorm (kinds : List Kind) : Type 0 where
+  pub things : List (List ℕ × Json)
+  pub derived_is : derived_of built_in ≡ Ok things
+  pub fits : expose_faults kinds built_in.plan.slots things ≡ []
+
 -- nothing is wrong with the files that a command reads, nor with what it makes of them
 abbrev pub HasFaultlessFiles : List HeldFile → List Kind → Command → Type 0
 HasFaultlessFiles files kinds (Replay script plan events) = IsFaultlessReplay files kinds script plan events
 HasFaultlessFiles files kinds (Serve plan events idle) = IsFaultlessServing files kinds plan
 HasFaultlessFiles files kinds (Check description) = HoldsFaultless files longest_json description IsFaultlessDescription
 HasFaultlessFiles files kinds (Derive plan) = IsFaultlessDerivation files plan
-HasFaultlessFiles files kinds command = ⊥
+HasFaultlessFiles files kinds (Storm seed events) = IsFaultlessStorm kinds
+HasFaultlessFiles files kinds (Consume consumption) = ⊥
 
 -- Nothing is wrong with the words, the files and the rack: the words mean a command that is built, and
 -- nothing is wrong with it.

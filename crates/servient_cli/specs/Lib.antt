@@ -8,6 +8,8 @@ pub mod Stages
 pub mod Reading
 pub mod Opening
 pub mod Replaying
+pub mod Counting
+pub mod Storming
 pub mod Listening
 pub mod Checking
 pub mod Deriving

@@ -28,7 +28,8 @@ fn is_built(command: &Command) -> bool
         Command::Replay { .. }
         | Command::Serve { .. }
         | Command::Check { .. }
-        | Command::Derive { .. } => true,
-        Command::Consume(_) | Command::Storm { .. } => false,
+        | Command::Derive { .. }
+        | Command::Storm { .. } => true,
+        Command::Consume(_) => false,
     }
 }

@@ -15,6 +15,7 @@ use crate::ending::{Ended, Ending};
 use crate::listening::{Request, serve_plan};
 use crate::reading::{LONGEST_JSON, read_file};
 use crate::replay::{plan_name, read_inputs, run_inputs};
+use crate::storming::storm;
 use command_words::Command;
 use servient_outside::{Files, Net};
 use std::alloc::Global;
@@ -53,7 +54,8 @@ pub fn run_command<F: Files, N: Net, R: Handlers>(
         }
         Command::Check { description } => check_from(alloc, description.as_str(), files),
         Command::Derive { plan } => derive_plan(alloc, plan.as_str(), files),
-        Command::Consume(_) | Command::Storm { .. } => unreachable!(),
+        Command::Storm { seed, events } => storm(alloc, *seed, *events, rack),
+        Command::Consume(_) => unreachable!(),
     }
 }
 

@@ -19,6 +19,7 @@
 mod checking;
 mod command;
 mod commands;
+mod counting;
 mod derivation;
 mod ending;
 mod fault_lines;
@@ -30,6 +31,7 @@ mod print;
 mod reading;
 mod replay;
 mod script;
+mod storming;
 mod turns;
 
 pub use laws::{each_event_has_fields, lines_are_cut_in_one_way};

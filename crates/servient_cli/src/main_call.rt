@@ -1,11 +1,11 @@
 //! The top call: from the words of the command line to the exit status.
 
-ghost use Rattle.std.specs.Prelude.{◌≡◌, ◌⊎◌, false};
+ghost use Rattle.std.specs.Prelude.{◌≡◌, ◌≢◌, ◌⊎◌, true, false};
 ghost use Rattle.thing_site.specs.Exposing.{kinds_of};
 ghost use Rattle.servient_cli.specs.Stages.{around};
 ghost use Rattle.command_words.specs.Grammar.{meaning_of};
 ghost use Rattle.servient_core.specs.Trace.{outside};
-ghost use Rattle.servient_cli.specs.Command.{Commands, Ends, IsFaultless, IsNoCommand, IsReported, IsWell, NothingFailed, is_serving};
+ghost use Rattle.servient_cli.specs.Command.{Commands, Ends, IsFaultless, IsNoCommand, IsReported, IsWell, NothingFailed, is_serving, is_storm};
 ghost use Rattle.servient_cli.specs.Ending.{EndsBy, final_status as status_in, final_text as text_in};
 
 use crate::command::command_of;
@@ -52,6 +52,8 @@ pub fn servient_main<F: Files, N: Net, R: Handlers, O: Out>(
     // Status 2 says that the words are no command that is built, and nothing else does, unless the output failed or
     // it was out of memory, which may come before anything is read: reading the words takes memory too.
     ensures usage { (result ≡ 2 → IsNoCommand words.now) × (IsNoCommand words.now → (result ≡ 2) ⊎ (result ≡ 7) ⊎ (result ≡ 9)) }
+    // A storm has no more events than its budget: the last of them is the Stop.
+    ensures storm { is_storm (meaning_of words.now) ≡ true → result ≢ 8 }
     // Where no plan is served, nothing is done to the network.
     ensures net { is_serving (meaning_of words.now) ≡ false → net.new ≡ net.old }
 {

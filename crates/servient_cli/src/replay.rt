@@ -81,7 +81,7 @@ fn plan_of<F: Files>(alloc: Global, plan: &Option<Text>, files: &mut F) -> Resul
 }
 
 /// The plan of the built-in Thing, and the library of its one model.
-fn built_in(alloc: Global) -> Result<Planned, Ended>
+pub fn built_in(alloc: Global) -> Result<Planned, Ended>
     ensures stage { (a : Around) → Performs TakesBuiltIn a a result }
     ensures exchanges { IfOk result (λ p. HasFewExchanges p.plan) }
 {

@@ -80,3 +80,12 @@ returns-in-Serve-clause-ends g c =
     (outside (g.N.Net.seen c.serve_plan.new.net) (g.R.Handlers.slots c.serve_plan.new.rack)) in
     subst (λ (command : Command). EndsBy (Does held kinds command) a b c.serve_plan.result) (sym c.in-Serve.is)
     (subst (λ (name : List ℕ). EndsBy (Does held kinds (Serve name c.in-Serve.events c.in-Serve.idle)) a b c.serve_plan.result) c.as_str-in-Serve.ensures c.serve_plan.ensures)
+
+pub returns-in-Storm-clause-ends : goal.returns-in-Storm-clause-ends
+returns-in-Storm-clause-ends g c =
+    let files = g.F.Files.seen c.args.files.now in
+    let net = g.N.Net.seen c.args.net.now in
+    let slots = g.R.Handlers.slots c.args.rack.now in
+    let a = around files (outside net slots) in
+    let b = around files (outside net (g.R.Handlers.slots c.storm.new.rack)) in
+    subst (λ (command : Command). EndsBy (Does files.held (kinds_of slots) command) a b c.storm.result) (sym c.in-Storm.is) (c.storm.ensures files net)

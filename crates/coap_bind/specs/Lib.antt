@@ -1,3 +1,4 @@
+pub mod Observing
 pub mod Writing
 pub mod Server
 pub mod Telling

@@ -31,6 +31,7 @@ mod bind;
 mod head;
 mod laws;
 mod next;
+mod observing;
 mod options;
 mod server;
 mod settled;

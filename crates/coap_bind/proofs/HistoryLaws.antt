@@ -24,8 +24,8 @@ use Rattle.coap_bind.specs.declared.head.OpenRequest.{OpenRequest}
 use Rattle.coap_bind.specs.declared.head.OpenAsk.{OpenAsk}
 use Rattle.coap_bind.specs.declared.server.Server.{Server}
 use Rattle.coap_bind.specs.Writing.{Reply}
-use Rattle.coap_bind.specs.Server.{Heard, asked, with_next_id, with_id_used, with_kept, with_watchers, with_emitted, with_notice_sent, with_report, Replies, is_request, replied_at_once, duplicate_reply, arrival, IsMet, malformed, no_request, duplicate, full, bad_option, bad_option_ignored, for_proxy, asks, no_memory, opened, Reads, settled, admitted, Hears}
-use Rattle.coap_bind.specs.Laws.{AreArrivals, Did, nothing, heard_of, answered, emitted, sent, ExchangesAreOfTheHistory, DuplicatesAskNothing}
+use Rattle.coap_bind.specs.Server.{start, Heard, asked, with_next_id, with_id_used, with_kept, with_watchers, with_emitted, with_notice_sent, with_report, Replies, is_request, replied_at_once, duplicate_reply, arrival, IsMet, malformed, no_request, duplicate, full, bad_option, bad_option_ignored, for_proxy, asks, no_memory, opened, Reads, settled, admitted, Hears}
+use Rattle.coap_bind.specs.Laws.{AreArrivals, DidFrom, Did, nothing, heard_of, answered, emitted, sent, ExchangesAreOfTheHistory, DuplicatesAskNothing}
 
 -- ---- replies change no arrival
 
@@ -146,27 +146,31 @@ follows_hears capacity history new s t from bytes now heard (settled (full m u m
 follows_hears capacity history new s t from bytes now heard (admitted m slot u met reads) later are x =
     follows_reads capacity (history ++ new) from m slot heard u t reads (after_request capacity history new from bytes now m (Fresh slot) s u met later are x)
 
-follows : (capacity : ℕ) (history : List Arrival) (s : Server) → Did capacity history s → Follows capacity history s.exchanges
-follows capacity history s (nothing watchers) = record { stands = refl; same = refl }
-follows capacity history s (heard_of before new r t from bytes now heard did later hears are) =
-    follows_hears capacity before new r t from bytes now heard hears later are (follows capacity before r did)
-follows capacity history s (answered before r t ask o target bytes did answers) =
-    follows_replies capacity before _ ask.request bytes (with_watchers answers.watchers r) t answers.replies (follows capacity before r did)
-follows capacity history s (emitted before r t target did is) = follows_same capacity before (with_emitted target r) t is (follows capacity before r did)
-follows capacity history s (sent before r t now n did sends) =
+follows_from : (capacity watchers : ℕ) (history : List Arrival) (s : Server) → DidFrom (start capacity watchers) history s → Follows capacity history s.exchanges
+follows_from capacity watchers history s nothing = record { stands = refl; same = refl }
+follows_from capacity watchers history s (heard_of before new r t from bytes now heard did later hears are) =
+    follows_hears capacity before new r t from bytes now heard hears later are (follows_from capacity watchers before r did)
+follows_from capacity watchers history s (answered before r t ask o target bytes did open_ask answers) =
+    follows_replies capacity before _ ask.request bytes (with_watchers answers.watchers r) t answers.replies (follows_from capacity watchers before r did)
+follows_from capacity watchers history s (emitted before r t target did is) =
+    follows_same capacity before (with_emitted target r) t is (follows_from capacity watchers before r did)
+follows_from capacity watchers history s (sent before r t now n did sends) =
     follows_same capacity before (with_notice_sent n (with_watchers sends.watchers r)) t sends.after
-    (follows_sent capacity before n (with_watchers sends.watchers r) (follows capacity before r did))
+    (follows_sent capacity before n (with_watchers sends.watchers r) (follows_from capacity watchers before r did))
+
+follows : (capacity : ℕ) (history : List Arrival) (s : Server) → Did capacity history s → Follows capacity history s.exchanges
+follows capacity history s did = follows_from capacity did.0 history s did.1
 
 pub exchanges_are_of_the_history : ExchangesAreOfTheHistory
 exchanges_are_of_the_history capacity history s did = let f = follows capacity history s did in (f.stands, f.same)
 
 -- ---- duplicates ask nothing
 
-not_replied : (what : PlainAsk) (ask : OpenAsk) (reply : Option CoapMessage) → asked what ask ≡ replied_at_once reply → ⊥
+pub not_replied : (what : PlainAsk) (ask : OpenAsk) (reply : Option CoapMessage) → asked what ask ≡ replied_at_once reply → ⊥
 not_replied what ask None e = cc
 not_replied what ask (Some m) e = cc
 
-not_duplicate : (what : PlainAsk) (ask : OpenAsk) (kind : RequestType) (kept : Option (List ℕ)) → asked what ask ≡ duplicate_reply kind kept → ⊥
+pub not_duplicate : (what : PlainAsk) (ask : OpenAsk) (kind : RequestType) (kept : Option (List ℕ)) → asked what ask ≡ duplicate_reply kind kept → ⊥
 not_duplicate what ask Confirmable (Some bytes) e = cc
 not_duplicate what ask Confirmable None e = cc
 not_duplicate what ask NonConfirmable kept e = cc

@@ -1,4 +1,5 @@
 pub mod HistoryLaws
 pub mod LengthLaws
+pub mod OpenLaws
 pub mod ReadingLaws
 pub mod TellingLaws

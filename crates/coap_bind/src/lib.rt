@@ -38,6 +38,8 @@ mod settled;
 mod writing;
 
 pub use bind::CoapBind;
-pub use laws::{duplicates_ask_nothing, exchanges_are_of_the_history, replies_fit};
+pub use laws::{
+    asks_are_open, duplicates_ask_nothing, exchanges_are_of_the_history, replies_fit,
+};
 pub use next::{CoapNext, Ticket};
 pub use servient_base::NoMemory;

@@ -123,6 +123,7 @@ impl CoapBind {
     pub fn next_send(&mut self, now: u64) -> Option<Notice>
         ensures sends { SendsNext now result self.old self.new }
         ensures bounds { IfSome result IsSendable }
+        ensures exchanges { self.new.exchanges ≡ self.old.exchanges }
     {
         self.server.next_send(now)
     }

@@ -101,6 +101,7 @@ impl Server {
     pub fn next_send(&mut self, now: u64) -> Option<Notice>
         ensures sends { SendsNext now result self.old self.new }
         ensures bounds { IfSome result IsSendable }
+        ensures exchanges { self.new.exchanges ≡ self.old.exchanges }
     {
         let sent = self.watchers.next_send(now, self.next_id);
         self.use_id_of(sent);
@@ -109,7 +110,8 @@ impl Server {
 
     /// Uses the next message ID in what is sent to watchers, where that has it.
     fn use_id_of(&mut self, sent: Option<Notice>)
-        ensures { self.new ≡ with_notice_sent sent self.old }
+        ensures ok { self.new ≡ with_notice_sent sent self.old }
+        ensures exchanges { self.new.exchanges ≡ self.old.exchanges }
     {
         match sent {
             Some(notice) => {

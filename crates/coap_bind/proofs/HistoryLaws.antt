@@ -14,6 +14,7 @@ use Rattle.coap_msg.specs.Faults.{HasMsgFault}
 use Rattle.coap_msg.proofs.Messages.{at_most_one_message}
 use Rattle.coap_msg.proofs.FaultLaws.{no_fault_of_message}
 use Rattle.coap_exchange.specs.Admission.{Arrival, is_duplicate_of, Verdict, admitted as is_admitted, duplicate as is_duplicate, verdict, admitted_among}
+use Rattle.coap_exchange.specs.Laws.{IsVerdict}
 use Rattle.coap_exchange.specs.Table.{Exchange, Table, at_moment, answered as with_answer, with_reply, Meets, StandsFor}
 use Rattle.coap_exchange.specs.declared.met.Met.{Met}
 use Rattle.coap_exchange.specs.declared.met.Met.TheVariants.{Fresh, Repeat, Full}
@@ -71,7 +72,7 @@ fresh_stays : (s : Server) (b : Bool) → (if b then with_next_id s else s).exch
 fresh_stays s true = refl
 fresh_stays s false = refl
 
-sent_stays : (n : Option Notice) (s : Server) → (with_notice_sent n s).exchanges ≡ s.exchanges
+pub sent_stays : (n : Option Notice) (s : Server) → (with_notice_sent n s).exchanges ≡ s.exchanges
 sent_stays None s = refl
 sent_stays (Some n) s = fresh_stays s n.fresh
 
@@ -179,6 +180,17 @@ verdict_at : (b : Bool) (v : Verdict) → b ≡ true → (if b then is_duplicate
 verdict_at true v e = refl
 verdict_at false v e = cc
 
+-- what a duplicate of a request that was admitted and lives meets
+pub met_as_duplicate : (capacity : ℕ) (history : List Arrival) (s : Server) (u : Table) (a earlier : Arrival) (met : Met) → Did capacity history s → s.exchanges.moment ≤ a.moment
+    → Contains (admitted_among capacity history) earlier → is_duplicate_of a earlier ≡ true → Meets (at_moment a.moment s.exchanges) a met u → IsVerdict met is_duplicate
+met_as_duplicate capacity history s u a earlier met did later has again meets =
+    let f = follows capacity history s did in
+    let next = tables_follow_the_history s.exchanges u history a met f.stands later meets in
+    let there : Contains (admitted_among s.exchanges.capacity history) earlier = subst (λ k. Contains (admitted_among k history) earlier) (sym f.same) has in
+    let any : list_any (is_duplicate_of a) (admitted_among s.exchanges.capacity history) ≡ true
+    = list_any_at (is_duplicate_of a) (admitted_among s.exchanges.capacity history) there.0 earlier there.1 (ap (is_duplicate_of a) there.2 ∙ again) in
+    subst (IsVerdict met) (verdict_at (list_any (is_duplicate_of a) (admitted_among s.exchanges.capacity history)) _ any) next.0
+
 pub duplicates_ask_nothing : DuplicatesAskNothing
 duplicates_ask_nothing capacity history s t from bytes now m earlier did later spells has again what ask (settled (malformed f fault h is)) = not_replied what ask _ h
 duplicates_ask_nothing capacity history s t from bytes now m earlier did later spells has again what ask (settled (no_request n of_n none h is)) = not_replied what ask _ h
@@ -186,14 +198,6 @@ duplicates_ask_nothing capacity history s t from bytes now m earlier did later s
 duplicates_ask_nothing capacity history s t from bytes now m earlier did later spells has again what ask (settled (full n u met h is)) = cc
 duplicates_ask_nothing capacity history s t from bytes now m earlier did later spells has again what ask (admitted n slot u met reads) =
     let same : n ≡ m = at_most_one_message n m bytes met.spells spells in
-    let f = follows capacity history s did in
-    let next = tables_follow_the_history s.exchanges u.exchanges history (arrival from now n) (Fresh slot) f.stands later met.meets in
     let one : is_duplicate_of (arrival from now n) earlier ≡ true = subst (λ x. is_duplicate_of (arrival from now x) earlier ≡ true) (sym same) again in
-    let there : Contains (admitted_among s.exchanges.capacity history) earlier = subst (λ k. Contains (admitted_among k history) earlier) (sym f.same) has in
-    let any : list_any (is_duplicate_of (arrival from now n)) (admitted_among s.exchanges.capacity history) ≡ true
-    = list_any_at (is_duplicate_of (arrival from now n)) (admitted_among s.exchanges.capacity history) there.0 earlier there.1
-    (ap (is_duplicate_of (arrival from now n)) there.2 ∙ one) in
-    let v : verdict s.exchanges.capacity (admitted_among s.exchanges.capacity history) (arrival from now n) ≡ is_duplicate
-    = verdict_at (list_any (is_duplicate_of (arrival from now n)) (admitted_among s.exchanges.capacity history)) _ any in
-    let w : is_duplicate ≡ is_admitted = sym v ∙ next.0 in
+    let w : is_duplicate ≡ is_admitted = met_as_duplicate capacity history s u.exchanges (arrival from now n) earlier (Fresh slot) did later has one met.meets in
     cc

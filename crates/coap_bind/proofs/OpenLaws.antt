@@ -10,7 +10,8 @@ use Rattle.coap_exchange.specs.Table.{Exchange, exchange_in, at_moment}
 use Rattle.coap_opts.specs.Reading.{PlainAsk}
 use Rattle.coap_bind.specs.declared.head.OpenAsk.{OpenAsk}
 use Rattle.coap_bind.specs.declared.server.Server.{Server}
-use Rattle.coap_bind.specs.Server.{asked, answered_at_once, arrival, malformed, no_request, duplicate, full, bad_option, bad_option_ignored, for_proxy, asks, no_memory, opened_ask, Reads, settled, admitted}
+use Rattle.coap_exchange.specs.declared.met.Met.TheVariants.{Fresh}
+use Rattle.coap_bind.specs.Server.{asked, IsMet, answered_at_once, arrival, malformed, no_request, duplicate, full, bad_option, bad_option_ignored, for_proxy, asks, no_memory, opened_ask, Reads, settled, admitted}
 use Rattle.coap_bind.specs.Laws.{IsOpen, AsksAreOpen}
 use Rattle.coap_bind.proofs.HistoryLaws.{not_replied, not_duplicate}
 
@@ -35,6 +36,13 @@ last_found slot (x ∷ es) e none is = found_later (x.slot == slot) none (λ res
     found_later true none' rest = cc
     found_later false none' rest = rest none'
 
+-- a request that was admitted is in its slot, and waits for its reply
+pub fresh_is_there : (from : Endpoint) (bytes : List ℕ) (now : ℕ) (m : CoapMessage) (slot : ℕ) (s u : Server) → IsMet from bytes now m (Fresh slot) s u
+    → exchange_in slot u.exchanges ≡ Some (record { arrival = arrival from now m; slot = slot; reply = None })
+fresh_is_there from bytes now m slot s u met =
+    ap (exchange_in slot) met.meets.1.2
+    ∙ last_found slot (at_moment now s.exchanges).exchanges (record { arrival = arrival from now m; slot = slot; reply = None }) met.meets.1.1 (same_number slot)
+
 reads_open : (from : Endpoint) (m : CoapMessage) (slot : ℕ) (what : PlainAsk) (ask : OpenAsk) (s t : Server) (e : Exchange) → Reads from m slot (asked what ask) s t
     → exchange_in slot s.exchanges ≡ Some e → e.reply ≡ None → request_type m.kind ≡ e.arrival.kind → IsOpen ask t
 reads_open from m slot what ask s t e (bad_option number bytes fault con replies h) there waits kind = absurd (asks_at_once what ask bytes h)
@@ -52,7 +60,4 @@ asks_are_open from bytes now what ask s t (settled (no_request m of_m none h is)
 asks_are_open from bytes now what ask s t (settled (duplicate m kept e met found h)) = absurd (not_duplicate what ask (request_type m.kind) e.reply h)
 asks_are_open from bytes now what ask s t (settled (full m u met h is)) = absurd (asks_at_once what ask _ h)
 asks_are_open from bytes now what ask s t (admitted m slot u met reads) =
-    let e : Exchange = record { arrival = arrival from now m; slot = slot; reply = None } in
-    let there : exchange_in slot u.exchanges ≡ Some e
-    = ap (exchange_in slot) met.meets.1.2 ∙ last_found slot (at_moment now s.exchanges).exchanges e met.meets.1.1 (same_number slot) in
-    reads_open from m slot what ask u t e reads there refl refl
+    reads_open from m slot what ask u t (record { arrival = arrival from now m; slot = slot; reply = None }) reads (fresh_is_there from bytes now m slot s u met) refl refl

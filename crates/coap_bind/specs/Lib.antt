@@ -3,4 +3,5 @@ pub mod Writing
 pub mod Server
 pub mod Telling
 pub mod Laws
+pub mod Duplicates
 pub mod Settling

@@ -2,5 +2,5 @@
 use Rattle.std.proofs.Common.{◌≡◌}
 use Rattle.bindings_tables.proofs.crowds.put_all.Given as goal
 
-abbrev pub invariant-loop-_turn : goal.invariant-loop-_turn
-invariant-loop-_turn l = l.server.exchanges ≡ l.fn.server.exchanges
+abbrev pub invariant-loop-turn : goal.invariant-loop-_turn
+invariant-loop-turn l = l.server.exchanges ≡ l.fn.server.exchanges

@@ -70,7 +70,11 @@ fn put_all(text: &mut String, server: &mut CoapBind, now: u64) -> Result<(), All
             id = notice.id;
         }
     }
-    write!(text, "{count} sent, the last to host{} with the ID {id}", last.host)
+    write!(
+        text,
+        "{count} sent, the last to host{} with the ID {id}",
+        last.host
+    )
 }
 
 /// Sends N values of a target to host 1, which acknowledges each, and writes the last message.
@@ -98,12 +102,7 @@ fn put_rounds(
 }
 
 /// Does a step, and writes what comes of it.
-pub fn put(
-    text: &mut String,
-    server: &mut CoapBind,
-    step: &str,
-    now: u64,
-) -> Result<(), AllocError>
+pub fn put(text: &mut String, server: &mut CoapBind, step: &str, now: u64) -> Result<(), AllocError>
     requires { server.old.exchanges.moment ≤ now }
     ensures { server.new.exchanges.moment ≤ now }
 {
@@ -114,6 +113,10 @@ pub fn put(
     match word {
         "all" => put_all(text, server, first),
         "rounds" => put_rounds(text, server, first, target, now),
-        _ => write!(text, "{} register", count_registered(server, first, target, now)),
+        _ => write!(
+            text,
+            "{} register",
+            count_registered(server, first, target, now)
+        ),
     }
 }

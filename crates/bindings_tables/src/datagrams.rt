@@ -8,13 +8,11 @@ ghost use Rattle.std.specs.Prelude.{◌≤◌};
 ghost use Rattle.thing_ops.specs.Outcomes.{HasCode};
 ghost use Rattle.coap_bind.specs.Laws.{HasShortPlace};
 
-use crate::crowds;
 use crate::exchanges::{endpoint_of, put_words};
-use crate::notifications;
 use crate::outcomes::outcome_of;
-use crate::runs;
 use crate::targets::put_path;
 use crate::watchers::target_of;
+use crate::{crowds, notifications, runs};
 use case_notation::{message_of, number, put_message};
 use coap_bind::{CoapBind, CoapNext};
 use coap_msg::{Endpoint, LONGEST_MESSAGE};
@@ -192,7 +190,9 @@ fn exchanges_of(history: &str) -> u32
     ensures least { 16 ≤ result }
     ensures most { result ≤ 65536 }
 {
-    room_for(history, "exchanges").unwrap_or(16).clamp(16, 65_536)
+    room_for(history, "exchanges")
+        .unwrap_or(16)
+        .clamp(16, 65_536)
 }
 
 /// How many watchers there may be.

@@ -1,6 +1,6 @@
 -- What a server says to duplicates of requests.
-use Rattle.std.proofs.Common.{◌≡◌, ◌≤◌, ◌⊎◌, ◌∙◌, cond, inl, inr, ℕ, Bool, true, false, Option, Some, None, List, [], ◌∷◌, ◌++◌, map, refl, sym, ap, subst, arith}
-use Rattle.std.specs.Prelude.{◌==◌, ◌&&◌, find, Contains}
+use Rattle.std.proofs.Common.{◌≡◌, ◌≤◌, ◌⊎◌, ◌∙◌, inl, inr, ℕ, Bool, true, false, Option, Some, None, List, [], ◌∷◌, refl, sym, ap, subst, arith}
+use Rattle.std.specs.Prelude.{◌==◌, ◌&&◌, find}
 use Rattle.std.specs.Option.{option_or}
 use Rattle.std.proofs.lemmas.List.Folds.{find-append}
 use Rattle.std.proofs.lemmas.Bool.{eqb-true}
@@ -22,7 +22,7 @@ use Rattle.coap_bind.specs.declared.server.Server.{Server}
 use Rattle.thing_ops.specs.declared.outcome.Outcome.{Outcome}
 use Rattle.coap_observe.specs.declared.notice.Notice.{Notice}
 use Rattle.coap_bind.specs.Writing.{Reply}
-use Rattle.coap_bind.specs.Server.{start, Heard, ignored, answered_at_once, with_id_used, with_kept, with_watchers, with_emitted, with_notice_sent, with_report, Replies, Answers, is_request, duplicate_reply, arrival, IsMet, malformed, no_request, duplicate, full, bad_option, bad_option_ignored, for_proxy, asks, no_memory, opened, Reads, settled, admitted, Hears}
+use Rattle.coap_bind.specs.Server.{start, Heard, answered_at_once, with_id_used, with_kept, with_watchers, with_emitted, with_notice_sent, with_report, Replies, Answers, is_request, duplicate_reply, arrival, IsMet, malformed, no_request, duplicate, full, bad_option, bad_option_ignored, for_proxy, asks, no_memory, opened, Reads, settled, admitted, Hears}
 use Rattle.coap_bind.specs.Laws.{IsOpen, DidFrom, Did, nothing, heard_of, answered, emitted, sent}
 use Rattle.coap_bind.specs.Duplicates.{may_keep, OnlyConfirmableAreKept, OnlyTimePassed, DuplicatesChangeNothing, IsRepliedTo, at_once, afterwards, repeated, DuplicatesGetTheFirstReply}
 use Rattle.coap_bind.proofs.HistoryLaws.{sent_stays, met_as_duplicate}
@@ -275,12 +275,16 @@ keeps_first_read from m slot reply s t e (no_memory bytes none replies is) there
     subst (λ b. Keeps slot e.arrival (kept_reply e.arrival.kind b) t.exchanges) (same_bytes reply bytes is) (keeps_first _ (opened m slot) bytes s t e replies there waits kind)
 
 replied_keeps : (request : Arrival) (reply : List ℕ) (s t : Server) → IsRepliedTo request reply s t → (slot : ℕ) × Keeps slot request (kept_reply request.kind reply) t.exchanges
-replied_keeps request reply s t (at_once from bytes now m slot u later met reads is) =
-    (slot, subst (λ a. Keeps slot a (kept_reply a.kind reply) t.exchanges) (sym is)
-    (keeps_first_read from m slot reply u t (record { arrival = arrival from now m; slot = slot; reply = None }) reads (fresh_is_there from bytes now m slot s u met) refl refl))
-replied_keeps request reply s t (afterwards ask o target waiting answers is) =
-    (ask.request.slot, subst (λ a. Keeps ask.request.slot a (kept_reply a.kind reply) t.exchanges) (sym is)
-    (keeps_first _ ask.request reply (with_watchers answers.watchers s) t waiting.exchange answers.replies waiting.there waiting.waits waiting.kind))
+replied_keeps request reply s t (at_once from bytes now m slot u later met reads is) = (
+  slot,
+  subst (λ a. Keeps slot a (kept_reply a.kind reply) t.exchanges) (sym is)
+      (keeps_first_read from m slot reply u t (record { arrival = arrival from now m; slot = slot; reply = None }) reads (fresh_is_there from bytes now m slot s u met) refl refl),
+)
+replied_keeps request reply s t (afterwards ask o target waiting answers is) = (
+  ask.request.slot,
+  subst (λ a. Keeps ask.request.slot a (kept_reply a.kind reply) t.exchanges) (sym is)
+      (keeps_first _ ask.request reply (with_watchers answers.watchers s) t waiting.exchange answers.replies waiting.there waiting.waits waiting.kind),
+)
 
 tidy_replied : (request : Arrival) (reply : List ℕ) (s t : Server) → IsRepliedTo request reply s t → Tidy s.exchanges → Tidy t.exchanges
 tidy_replied request reply s t (at_once from bytes now m slot u later met reads is) h = tidy_hears from bytes now (answered_at_once reply) s t (admitted m slot u met reads) h
@@ -303,9 +307,10 @@ gets_reply_of from bytes now m heard u v e spells request there (settled (no_req
     differ isnt' = cc
 gets_reply_of from bytes now m heard u v e spells request there (settled (duplicate n kept f met found is)) =
     let same : n ≡ m = at_most_one_message n m bytes met.spells spells in
-    let one : f ≡ e = same_exchange f e (sym (subst (λ (x : CoapMessage). duplicated_exchange (arrival from now x) (at_moment now u.exchanges) ≡ Some f) same found) ∙ there) in
-    (is ∙ ap (λ (x : CoapMessage). duplicate_reply (request_type x.kind) f.reply) same ∙ ap (λ (x : Exchange). duplicate_reply (request_type m.kind) x.reply) one,
-    only_time_passed from bytes now n kept u v met)
+    let one : f ≡ e = same_exchange f e (sym (subst (λ (x : CoapMessage). duplicated_exchange (arrival from now x) (at_moment now u.exchanges) ≡ Some f) same found) ∙ there) in (
+      is ∙ ap (λ (x : CoapMessage). duplicate_reply (request_type x.kind) f.reply) same ∙ ap (λ (x : Exchange). duplicate_reply (request_type m.kind) x.reply) one,
+      only_time_passed from bytes now n kept u v met,
+    )
 gets_reply_of from bytes now m heard u v e spells request there (settled (full n w met is same)) =
     absurd (differ (subst (λ (x : CoapMessage). duplicated_exchange (arrival from now x) (at_moment now u.exchanges) ≡ None) (at_most_one_message n m bytes met.spells spells) met.meets.0))
   where
@@ -333,7 +338,7 @@ duplicates_get_the_first_reply capacity history later s t u v request reply from
     let kept = keeps_moment now first.0 request (kept_reply request.kind reply) u.exchanges alive (keeps_from t later u now first.0 request reply since early alive first.1) in
     let order = tidy_moment now u.exchanges (tidy_from t later u since (tidy_replied request reply s t replied (tidy capacity history s did))) in
     let there = duplicated_in (arrival from now m) (at_moment now u.exchanges).exchanges first.0 kept.exchange order.distinct kept.there
-        (ap (is_duplicate_of (arrival from now m)) kept.arrival_is ∙ again) in
+    (ap (is_duplicate_of (arrival from now m)) kept.arrival_is ∙ again) in
     let gets = gets_reply_of from bytes now m heard u v kept.exchange spells of_m there hears in
     (gets.0 ∙ ap (duplicate_reply (request_type m.kind)) kept.reply_is ∙ repeats (request_type m.kind) request.kind reply, gets.1)
 

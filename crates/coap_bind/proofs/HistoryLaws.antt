@@ -13,7 +13,7 @@ use Rattle.coap_msg.specs.Requests.{request_type}
 use Rattle.coap_msg.specs.Faults.{HasMsgFault}
 use Rattle.coap_msg.proofs.Messages.{at_most_one_message}
 use Rattle.coap_msg.proofs.FaultLaws.{no_fault_of_message}
-use Rattle.coap_exchange.specs.Admission.{Arrival, is_duplicate_of, Verdict, admitted as is_admitted, duplicate as is_duplicate, verdict, admitted_among}
+use Rattle.coap_exchange.specs.Admission.{Arrival, is_duplicate_of, Verdict, admitted as is_admitted, duplicate as is_duplicate, admitted_among}
 use Rattle.coap_exchange.specs.Laws.{IsVerdict}
 use Rattle.coap_exchange.specs.Table.{Exchange, Table, at_moment, answered as with_answer, with_reply, Meets, StandsFor}
 use Rattle.coap_exchange.specs.declared.met.Met.{Met}

@@ -12,8 +12,8 @@ use Rattle.coap_msg.specs.Requests.{request_type}
 use Rattle.coap_msg.proofs.Messages.{at_most_one_message}
 use Rattle.coap_msg.proofs.FaultLaws.{no_fault_of_message}
 use Rattle.coap_exchange.specs.Admission.{Arrival, lives, is_duplicate_of, admitted as is_admitted, duplicate as is_duplicate, refused as is_refused}
-use Rattle.coap_exchange.specs.Table.{Exchange, Table, at_moment, exchange_in, duplicated_exchange}
-use Rattle.coap_exchange.specs.declared.met.Met.TheVariants.{Fresh, Repeat, Full}
+use Rattle.coap_exchange.specs.Table.{Exchange, Table, at_moment, exchange_in}
+use Rattle.coap_exchange.specs.declared.met.Met.TheVariants.{Fresh, Full}
 use Rattle.coap_bind.specs.declared.head.OpenRequest.{OpenRequest}
 use Rattle.coap_bind.specs.declared.server.Server.{Server}
 use Rattle.coap_bind.specs.Writing.{Reply}
@@ -24,8 +24,8 @@ use Rattle.coap_bind.specs.Laws.{AreArrivals, IsOpen, DidFrom, nothing, heard_of
 use Rattle.coap_bind.specs.Duplicates.{may_keep, IsRepliedTo, at_once, afterwards, WasRepliedTo, OnlyTheFirstReplyIsRepeated}
 use Rattle.coap_bind.proofs.HistoryLaws.{met_as_duplicate}
 use Rattle.coap_bind.proofs.OpenLaws.{fresh_is_there}
-use Rattle.coap_bind.proofs.TidyLaws.{Distinct, found_passes, in_slot_unfilter, was_in, WasIn, well_in_slot}
-use Rattle.coap_bind.proofs.DuplicateLaws.{Tidy, tidy_moment, tidy_meets, tidy_from, tidy, used_stays, sent_exchanges, same_exchange}
+use Rattle.coap_bind.proofs.TidyLaws.{found_passes, in_slot_unfilter, was_in, WasIn, well_in_slot}
+use Rattle.coap_bind.proofs.DuplicateLaws.{Tidy, tidy_from, tidy, used_stays, sent_exchanges, same_exchange}
 
 -- ---- where an exchange with a reply comes from
 
@@ -200,8 +200,15 @@ repeats_kept capacity watchers history u now slot heard kind a e did there again
 repeats_kept capacity watchers history u now slot heard kind a e did there again (inr h) =
     let order = tidy capacity history u (watchers, did) in
     let here = moment_back now slot u.exchanges e order there in
-    inr (e.arrival, h.0, h.1, again, h.2, confirmable_of e.arrival.kind e.reply h.0 h.3 (well_in_slot u.exchanges.exchanges slot e order.kept here),
-    was_replied (start capacity watchers) history u slot h.0 e did (record { distinct = tt; kept = tt }) (nothing_kept (start capacity watchers).exchanges refl) here h.3)
+    inr (
+      e.arrival,
+      h.0,
+      h.1,
+      again,
+      h.2,
+      confirmable_of e.arrival.kind e.reply h.0 h.3 (well_in_slot u.exchanges.exchanges slot e order.kept here),
+      was_replied (start capacity watchers) history u slot h.0 e did (record { distinct = tt; kept = tt }) (nothing_kept (start capacity watchers).exchanges refl) here h.3,
+    )
 
 pub only_the_first_reply_is_repeated : OnlyTheFirstReplyIsRepeated
 only_the_first_reply_is_repeated capacity watchers history u v from bytes now m heard earlier did later spells request has again (settled (malformed f fault is same)) = absurd (no_fault_of_message f m bytes spells fault)

@@ -1,10 +1,9 @@
 -- Tables of exchanges in which slots differ, no two are one exchange, and only replies to Confirmable requests are kept.
-use Rattle.std.proofs.Common.{◌≡◌, ◌≤◌, ◌⊎◌, ◌∙◌, inl, inr, cond, ℕ, Bool, true, false, Option, Some, None, List, [], ◌∷◌, ◌++◌, map, refl, sym, ap, subst, arith}
+use Rattle.std.proofs.Common.{◌≡◌, ◌⊎◌, ◌∙◌, inl, inr, cond, ℕ, Bool, true, false, Option, Some, None, List, [], ◌∷◌, ◌++◌, map, refl, sym, ap, subst, arith}
 use Rattle.std.specs.Prelude.{◌==◌, ◌&&◌, find, filter, if◌then◌else◌}
 use Rattle.std.specs.List.{AllByRecursion}
 use Rattle.std.proofs.lemmas.Bool.Decides.{nat_tests}
-use Rattle.coap_msg.specs.declared.message.RequestType.{RequestType}
-use Rattle.coap_msg.specs.declared.message.RequestType.TheVariants.{Confirmable, NonConfirmable}
+use Rattle.coap_msg.specs.declared.message.RequestType.TheVariants.{Confirmable}
 use Rattle.coap_exchange.specs.Admission.{Arrival, lives, is_same_exchange, is_duplicate_of}
 use Rattle.coap_exchange.specs.Table.{Exchange, answered as with_answer}
 use Rattle.coap_bind.specs.Duplicates.{may_keep}
@@ -236,6 +235,7 @@ in_slot_filter_at p x xs slot e true false t found here passes rest = absurd (di
   where
     same : Some x ≡ Some e → x ≡ e
     same found' = cc
+
     differ : false ≡ true → ⊥
     differ e' = cc
 in_slot_filter_at p x xs slot e false true t found here passes rest =
@@ -265,8 +265,10 @@ other_slot_at slot other bytes x xs e true t differ found rest =
   where
     same : Some x ≡ Some e → x ≡ e
     same found' = cc
+
     not_other : (n : ℕ) → (n == slot) ≡ true → (slot == other) ≡ false → (n == other) ≡ false
     not_other n one two = grind (arith, nat_tests)
+
     unanswered : (c : Bool) → c ≡ false → (if c then record x { reply = Some bytes } else x) ≡ x
     unanswered true e' = cc
     unanswered false e' = refl
@@ -292,6 +294,7 @@ this_slot_at slot bytes x xs e true t found rest =
   where
     same : Some x ≡ Some e → x ≡ e
     same found' = cc
+
     answered_here : (c : Bool) → c ≡ true → (if c then record x { reply = Some bytes } else x) ≡ record x { reply = Some bytes }
     answered_here true e' = refl
     answered_here false e' = cc
@@ -312,7 +315,6 @@ kept_answered_at : (slot : ℕ) (bytes : List ℕ) (x : Exchange) (b : Bool) →
     → may_keep (if b then record x { reply = Some bytes } else x).arrival.kind (if b then record x { reply = Some bytes } else x).reply ≡ true
 kept_answered_at slot bytes x true well con = ap (λ k. may_keep k (Some bytes)) (con refl)
 kept_answered_at slot bytes x false well con = well
-
 
 nothing_to_answer_at : (slot : ℕ) (bytes : List ℕ) (x : Exchange) (b : Bool) → may_keep x.arrival.kind x.reply ≡ true → b ≡ false
     → may_keep (if b then record x { reply = Some bytes } else x).arrival.kind (if b then record x { reply = Some bytes } else x).reply ≡ true
@@ -385,6 +387,7 @@ was_here slot other bytes x xs e true here t is =
   where
     same : Some (record x { reply = Some bytes }) ≡ Some e → record x { reply = Some bytes } ≡ e
     same is' = cc
+
     both : (n : ℕ) → (n == slot) ≡ true → (n == other) ≡ true → (slot == other) ≡ true
     both n one two = grind (arith, nat_tests)
 was_here slot other bytes x xs e false here t is = inl (found_first x x (x.slot == slot) (find (λ z. z.slot == slot) xs) here refl ∙ is)

@@ -21,6 +21,7 @@ use Rattle.coap_bind.specs.Server.{Heard, ignored, answered_at_once, asked, arri
 use Rattle.coap_opts.specs.Reading.{PlainAsk}
 use Rattle.coap_bind.specs.Laws.{AreArrivals, IsOpen, Did, nothing, heard_of, answered}
 use Rattle.coap_bind.proofs.OpenLaws.{asks_are_open}
+use Rattle.coap_bind.proofs.MomentLaws.{replies_moment, hears_moment}
 use Rattle.http_bind.specs.Streams.{Streams, Taken, asks, wants_continue, is_faulty, IsDry, NoneIdle}
 use Rattle.thing_ops.specs.declared.outcome.Outcome.{Outcome}
 use Rattle.thing_core.specs.State.{State as ThingState}
@@ -49,42 +50,6 @@ arrivals from bytes now h s t (settled (no_request n spells isnt is same)) =
 arrivals from bytes now h s t (settled (duplicate m kept e met found is)) = one_arrival from bytes now m (Repeat kept) s t met
 arrivals from bytes now h s t (settled (full m u met is same)) = one_arrival from bytes now m Full s u met
 arrivals from bytes now h s t (admitted m slot u met reads) = one_arrival from bytes now m (Fresh slot) s u met
-
--- ---- moments
-
-met_moment : (now : ℕ) (t u : Table) (a : Arrival) (met : Met) → Meets (at_moment now t) a met u → u.moment ≡ now
-met_moment now t u a (Fresh slot) is = ap (λ (x : Table). x.moment) is.1.2
-met_moment now t u a (Repeat kept) is = ap (λ (x : Table). x.moment) is.1
-met_moment now t u a Full is = ap (λ (x : Table). x.moment) is.1.1
-
-used_moment : (kind : RequestType) (s : Server) → (with_id_used kind s).exchanges.moment ≡ s.exchanges.moment
-used_moment Confirmable s = refl
-used_moment NonConfirmable s = refl
-
-kept_moment : (kind : RequestType) (slot : ℕ) (bytes : List ℕ) (s : Server) → (with_kept kind slot bytes s).exchanges.moment ≡ s.exchanges.moment
-kept_moment Confirmable slot bytes s = refl
-kept_moment NonConfirmable slot bytes s = refl
-
-replies_moment : (r : Reply) (request : OpenRequest) (bytes : List ℕ) (s t : Server) → Replies r request bytes s t → t.exchanges.moment ≡ s.exchanges.moment
-replies_moment r request bytes s t is =
-    ap (λ (x : Server). x.exchanges.moment) is.after ∙ kept_moment request.head.kind request.slot bytes (with_id_used request.head.kind s) ∙ used_moment request.head.kind s
-
-reads_moment : (from : Endpoint) (m : CoapMessage) (slot : ℕ) (h : Heard) (s t : Server) → Reads from m slot h s t → t.exchanges.moment ≡ s.exchanges.moment
-reads_moment from m slot h s t (bad_option number bytes fault con replies is) = replies_moment _ (opened m slot) bytes s t replies
-reads_moment from m slot h s t (bad_option_ignored number fault non is same) = ap (λ (x : Server). x.exchanges.moment) same
-reads_moment from m slot h s t (for_proxy bytes fault replies is) = replies_moment _ (opened m slot) bytes s t replies
-reads_moment from m slot h s t (are_asked none is same) = ap (λ (x : Server). x.exchanges.moment) same
-reads_moment from m slot h s t (no_memory bytes none replies is) = replies_moment _ (opened m slot) bytes s t replies
-
-hears_moment : (from : Endpoint) (bytes : List ℕ) (now : ℕ) (h : Heard) (s t : Server) → Hears from bytes now h s t → s.exchanges.moment ≤ now → t.exchanges.moment ≤ now
-hears_moment from bytes now h s t (settled (malformed f fault is same)) early = omega (arith, ap (λ (x : Server). x.exchanges.moment) same, early)
-hears_moment from bytes now h s t (settled (no_request n spells isnt is same)) early = omega (arith, ap (λ (x : Server). x.exchanges.moment) same, early)
-hears_moment from bytes now h s t (settled (duplicate m kept e met found is)) early =
-    omega (arith, met_moment now s.exchanges t.exchanges (arrival from now m) (Repeat kept) met.meets)
-hears_moment from bytes now h s t (settled (full m u met is same)) early =
-    omega (arith, ap (λ (x : Server). x.exchanges.moment) same, used_moment (request_type m.kind) u, met_moment now s.exchanges u.exchanges (arrival from now m) Full met.meets)
-hears_moment from bytes now h s t (admitted m slot u met reads) early =
-    omega (arith, reads_moment from m slot h u t reads, met_moment now s.exchanges u.exchanges (arrival from now m) (Fresh slot) met.meets)
 
 -- ---- moves
 

@@ -1,5 +1,5 @@
 -- The options and the message have room.
-use Rattle.std.proofs.Common.{◌≡◌, ◌≤◌, ◌∙◌, List, [], ◌∷◌, ◌++◌, take, Some, length, ap, subst, sym, refl, arith, length-take}
+use Rattle.std.proofs.Common.{◌≤◌, ◌∙◌, List, [], ◌∷◌, ◌++◌, take, Some, length, ap, subst, sym, arith, length-take}
 use Rattle.coap_msg.specs.declared.constants.TheConstants.{CONTENT_FORMAT, JSON}
 use Rattle.coap_msg.specs.Numbers.{number_bytes}
 use Rattle.coap_msg.specs.declared.message.Type4.TheVariants.{Con}

@@ -1,6 +1,8 @@
-//! The CoAP server, in which 16 exchanges may live, or as many as a line `room for N exchanges` says. A step is a
-//! datagram: its moment, its host, what it comes to where it is asked (`-` where it isn't to be), and its message; and
-//! what is done with it.
+//! The CoAP server, in which 16 exchanges may live, or as many as a line `room for N exchanges` says, and to which there
+//! may be four watchers, or as many as a line `room for N watchers` says. A step is a datagram: its moment, its host,
+//! what it comes to where it is asked (`-` where it isn't to be), and its message; and what is done with it. What a
+//! request for target 3 comes to is written `3/Content:7`. Other steps are in `notifications.rt` and
+//! `crowds.rt`.
 
 ghost use Rattle.std.specs.Prelude.{◌≤◌};
 ghost use Rattle.thing_ops.specs.Outcomes.{HasCode};
@@ -8,8 +10,9 @@ ghost use Rattle.coap_bind.specs.Laws.{HasShortPlace};
 
 use crate::exchanges::{endpoint_of, put_words};
 use crate::outcomes::outcome_of;
-use crate::runs;
 use crate::targets::put_path;
+use crate::watchers::target_of;
+use crate::{crowds, notifications, runs};
 use case_notation::{message_of, number, put_message};
 use coap_bind::{CoapBind, CoapNext};
 use coap_msg::{Endpoint, LONGEST_MESSAGE};
@@ -19,7 +22,7 @@ use std::fmt::Write;
 use thing_ops::Outcome;
 
 /// A message that is sent; of a long one how many bytes it has.
-fn put_sent(text: &mut String, bytes: &[u8]) -> Result<(), AllocError> {
+pub fn put_sent(text: &mut String, bytes: &[u8]) -> Result<(), AllocError> {
     text.push_str("sends ")?;
     if bytes.len() > 500 {
         return write!(text, "{} bytes", bytes.len());
@@ -47,11 +50,12 @@ fn put_answered(text: &mut String, ask: &CoapAsk<'_>, sent: &[u8]) -> Result<(),
     put_sent(text, sent)
 }
 
-/// Where a datagram comes from, and when.
+/// Where a datagram comes from, when, and what may be observed there.
 #[derive(Clone, Copy)]
 struct Origin {
     from: Endpoint,
     now: u64,
+    target: Option<u32>,
 }
 
 /// What is done with a datagram that comes to this.
@@ -72,7 +76,7 @@ fn put_done(
         CoapNext::Nothing => text.push_str("nothing"),
         CoapNext::Send(size) => put_sent(text, room.get(..size).unwrap_or(b"")),
         CoapNext::Ask(ask, ticket) => {
-            let size = server.answer(ticket, outcome, &mut room);
+            let size = server.answer(ticket, outcome, origin.target, &mut room);
             put_answered(text, &ask, room.get(..size).unwrap_or(b""))
         }
     }
@@ -83,17 +87,30 @@ fn put_done(
 struct Fields<'a> {
     moment: u64,
     from: Endpoint,
+    target: Option<u32>,
     outcome: &'a str,
     message: &'a str,
+}
+
+/// The target and the outcome of a field.
+fn target_and_outcome(field: &str) -> (Option<u32>, &str) {
+    match field.split_once('/') {
+        Some((target, outcome)) => (Some(target_of(Some(target))), outcome),
+        None => (None, field),
+    }
 }
 
 /// The fields of a step.
 fn fields_of(step: &str) -> Fields<'_> {
     let mut words = step.splitn(4, ' ');
+    let moment = number(words.next());
+    let from = endpoint_of(words.next().unwrap_or(""));
+    let (target, outcome) = target_and_outcome(words.next().unwrap_or("-"));
     Fields {
-        moment: number(words.next()),
-        from: endpoint_of(words.next().unwrap_or("")),
-        outcome: words.next().unwrap_or("-"),
+        moment,
+        from,
+        target,
+        outcome,
         message: words.next().unwrap_or("-"),
     }
 }
@@ -114,11 +131,32 @@ fn put_fields(
     let origin = Origin {
         from: fields.from,
         now,
+        target: fields.target,
     };
     put_done(text, server, origin, datagram.as_slice(), &outcome)
 }
 
-/// Writes a step and what is done with its datagram.
+/// What comes of a step.
+fn put_done_by(
+    text: &mut String,
+    alloc: Global,
+    server: &mut CoapBind,
+    step: &str,
+    now: u64,
+) -> Result<(), AllocError>
+    requires { server.old.exchanges.moment ≤ now }
+    ensures { server.new.exchanges.moment ≤ now }
+{
+    if notifications::is_step(step) {
+        return notifications::put(text, alloc, server, step);
+    }
+    if crowds::is_step(step) {
+        return crowds::put(text, server, step, now);
+    }
+    put_fields(text, alloc, server, fields_of(step), now)
+}
+
+/// Writes a step and what comes of it.
 fn put_step(
     text: &mut String,
     alloc: Global,
@@ -131,26 +169,42 @@ fn put_step(
 {
     text.push_str(step)?;
     text.push_str(" => ")?;
-    put_fields(text, alloc, server, fields_of(step), now)?;
+    put_done_by(text, alloc, server, step, now)?;
     text.push_str("\n")
 }
 
+/// How many of these there may be, where a history says it.
+fn room_for(history: &str, what: &str) -> Option<u32> {
+    for line in history.lines() {
+        if let Some(rest) = line.strip_prefix("room for ") {
+            if rest.ends_with(what) {
+                return Some(target_of(rest.split(' ').next()));
+            }
+        }
+    }
+    None
+}
+
 /// How many exchanges may live.
-fn capacity_of(history: &str) -> u32
+fn exchanges_of(history: &str) -> u32
     ensures least { 16 ≤ result }
     ensures most { result ≤ 65536 }
 {
-    for line in history.lines() {
-        if let Some(rest) = line.strip_prefix("room for ") {
-            let wanted = number(rest.split(' ').next());
-            return u32::try_from(wanted).unwrap_or(16).max(16).min(65_536);
-        }
-    }
-    16
+    room_for(history, "exchanges")
+        .unwrap_or(16)
+        .clamp(16, 65_536)
+}
+
+/// How many watchers there may be.
+fn watchers_of(history: &str) -> u32
+    ensures least { 1 ≤ result }
+    ensures most { result ≤ 1024 }
+{
+    room_for(history, "watchers").unwrap_or(4).clamp(1, 1024)
 }
 
 pub fn put(text: &mut String, alloc: Global, history: &str) -> Result<(), AllocError> {
-    let mut server = CoapBind::new(alloc, capacity_of(history))?;
+    let mut server = CoapBind::new(alloc, exchanges_of(history), watchers_of(history))?;
     let mut now = 0;
     for line in history.lines() {
         match line.split_once(" => ") {

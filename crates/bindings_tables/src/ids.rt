@@ -32,7 +32,7 @@ fn id_in(room: &[u8; LONGEST_MESSAGE]) -> u16 {
 }
 
 /// The id of what is sent back, if something is; what is asked isn't there.
-fn next_id(server: &mut CoapBind, datagram: &[u8], now: u64) -> Option<u16>
+pub fn next_id(server: &mut CoapBind, datagram: &[u8], now: u64) -> Option<u16>
     requires { server.old.exchanges.moment ≤ now }
     ensures { server.new.exchanges.moment ≤ now }
 {
@@ -41,7 +41,7 @@ fn next_id(server: &mut CoapBind, datagram: &[u8], now: u64) -> Option<u16>
         CoapNext::Nothing => None,
         CoapNext::Send(_) => Some(id_in(&room)),
         CoapNext::Ask(_, ticket) => {
-            let _size = server.answer(ticket, &Outcome::NotFound, &mut room);
+            let _size = server.answer(ticket, &Outcome::NotFound, None, &mut room);
             Some(id_in(&room))
         }
     }
@@ -103,7 +103,7 @@ fn put_copies(
     times: u64,
     distance: u64,
 ) -> Result<(), AllocError> {
-    let mut server = CoapBind::new(alloc, 16)?;
+    let mut server = CoapBind::new(alloc, 16, 1)?;
     put_ids(text, ids_of(&mut server, datagram, times, distance))
 }
 

@@ -1,4 +1,4 @@
-//! Tables of the bindings: CoAP messages, what they ask for, exchanges, watchers, and the server; HTTP requests at the
+//! Tables of the bindings: CoAP messages, what they ask for, exchanges, watchers, and the server with its notifications; HTTP requests at the
 //! front of a stream, their targets, the heads of replies, outcomes, and the connections of an HTTP server. Each
 //! argument names a file: the table of that name.
 //!
@@ -12,11 +12,13 @@
 
 mod asks;
 mod connections;
+mod crowds;
 mod datagrams;
 mod exchanges;
 mod fronts;
 mod ids;
 mod messages;
+mod notifications;
 mod outcomes;
 mod places;
 mod replies;
@@ -91,7 +93,7 @@ fn put_history(
 ) -> Result<(), AllocError> {
     match table {
         "exchanges" => exchanges::put(text, alloc, history),
-        "datagrams" => datagrams::put(text, alloc, history),
+        "datagrams" | "observations" => datagrams::put(text, alloc, history),
         "watchers" => watchers::put(text, alloc, history),
         _ => connections::put(text, alloc, history),
     }
@@ -116,9 +118,9 @@ fn put_histories(
 /// The lines of a table.
 fn put_table(text: &mut String, alloc: Global, table: &str, lines: &str) -> Result<(), AllocError> {
     match table {
-        "exchanges" | "watchers" | "datagrams" | "connections" => put_histories(
-            text, alloc, table, lines,
-        ),
+        "exchanges" | "watchers" | "datagrams" | "observations" | "connections" => {
+            put_histories(text, alloc, table, lines)
+        }
         _ => put_rows(text, alloc, table, lines),
     }
 }

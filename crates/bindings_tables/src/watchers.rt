@@ -15,7 +15,7 @@ use std::fmt::Write;
 const CAPACITY: u32 = 4;
 
 /// The target of a field.
-fn target_of(field: Option<&str>) -> u32 {
+pub fn target_of(field: Option<&str>) -> u32 {
     u32::try_from(number(field)).unwrap_or(0)
 }
 
@@ -39,7 +39,7 @@ fn put_found(text: &mut String, found: bool) -> Result<(), AllocError> {
 }
 
 /// Where a notice goes.
-fn put_endpoint(text: &mut String, to: Endpoint) -> Result<(), AllocError> {
+pub fn put_endpoint(text: &mut String, to: Endpoint) -> Result<(), AllocError> {
     write!(text, "host{}:{} ", to.host, to.port)
 }
 

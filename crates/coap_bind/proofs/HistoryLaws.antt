@@ -13,17 +13,20 @@ use Rattle.coap_msg.specs.Requests.{request_type}
 use Rattle.coap_msg.specs.Faults.{HasMsgFault}
 use Rattle.coap_msg.proofs.Messages.{at_most_one_message}
 use Rattle.coap_msg.proofs.FaultLaws.{no_fault_of_message}
-use Rattle.coap_exchange.specs.Admission.{Arrival, is_duplicate_of, Verdict, admitted as is_admitted, duplicate as is_duplicate, verdict, admitted_among}
+use Rattle.coap_exchange.specs.Admission.{Arrival, is_duplicate_of, Verdict, admitted as is_admitted, duplicate as is_duplicate, admitted_among}
+use Rattle.coap_exchange.specs.Laws.{IsVerdict}
 use Rattle.coap_exchange.specs.Table.{Exchange, Table, at_moment, answered as with_answer, with_reply, Meets, StandsFor}
 use Rattle.coap_exchange.specs.declared.met.Met.{Met}
 use Rattle.coap_exchange.specs.declared.met.Met.TheVariants.{Fresh, Repeat, Full}
 use Rattle.coap_exchange.proofs.HistoryLaws.{tables_follow_the_history}
+use Rattle.coap_observe.specs.declared.notice.Notice.{Notice}
 use Rattle.coap_opts.specs.Reading.{PlainAsk}
 use Rattle.coap_bind.specs.declared.head.OpenRequest.{OpenRequest}
+use Rattle.coap_bind.specs.declared.head.OpenAsk.{OpenAsk}
 use Rattle.coap_bind.specs.declared.server.Server.{Server}
 use Rattle.coap_bind.specs.Writing.{Reply}
-use Rattle.coap_bind.specs.Server.{Heard, asked, with_id_used, with_kept, Replies, is_request, replied_at_once, duplicate_reply, arrival, IsMet, malformed, no_request, duplicate, full, bad_option, bad_option_ignored, for_proxy, asks, no_memory, opened, Reads, settled, admitted, Hears}
-use Rattle.coap_bind.specs.Laws.{AreArrivals, Did, nothing, heard_of, answered, ExchangesAreOfTheHistory, DuplicatesAskNothing}
+use Rattle.coap_bind.specs.Server.{start, Heard, asked, with_next_id, with_id_used, with_kept, with_watchers, with_emitted, with_notice_sent, with_report, Replies, is_request, replied_at_once, duplicate_reply, arrival, IsMet, malformed, no_request, duplicate, full, bad_option, bad_option_ignored, for_proxy, asks, no_memory, opened, Reads, settled, admitted, Hears}
+use Rattle.coap_bind.specs.Laws.{AreArrivals, DidFrom, Did, nothing, heard_of, answered, emitted, sent, ExchangesAreOfTheHistory, DuplicatesAskNothing}
 
 -- ---- replies change no arrival
 
@@ -65,13 +68,25 @@ follows_replies capacity history r request bytes s t h f =
     follows_same capacity history _ t h.after
     (follows_kept capacity history request.head.kind request.slot bytes (with_id_used request.head.kind s) (follows_id capacity history request.head.kind s f))
 
-follows_reads : (capacity : ℕ) (history : List Arrival) (m : CoapMessage) (slot : ℕ) (heard : Heard) (s t : Server) → Reads m slot heard s t
+fresh_stays : (s : Server) (b : Bool) → (if b then with_next_id s else s).exchanges ≡ s.exchanges
+fresh_stays s true = refl
+fresh_stays s false = refl
+
+pub sent_stays : (n : Option Notice) (s : Server) → (with_notice_sent n s).exchanges ≡ s.exchanges
+sent_stays None s = refl
+sent_stays (Some n) s = fresh_stays s n.fresh
+
+follows_sent : (capacity : ℕ) (history : List Arrival) (n : Option Notice) (s : Server) → Follows capacity history s.exchanges
+    → Follows capacity history (with_notice_sent n s).exchanges
+follows_sent capacity history n s f = subst (λ (t : Table). Follows capacity history t) (sym (sent_stays n s)) f
+
+follows_reads : (capacity : ℕ) (history : List Arrival) (from : Endpoint) (m : CoapMessage) (slot : ℕ) (heard : Heard) (s t : Server) → Reads from m slot heard s t
     → Follows capacity history s.exchanges → Follows capacity history t.exchanges
-follows_reads capacity history m slot heard s t (bad_option number bytes fault con replies h) f = follows_replies capacity history _ (opened m slot) bytes s t replies f
-follows_reads capacity history m slot heard s t (bad_option_ignored number fault non h is) f = follows_same capacity history s t is f
-follows_reads capacity history m slot heard s t (for_proxy bytes fault replies h) f = follows_replies capacity history _ (opened m slot) bytes s t replies f
-follows_reads capacity history m slot heard s t (asks none h is) f = follows_same capacity history s t is f
-follows_reads capacity history m slot heard s t (no_memory bytes none replies h) f = follows_replies capacity history _ (opened m slot) bytes s t replies f
+follows_reads capacity history from m slot heard s t (bad_option number bytes fault con replies h) f = follows_replies capacity history _ (opened m slot) bytes s t replies f
+follows_reads capacity history from m slot heard s t (bad_option_ignored number fault non h is) f = follows_same capacity history s t is f
+follows_reads capacity history from m slot heard s t (for_proxy bytes fault replies h) f = follows_replies capacity history _ (opened m slot) bytes s t replies f
+follows_reads capacity history from m slot heard s t (asks none h is) f = follows_same capacity history s t is f
+follows_reads capacity history from m slot heard s t (no_memory bytes none replies h) f = follows_replies capacity history _ (opened m slot) bytes s t replies f
 
 -- ---- the requests of a datagram
 
@@ -123,55 +138,66 @@ follows_hears : (capacity : ℕ) (history new : List Arrival) (s t : Server) (fr
 follows_hears capacity history new s t from bytes now heard (settled (malformed f fault h is)) later are x =
     follows_same capacity (history ++ new) s t is (after_malformed capacity history new f from bytes now s.exchanges fault are x)
 follows_hears capacity history new s t from bytes now heard (settled (no_request m spells none h is)) later are x =
-    follows_same capacity (history ++ new) s t is (after_no_request capacity history new m from bytes now s.exchanges spells none are x)
+    follows_same capacity (history ++ new) (with_report from m s) t is (after_no_request capacity history new m from bytes now s.exchanges spells none are x)
 follows_hears capacity history new s t from bytes now heard (settled (duplicate m kept e met found h)) later are x =
     after_request capacity history new from bytes now m (Repeat kept) s t met later are x
 follows_hears capacity history new s t from bytes now heard (settled (full m u met h is)) later are x =
     follows_same capacity (history ++ new) _ t is
     (follows_id capacity (history ++ new) (request_type m.kind) u (after_request capacity history new from bytes now m Full s u met later are x))
 follows_hears capacity history new s t from bytes now heard (admitted m slot u met reads) later are x =
-    follows_reads capacity (history ++ new) m slot heard u t reads (after_request capacity history new from bytes now m (Fresh slot) s u met later are x)
+    follows_reads capacity (history ++ new) from m slot heard u t reads (after_request capacity history new from bytes now m (Fresh slot) s u met later are x)
+
+follows_from : (capacity watchers : ℕ) (history : List Arrival) (s : Server) → DidFrom (start capacity watchers) history s → Follows capacity history s.exchanges
+follows_from capacity watchers history s nothing = record { stands = refl; same = refl }
+follows_from capacity watchers history s (heard_of before new r t from bytes now heard did later hears are) =
+    follows_hears capacity before new r t from bytes now heard hears later are (follows_from capacity watchers before r did)
+follows_from capacity watchers history s (answered before r t ask o target bytes did open_ask answers) =
+    follows_replies capacity before _ ask.request bytes (with_watchers answers.watchers r) t answers.replies (follows_from capacity watchers before r did)
+follows_from capacity watchers history s (emitted before r t target did is) =
+    follows_same capacity before (with_emitted target r) t is (follows_from capacity watchers before r did)
+follows_from capacity watchers history s (sent before r t now n did sends) =
+    follows_same capacity before (with_notice_sent n (with_watchers sends.watchers r)) t sends.after
+    (follows_sent capacity before n (with_watchers sends.watchers r) (follows_from capacity watchers before r did))
 
 follows : (capacity : ℕ) (history : List Arrival) (s : Server) → Did capacity history s → Follows capacity history s.exchanges
-follows capacity history s nothing = record { stands = refl; same = refl }
-follows capacity history s (heard_of before new r t from bytes now heard did later hears are) =
-    follows_hears capacity before new r t from bytes now heard hears later are (follows capacity before r did)
-follows capacity history s (answered before r t request o bytes did answers) =
-    follows_replies capacity before _ request bytes r t answers (follows capacity before r did)
+follows capacity history s did = follows_from capacity did.0 history s did.1
 
 pub exchanges_are_of_the_history : ExchangesAreOfTheHistory
 exchanges_are_of_the_history capacity history s did = let f = follows capacity history s did in (f.stands, f.same)
 
 -- ---- duplicates ask nothing
 
-not_replied : (what : PlainAsk) (request : OpenRequest) (reply : Option CoapMessage) → asked what request ≡ replied_at_once reply → ⊥
-not_replied what request None e = cc
-not_replied what request (Some m) e = cc
+pub not_replied : (what : PlainAsk) (ask : OpenAsk) (reply : Option CoapMessage) → asked what ask ≡ replied_at_once reply → ⊥
+not_replied what ask None e = cc
+not_replied what ask (Some m) e = cc
 
-not_duplicate : (what : PlainAsk) (request : OpenRequest) (kind : RequestType) (kept : Option (List ℕ)) → asked what request ≡ duplicate_reply kind kept → ⊥
-not_duplicate what request Confirmable (Some bytes) e = cc
-not_duplicate what request Confirmable None e = cc
-not_duplicate what request NonConfirmable kept e = cc
+pub not_duplicate : (what : PlainAsk) (ask : OpenAsk) (kind : RequestType) (kept : Option (List ℕ)) → asked what ask ≡ duplicate_reply kind kept → ⊥
+not_duplicate what ask Confirmable (Some bytes) e = cc
+not_duplicate what ask Confirmable None e = cc
+not_duplicate what ask NonConfirmable kept e = cc
 
 verdict_at : (b : Bool) (v : Verdict) → b ≡ true → (if b then is_duplicate else v) ≡ is_duplicate
 verdict_at true v e = refl
 verdict_at false v e = cc
 
-pub duplicates_ask_nothing : DuplicatesAskNothing
-duplicates_ask_nothing capacity history s t from bytes now m earlier did later spells has again what request (settled (malformed f fault h is)) = not_replied what request _ h
-duplicates_ask_nothing capacity history s t from bytes now m earlier did later spells has again what request (settled (no_request n of_n none h is)) = not_replied what request _ h
-duplicates_ask_nothing capacity history s t from bytes now m earlier did later spells has again what request (settled (duplicate n kept e met found h)) = not_duplicate what request (request_type n.kind) e.reply h
-duplicates_ask_nothing capacity history s t from bytes now m earlier did later spells has again what request (settled (full n u met h is)) = cc
-duplicates_ask_nothing capacity history s t from bytes now m earlier did later spells has again what request (admitted n slot u met reads) =
-    let same : n ≡ m = at_most_one_message n m bytes met.spells spells in
+-- what a duplicate of a request that was admitted and lives meets
+pub met_as_duplicate : (capacity : ℕ) (history : List Arrival) (s : Server) (u : Table) (a earlier : Arrival) (met : Met) → Did capacity history s → s.exchanges.moment ≤ a.moment
+    → Contains (admitted_among capacity history) earlier → is_duplicate_of a earlier ≡ true → Meets (at_moment a.moment s.exchanges) a met u → IsVerdict met is_duplicate
+met_as_duplicate capacity history s u a earlier met did later has again meets =
     let f = follows capacity history s did in
-    let next = tables_follow_the_history s.exchanges u.exchanges history (arrival from now n) (Fresh slot) f.stands later met.meets in
-    let one : is_duplicate_of (arrival from now n) earlier ≡ true = subst (λ x. is_duplicate_of (arrival from now x) earlier ≡ true) (sym same) again in
+    let next = tables_follow_the_history s.exchanges u history a met f.stands later meets in
     let there : Contains (admitted_among s.exchanges.capacity history) earlier = subst (λ k. Contains (admitted_among k history) earlier) (sym f.same) has in
-    let any : list_any (is_duplicate_of (arrival from now n)) (admitted_among s.exchanges.capacity history) ≡ true
-    = list_any_at (is_duplicate_of (arrival from now n)) (admitted_among s.exchanges.capacity history) there.0 earlier there.1
-    (ap (is_duplicate_of (arrival from now n)) there.2 ∙ one) in
-    let v : verdict s.exchanges.capacity (admitted_among s.exchanges.capacity history) (arrival from now n) ≡ is_duplicate
-    = verdict_at (list_any (is_duplicate_of (arrival from now n)) (admitted_among s.exchanges.capacity history)) _ any in
-    let w : is_duplicate ≡ is_admitted = sym v ∙ next.0 in
+    let any : list_any (is_duplicate_of a) (admitted_among s.exchanges.capacity history) ≡ true
+    = list_any_at (is_duplicate_of a) (admitted_among s.exchanges.capacity history) there.0 earlier there.1 (ap (is_duplicate_of a) there.2 ∙ again) in
+    subst (IsVerdict met) (verdict_at (list_any (is_duplicate_of a) (admitted_among s.exchanges.capacity history)) _ any) next.0
+
+pub duplicates_ask_nothing : DuplicatesAskNothing
+duplicates_ask_nothing capacity history s t from bytes now m earlier did later spells has again what ask (settled (malformed f fault h is)) = not_replied what ask _ h
+duplicates_ask_nothing capacity history s t from bytes now m earlier did later spells has again what ask (settled (no_request n of_n none h is)) = not_replied what ask _ h
+duplicates_ask_nothing capacity history s t from bytes now m earlier did later spells has again what ask (settled (duplicate n kept e met found h)) = not_duplicate what ask (request_type n.kind) e.reply h
+duplicates_ask_nothing capacity history s t from bytes now m earlier did later spells has again what ask (settled (full n u met h is)) = cc
+duplicates_ask_nothing capacity history s t from bytes now m earlier did later spells has again what ask (admitted n slot u met reads) =
+    let same : n ≡ m = at_most_one_message n m bytes met.spells spells in
+    let one : is_duplicate_of (arrival from now n) earlier ≡ true = subst (λ x. is_duplicate_of (arrival from now x) earlier ≡ true) (sym same) again in
+    let w : is_duplicate ≡ is_admitted = met_as_duplicate capacity history s u.exchanges (arrival from now n) earlier (Fresh slot) did later has one met.meets in
     cc

@@ -1,4 +1,9 @@
+pub mod DuplicateLaws
 pub mod HistoryLaws
 pub mod LengthLaws
+pub mod MomentLaws
+pub mod OpenLaws
 pub mod ReadingLaws
+pub mod RepeatedLaws
 pub mod TellingLaws
+pub mod TidyLaws

@@ -1,6 +1,7 @@
 -- What a request that was admitted does, by the first fault of its options.
 use Rattle.std.proofs.Common.{◌≡◌, ◌≢◌, ◌⊎◌, ◌∙◌, ◌&&◌, not, cond, ℕ, Bool, true, false, Option, Some, None, List, [], ◌∷◌, inl, inr, refl, ap}
 use Rattle.std.specs.Prelude.{slice_get}
+use Rattle.coap_msg.specs.declared.endpoint.Endpoint.{Endpoint}
 use Rattle.coap_msg.specs.Grammar.{CoapOption, CoapMessage}
 use Rattle.coap_opts.specs.declared.fault.AskFault.{AskFault}
 use Rattle.coap_opts.specs.declared.fault.AskFault.TheVariants.{BadOption, Proxy, NoMemory}
@@ -43,34 +44,34 @@ no_fault_here os e same (inr h) = h.0
 
 -- ---- what is done
 
-pub reads_bad_option : (m : CoapMessage) (slot number : ℕ) (next : CoapNext) (old new : List ℕ) (s t : Server)
+pub reads_bad_option : (from : Endpoint) (m : CoapMessage) (slot number : ℕ) (next : CoapNext) (old new : List ℕ) (s t : Server)
     → slice_get (faults_of m.options) 0 ≡ Some (BadOption number) → RefusesOption (opened m slot) number next old new s t
-    → ReadsAs m slot next old new s t
-reads_bad_option m slot number Nothing old new s t fault h = record {
+    → ReadsAs from m slot next old new s t
+reads_bad_option from m slot number Nothing old new s t fault h = record {
   heard = ignored;
   reads = bad_option_ignored number fault h.0 refl h.1;
   tells = (refl, h.2);
 }
-reads_bad_option m slot number (Send n) old new s t fault h = record {
+reads_bad_option from m slot number (Send n) old new s t fault h = record {
   heard = answered_at_once h.1.bytes;
   reads = bad_option number h.1.bytes fault h.0 h.1.replies refl;
   tells = (h.1.bytes, refl, h.1.written);
 }
-reads_bad_option m slot number (Ask ask ticket) old new s t fault h = absurd h
+reads_bad_option from m slot number (Ask ask ticket) old new s t fault h = absurd h
 
-pub reads_for_proxy : (m : CoapMessage) (slot n : ℕ) (old new : List ℕ) (s t : Server)
+pub reads_for_proxy : (from : Endpoint) (m : CoapMessage) (slot n : ℕ) (old new : List ℕ) (s t : Server)
     → slice_get (faults_of m.options) 0 ≡ Some Proxy → RepliesAs proxy_reply (opened m slot) n old new s t
-    → ReadsAs m slot (Send n) old new s t
-reads_for_proxy m slot n old new s t fault r = record {
+    → ReadsAs from m slot (Send n) old new s t
+reads_for_proxy from m slot n old new s t fault r = record {
   heard = answered_at_once r.bytes;
   reads = for_proxy r.bytes fault r.replies refl;
   tells = (r.bytes, refl, r.written);
 }
 
-pub reads_no_memory : (m : CoapMessage) (slot n : ℕ) (old new : List ℕ) (s t : Server)
+pub reads_no_memory : (from : Endpoint) (m : CoapMessage) (slot n : ℕ) (old new : List ℕ) (s t : Server)
     → faults_of m.options ≡ [] → RepliesAs (reply_of Memory) (opened m slot) n old new s t
-    → ReadsAs m slot (Send n) old new s t
-reads_no_memory m slot n old new s t fault r = record {
+    → ReadsAs from m slot (Send n) old new s t
+reads_no_memory from m slot n old new s t fault r = record {
   heard = answered_at_once r.bytes;
   reads = no_memory r.bytes fault r.replies refl;
   tells = (r.bytes, refl, r.written);

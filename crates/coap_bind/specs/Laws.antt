@@ -1,18 +1,19 @@
 -- Laws of the server, over all that it does from its beginning (RFC 7252, sections 4.5 and 4.6).
-use Rattle.std.specs.Prelude.{◌≡◌, ◌≤◌, ℕ, true, false, List, [], ◌∷◌, ◌++◌, length, Contains, All}
+use Rattle.std.specs.Prelude.{◌≡◌, ◌≤◌, ℕ, true, false, Option, Some, None, List, [], ◌∷◌, ◌++◌, length, Contains, All}
 use Rattle.coap_msg.specs.declared.endpoint.Endpoint.{Endpoint}
 use Rattle.coap_msg.specs.declared.constants.TheConstants.{LONGEST_TOKEN, LONGEST_SEGMENT, LONGEST_MESSAGE}
 use Rattle.coap_msg.specs.Grammar.{CoapMessage, Spells, spelling}
 use Rattle.coap_exchange.specs.Admission.{Arrival, is_duplicate_of, admitted_among}
-use Rattle.coap_exchange.specs.Table.{StandsFor}
+use Rattle.coap_exchange.specs.Table.{Exchange, exchange_in, StandsFor}
 use Rattle.thing_ops.specs.declared.outcome.Outcome.{Outcome}
 use Rattle.thing_ops.specs.declared.outcome.Outcome.TheVariants.{Started}
+use Rattle.coap_observe.specs.declared.notice.Notice.{Notice}
 use Rattle.coap_opts.specs.Reading.{PlainAsk}
 use Rattle.coap_bind.specs.declared.head.RequestHead.{RequestHead}
-use Rattle.coap_bind.specs.declared.head.OpenRequest.{OpenRequest}
+use Rattle.coap_bind.specs.declared.head.OpenAsk.{OpenAsk}
 use Rattle.coap_bind.specs.declared.server.Server.{Server}
-use Rattle.coap_bind.specs.Writing.{reply_of, coap_reply}
-use Rattle.coap_bind.specs.Server.{start, is_request, arrival, Heard, asked, Hears, Answers}
+use Rattle.coap_bind.specs.Writing.{reply_of, observed, coap_reply}
+use Rattle.coap_bind.specs.Server.{start, is_request, arrival, Heard, asked, Hears, Answers, with_emitted, SendsNext}
 
 -- these are the requests of a datagram: one, if it is a request, and else none
 abbrev pub AreArrivals : Endpoint → List ℕ → ℕ → List Arrival → Type 0
@@ -20,17 +21,31 @@ AreArrivals from bytes now [] = (m : CoapMessage) → Spells m bytes → is_requ
 AreArrivals from bytes now (a ∷ []) = (m : CoapMessage) × Spells m bytes × (is_request m ≡ true) × (a ≡ arrival from now m)
 AreArrivals from bytes now (a ∷ b ∷ more) = ⊥
 
--- What a server in which n exchanges may live did so far: the requests that came, in their
--- order, and what it holds now.
-pub data Did (capacity : ℕ) : List Arrival → Server → Type 0 where
-  nothing : Did capacity [] (start capacity)
+-- What was asked may be answered: its exchange has no reply yet, and the request is of the type that was admitted.
+pub record IsOpen (ask : OpenAsk) (s : Server) : Type 0 where
+  pub exchange : Exchange
+  pub there : exchange_in ask.request.slot s.exchanges ≡ Some exchange
+  pub waits : exchange.reply ≡ None
+  pub kind : ask.request.head.kind ≡ exchange.arrival.kind
+
+-- What a server did since it held this: the requests that came, in their order, and what it holds now.
+pub data DidFrom (before : Server) : List Arrival → Server → Type 0 where
+  nothing : DidFrom before [] before
   -- a datagram came
   heard_of : (history new : List Arrival) (s t : Server) (from : Endpoint) (bytes : List ℕ) (now : ℕ) (heard : Heard)
-      → Did capacity history s → s.exchanges.moment ≤ now → Hears from bytes now heard s t → AreArrivals from bytes now new
-      → Did capacity (history ++ new) t
-  -- a request was answered
-  answered : (history : List Arrival) (s t : Server) (request : OpenRequest) (o : Outcome) (bytes : List ℕ)
-      → Did capacity history s → Answers request o bytes s t → Did capacity history t
+      → DidFrom before history s → s.exchanges.moment ≤ now → Hears from bytes now heard s t → AreArrivals from bytes now new
+      → DidFrom before (history ++ new) t
+  -- what was asked was answered
+  answered : (history : List Arrival) (s t : Server) (ask : OpenAsk) (o : Outcome) (target : Option ℕ) (bytes : List ℕ)
+      → DidFrom before history s → IsOpen ask s → Answers ask o target bytes s t → DidFrom before history t
+  -- a target got a new value
+  emitted : (history : List Arrival) (s t : Server) (target : ℕ) → DidFrom before history s → t ≡ with_emitted target s → DidFrom before history t
+  -- it was asked what is to be sent to watchers
+  sent : (history : List Arrival) (s t : Server) (now : ℕ) (n : Option Notice) → DidFrom before history s → SendsNext now n s t → DidFrom before history t
+
+-- What a server in which n exchanges may live did so far, from its beginning.
+abbrev pub Did : ℕ → List Arrival → Server → Type 0
+Did capacity history s = (watchers : ℕ) × DidFrom (start capacity watchers) history s
 
 -- The exchanges of a server are those of the admitted requests that live (RFC 7252, section 4.5).
 abbrev pub ExchangesAreOfTheHistory : Type 0
@@ -44,7 +59,7 @@ DuplicatesAskNothing =
     (capacity : ℕ) (history : List Arrival) (s t : Server) (from : Endpoint) (bytes : List ℕ) (now : ℕ) (m : CoapMessage) (earlier : Arrival)
     → Did capacity history s → s.exchanges.moment ≤ now → Spells m bytes → Contains (admitted_among capacity history) earlier
     → is_duplicate_of (arrival from now m) earlier ≡ true
-    → (what : PlainAsk) (request : OpenRequest) → ¬ (Hears from bytes now (asked what request) s t)
+    → (what : PlainAsk) (ask : OpenAsk) → ¬ (Hears from bytes now (asked what ask) s t)
 
 -- The place of what was started has at most four segments, each of at most 255 bytes (section 5.10), and its status at
 -- most 100 bytes.
@@ -52,8 +67,14 @@ abbrev pub HasShortPlace : Outcome → Type 0
 HasShortPlace (Started place status) = (length place ≤ 4) × All (λ segment. length segment ≤ LONGEST_SEGMENT) place × (length status ≤ 100)
 HasShortPlace _ = Unit {0}
 
--- A reply has at most 1,152 bytes (RFC 7252, section 4.6), unless the place of what was started is long.
+-- What a datagram asks may be answered at once.
+abbrev pub AsksAreOpen : Type 0
+AsksAreOpen =
+    (from : Endpoint) (bytes : List ℕ) (now : ℕ) (what : PlainAsk) (ask : OpenAsk) (s t : Server) → Hears from bytes now (asked what ask) s t → IsOpen ask t
+
+-- A reply has at most 1,152 bytes (RFC 7252, section 4.6), with Observe and without, unless the place of what was started
+-- is long.
 abbrev pub RepliesFit : Type 0
 RepliesFit =
-    (o : Outcome) (head : RequestHead) (next : ℕ) → length head.token ≤ LONGEST_TOKEN → HasShortPlace o
-    → length (spelling (coap_reply (reply_of o) head next)) ≤ LONGEST_MESSAGE
+    (o : Outcome) (observe : Option ℕ) (head : RequestHead) (next : ℕ) → length head.token ≤ LONGEST_TOKEN → HasShortPlace o
+    → length (spelling (coap_reply (observed observe (reply_of o)) head next)) ≤ LONGEST_MESSAGE

@@ -1,13 +1,14 @@
--- A CoAP server as one machine (RFC 7252, sections 4.2 to 4.5 and 5.4): what it holds, and what each datagram and each
--- answer does to that.
+-- A CoAP server as one machine (RFC 7252, sections 4.2 to 4.5 and 5.4; RFC 7641): what it holds, and what each
+-- datagram, each answer, each new value and each notification does to that.
 --
 -- What it holds is `Server` of src/server.rt: the `exchanges` that live, with the replies that are kept
--- (coap_exchange/specs/Table.antt), and `next_id`, the message ID of the next message that isn't an acknowledgement.
--- What a request asks for is coap_opts/specs/Reading.antt, and what a reply is on the wire is in Writing.antt.
+-- (coap_exchange/specs/Table.antt), the `watchers` (coap_observe/specs/Watching.antt), and `next_id`, the message ID of
+-- the next message that isn't an acknowledgement. What a request asks for is coap_opts/specs/Reading.antt, what it wants
+-- of the watchers is in Observing.antt, and what a reply is on the wire is in Writing.antt.
 --
 -- The state is what the code holds, because a second relation between the code and a history would say no more: the law
 -- `ExchangesAreOfTheHistory` ties the table to what came.
-use Rattle.std.specs.Prelude.{◌≡◌, ℕ, ◌+◌, ◌/◌, ◌%◌, ◌&&◌, nat_lt, Bool, true, false, List, [], Option, Some, None, slice_get, if◌then◌else◌}
+use Rattle.std.specs.Prelude.{◌≡◌, ℕ, ◌+◌, ◌%◌, ◌==◌, ◌&&◌, nat_lt, Bool, true, false, List, [], Option, Some, None, slice_get, if◌then◌else◌}
 use Rattle.coap_msg.specs.declared.endpoint.Endpoint.{Endpoint}
 use Rattle.coap_msg.specs.declared.message.MsgFault.{MsgFault}
 use Rattle.coap_msg.specs.declared.message.Type4.{Type4}
@@ -18,22 +19,27 @@ use Rattle.coap_msg.specs.Grammar.{CoapMessage, Spells, spelling}
 use Rattle.coap_msg.specs.Faults.{HasMsgFault}
 use Rattle.coap_msg.specs.Requests.{request_type}
 use Rattle.coap_msg.specs.Empty.{empty_reply, rejection_of}
+use Rattle.coap_msg.specs.declared.constants.TheConstants.{EMPTY}
 use Rattle.coap_exchange.specs.Admission.{Arrival}
 use Rattle.coap_exchange.specs.Table.{Exchange, empty_table, at_moment, duplicated_exchange, with_reply, Meets}
 use Rattle.coap_exchange.specs.declared.met.Met.{Met}
 use Rattle.coap_exchange.specs.declared.met.Met.TheVariants.{Fresh, Repeat, Full}
+use Rattle.coap_observe.specs.Watching.{Watching, none_watch, with_emission, with_acknowledgement, with_reset, Notifies}
+use Rattle.coap_observe.specs.declared.notice.Notice.{Notice}
 use Rattle.thing_ops.specs.declared.outcome.Outcome.{Outcome}
 use Rattle.thing_ops.specs.declared.outcome.Outcome.TheVariants.{Memory}
 use Rattle.coap_opts.specs.Reading.{PlainAsk, faults_of, asked as what_is_asked}
 use Rattle.coap_opts.specs.declared.fault.AskFault.TheVariants.{BadOption, Proxy}
 use Rattle.coap_bind.specs.declared.head.OpenRequest.{OpenRequest}
+use Rattle.coap_bind.specs.declared.head.OpenAsk.{OpenAsk}
 use Rattle.coap_bind.specs.declared.server.Server.{Server}
-use Rattle.coap_bind.specs.Writing.{Reply, full_reply, proxy_reply, option_reply, reply_of, head_of, coap_reply}
+use Rattle.coap_bind.specs.Observing.{observing_of, effect_of, Watches}
+use Rattle.coap_bind.specs.Writing.{Reply, full_reply, proxy_reply, option_reply, reply_of, observed, head_of, coap_reply}
 
--- A server to which nothing came yet, in which n exchanges may live. Its message IDs begin at 0 and not at a random
--- number (docs/DECISIONS.md, "CoAP").
-abbrev pub start : ℕ → Server
-start capacity = record { exchanges = empty_table capacity; next_id = 0 }
+-- A server to which nothing came yet, in which so many exchanges may live and so many watchers may be. Its message IDs
+-- begin at 0 and not at a random number (docs/DECISIONS.md, "CoAP").
+abbrev pub start : ℕ → ℕ → Server
+start exchanges watchers = record { exchanges = empty_table exchanges; watchers = none_watch watchers; next_id = 0 }
 
 -- What is done with a datagram.
 pub data Heard : Type 0 where
@@ -42,15 +48,18 @@ pub data Heard : Type 0 where
   -- these bytes are sent back at once
   answered_at_once : List ℕ → Heard
   -- this is asked for, and has to be answered
-  asked : PlainAsk → OpenRequest → Heard
+  asked : PlainAsk → OpenAsk → Heard
 
 -- ---- replies
 
--- the server after a reply to a request of this type: one that isn't an acknowledgement used the next
--- message ID (section 4.4)
+-- the server after a message that used the next message ID (section 4.4)
+abbrev pub with_next_id : Server → Server
+with_next_id s = record s { next_id = (s.next_id + 1) % 65536 }
+
+-- the server after a reply to a request of this type: one that isn't an acknowledgement used the next message ID
 abbrev pub with_id_used : RequestType → Server → Server
 with_id_used Confirmable s = s
-with_id_used NonConfirmable s = record s { next_id = (s.next_id + 1) % 65536 }
+with_id_used NonConfirmable s = with_next_id s
 
 -- the server with the reply to a Confirmable request, which is kept for its duplicates (section
 -- 4.2); that to any other isn't
@@ -63,9 +72,53 @@ pub record Replies (r : Reply) (request : OpenRequest) (bytes : List ℕ) (s t :
   pub bytes_are : bytes ≡ spelling (coap_reply r request.head s.next_id)
   pub after : t ≡ with_kept request.head.kind request.slot bytes (with_id_used request.head.kind s)
 
--- What was asked has this outcome, and is answered in these bytes.
-abbrev pub Answers : OpenRequest → Outcome → List ℕ → Server → Server → Type 0
-Answers request o bytes s t = Replies (reply_of o) request bytes s t
+-- the server with these watchers
+abbrev pub with_watchers : Watching → Server → Server
+with_watchers w s = record s { watchers = w }
+
+-- What was asked, of this target if it has one, has this outcome, and is answered in these bytes: first its sender is
+-- registered or deregistered, then the reply says the sequence number of a registration.
+pub record Answers (ask : OpenAsk) (o : Outcome) (target : Option ℕ) (bytes : List ℕ) (s t : Server) : Type 0 where
+  pub observe : Option ℕ
+  pub watchers : Watching
+  pub watches : Watches (effect_of ask.observing o target) ask.from ask.request.head.token s.watchers observe watchers
+  pub replies : Replies (observed observe (reply_of o)) ask.request bytes (with_watchers watchers s) t
+
+-- ---- notifications (RFC 7641)
+
+-- the server after a target got a new value
+abbrev pub with_emitted : ℕ → Server → Server
+with_emitted target s = with_watchers (with_emission target s.watchers) s
+
+-- the server after a notification that has the next message ID where it is a message that wasn't sent before
+abbrev pub with_notice_sent : Option Notice → Server → Server
+with_notice_sent None s = s
+with_notice_sent (Some n) s = if n.fresh then with_next_id s else s
+
+-- What is to be sent to watchers at a moment: one notification at most.
+pub record SendsNext (now : ℕ) (n : Option Notice) (s t : Server) : Type 0 where
+  pub watchers : Watching
+  pub notifies : Notifies now s.next_id s.watchers.list n watchers.list
+  pub capacity : watchers.capacity ≡ s.watchers.capacity
+  pub after : t ≡ with_notice_sent n (with_watchers watchers s)
+
+-- ---- messages that are no requests
+
+-- what an empty message of this type and ID from an endpoint says of what was sent to it: an acknowledgement that it
+-- came (RFC 7252, section 4.2), and a Reset that it wasn't wanted (RFC 7641, section 3.6)
+abbrev pub told_by_empty : Endpoint → Type4 → ℕ → Watching → Watching
+told_by_empty from Con id w = w
+told_by_empty from Non id w = w
+told_by_empty from Ack id w = with_acknowledgement from id w
+told_by_empty from Rst id w = with_reset from id w
+
+-- what any message that is no request says of it: nothing, unless it is empty
+abbrev pub told_by : Endpoint → CoapMessage → Watching → Watching
+told_by from m w = if m.code == EMPTY then told_by_empty from m.kind m.id w else w
+
+-- the server after such a message
+abbrev pub with_report : Endpoint → CoapMessage → Server → Server
+with_report from m s = with_watchers (told_by from m s.watchers) s
 
 -- ---- datagrams that aren't admitted
 
@@ -100,6 +153,7 @@ pub record IsMet (from : Endpoint) (bytes : List ℕ) (now : ℕ) (m : CoapMessa
   pub spells : Spells m bytes
   pub request : is_request m ≡ true
   pub meets : Meets (at_moment now s.exchanges) (arrival from now m) met t.exchanges
+  pub same_watchers : t.watchers ≡ s.watchers
   pub same_id : t.next_id ≡ s.next_id
 
 -- What is done with a datagram that isn't admitted. It takes no memory, and so is said apart: a duplicate, what finds
@@ -107,10 +161,10 @@ pub record IsMet (from : Endpoint) (bytes : List ℕ) (now : ℕ) (m : CoapMessa
 pub data Settles (from : Endpoint) (bytes : List ℕ) (now : ℕ) (heard : Heard) (s t : Server) : Type 0 where
   -- it is no message: it is rejected, and nothing else is done
   malformed : (f : MsgFault) → HasMsgFault f bytes → heard ≡ replied_at_once (rejection_of bytes) → t ≡ s → Settles from bytes now heard s t
-  -- it is a message and no request, as a response, an empty message, an acknowledgement or a
-  -- Reset, for which nothing waits
-  no_request : (m : CoapMessage) → Spells m bytes → is_request m ≡ false → heard ≡ replied_at_once (empty_reply m.kind m.id false) → t ≡ s
-      → Settles from bytes now heard s t
+  -- it is a message and no request, as a response, an empty message, an acknowledgement or a Reset; at most a watcher
+  -- waits for it
+  no_request : (m : CoapMessage) → Spells m bytes → is_request m ≡ false → heard ≡ replied_at_once (empty_reply m.kind m.id false)
+      → t ≡ with_report from m s → Settles from bytes now heard s t
   -- it is a duplicate of the request of this exchange
   duplicate : (m : CoapMessage) (kept : Option ℕ) (e : Exchange) → IsMet from bytes now m (Repeat kept) s t
       → duplicated_exchange (arrival from now m) (at_moment now s.exchanges) ≡ Some e → heard ≡ duplicate_reply (request_type m.kind) e.reply
@@ -127,28 +181,32 @@ pub data Settles (from : Endpoint) (bytes : List ℕ) (now : ℕ) (heard : Heard
 abbrev pub opened : CoapMessage → ℕ → OpenRequest
 opened m slot = record { head = head_of m; slot = slot }
 
+-- what it asks, which came from an endpoint, until that is answered
+abbrev pub opened_ask : Endpoint → CoapMessage → ℕ → OpenAsk
+opened_ask from m slot = record { request = opened m slot; from = from; observing = observing_of m.code (what_is_asked m).observe }
+
 -- What is done with a request that was admitted, by the first fault of its options. Out of memory is free to
 -- come where there is none.
-pub data Reads (m : CoapMessage) (slot : ℕ) (heard : Heard) (s t : Server) : Type 0 where
+pub data Reads (from : Endpoint) (m : CoapMessage) (slot : ℕ) (heard : Heard) (s t : Server) : Type 0 where
   -- A bad option: a Confirmable request gets a reply (section 5.4.1), and any other is ignored; it was admitted, so a
   -- duplicate of it is one.
   bad_option : (number : ℕ) (bytes : List ℕ) → slice_get (faults_of m.options) 0 ≡ Some (BadOption number) → request_type m.kind ≡ Confirmable
-      → Replies (option_reply number) (opened m slot) bytes s t → heard ≡ answered_at_once bytes → Reads m slot heard s t
+      → Replies (option_reply number) (opened m slot) bytes s t → heard ≡ answered_at_once bytes → Reads from m slot heard s t
   bad_option_ignored : (number : ℕ) → slice_get (faults_of m.options) 0 ≡ Some (BadOption number) → request_type m.kind ≡ NonConfirmable
-      → heard ≡ ignored → t ≡ s → Reads m slot heard s t
+      → heard ≡ ignored → t ≡ s → Reads from m slot heard s t
   -- it is for a proxy
   for_proxy : (bytes : List ℕ) → slice_get (faults_of m.options) 0 ≡ Some Proxy
-      → Replies proxy_reply (opened m slot) bytes s t → heard ≡ answered_at_once bytes → Reads m slot heard s t
+      → Replies proxy_reply (opened m slot) bytes s t → heard ≡ answered_at_once bytes → Reads from m slot heard s t
   -- it is asked
-  asks : faults_of m.options ≡ [] → heard ≡ asked (what_is_asked m) (opened m slot) → t ≡ s → Reads m slot heard s t
+  asks : faults_of m.options ≡ [] → heard ≡ asked (what_is_asked m) (opened_ask from m slot) → t ≡ s → Reads from m slot heard s t
   -- out of memory
   no_memory : (bytes : List ℕ) → faults_of m.options ≡ []
-      → Replies (reply_of Memory) (opened m slot) bytes s t → heard ≡ answered_at_once bytes → Reads m slot heard s t
+      → Replies (reply_of Memory) (opened m slot) bytes s t → heard ≡ answered_at_once bytes → Reads from m slot heard s t
 
 -- ---- any datagram
 
 -- What a datagram from an endpoint does at a moment.
 pub data Hears (from : Endpoint) (bytes : List ℕ) (now : ℕ) (heard : Heard) (s t : Server) : Type 0 where
   settled : Settles from bytes now heard s t → Hears from bytes now heard s t
-  admitted : (m : CoapMessage) (slot : ℕ) (u : Server) → IsMet from bytes now m (Fresh slot) s u → Reads m slot heard u t
+  admitted : (m : CoapMessage) (slot : ℕ) (u : Server) → IsMet from bytes now m (Fresh slot) s u → Reads from m slot heard u t
       → Hears from bytes now heard s t

@@ -32,9 +32,9 @@ SettlesOrAdmits from bytes now (Admitted message slot) old new s t =
     IsMet from bytes now (message_of message) (Fresh slot) s t × IsAwaited slot t.exchanges × (new ≡ old)
 
 -- What a request that was admitted does, as the result says.
-pub record ReadsAs (m : CoapMessage) (slot : ℕ) (next : CoapNext) (old new : List ℕ) (s t : Server) : Type 0 where
+pub record ReadsAs (from : Endpoint) (m : CoapMessage) (slot : ℕ) (next : CoapNext) (old new : List ℕ) (s t : Server) : Type 0 where
   pub heard : Heard
-  pub reads : Reads m slot heard s t
+  pub reads : Reads from m slot heard s t
   pub tells : Tells heard next old new
 
 -- a Confirmable request with a bad option gets a reply, and any other doesn't

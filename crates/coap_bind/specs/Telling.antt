@@ -1,19 +1,23 @@
 -- How a call answers what is done with a datagram (RFC 7252, sections 4.2 to 4.5): by its result and by
 -- the bytes that it writes.
-use Rattle.std.specs.Prelude.{◌≡◌, ◌≤◌, ℕ, List, length}
-use Rattle.coap_msg.specs.declared.constants.TheConstants.{LONGEST_TOKEN}
+use Rattle.std.specs.Prelude.{◌≡◌, ◌≤◌, ℕ, Option, List, length}
+use Rattle.coap_msg.specs.declared.constants.TheConstants.{LONGEST_TOKEN, LONGEST_MESSAGE}
 use Rattle.coap_msg.specs.declared.endpoint.Endpoint.{Endpoint}
-use Rattle.coap_msg.specs.Grammar.{CoapMessage}
+use Rattle.coap_msg.specs.Grammar.{CoapMessage, spelling}
 use Rattle.coap_msg.specs.Written.{IsWritten}
 use Rattle.coap_exchange.specs.Table.{IsAwaited}
 use Rattle.coap_exchange.specs.declared.met.Met.TheVariants.{Fresh}
+use Rattle.thing_ops.specs.declared.outcome.Outcome.{Outcome}
+use Rattle.coap_observe.specs.Watching.{Watching}
 use Rattle.coap_opts.specs.PlainAsk.{plain_ask}
 use Rattle.coap_bind.specs.declared.next.CoapNext.{CoapNext}
 use Rattle.coap_bind.specs.declared.next.CoapNext.TheVariants.{Nothing, Send, Ask}
 use Rattle.coap_bind.specs.declared.head.OpenRequest.{OpenRequest}
+use Rattle.coap_bind.specs.declared.head.OpenAsk.{OpenAsk}
 use Rattle.coap_bind.specs.declared.server.Server.{Server}
-use Rattle.coap_bind.specs.Writing.{Reply}
-use Rattle.coap_bind.specs.Server.{Heard, ignored, answered_at_once, asked, Replies, IsMet, Settles, Hears}
+use Rattle.coap_bind.specs.Writing.{Reply, reply_of, observed, coap_reply}
+use Rattle.coap_bind.specs.Observing.{effect_of, Watches}
+use Rattle.coap_bind.specs.Server.{Heard, ignored, answered_at_once, asked, Replies, Answers, IsMet, Settles, Hears}
 
 -- what is done is what the result says, and the bytes to send are at the front of the room
 abbrev pub Tells : Heard → CoapNext → List ℕ → List ℕ → Type 0
@@ -46,6 +50,18 @@ pub record RepliesAs (r : Reply) (request : OpenRequest) (n : ℕ) (old new : Li
   pub replies : Replies r request bytes s t
   pub written : IsWritten bytes n old new
 
+-- What was asked was answered, in n bytes.
+pub record AnswersAs (ask : OpenAsk) (o : Outcome) (target : Option ℕ) (n : ℕ) (old new : List ℕ) (s t : Server) : Type 0 where
+  pub bytes : List ℕ
+  pub answers : Answers ask o target bytes s t
+  pub written : IsWritten bytes n old new
+
+-- The answer has room, whichever sequence number it says, if it says one.
+abbrev pub HasRoom : OpenAsk → Outcome → Option ℕ → Server → Type 0
+HasRoom ask o target s =
+    (observe : Option ℕ) (watchers : Watching) → Watches (effect_of ask.observing o target) ask.from ask.request.head.token s.watchers observe watchers
+    → length (spelling (coap_reply (observed observe (reply_of o)) ask.request.head s.next_id)) ≤ LONGEST_MESSAGE
+
 -- what is asked may be answered: the exchange in the slot of the ticket waits for its reply, and the token is one
 -- (RFC 7252, section 3)
 pub record MayAnswer (request : OpenRequest) (s : Server) : Type 0 where
@@ -55,4 +71,4 @@ pub record MayAnswer (request : OpenRequest) (s : Server) : Type 0 where
 abbrev pub TicketIsOpen : CoapNext → Server → Type 0
 TicketIsOpen Nothing s = Unit {0}
 TicketIsOpen (Send n) s = Unit {0}
-TicketIsOpen (Ask ask ticket) s = MayAnswer ticket s
+TicketIsOpen (Ask ask ticket) s = MayAnswer ticket.request s

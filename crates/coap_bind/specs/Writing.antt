@@ -1,19 +1,21 @@
--- What the reply to a request is on the wire (RFC 7252, sections 4.2, 4.4, 5.2, 5.3.1 and 5.10).
-use Rattle.std.specs.Prelude.{ℕ, nat_lt, true, List, [], ◌∷◌, ◌++◌, length, codes, unwrap_or, if◌then◌else◌}
+-- What the reply to a request and a notification are on the wire (RFC 7252, sections 4.2, 4.4, 5.2, 5.3.1 and 5.10;
+-- RFC 7641, sections 2, 3.2 and 4.2).
+use Rattle.std.specs.Prelude.{ℕ, ◌/◌, ◌%◌, nat_lt, true, Option, Some, None, List, [], ◌∷◌, ◌++◌, length, take, codes, unwrap_or, if◌then◌else◌}
 use Rattle.std.specs.Fmt.{decimal}
 use Rattle.std.specs.Option.{option_map_or}
 use Rattle.coap_msg.specs.declared.message.Type4.{Type4}
-use Rattle.coap_msg.specs.declared.message.Type4.TheVariants.{Non, Ack}
+use Rattle.coap_msg.specs.declared.message.Type4.TheVariants.{Con, Non, Ack}
 use Rattle.coap_msg.specs.declared.message.RequestType.{RequestType}
 use Rattle.coap_msg.specs.declared.message.RequestType.TheVariants.{Confirmable, NonConfirmable}
-use Rattle.coap_msg.specs.declared.constants.TheConstants.{LOCATION_PATH, CONTENT_FORMAT, BAD_OPTION, INTERNAL_SERVER_ERROR, SERVICE_UNAVAILABLE, PROXYING_NOT_SUPPORTED, JSON, TD_JSON, LONGEST_PAYLOAD}
+use Rattle.coap_msg.specs.declared.constants.TheConstants.{OBSERVE, LOCATION_PATH, CONTENT_FORMAT, BAD_OPTION, INTERNAL_SERVER_ERROR, SERVICE_UNAVAILABLE, PROXYING_NOT_SUPPORTED, JSON, TD_JSON, LONGEST_PAYLOAD}
 use Rattle.coap_msg.specs.Grammar.{CoapOption, CoapMessage}
 use Rattle.coap_msg.specs.Numbers.{number_bytes}
 use Rattle.coap_msg.specs.Opts.{segment_options}
 use Rattle.coap_msg.specs.Requests.{request_type}
 use Rattle.thing_ops.specs.declared.outcome.Outcome.{Outcome}
 use Rattle.thing_ops.specs.declared.outcome.Outcome.TheVariants as outcome
-use Rattle.thing_ops.specs.Outcomes.{answer_of, payload_of, text_of}
+use Rattle.thing_ops.specs.Outcomes.{coap, answer_of, payload_of, text_of}
+use Rattle.coap_observe.specs.declared.notice.Notice.{Notice}
 use Rattle.coap_bind.specs.declared.head.RequestHead.{RequestHead}
 
 -- ---- what a reply says
@@ -65,6 +67,21 @@ whole_reply o = record { code = unwrap_or (answer_of o).code 0; options = segmen
 abbrev pub reply_of : Outcome → Reply
 reply_of o = if nat_lt LONGEST_PAYLOAD (length (payload_of o)) then long_reply else whole_reply o
 
+-- ---- Observe
+
+-- a sequence number, which has 24 bits, in as few bytes as say it, in network byte order (RFC 7252, section 3.2)
+abbrev pub sequence_bytes : ℕ → List ℕ
+sequence_bytes n = if nat_lt n 65536 then number_bytes n else (n / 65536) ∷ (n / 256 % 256) ∷ (n % 256) ∷ []
+
+-- Observe, where a sequence number is said (RFC 7641, section 2)
+abbrev pub observe_options : Option ℕ → List CoapOption
+observe_options None = []
+observe_options (Some n) = (OBSERVE, sequence_bytes n) ∷ []
+
+-- a reply with Observe before its other options, of which none has a lower number
+abbrev pub observed : Option ℕ → Reply → Reply
+observed observe r = record r { options = observe_options observe ++ r.options }
+
 -- ---- the message
 
 -- what a reply takes over from its request: how that was sent, the message ID and the token
@@ -93,4 +110,16 @@ coap_reply r head next = record {
   token = head.token;
   options = r.options;
   payload = r.payload;
+}
+
+-- A notification: a Confirmable message with the token of the registration that says a value of its target and the
+-- value's place in the order of all (RFC 7641, sections 3.2, 4.2 and 4.5).
+abbrev pub notification : Notice → List ℕ → CoapMessage
+notification n value = record {
+  kind = Con;
+  code = coap 2 05;
+  id = n.id;
+  token = take n.token_length n.token;
+  options = observe_options (Some n.sequence) ++ (CONTENT_FORMAT, number_bytes JSON) ∷ [];
+  payload = value;
 }

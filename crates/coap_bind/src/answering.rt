@@ -1,38 +1,82 @@
-//! Replies to requests: those of outcomes, and the server's own words.
+//! Replies to requests: those of outcomes, of which some register or deregister a watcher, and the server's own words.
 
-use crate::head::{OpenRequest, RequestHead};
+use crate::head::{OpenAsk, OpenRequest, RequestHead};
 use crate::next::CoapNext;
+use crate::observing::{Effect, effect_of};
 use crate::server::Server;
-use crate::writing::{put_outcome, put_word};
+use crate::writing::{Said, put_outcome, put_word};
 use coap_msg::{BAD_OPTION, LONGEST_MESSAGE, RequestType};
+use coap_observe::Registered;
 use itoa::Buffer;
 use servient_base::put_bytes;
 use thing_ops::Outcome;
 
 impl Server {
-    ghost use Rattle.std.specs.Prelude.{◌≡◌, ◌≤◌, ◌/◌, ◌⊎◌, length};
+    ghost use Rattle.std.specs.Prelude.{◌≡◌, ◌≤◌, ◌<◌, ◌^◌, ◌/◌, ◌⊎◌, None, length, IfSome};
     ghost use Rattle.coap_msg.specs.Grammar.{spelling};
     ghost use Rattle.coap_exchange.specs.Table.{IsAwaited};
-    ghost use Rattle.thing_ops.specs.Outcomes.{HasCode};
-    ghost use Rattle.coap_bind.specs.Writing.{word_reply, reply_of, coap_reply};
-    ghost use Rattle.coap_bind.specs.Server.{with_id_used, with_kept};
+    ghost use Rattle.coap_msg.specs.declared.constants.TheConstants.{LONGEST_PAYLOAD};
+    ghost use Rattle.thing_ops.specs.Outcomes.{HasCode, payload_of};
+    ghost use Rattle.coap_bind.specs.Observing.{effect_of, Watches};
+    ghost use Rattle.coap_bind.specs.Writing.{word_reply, reply_of, observed, coap_reply};
+    ghost use Rattle.coap_bind.specs.Server.{with_next_id, with_id_used, with_kept, with_watchers};
     ghost use Rattle.coap_msg.specs.Written.{IsWritten};
-    ghost use Rattle.coap_bind.specs.Telling.{RepliesAs};
+    ghost use Rattle.coap_bind.specs.Telling.{RepliesAs, AnswersAs, HasRoom};
     ghost use Rattle.coap_bind.specs.Settling.{RefusesOption};
 
-    /// Answers a request with an outcome, and returns how many bytes to send.
+    /// Answers what was asked of this target, if it has one, and returns how many bytes to send.
     pub fn answer(
         &mut self,
-        request: &OpenRequest,
+        ask: &OpenAsk,
         outcome: &Outcome,
+        target: Option<u32>,
+        out: &mut [u8; LONGEST_MESSAGE],
+    ) -> usize
+        requires slot { IsAwaited ask.now.request.slot self.old.exchanges }
+        requires code { HasCode outcome.now }
+        requires room { HasRoom ask.now outcome.now target self.old }
+        ensures { AnswersAs ask.now outcome.now target result out.old out.new self.old self.new }
+    {
+        let effect = effect_of(ask.observing, outcome, target);
+        let observe = self.watch(ask, effect);
+        self.reply(&ask.request, Said { outcome, observe }, out)
+    }
+
+    /// Does this to the watchers, for the sender of what was asked: gives the sequence number that the response says,
+    /// if it says one.
+    fn watch(&mut self, ask: &OpenAsk, effect: Effect) -> Option<u32>
+        ensures watches { Watches effect ask.now.from ask.now.request.head.token self.old.watchers result self.new.watchers }
+        ensures same { self.new ≡ with_watchers self.new.watchers self.old }
+        ensures bound { IfSome result (λ n. n < 2 ^ 24) }
+    {
+        let token = ask.request.head.token.as_bytes();
+        match effect {
+            Effect::Nothing => None,
+            Effect::Cancels => {
+                let _found = self.watchers.cancel(ask.from, token);
+                None
+            }
+            Effect::Registers(target) => {
+                sequence_of(self.watchers.register(ask.from, token, target))
+            }
+        }
+    }
+
+    /// Replies to a request, and returns how many bytes to send.
+    pub fn reply(
+        &mut self,
+        request: &OpenRequest,
+        said: Said<'_>,
         out: &mut [u8; LONGEST_MESSAGE],
     ) -> usize
         requires slot { IsAwaited request.now.slot self.old.exchanges }
-        requires code { HasCode outcome.now }
-        requires room { length (spelling (coap_reply (reply_of outcome.now) request.now.head self.old.next_id)) ≤ LONGEST_MESSAGE }
-        ensures { RepliesAs (reply_of outcome.now) request.now result out.old out.new self.old self.new }
+        requires code { HasCode said.outcome.now }
+        requires sequence { IfSome said.observe (λ n. n < 2 ^ 24) }
+        requires short { (said.observe ≡ None) ⊎ (length (payload_of said.outcome.now) ≤ LONGEST_PAYLOAD) }
+        requires room { length (spelling (coap_reply (observed said.observe (reply_of said.outcome.now)) request.now.head self.old.next_id)) ≤ LONGEST_MESSAGE }
+        ensures { RepliesAs (observed said.entry.observe (reply_of said.entry.outcome.now)) request.now result out.old out.new self.old self.new }
     {
-        let size = put_outcome(outcome, &request.head, self.next_id, out);
+        let size = put_outcome(said, &request.head, self.next_id, out);
         self.use_id(request.head.kind);
         self.keep(request, &out[..size]);
         size
@@ -96,15 +140,20 @@ impl Server {
         size
     }
 
+    /// Uses the next message ID.
+    pub fn use_next_id(&mut self)
+        ensures { self.new ≡ with_next_id self.old }
+    {
+        self.next_id = self.next_id.wrapping_add(1);
+    }
+
     /// Uses the next message ID in a reply to a request of this type, where the reply isn't an acknowledgement.
     fn use_id(&mut self, kind: RequestType)
         ensures { self.new ≡ with_id_used kind self.old }
     {
         match kind {
             RequestType::Confirmable => {}
-            RequestType::NonConfirmable => {
-                self.next_id = self.next_id.wrapping_add(1);
-            }
+            RequestType::NonConfirmable => self.use_next_id(),
         }
     }
 
@@ -118,5 +167,19 @@ impl Server {
             RequestType::Confirmable => self.exchanges.keep(request.slot, reply),
             RequestType::NonConfirmable => {}
         }
+    }
+}
+
+ghost use Rattle.std.specs.Prelude.{◌≡◌};
+ghost use Rattle.coap_observe.specs.Watching.{sequence_of};
+
+/// The sequence number that the response to a registration says, if it says one.
+fn sequence_of(registered: Registered) -> Option<u32>
+    ensures { result ≡ sequence_of registered }
+{
+    match registered {
+        Registered::New(sequence) => Some(sequence),
+        Registered::Replaced(sequence) => Some(sequence),
+        Registered::Full => None,
     }
 }

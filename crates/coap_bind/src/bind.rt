@@ -1,11 +1,13 @@
-//! The CoAP server: what a datagram asks for, and the reply to it.
+//! The CoAP server: what a datagram asks for, the reply to it, and notifications.
 
 use crate::NoMemory;
 use crate::next::{CoapNext, Ticket};
 use crate::server::Server;
 use crate::settled::Settled;
+use crate::writing::put_notification;
 use coap_exchange::Exchanges;
-use coap_msg::{Endpoint, LONGEST_MESSAGE};
+use coap_msg::{Endpoint, LONGEST_MESSAGE, LONGEST_PAYLOAD};
+use coap_observe::{Notice, Watchers};
 use std::alloc::Global;
 use std::marker::Model;
 use thing_ops::Outcome;
@@ -28,25 +30,32 @@ impl Model for CoapBind {
 }
 
 impl CoapBind {
-    ghost use Rattle.std.specs.Prelude.{◌≡◌, ◌≤◌, ◌⊎◌, length, IfOk};
+    ghost use Rattle.std.specs.Prelude.{◌≡◌, ◌≤◌, ◌⊎◌, length, IfOk, IfSome};
     ghost use Rattle.coap_msg.specs.Grammar.{spelling};
     ghost use Rattle.coap_exchange.specs.Table.{IsAwaited};
     ghost use Rattle.thing_ops.specs.Outcomes.{HasCode};
-    ghost use Rattle.coap_bind.specs.Writing.{reply_of, coap_reply};
-    ghost use Rattle.coap_bind.specs.Server.{start};
-    ghost use Rattle.coap_bind.specs.Telling.{HearsAs, SettlesAs, IsAdmitted, TicketIsOpen, RepliesAs};
+    ghost use Rattle.coap_msg.specs.Written.{IsWritten};
+    ghost use Rattle.coap_observe.specs.Watching.{IsSendable};
+    ghost use Rattle.coap_bind.specs.Writing.{notification};
+    ghost use Rattle.coap_bind.specs.Server.{start, with_emitted, SendsNext};
+    ghost use Rattle.coap_bind.specs.Telling.{HearsAs, SettlesAs, IsAdmitted, TicketIsOpen, HasRoom, AnswersAs};
 
-    /// A server in which `exchanges` exchanges may live. The memory of its exchanges is taken here.
-    pub fn new(alloc: Global, exchanges: u32) -> Result<CoapBind, NoMemory>
-        requires least { 16 ≤ exchanges }
-        requires most { exchanges ≤ 65536 }
-        ensures { IfOk result (λ c. c ≡ start exchanges) }
+    /// A server in which `exchanges` exchanges may live, with at most `watchers` watchers. The memory of both is taken
+    /// here.
+    pub fn new(alloc: Global, exchanges: u32, watchers: u32) -> Result<CoapBind, NoMemory>
+        requires least_exchanges { 16 ≤ exchanges }
+        requires most_exchanges { exchanges ≤ 65536 }
+        requires least_watchers { 1 ≤ watchers }
+        requires most_watchers { watchers ≤ 1024 }
+        ensures { IfOk result (λ c. c ≡ start exchanges watchers) }
     {
         let exchanges = Exchanges::new(alloc, exchanges)?;
+        let watchers = Watchers::new(alloc, watchers)?;
         Ok(CoapBind {
             alloc,
             server: Server {
                 exchanges,
+                watchers,
                 next_id: 0,
             },
         })
@@ -75,26 +84,61 @@ impl CoapBind {
         match self.server.settle(from, bytes, now, out) {
             Settled::Done(None) => CoapNext::Nothing,
             Settled::Done(Some(size)) => CoapNext::Send(size),
-            Settled::Admitted(message, slot) => self.server.read(self.alloc, &message, slot, out),
+            Settled::Admitted(message, slot) => {
+                self.server.read(self.alloc, from, &message, slot, out)
+            }
         }
     }
 
-    /// Answers what was asked: the reply is written to the beginning of `out`, goes to where the request came from, and
-    /// has as many bytes as are returned. It takes no memory. That it has at most 1,152 bytes is asked just so; the law
-    /// `replies_fit` says when it has.
+    /// Answers what was asked of `target`, the number of what may be observed there, if there is such a thing: the reply
+    /// is written to the beginning of `out`, goes to where the request came from, and has as many bytes as are returned.
+    /// A GET with Observe registers or deregisters its sender (RFC 7641, section 4.1). It takes no memory. That the
+    /// reply has at most 1,152 bytes is asked just so; the law `replies_fit` says when it has.
     pub fn answer(
         &mut self,
         ticket: Ticket,
         outcome: &Outcome,
+        target: Option<u32>,
         out: &mut [u8; LONGEST_MESSAGE],
     ) -> usize
-        requires ticket { IsAwaited ticket.slot self.old.exchanges }
+        requires ticket { IsAwaited ticket.request.slot self.old.exchanges }
         requires code { HasCode outcome.now }
-        requires room { length (spelling (coap_reply (reply_of outcome.now) ticket.head self.old.next_id)) ≤ LONGEST_MESSAGE }
-        ensures ok { RepliesAs (reply_of outcome.now) ticket result out.old out.new self.old self.new }
+        requires room { HasRoom ticket outcome.now target self.old }
+        ensures ok { AnswersAs ticket outcome.now target result out.old out.new self.old self.new }
         ensures moment { self.new.exchanges.moment ≡ self.old.exchanges.moment }
     {
-        let request = ticket.spend();
-        self.server.answer(&request, outcome, out)
+        let ask = ticket.spend();
+        self.server.answer(&ask, outcome, target, out)
+    }
+
+    /// A target has a new value: its watchers are to be notified.
+    pub fn emit(&mut self, target: u32)
+        ensures { self.new ≡ with_emitted target self.old }
+    {
+        self.server.watchers.emit(target);
+    }
+
+    /// What is to be sent to a watcher now: one notification at most, which goes to `put_notice` with the last value of
+    /// its target. A caller calls it until it returns None. The moment isn't one of the exchanges'.
+    pub fn next_send(&mut self, now: u64) -> Option<Notice>
+        ensures sends { SendsNext now result self.old self.new }
+        ensures bounds { IfSome result IsSendable }
+        ensures exchanges { self.new.exchanges ≡ self.old.exchanges }
+    {
+        self.server.next_send(now)
+    }
+
+    /// Writes a notification that says this value to the beginning of `out`, and returns how many bytes it has.
+    pub fn put_notice(
+        &self,
+        notice: &Notice,
+        value: &[u8],
+        out: &mut [u8; LONGEST_MESSAGE],
+    ) -> usize
+        requires notice { IsSendable notice.now }
+        requires value { length value.now ≤ LONGEST_PAYLOAD }
+        ensures { IsWritten (spelling (notification notice.now value.now)) result out.old out.new }
+    {
+        put_notification(notice, value, out)
     }
 }

@@ -1,6 +1,7 @@
-//! What a reply takes over from its request, kept until that is answered.
+//! What is kept of a request until it is answered.
 
-use coap_msg::{BoundedBytes, LONGEST_TOKEN, Message, RequestType};
+use crate::observing::Observing;
+use coap_msg::{BoundedBytes, Endpoint, LONGEST_TOKEN, Message, RequestType};
 
 /// What a reply takes over from its request (RFC 7252, sections 4.2 and 5.3.1).
 #[derive(Drop)]
@@ -20,6 +21,17 @@ pub struct OpenRequest {
     pub head: RequestHead,
     /// The slot of its exchange, where its reply is kept.
     pub slot: u32,
+}
+
+/// A request that was admitted and asks for something, and isn't answered yet.
+#[derive(Drop)]
+pub struct OpenAsk {
+    /// The request, for its reply.
+    pub request: OpenRequest,
+    /// Where it came from.
+    pub from: Endpoint,
+    /// What it wants of the watchers.
+    pub observing: Observing,
 }
 
 impl RequestHead {

@@ -1,6 +1,7 @@
 //! Laws of the server, as contracts of functions that do nothing.
 
-ghost use Rattle.coap_bind.specs.Laws.{ExchangesAreOfTheHistory, DuplicatesAskNothing, RepliesFit};
+ghost use Rattle.coap_bind.specs.Duplicates.{OnlyConfirmableAreKept, DuplicatesChangeNothing, DuplicatesGetTheFirstReply, OnlyTheFirstReplyIsRepeated};
+ghost use Rattle.coap_bind.specs.Laws.{ExchangesAreOfTheHistory, DuplicatesAskNothing, AsksAreOpen, RepliesFit};
 
 /// The exchanges of a server are those of the admitted requests that live (RFC 7252, section 4.5).
 pub fn exchanges_are_of_the_history()
@@ -12,7 +13,38 @@ pub fn duplicates_ask_nothing()
     ensures { DuplicatesAskNothing }
 {}
 
-/// A reply has at most 1,152 bytes (RFC 7252, section 4.6), unless the place of what was started is long.
+/// Only replies to Confirmable requests are kept (RFC 7252, section 4.2).
+pub fn only_confirmable_are_kept()
+    ensures { OnlyConfirmableAreKept }
+{}
+
+/// While a request lives that was replied to, each Confirmable duplicate of it gets exactly the bytes that were sent
+/// first, where it was Confirmable itself, and every other duplicate nothing; and nothing else changes (RFC 7252,
+/// section 4.5).
+pub fn duplicates_get_the_first_reply()
+    ensures { DuplicatesGetTheFirstReply }
+{}
+
+/// A duplicate of a request that was admitted and lives changes neither the exchanges that live nor the watchers nor the
+/// next message ID (RFC 7252, section 4.5).
+pub fn duplicates_change_nothing()
+    ensures { DuplicatesChangeNothing }
+{}
+
+/// Whatever a duplicate is answered was sent first in reply to its request, and both are Confirmable: one of a request
+/// that wasn't replied to gets nothing (RFC 7252, section 4.5).
+pub fn only_the_first_reply_is_repeated()
+    ensures { OnlyTheFirstReplyIsRepeated }
+{}
+
+/// What a datagram asks may be answered at once: its exchange has no reply yet, and the request is of the type that was
+/// admitted.
+pub fn asks_are_open()
+    ensures { AsksAreOpen }
+{}
+
+/// A reply has at most 1,152 bytes (RFC 7252, section 4.6), with Observe and without, unless the place of what was
+/// started is long.
 pub fn replies_fit()
     ensures { RepliesFit }
 {}

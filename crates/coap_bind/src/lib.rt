@@ -31,12 +31,17 @@ mod bind;
 mod head;
 mod laws;
 mod next;
+mod observing;
 mod options;
 mod server;
 mod settled;
 mod writing;
 
 pub use bind::CoapBind;
-pub use laws::{duplicates_ask_nothing, exchanges_are_of_the_history, replies_fit};
+pub use laws::{
+    asks_are_open, duplicates_ask_nothing, duplicates_change_nothing,
+    duplicates_get_the_first_reply, exchanges_are_of_the_history, only_confirmable_are_kept,
+    only_the_first_reply_is_repeated, replies_fit,
+};
 pub use next::{CoapNext, Ticket};
 pub use servient_base::NoMemory;

@@ -1,6 +1,6 @@
 //! The server's answer to a datagram, and the ticket of a request that it hands out.
 
-use crate::head::OpenRequest;
+use crate::head::OpenAsk;
 use coap_opts::CoapAsk;
 use std::marker::Model;
 
@@ -15,36 +15,35 @@ pub enum CoapNext<'a> {
 }
 
 /// A request that was admitted and is to be answered, by `CoapBind::answer` alone: a ticket can't be dropped, copied or
-/// made elsewhere. Contracts see what the reply takes over from the request, and the slot of its exchange
-/// (`OpenRequest`). The endpoint, the value of Observe and the target aren't held yet: they come with observation, and
-/// so do the rules for an empty Acknowledgement and an empty Reset.
+/// made elsewhere. Contracts see what the reply takes over from the request, the slot of its exchange, where it came
+/// from and what it wants of the watchers (`OpenAsk`).
 pub struct Ticket {
-    request: OpenRequest,
+    ask: OpenAsk,
 }
 
 impl Model for Ticket {
-    ghost use Rattle.coap_bind.specs.declared.head.OpenRequest.{OpenRequest};
+    ghost use Rattle.coap_bind.specs.declared.head.OpenAsk.{OpenAsk};
 
-    ghost Value = { OpenRequest };
+    ghost Value = { OpenAsk };
 
-    ghost view = { λ t. t.request };
+    ghost view = { λ t. t.ask };
 }
 
 impl Ticket {
     ghost use Rattle.std.specs.Prelude.{◌≡◌};
 
     /// A ticket for this request.
-    pub(crate) fn of(request: OpenRequest) -> Ticket
-        ensures { result ≡ request }
+    pub(crate) fn of(ask: OpenAsk) -> Ticket
+        ensures { result ≡ ask }
     {
-        Ticket { request }
+        Ticket { ask }
     }
 
     /// Spends the ticket: the request that it is for.
-    pub(crate) fn spend(self) -> OpenRequest
+    pub(crate) fn spend(self) -> OpenAsk
         ensures { result ≡ self }
     {
-        let Ticket { request } = self;
-        request
+        let Ticket { ask } = self;
+        ask
     }
 }

@@ -1,18 +1,73 @@
-//! Writing the options of replies, one part after another.
+//! Writing the options of replies and of notifications, one part after another.
 
-ghost use Rattle.std.specs.Prelude.{◌≡◌, ◌≤◌, ◌<◌, ◌++◌, [], ◌∷◌, length, slice_index_or, All, OnOk, if◌then◌else◌};
+ghost use Rattle.std.specs.Prelude.{◌≡◌, ◌≤◌, ◌<◌, ◌^◌, ◌++◌, [], ◌∷◌, Some, length, slice_index_or, All, OnOk, IfSome, if◌then◌else◌};
 ghost use Rattle.coap_msg.specs.Grammar.{largest_number};
+ghost use Rattle.coap_msg.specs.Numbers.{number_bytes};
 ghost use Rattle.coap_msg.specs.Opts.{last_number, PutsOptions, segment_options};
-ghost use Rattle.coap_bind.specs.Writing.{place_of, format_options, text_format};
+ghost use Rattle.coap_bind.specs.Writing.{place_of, format_options, text_format, sequence_bytes, observe_options};
 
 use coap_msg::{
-    CONTENT_FORMAT, JSON, LOCATION_PATH, NoRoom, Opts, TD_JSON, put_number, put_segment,
+    CONTENT_FORMAT, JSON, LOCATION_PATH, NoRoom, OBSERVE, Opts, TD_JSON, put_number, put_segment,
 };
 use thing_ops::{Outcome, Segments};
 
-/// Writes the options of an outcome's reply, where none are written yet.
-pub fn put_options(outcome: &Outcome, options: &mut Opts<'_>) -> Result<(), NoRoom>
+/// Writes the options of an outcome's reply, where none are written yet; with Observe, where it says a sequence number.
+pub fn put_options(
+    observe: Option<u32>,
+    outcome: &Outcome,
+    options: &mut Opts<'_>,
+) -> Result<(), NoRoom>
     requires empty { options.old.list ≡ [] }
+    requires sequence { IfSome observe (λ n. n < 2 ^ 24) }
+    requires segments { All (λ segment. length segment ≤ largest_number) (place_of outcome.now) }
+    ensures { PutsOptions (observe_options observe ++ (segment_options LOCATION_PATH (place_of outcome.now) ++ format_options outcome.now)) result options.old options.new }
+{
+    put_observe(observe, options)?;
+    put_rest(outcome, options)
+}
+
+/// Writes the options of a notification, where none are written yet.
+pub fn put_notification_options(sequence: u32, options: &mut Opts<'_>) -> Result<(), NoRoom>
+    requires empty { options.old.list ≡ [] }
+    requires sequence { sequence < 2 ^ 24 }
+    ensures { PutsOptions (observe_options (Some sequence) ++ (CONTENT_FORMAT, number_bytes JSON) ∷ []) result options.old options.new }
+{
+    put_observe(Some(sequence), options)?;
+    put_number(options, CONTENT_FORMAT, JSON)
+}
+
+/// Writes Observe, where a sequence number is said.
+fn put_observe(observe: Option<u32>, options: &mut Opts<'_>) -> Result<(), NoRoom>
+    requires empty { options.old.list ≡ [] }
+    requires sequence { IfSome observe (λ n. n < 2 ^ 24) }
+    ensures ok { PutsOptions (observe_options observe) result options.old options.new }
+    ensures last { OnOk result (last_number 0 options.new.list ≤ OBSERVE) }
+{
+    match observe {
+        Some(sequence) => put_sequence(sequence, options),
+        None => Ok(()),
+    }
+}
+
+/// Writes Observe with a sequence number.
+fn put_sequence(sequence: u32, options: &mut Opts<'_>) -> Result<(), NoRoom>
+    requires empty { options.old.list ≡ [] }
+    requires sequence { sequence < 2 ^ 24 }
+    ensures ok { PutsOptions ((OBSERVE, sequence_bytes sequence) ∷ []) result options.old options.new }
+    ensures last { OnOk result (last_number 0 options.new.list ≡ OBSERVE) }
+{
+    if sequence < 65_536 {
+        return put_number(options, OBSERVE, sequence as u16);
+    }
+    let high = (sequence / 65_536) as u8;
+    let middle = (sequence / 256 % 256) as u8;
+    let low = (sequence % 256) as u8;
+    options.push(OBSERVE, &[high, middle, low])
+}
+
+/// Writes the options of an outcome's reply that follow Observe.
+fn put_rest(outcome: &Outcome, options: &mut Opts<'_>) -> Result<(), NoRoom>
+    requires order { last_number 0 options.old.list ≤ OBSERVE }
     requires segments { All (λ segment. length segment ≤ largest_number) (place_of outcome.now) }
     ensures { PutsOptions (segment_options LOCATION_PATH (place_of outcome.now) ++ format_options outcome.now) result options.old options.new }
 {
@@ -22,7 +77,7 @@ pub fn put_options(outcome: &Outcome, options: &mut Opts<'_>) -> Result<(), NoRo
 
 /// Writes the place of what was started.
 fn put_place(outcome: &Outcome, options: &mut Opts<'_>) -> Result<(), NoRoom>
-    requires empty { options.old.list ≡ [] }
+    requires order { last_number 0 options.old.list ≤ OBSERVE }
     requires segments { All (λ segment. length segment ≤ largest_number) (place_of outcome.now) }
     ensures ok { PutsOptions (segment_options LOCATION_PATH (place_of outcome.now)) result options.old options.new }
     ensures last { OnOk result (last_number 0 options.new.list ≤ LOCATION_PATH) }

@@ -4,14 +4,17 @@ ghost use Rattle.std.specs.Prelude.{◌≡◌, ◌≤◌, ◌&&◌, nat_lt, leng
 ghost use Rattle.coap_msg.specs.Written.{IsWritten};
 ghost use Rattle.coap_bind.specs.Server.{may_ask};
 
-use crate::head::{OpenRequest, RequestHead};
+use crate::head::{OpenAsk, OpenRequest, RequestHead};
 use crate::next::{CoapNext, Ticket};
+use crate::observing::observing_of;
 use crate::settled::Settled;
+use crate::writing::Said;
 use coap_exchange::{Exchanges, Met};
 use coap_msg::{
-    Endpoint, LONGEST_MESSAGE, Message, PROXYING_NOT_SUPPORTED, RequestType, SERVICE_UNAVAILABLE,
-    Type4, decode, put_empty_reply, put_rejection,
+    EMPTY, Endpoint, LONGEST_MESSAGE, Message, PROXYING_NOT_SUPPORTED, RequestType,
+    SERVICE_UNAVAILABLE, Type4, decode, put_empty_reply, put_rejection,
 };
+use coap_observe::{Notice, Watchers};
 use coap_opts::{AskFault, request_of};
 use servient_base::put_bytes;
 use std::alloc::Global;
@@ -22,15 +25,18 @@ use thing_ops::Outcome;
 pub struct Server {
     /// The exchanges that live, with the replies that are kept.
     pub exchanges: Exchanges,
+    /// Who is notified of what.
+    pub watchers: Watchers,
     /// The message ID of the next message that isn't an acknowledgement.
     pub next_id: u16,
 }
 
 impl Server {
-    ghost use Rattle.std.specs.Prelude.{◌≡◌, ◌≤◌, ℕ, true, length, Some, option_map};
+    ghost use Rattle.std.specs.Prelude.{◌≡◌, ◌≤◌, ℕ, true, length, Some, option_map, IfSome};
     ghost use Rattle.coap_msg.specs.MessageOf.{message_of};
     ghost use Rattle.coap_exchange.specs.Table.{Exchange, exchange_in, HasReply, IsAwaited};
-    ghost use Rattle.coap_bind.specs.Server.{is_request, duplicate_reply};
+    ghost use Rattle.coap_observe.specs.Watching.{IsSendable};
+    ghost use Rattle.coap_bind.specs.Server.{is_request, duplicate_reply, with_watchers, told_by_empty, with_report, with_notice_sent, SendsNext};
     ghost use Rattle.coap_bind.specs.Telling.{TicketIsOpen};
     ghost use Rattle.coap_bind.specs.Settling.{TellsDone, SettlesOrAdmits, ReadsAs};
 
@@ -52,6 +58,7 @@ impl Server {
             Err(_fault) => return Settled::Done(put_rejection(bytes, out)),
         };
         if !is_request(message.kind, message.code) {
+            self.report(from, &message);
             return Settled::Done(put_empty_reply(message.kind, message.id, false, out));
         }
         let kind = RequestType::of(message.kind);
@@ -62,6 +69,57 @@ impl Server {
                 let head = RequestHead::of(&message);
                 Settled::Done(Some(self.send(SERVICE_UNAVAILABLE, b"full", &head, out)))
             }
+        }
+    }
+
+    /// Takes what a message that is no request says of a notification.
+    fn report(&mut self, from: Endpoint, message: &Message<'_>)
+        ensures { self.new ≡ with_report from (message_of message.now) self.old }
+    {
+        if message.code == EMPTY {
+            self.report_empty(from, message.kind, message.id);
+        }
+    }
+
+    /// Takes what an empty message of this type and ID says of a notification.
+    fn report_empty(&mut self, from: Endpoint, kind: Type4, id: u16)
+        ensures { self.new ≡ with_watchers (told_by_empty from kind id self.old.watchers) self.old }
+    {
+        match kind {
+            Type4::Ack => {
+                let _found = self.watchers.acked(from, id);
+            }
+            Type4::Rst => {
+                let _found = self.watchers.reset(from, id);
+            }
+            Type4::Con => {}
+            Type4::Non => {}
+        }
+    }
+
+    /// What is to be sent to watchers now, with the next message ID where it is a message that wasn't sent before.
+    pub fn next_send(&mut self, now: u64) -> Option<Notice>
+        ensures sends { SendsNext now result self.old self.new }
+        ensures bounds { IfSome result IsSendable }
+        ensures exchanges { self.new.exchanges ≡ self.old.exchanges }
+    {
+        let sent = self.watchers.next_send(now, self.next_id);
+        self.use_id_of(sent);
+        sent
+    }
+
+    /// Uses the next message ID in what is sent to watchers, where that has it.
+    fn use_id_of(&mut self, sent: Option<Notice>)
+        ensures ok { self.new ≡ with_notice_sent sent self.old }
+        ensures exchanges { self.new.exchanges ≡ self.old.exchanges }
+    {
+        match sent {
+            Some(notice) => {
+                if notice.fresh {
+                    self.use_next_id();
+                }
+            }
+            None => {}
         }
     }
 
@@ -86,10 +144,11 @@ impl Server {
         }
     }
 
-    /// Reads a request that was admitted and got this slot.
+    /// Reads a request from an endpoint that was admitted and got this slot.
     pub fn read<'a>(
         &mut self,
         alloc: Global,
+        from: Endpoint,
         message: &Message<'a>,
         slot: u32,
         out: &mut [u8; LONGEST_MESSAGE],
@@ -97,7 +156,7 @@ impl Server {
         requires request { is_request (message_of message.now) ≡ true }
         requires token { length message.now.token.now ≤ 8 }
         requires slot { IsAwaited slot self.old.exchanges }
-        ensures ok { ReadsAs (message_of message.now) slot result out.old out.new self.old self.new }
+        ensures ok { ReadsAs from (message_of message.now) slot result out.old out.new self.old self.new }
         ensures ticket { TicketIsOpen result self.new }
         ensures moment { self.new.exchanges.moment ≡ self.old.exchanges.moment }
     {
@@ -106,12 +165,28 @@ impl Server {
             slot,
         };
         match request_of(alloc, message) {
-            Ok(ask) => CoapNext::Ask(ask, Ticket::of(request)),
+            Ok(ask) => {
+                let observing = observing_of(message.code, ask.observe);
+                CoapNext::Ask(
+                    ask,
+                    Ticket::of(OpenAsk {
+                        request,
+                        from,
+                        observing,
+                    }),
+                )
+            }
             Err(AskFault::BadOption(number)) => self.refuse_option(&request, number, out),
             Err(AskFault::Proxy) => {
                 CoapNext::Send(self.refuse(&request, PROXYING_NOT_SUPPORTED, b"proxy", out))
             }
-            Err(AskFault::NoMemory) => CoapNext::Send(self.answer(&request, &Outcome::Memory, out)),
+            Err(AskFault::NoMemory) => {
+                let said = Said {
+                    outcome: &Outcome::Memory,
+                    observe: None,
+                };
+                CoapNext::Send(self.reply(&request, said, out))
+            }
         }
     }
 }

@@ -1,5 +1,5 @@
 -- What every move of the machine keeps.
-use Rattle.std.proofs.Common.{◌≡◌, ℕ, ◌+◌, List, [], ◌∷◌, ◌++◌, map, refl, sym, ap, subst, ◌∙◌, arith, max, length, length-append, inl, inr, true, false}
+use Rattle.std.proofs.Common.{None, ◌≡◌, ℕ, ◌+◌, List, [], ◌∷◌, ◌++◌, map, refl, sym, ap, subst, ◌∙◌, arith, max, length, length-append, inl, inr, true, false}
 use Rattle.std.proofs.lemmas.List.Elements.{filter_map-append}
 use Rattle.std.proofs.lemmas.List.{append-nil}
 use Rattle.servient_base.specs.Moves.{Until, is_done, goes_on}
@@ -88,7 +88,7 @@ responds_keeps site from (asked ask request) s seen t is =
     let two = one.other.1 in
     then_keeps [] [] s one.mid t one.first one.second seen
     (thing_keeps (Acts site ask.request is.0) s one.first one.mid (λ x calls y m. acts_count site ask.request is.0 x calls y m) one.one)
-    (then_keeps [] [] one.mid two.mid t two.first two.second one.second (coap_keeps (λ now. Answers request is.0.outcome one.other.0) one.mid two.first two.mid two.one) (does_keeps (act.Datagram from one.other.0 ∷ []) two.mid two.second t two.other) two.whole)
+    (then_keeps [] [] one.mid two.mid t two.first two.second one.second (coap_keeps (λ now. Answers request is.0.outcome None one.other.0) one.mid two.first two.mid two.one) (does_keeps (act.Datagram from one.other.0 ∷ []) two.mid two.second t two.other) two.whole)
     one.whole
 
 receives_keeps : (site : Site) (from : Endpoint) (bytes : List ℕ) (s : State) (seen : List Sighting) (t : State) → HearsDatagram site from bytes s seen t → Keeps [] s seen t

@@ -17,7 +17,7 @@ use Rattle.thing_core.proofs.ThingLaws.{site_stays}
 use Rattle.thing_ops.specs.declared.outcome.Outcome.{Outcome}
 use Rattle.thing_ops.specs.Requests.{PlainRequest}
 use Rattle.coap_opts.specs.Reading.{PlainAsk}
-use Rattle.coap_bind.specs.declared.head.OpenRequest.{OpenRequest}
+use Rattle.coap_bind.specs.declared.head.OpenAsk.{OpenAsk}
 use Rattle.coap_bind.specs.declared.server.Server.{Server}
 use Rattle.coap_bind.specs.Server.{Heard, ignored, answered_at_once, asked, Hears, Answers}
 use Rattle.http_bind.specs.Streams.{Connection, Streams}
@@ -154,30 +154,30 @@ heard_at_once site from bytes sent k c n m slots h short hears is shows =
     (refines_act (record k { coap = c }) n m slots (act.Datagram from sent) shows))
 
 -- what is asked is done and answered
-responds_asked : (site : Site) (from : Endpoint) (ask : PlainAsk) (request : OpenRequest) (sent : List ℕ) (k : Parts) (e : Kept) (c : Server) (done : Done) (n m : NetSeen) (before after : List Seen)
-    → Makes RackShows (Acts site ask.request done) k.exposed.state e.state before after → Answers request done.outcome sent k.coap c
+responds_asked : (site : Site) (from : Endpoint) (ask : PlainAsk) (request : OpenAsk) (sent : List ℕ) (k : Parts) (e : Kept) (c : Server) (done : Done) (n m : NetSeen) (before after : List Seen)
+    → Makes RackShows (Acts site ask.request done) k.exposed.state e.state before after → Answers request done.outcome None sent k.coap c
     → NetShows n m (did (act.Datagram from sent) ∷ [])
     → Refines StandsFor Shows (AnswersDatagram site from (asked ask request)) k (record k { exposed = e; coap = c }) (outside n before) (outside m after)
 responds_asked site from ask request sent k e c done n m before after made answers shows =
     passing_moves (Performs site ask.request)
-    (λ d. Passing (λ bytes. OnCoap (λ now. Answers request d.outcome bytes)) (λ bytes. Does (act.Datagram from bytes ∷ []))) done
+    (λ d. Passing (λ bytes. OnCoap (λ now. Answers request d.outcome None bytes)) (λ bytes. Does (act.Datagram from bytes ∷ []))) done
     k (record k { exposed = e }) (record k { exposed = e; coap = c }) (outside n before) (outside n after) (outside m after)
     (refines_thing (Acts site ask.request done) k e n before after made)
-    (passing_moves (λ bytes. OnCoap (λ now. Answers request done.outcome bytes)) (λ bytes. Does (act.Datagram from bytes ∷ [])) sent
+    (passing_moves (λ bytes. OnCoap (λ now. Answers request done.outcome None bytes)) (λ bytes. Does (act.Datagram from bytes ∷ [])) sent
     (record k { exposed = e }) (record k { exposed = e; coap = c }) (record k { exposed = e; coap = c }) (outside n after) (outside n after) (outside m after)
-    (refines_coap (λ now. Answers request done.outcome sent) (record k { exposed = e }) c (outside n after) answers)
+    (refines_coap (λ now. Answers request done.outcome None sent) (record k { exposed = e }) c (outside n after) answers)
     (refines_act (record k { exposed = e; coap = c }) n m after (act.Datagram from sent) shows))
 
-pub heard_asked : (site : Site) (from : Endpoint) (bytes sent : List ℕ) (ask : PlainAsk) (request : OpenRequest) (o : Outcome) (k : Parts) (e : Kept) (b c : Server)
+pub heard_asked : (site : Site) (from : Endpoint) (bytes sent : List ℕ) (ask : PlainAsk) (request : OpenAsk) (o : Outcome) (k : Parts) (e : Kept) (b c : Server)
     (n m : NetSeen) (before after : List Seen) (h : Heard) → length bytes ≤ LONGEST_DATAGRAM → Hears from bytes k.moment h k.coap b → h ≡ asked ask request
-    → k.exposed.site ≡ site → IsPerformed k.exposed e ask.request o before after → Answers request o sent b c → NetShows n m (did (act.Datagram from sent) ∷ [])
+    → k.exposed.site ≡ site → IsPerformed k.exposed e ask.request o before after → Answers request o None sent b c → NetShows n m (did (act.Datagram from sent) ∷ [])
     → Refines StandsFor Shows (HearsDatagram site from bytes) k (record k { exposed = e; coap = c }) (outside n before) (outside m after)
 heard_asked site from bytes sent ask request o k e b c n m before after h short hears is same performed answers shows =
     receives_heard site from bytes k (record k { exposed = e; coap = c }) b (outside n before) (outside m after) h short hears
     (subst (λ (x : Heard). Refines StandsFor Shows (AnswersDatagram site from x) (record k { coap = b }) (record k { exposed = e; coap = c }) (outside n before) (outside m after)) (sym is)
     (responds_asked site from ask request sent (record k { coap = b }) e c performed.done n m before after
     (subst (λ (x : Site). Makes RackShows (Acts x ask.request performed.done) k.exposed.state e.state before after) same performed.made)
-    (subst (λ (x : Outcome). Answers request x sent b c) (sym performed.outcome) answers) shows))
+    (subst (λ (x : Outcome). Answers request x None sent b c) (sym performed.outcome) answers) shows))
 
 -- ---- steps
 

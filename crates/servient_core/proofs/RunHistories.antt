@@ -1,5 +1,5 @@
 -- Each run has a history of requests.
-use Rattle.std.proofs.Common.{◌≡◌, ℕ, ◌≤◌, ◌++◌, List, [], ◌∷◌, map, refl, sym, ap, subst, ◌∙◌, arith, max, inl, inr, false, append_assoc}
+use Rattle.std.proofs.Common.{None, ◌≡◌, ℕ, ◌≤◌, ◌++◌, List, [], ◌∷◌, map, refl, sym, ap, subst, ◌∙◌, arith, max, inl, inr, false, append_assoc}
 use Rattle.std.proofs.lemmas.List.{append-nil}
 use Rattle.servient_base.specs.Moves.{Becomes, Until, is_done, goes_on}
 use Rattle.coap_msg.specs.declared.endpoint.Endpoint.{Endpoint}
@@ -14,10 +14,14 @@ use Rattle.coap_exchange.specs.Table.{Table, at_moment, Meets}
 use Rattle.coap_exchange.specs.declared.met.Met.{Met}
 use Rattle.coap_exchange.specs.declared.met.Met.TheVariants.{Fresh, Repeat, Full}
 use Rattle.coap_bind.specs.declared.head.OpenRequest.{OpenRequest}
+use Rattle.coap_bind.specs.declared.head.OpenAsk.{OpenAsk}
 use Rattle.coap_bind.specs.declared.server.Server.{Server}
 use Rattle.coap_bind.specs.Writing.{Reply}
-use Rattle.coap_bind.specs.Server.{Heard, ignored, answered_at_once, asked, arrival, is_request, with_id_used, with_kept, IsMet, Replies, Reads, bad_option, bad_option_ignored, for_proxy, asks as are_asked, no_memory, malformed, no_request, duplicate, full, Hears, settled, admitted, Answers, opened}
-use Rattle.coap_bind.specs.Laws.{AreArrivals, Did, nothing, heard_of, answered}
+use Rattle.coap_bind.specs.Server.{Heard, ignored, answered_at_once, asked, arrival, is_request, with_id_used, with_kept, with_watchers, IsMet, Replies, Reads, bad_option, bad_option_ignored, for_proxy, asks as are_asked, no_memory, malformed, no_request, duplicate, full, Hears, settled, admitted, Answers, opened}
+use Rattle.coap_opts.specs.Reading.{PlainAsk}
+use Rattle.coap_bind.specs.Laws.{AreArrivals, IsOpen, Did, nothing, heard_of, answered}
+use Rattle.coap_bind.proofs.OpenLaws.{asks_are_open}
+use Rattle.coap_bind.proofs.MomentLaws.{replies_moment, hears_moment}
 use Rattle.http_bind.specs.Streams.{Streams, Taken, asks, wants_continue, is_faulty, IsDry, NoneIdle}
 use Rattle.thing_ops.specs.declared.outcome.Outcome.{Outcome}
 use Rattle.thing_core.specs.State.{State as ThingState}
@@ -26,6 +30,7 @@ use Rattle.servient_outside.specs.declared.net.What.TheVariants as what
 use Rattle.servient_outside.specs.declared.net.EventWithBytes.{EventWithBytes}
 use Rattle.servient_core.specs.declared.serving.Served.{Served}
 use Rattle.servient_core.specs.declared.serving.Served.TheVariants as served
+use Rattle.servient_core.specs.declared.capacity.TheConstants.{MOST_WATCHERS}
 use Rattle.servient_core.specs.Trace.{Sighting, at_handler}
 use Rattle.servient_core.specs.Machine.{Site, State, start, Move, OnCoap, AnswersDatagram, HearsDatagram, AnswersTaken, TakesNextMessage, ClosesIdle, Follows, Step, Run}
 use Rattle.servient_core.specs.Serving.{Ends}
@@ -45,42 +50,6 @@ arrivals from bytes now h s t (settled (no_request n spells isnt is same)) =
 arrivals from bytes now h s t (settled (duplicate m kept e met found is)) = one_arrival from bytes now m (Repeat kept) s t met
 arrivals from bytes now h s t (settled (full m u met is same)) = one_arrival from bytes now m Full s u met
 arrivals from bytes now h s t (admitted m slot u met reads) = one_arrival from bytes now m (Fresh slot) s u met
-
--- ---- moments
-
-met_moment : (now : ℕ) (t u : Table) (a : Arrival) (met : Met) → Meets (at_moment now t) a met u → u.moment ≡ now
-met_moment now t u a (Fresh slot) is = ap (λ (x : Table). x.moment) is.1.2
-met_moment now t u a (Repeat kept) is = ap (λ (x : Table). x.moment) is.1
-met_moment now t u a Full is = ap (λ (x : Table). x.moment) is.1.1
-
-used_moment : (kind : RequestType) (s : Server) → (with_id_used kind s).exchanges.moment ≡ s.exchanges.moment
-used_moment Confirmable s = refl
-used_moment NonConfirmable s = refl
-
-kept_moment : (kind : RequestType) (slot : ℕ) (bytes : List ℕ) (s : Server) → (with_kept kind slot bytes s).exchanges.moment ≡ s.exchanges.moment
-kept_moment Confirmable slot bytes s = refl
-kept_moment NonConfirmable slot bytes s = refl
-
-replies_moment : (r : Reply) (request : OpenRequest) (bytes : List ℕ) (s t : Server) → Replies r request bytes s t → t.exchanges.moment ≡ s.exchanges.moment
-replies_moment r request bytes s t is =
-    ap (λ (x : Server). x.exchanges.moment) is.after ∙ kept_moment request.head.kind request.slot bytes (with_id_used request.head.kind s) ∙ used_moment request.head.kind s
-
-reads_moment : (m : CoapMessage) (slot : ℕ) (h : Heard) (s t : Server) → Reads m slot h s t → t.exchanges.moment ≡ s.exchanges.moment
-reads_moment m slot h s t (bad_option number bytes fault con replies is) = replies_moment _ (opened m slot) bytes s t replies
-reads_moment m slot h s t (bad_option_ignored number fault non is same) = ap (λ (x : Server). x.exchanges.moment) same
-reads_moment m slot h s t (for_proxy bytes fault replies is) = replies_moment _ (opened m slot) bytes s t replies
-reads_moment m slot h s t (are_asked none is same) = ap (λ (x : Server). x.exchanges.moment) same
-reads_moment m slot h s t (no_memory bytes none replies is) = replies_moment _ (opened m slot) bytes s t replies
-
-hears_moment : (from : Endpoint) (bytes : List ℕ) (now : ℕ) (h : Heard) (s t : Server) → Hears from bytes now h s t → s.exchanges.moment ≤ now → t.exchanges.moment ≤ now
-hears_moment from bytes now h s t (settled (malformed f fault is same)) early = omega (arith, ap (λ (x : Server). x.exchanges.moment) same, early)
-hears_moment from bytes now h s t (settled (no_request n spells isnt is same)) early = omega (arith, ap (λ (x : Server). x.exchanges.moment) same, early)
-hears_moment from bytes now h s t (settled (duplicate m kept e met found is)) early =
-    omega (arith, met_moment now s.exchanges t.exchanges (arrival from now m) (Repeat kept) met.meets)
-hears_moment from bytes now h s t (settled (full m u met is same)) early =
-    omega (arith, ap (λ (x : Server). x.exchanges.moment) same, used_moment (request_type m.kind) u, met_moment now s.exchanges u.exchanges (arrival from now m) Full met.meets)
-hears_moment from bytes now h s t (admitted m slot u met reads) early =
-    omega (arith, reads_moment m slot h u t reads, met_moment now s.exchanges u.exchanges (arrival from now m) (Fresh slot) met.meets)
 
 -- ---- moves
 
@@ -109,24 +78,25 @@ thing_stays : (k : ℕ) (history : List Arrival) (now : ℕ) (s t : State) (x : 
     → Holds k history now s → Holds k history now t
 thing_stays k history now s t x shown seen b = stays k history now s t (ap (λ (y : State). y.coap) b.next) (ap (λ (y : State). y.moment) b.next)
 
-answers_holds : (k : ℕ) (history : List Arrival) (now : ℕ) (request : OpenRequest) (o : Outcome) (bytes : List ℕ) (s t : State) (seen : List Sighting)
-    → OnCoap (λ moment. Answers request o bytes) s seen t → Holds k history now s → Holds k history now t
-answers_holds k history now request o bytes s t seen on h =
+answers_holds : (k : ℕ) (history : List Arrival) (now : ℕ) (request : OpenAsk) (o : Outcome) (bytes : List ℕ) (s t : State) (seen : List Sighting)
+    → IsOpen request s.coap → OnCoap (λ moment. Answers request o None bytes) s seen t → Holds k history now s → Holds k history now t
+answers_holds k history now request o bytes s t seen open_ask on h =
     becomes k history now (record s { coap = on.0 }) t on.2.next (record {
-      did = answered history s.coap on.0 request o bytes h.did on.1;
-      early = omega (arith, replies_moment _ request bytes s.coap on.0 on.1, h.early);
+      did = (h.did.0, answered history s.coap on.0 request o None bytes h.did.1 open_ask on.1);
+      early = omega (arith, replies_moment _ request.request bytes (with_watchers on.1.watchers s.coap) on.0 on.1.replies, h.early);
       at = h.at;
     })
 
 responds_holds : (k : ℕ) (history : List Arrival) (now : ℕ) (site : Site) (from : Endpoint) (heard : Heard) (s t : State) (seen : List Sighting) → AnswersDatagram site from heard s seen t
-    → Holds k history now s → Holds k history now t
-responds_holds k history now site from ignored s t seen stays h = becomes k history now s t stays.next h
-responds_holds k history now site from (answered_at_once bytes) s t seen does h = becomes k history now s t does.next h
-responds_holds k history now site from (asked ask request) s t seen is h =
+    → ((ask : PlainAsk) (request : OpenAsk) → heard ≡ asked ask request → IsOpen request s.coap) → Holds k history now s → Holds k history now t
+responds_holds k history now site from ignored s t seen stays opens h = becomes k history now s t stays.next h
+responds_holds k history now site from (answered_at_once bytes) s t seen does opens h = becomes k history now s t does.next h
+responds_holds k history now site from (asked ask request) s t seen is opens h =
     let one = is.1 in
     let two = one.other.1 in
     becomes k history now two.mid t two.other.next
-    (answers_holds k history now request is.0.outcome one.other.0 one.mid two.mid two.first two.one
+    (answers_holds k history now request is.0.outcome one.other.0 one.mid two.mid two.first
+    (subst (λ (x : Server). IsOpen request x) (sym (ap (λ (x : State). x.coap) one.one.3.next)) (opens ask request refl)) two.one
     (thing_stays k history now s one.mid one.one.0 (map at_handler one.one.1) one.first one.one.3 h))
 
 handles_holds : (k : ℕ) (history : List Arrival) (now : ℕ) (site : Site) (c : ℕ) (taken : Taken) (s t : State) (seen : List Sighting) → AnswersTaken site c taken s seen t
@@ -182,8 +152,10 @@ receives_goes_on k history now site from size bytes s t seen (inr heard) h =
       new = new.0;
       requests = inr (heard.0, new.1);
       holds = responds_holds k (history ++ new.0) now site from heard.1.0 both.mid t both.second both.other
+          (λ ask request is. subst (λ (x : Server). IsOpen request x) (sym (ap (λ (x : State). x.coap) on.2.next))
+          (asks_are_open from bytes now ask request s.coap on.0 (subst (λ (x : Heard). Hears from bytes now x s.coap on.0) is hears)))
           (becomes k (history ++ new.0) now (record s { coap = on.0 }) both.mid on.2.next (record {
-            did = heard_of history new.0 s.coap on.0 from bytes now heard.1.0 h.did h.early hears new.1;
+            did = (h.did.0, heard_of history new.0 s.coap on.0 from bytes now heard.1.0 h.did.1 h.early hears new.1);
             early = hears_moment from bytes now heard.1.0 s.coap on.0 hears h.early;
             at = h.at;
           }));
@@ -246,7 +218,7 @@ run_goes_on k history now site (e ∷ es) s t seen r h =
 
 pub each_run_has_a_history : EachRunHasAHistory
 each_run_has_a_history site k took seen t r =
-    let run = run_goes_on k [] 0 site took (start site k) t seen r (record { did = nothing; early = omega arith; at = refl }) in
+    let run = run_goes_on k [] 0 site took (start site k) t seen r (record { did = (MOST_WATCHERS, nothing); early = omega arith; at = refl }) in
     record { history = run.new; requests = run.requests; did = run.holds.did; moment = omega (arith, run.holds.early, run.holds.at) }
 
 -- the end of serving changes nothing

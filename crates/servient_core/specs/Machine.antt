@@ -10,7 +10,7 @@
 
 -- ---- imports
 
-use Rattle.std.specs.Prelude.{ℕ, ◌<◌, ◌≤◌, ◌⊎◌, max, List, [], ◌∷◌, map, length, Bool, true, false, if◌then◌else◌}
+use Rattle.std.specs.Prelude.{ℕ, ◌<◌, ◌≤◌, ◌⊎◌, max, None, List, [], ◌∷◌, map, length, Bool, true, false, if◌then◌else◌}
 use Rattle.servient_base.specs.Moves.{Becomes, Stays, Then, Passing, Each, Until}
 use Rattle.coap_msg.specs.declared.constants.TheConstants.{LONGEST_DATAGRAM}
 use Rattle.coap_msg.specs.declared.endpoint.Endpoint.{Endpoint}
@@ -20,6 +20,7 @@ use Rattle.thing_site.specs.Site.{Site as Things}
 use Rattle.thing_core.specs.State.{State as ThingState, Emission, start as no_request_yet}
 use Rattle.thing_core.specs.Thing.{Move as ThingMove, Done, Acts, Polls}
 use Rattle.coap_bind.specs.declared.server.Server.{Server}
+use Rattle.servient_core.specs.declared.capacity.TheConstants.{MOST_WATCHERS}
 use Rattle.coap_bind.specs.Server.{start as nothing_came, Heard, ignored, answered_at_once, asked, Hears, Answers}
 use Rattle.http_bind.specs.Streams.{Streams, none_open, Taken, asks, wants_continue, is_faulty, Opened, Ended, Lengthened, Takes, IsDry, Replies, Continues, Refuses, Closes, IsIdle, NoneIdle}
 use Rattle.servient_outside.specs.declared.net.What.{What}
@@ -44,9 +45,9 @@ pub record State : Type 0 where
   pub coap : Server
   pub thing : ThingState
 
--- before the first event, where n exchanges may live
+-- before the first event, where n exchanges may live; nobody watches
 abbrev pub start : Site → ℕ → State
-start site exchanges = record { moment = 0; http = none_open; coap = nothing_came exchanges; thing = no_request_yet site }
+start site exchanges = record { moment = 0; http = none_open; coap = nothing_came exchanges MOST_WATCHERS; thing = no_request_yet site }
 
 abbrev pub Move : Type 1
 Move = State → List Sighting → State → Type 0
@@ -79,13 +80,13 @@ Performs site q done = OnThing (Acts site q done)
 
 -- ---- CoAP (RFC 7252): a datagram is heard, and where it asks for something it is answered, once
 
--- what follows on a datagram from this endpoint
+-- what follows on a datagram from this endpoint; nothing can be observed yet, so no answer has a target
 abbrev pub AnswersDatagram : Site → Endpoint → Heard → Move
 AnswersDatagram site from ignored s seen t = Stays s seen t
 AnswersDatagram site from (answered_at_once bytes) s seen t = Does (act.Datagram from bytes ∷ []) s seen t
 AnswersDatagram site from (asked ask request) s seen t =
     Passing (Performs site ask.request)
-    (λ done. Passing (λ bytes. OnCoap (λ now. Answers request done.outcome bytes)) (λ bytes. Does (act.Datagram from bytes ∷ []))) s seen t
+    (λ done. Passing (λ bytes. OnCoap (λ now. Answers request done.outcome None bytes)) (λ bytes. Does (act.Datagram from bytes ∷ []))) s seen t
 
 -- a datagram is longer than one that is looked at and nothing is done, or it is heard
 abbrev pub HearsDatagram : Site → Endpoint → List ℕ → Move

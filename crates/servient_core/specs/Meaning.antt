@@ -1,5 +1,5 @@
 -- What an operation means doesn't depend on the binding by which it is asked for.
-use Rattle.std.specs.Prelude.{◌≡◌, ℕ, Bool, List, [], ◌∷◌}
+use Rattle.std.specs.Prelude.{◌≡◌, ℕ, Bool, None, List, [], ◌∷◌}
 use Rattle.servient_base.specs.Moves.{Then, Passing}
 use Rattle.coap_msg.specs.declared.endpoint.Endpoint.{Endpoint}
 use Rattle.thing_ops.specs.Requests.{PlainRequest}
@@ -7,7 +7,7 @@ use Rattle.thing_handler.specs.declared.handler.Answer.{Answer}
 use Rattle.thing_core.specs.Thing.{Done}
 use Rattle.thing_core.specs.Determined.{AreAnsweredBy, HadMemory}
 use Rattle.coap_opts.specs.Reading.{PlainAsk}
-use Rattle.coap_bind.specs.declared.head.OpenRequest.{OpenRequest}
+use Rattle.coap_bind.specs.declared.head.OpenAsk.{OpenAsk}
 use Rattle.coap_bind.specs.Server.{asked, Answers}
 use Rattle.http_bind.specs.Streams.{asks, Replies}
 use Rattle.servient_outside.specs.declared.net.Act.TheVariants as act
@@ -17,7 +17,7 @@ use Rattle.servient_core.specs.Machine.{Site, State, Move, OnHttp, OnCoap, Does,
 -- A message that was read as a request: by CoAP from an endpoint, where it asks for this and has to be answered, or by
 -- HTTP on a connection.
 pub data Message : Type 0 where
-  by_coap : Endpoint → PlainAsk → OpenRequest → Message
+  by_coap : Endpoint → PlainAsk → OpenAsk → Message
   by_http : ℕ → PlainRequest → Message
 
 -- the request as which it was read
@@ -33,7 +33,7 @@ Handled site (by_http c q) = AnswersTaken site c (asks q)
 -- its outcome is written as its binding writes that, and sent
 abbrev pub Writes : Message → Done → Move
 Writes (by_coap from ask request) done =
-    Passing (λ bytes. OnCoap (λ now. Answers request done.outcome bytes)) (λ bytes. Does (act.Datagram from bytes ∷ []))
+    Passing (λ bytes. OnCoap (λ now. Answers request done.outcome None bytes)) (λ bytes. Does (act.Datagram from bytes ∷ []))
 Writes (by_http c q) done =
     Passing (λ (reply : List ℕ × Bool). OnHttp (λ now. Replies c q done.outcome now reply.0 reply.1)) (Sends c)
 

@@ -18,6 +18,7 @@
 //! ```
 #![tactic(auto)]
 
+mod capacity;
 mod connections;
 mod laws;
 mod parts;

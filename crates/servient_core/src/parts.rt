@@ -81,7 +81,8 @@ impl Parts {
             CoapNext::Send(size) => net.datagram(from, &out[..size]),
             CoapNext::Ask(ask, ticket) => {
                 let outcome = perform(&mut self.exposed, rack, &ask.request);
-                let size = self.coap.answer(ticket, &outcome, &mut out);
+                // No target: nothing can be observed yet.
+                let size = self.coap.answer(ticket, &outcome, None, &mut out);
                 net.datagram(from, &out[..size]);
             }
         }

@@ -12,6 +12,7 @@ ghost use Rattle.servient_core.specs.Trace.{Shows, outside};
 ghost use Rattle.servient_core.specs.Machine.{start, Step};
 ghost use Rattle.servient_core.specs.Serving.{StandsFor, IsOpenFault};
 
+use crate::capacity::MOST_WATCHERS;
 use crate::connections::Rooms;
 use crate::parts::Parts;
 use crate::{Event, Net, Plan};
@@ -92,7 +93,7 @@ impl Servient {
             Ok(exposed) => exposed,
             Err(fault) => return Err(OpenFault::Expose(fault)),
         };
-        let coap = CoapBind::new(alloc, plan.exchanges)?;
+        let coap = CoapBind::new(alloc, plan.exchanges, MOST_WATCHERS)?;
         let http = HttpBind::new(alloc)?;
         let rooms = Rooms::new(alloc)?;
         Ok(Servient {

@@ -30,16 +30,16 @@ returns-in-Done-Some-clause-ok c =
     let h = c.in-Done-Some.ensures.ok in
     let T : Option ℕ → Type 0 = λ r. TellsDone h.0 r c.args.out.now c.settle.new.out in
     let P : Server → Type 0 = λ s. HearsAs c.args.from c.args.bytes.now c.args.now (Send c.in-Done-Some.size) c.args.out.now c.settle.new.out s c.settle.new.self in
-    subst P c.self.view_is
-    (record { heard = h.0; hears = settled h.1; tells = tells_send h.0 c.in-Done-Some.size c.args.out.now c.settle.new.out (subst T c.in-Done-Some.field-0-is h.2) })
+    rw c.in-Done-Some.field-0-is (subst P c.self.view_is
+    (record { heard = h.0; hears = settled h.1; tells = tells_send h.0 c.in-Done-Some.size c.args.out.now c.settle.new.out (subst T c.in-Done-Some.field-0-is h.2) }))
 
 pub returns-in-Done-Some-clause-memory : goal.returns-in-Done-Some-clause-memory
 returns-in-Done-Some-clause-memory c =
     let h = c.in-Done-Some.ensures.ok in
     let T : Option ℕ → Type 0 = λ r. TellsDone h.0 r c.args.out.now c.settle.new.out in
     let P : Server → Type 0 = λ s. SettlesAs c.args.from c.args.bytes.now c.args.now (Send c.in-Done-Some.size) c.args.out.now c.settle.new.out s c.settle.new.self in
-    inr (subst P c.self.view_is
-    (record { heard = h.0; settles = h.1; tells = tells_send h.0 c.in-Done-Some.size c.args.out.now c.settle.new.out (subst T c.in-Done-Some.field-0-is h.2) }))
+    rw c.in-Done-Some.field-0-is (inr (subst P c.self.view_is
+    (record { heard = h.0; settles = h.1; tells = tells_send h.0 c.in-Done-Some.size c.args.out.now c.settle.new.out (subst T c.in-Done-Some.field-0-is h.2) })))
 
 pub returns-in-Admitted-clause-ok : goal.returns-in-Admitted-clause-ok
 returns-in-Admitted-clause-ok c =

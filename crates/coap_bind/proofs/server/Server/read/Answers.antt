@@ -15,22 +15,22 @@ returns-in-Err-BadOption-clause-ok c =
     let P : RequestHead → Type 0 = λ h.
     RefusesOption (record { head = h; slot = c.args.slot }) c.in-Err-BadOption.number c.refuse_option.result c.args.out.now c.refuse_option.new.out
     c.args.self.now c.refuse_option.new.self in
-    reads_bad_option (message_of c.args.message.now) c.args.slot c.in-Err-BadOption.number _ _ _ _ _
+    reads_bad_option c.args.from (message_of c.args.message.now) c.args.slot c.in-Err-BadOption.number _ _ _ _ _
     (first_fault _ c.in-Err-BadOption.field-0 (BadOption c.in-Err-BadOption.number) c.in-Err-BadOption.field-0-is (λ e. cc) c.in-Err-BadOption.ensures.fault)
-    (subst P c.of.ensures c.refuse_option.ensures)
+    (subst P c.of.ensures (rw c.in-Err-BadOption.field-0-is at c.refuse_option.ensures))
 
 pub returns-in-Err-Proxy-clause-ok : goal.returns-in-Err-Proxy-clause-ok
 returns-in-Err-Proxy-clause-ok c =
     let P : RequestHead → Type 0 = λ h.
     RepliesAs proxy_reply (record { head = h; slot = c.args.slot }) c.refuse.result c.args.out.now c.refuse.new.out c.args.self.now c.refuse.new.self in
-    reads_for_proxy (message_of c.args.message.now) c.args.slot _ _ _ _ _
+    reads_for_proxy c.args.from (message_of c.args.message.now) c.args.slot _ _ _ _ _
     (first_fault _ c.in-Err-Proxy.field-0 Proxy c.in-Err-Proxy.field-0-is (λ e. cc) c.in-Err-Proxy.ensures.fault)
     (subst P c.of.ensures c.refuse.ensures)
 
 pub returns-in-Err-NoMemory-clause-ok : goal.returns-in-Err-NoMemory-clause-ok
 returns-in-Err-NoMemory-clause-ok c =
     let P : RequestHead → Type 0 = λ h.
-    RepliesAs (reply_of Memory) (record { head = h; slot = c.args.slot }) c.answer.result c.args.out.now c.answer.new.out c.args.self.now c.answer.new.self in
-    reads_no_memory (message_of c.args.message.now) c.args.slot _ _ _ _ _
+    RepliesAs (reply_of Memory) (record { head = h; slot = c.args.slot }) c.reply.result c.args.out.now c.reply.new.out c.args.self.now c.reply.new.self in
+    reads_no_memory c.args.from (message_of c.args.message.now) c.args.slot _ _ _ _ _
     (no_fault_here c.args.message.now.options c.in-Err-NoMemory.field-0 c.in-Err-NoMemory.field-0-is c.in-Err-NoMemory.ensures.fault)
-    (subst P c.of.ensures c.answer.ensures)
+    (subst P c.of.ensures c.reply.ensures)

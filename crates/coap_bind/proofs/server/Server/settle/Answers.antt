@@ -20,7 +20,7 @@ returns-in-Err-clause-ok c = (_, malformed _ c.in-Err.ensures.fault refl refl, t
 pub returns-then-not-is_request-clause-ok : goal.returns-then-not-is_request-clause-ok
 returns-then-not-is_request-clause-ok c = (
   _,
-  no_request (message_of c.in-Ok.message) c.in-Ok.ensures.ok (sym c.is_request.ensures ∙ c.if-not-is_request.true) refl refl,
+  no_request (message_of c.in-Ok.message) c.in-Ok.ensures.ok (sym c.is_request.ensures ∙ c.if-not-is_request.true) refl c.report.ensures,
   tells_reply _ _ _ _ c.put_empty_reply.ensures,
 )
 
@@ -32,19 +32,19 @@ returns-in-Repeat-clause-ok c =
     let R : RequestType → Type 0 = λ kind. TellsDone (duplicate_reply kind met.0.0.reply) c.answer_duplicate.result c.args.out.now c.answer_duplicate.new.out in (
       duplicate_reply (request_type c.in-Ok.message.kind) met.0.0.reply,
       duplicate (message_of c.in-Ok.message) c.in-Repeat.kept met.0.0
-          (record { spells = c.in-Ok.ensures.ok; request = sym c.is_request.ensures ∙ c.if-not-is_request.false; meets = met; same_id = refl })
+          (record { spells = c.in-Ok.ensures.ok; request = sym c.is_request.ensures ∙ c.if-not-is_request.false; meets = met; same_watchers = refl; same_id = refl })
           met.0.1 refl,
       subst R c.of-kind.ensures (c.answer_duplicate.ensures met.0.0 there met.0.3),
     )
 
 pub returns-in-Full-clause-ok : goal.returns-in-Full-clause-ok
 returns-in-Full-clause-ok c =
-    let u : Server = record { exchanges = c.meet.new.self; next_id = c.args.self.now.next_id } in
+    let u : Server = record { exchanges = c.meet.new.self; watchers = c.args.self.now.watchers; next_id = c.args.self.now.next_id } in
     let P : RequestHead → Type 0 = λ h. IsWritten (spelling (coap_reply full_reply h c.args.self.now.next_id)) c.send.result c.args.out.now c.send.new.out in
     let Q : RequestHead → Type 0 = λ h. c.send.new.self ≡ with_id_used h.kind u in (
       _,
       full (message_of c.in-Ok.message) u
-          (record { spells = c.in-Ok.ensures.ok; request = sym c.is_request.ensures ∙ c.if-not-is_request.false; meets = c.in-Full.ensures.met; same_id = refl })
+          (record { spells = c.in-Ok.ensures.ok; request = sym c.is_request.ensures ∙ c.if-not-is_request.false; meets = c.in-Full.ensures.met; same_watchers = refl; same_id = refl })
           refl (subst Q c.of-head.ensures c.send.ensures.after),
       subst P c.of-head.ensures c.send.ensures.bytes,
     )

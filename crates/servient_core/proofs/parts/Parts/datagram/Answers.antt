@@ -25,7 +25,7 @@ answer-size-requires-clause-code g c =
 pub answer-size-requires-clause-room : goal.answer-size-requires-clause-room
 answer-size-requires-clause-room g c =
     let heard = c.in-Ask.ensures.ok in
-    replies_fit c.perform-outcome.result c.in-Ask.ticket.head c.datagram.new.self.next_id c.in-Ask.ensures.ticket.token
+    λ observe watchers watches. replies_fit c.perform-outcome.result observe c.in-Ask.ticket.request.head c.datagram.new.self.next_id c.in-Ask.ensures.ticket.token
     (c.perform-outcome.ensures.sendable
     (asked_short c.args.from c.args.bytes.now c.args.self.now.moment heard.heard c.args.self.now.coap c.datagram.new.self (plain_ask c.in-Ask.ask) c.in-Ask.ticket heard.hears heard.tells.0)).1
 
@@ -60,7 +60,7 @@ returns-in-Ask g c =
       refines = heard_asked c.args.self.now.exposed.site c.args.from c.args.bytes.now replied.bytes (plain_ask c.in-Ask.ask) c.in-Ask.ticket c.perform-outcome.result
           c.args.self.now c.perform-outcome.new.exposed c.datagram.new.self c.answer-size.new.self
           (g.N.Net.seen c.args.net.now) (g.N.Net.seen c.datagram-in-Ask.new.self) (g.R.Handlers.slots c.args.rack.now) (g.R.Handlers.slots c.perform-outcome.new.rack) heard.heard
-          (omega (arith, c.if-bytes-gt-LONGEST_DATAGRAM.false)) heard.hears heard.tells.0 refl c.perform-outcome.ensures.performed replied.replies
+          (omega (arith, c.if-bytes-gt-LONGEST_DATAGRAM.false)) heard.hears heard.tells.0 refl c.perform-outcome.ensures.performed replied.answers
           (subst (λ (sent : List ℕ). NetShows (g.N.Net.seen c.args.net.now) (g.N.Net.seen c.datagram-in-Ask.new.self) (did (act.Datagram c.args.from sent) ∷ []))
           replied.written.front c.datagram-in-Ask.ensures);
       ready = record { pending = c.perform-outcome.ensures.performed.pending; moment = omega (arith, c.answer-size.ensures.moment, c.in-Ask.ensures.moment); room = c.requires.ready.room };

@@ -1,0 +1,6 @@
+-- the server's moment is not past this one
+use Rattle.std.proofs.Common.{◌≤◌}
+use Rattle.bindings_tables.proofs.crowds.put_rounds.Given as goal
+
+abbrev pub invariant-loop-time : goal.invariant-loop-_time
+invariant-loop-time l = l.server.exchanges.moment ≤ l.fn.now

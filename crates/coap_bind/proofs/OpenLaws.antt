@@ -1,0 +1,62 @@
+-- What a datagram asks may be answered at once.
+use Rattle.std.proofs.Common.{◌≡◌, ◌∙◌, cond, ℕ, Bool, true, false, Some, None, List, [], ◌∷◌, ◌++◌, refl, sym, ap, subst, arith}
+use Rattle.std.specs.Prelude.{◌==◌, find}
+use Rattle.std.proofs.lemmas.Bool.Decides.{nat_tests}
+use Rattle.coap_msg.specs.declared.endpoint.Endpoint.{Endpoint}
+use Rattle.coap_msg.specs.Grammar.{CoapMessage}
+use Rattle.coap_msg.specs.Requests.{request_type}
+use Rattle.coap_exchange.specs.Table.{Exchange, exchange_in, at_moment}
+use Rattle.coap_opts.specs.Reading.{PlainAsk}
+use Rattle.coap_bind.specs.declared.head.OpenAsk.{OpenAsk}
+use Rattle.coap_bind.specs.declared.server.Server.{Server}
+use Rattle.coap_exchange.specs.declared.met.Met.TheVariants.{Fresh}
+use Rattle.coap_bind.specs.Server.{asked, IsMet, answered_at_once, arrival, malformed, no_request, duplicate, full, bad_option, bad_option_ignored, for_proxy, asks, no_memory, opened_ask, Reads, settled, admitted}
+use Rattle.coap_bind.specs.Laws.{IsOpen, AsksAreOpen}
+use Rattle.coap_bind.proofs.HistoryLaws.{not_replied, not_duplicate}
+
+same_number : (n : ℕ) → (n == n) ≡ true
+same_number n = grind (arith, nat_tests)
+
+asks_at_once : (what : PlainAsk) (ask : OpenAsk) (bytes : List ℕ) → asked what ask ≡ answered_at_once bytes → ⊥
+asks_at_once what ask bytes e = cc
+
+last_found : (slot : ℕ) (es : List Exchange) (e : Exchange) → find (λ x. x.slot == slot) es ≡ None → (e.slot == slot) ≡ true
+    → find (λ x. x.slot == slot) (es ++ e ∷ []) ≡ Some e
+last_found slot [] e none is = found_here (e.slot == slot) is
+  where
+    found_here : (b : Bool) → b ≡ true → cond b (Some e) None ≡ Some e
+    found_here true is' = refl
+    found_here false is' = cc
+last_found slot (x ∷ es) e none is = found_later (x.slot == slot) none (λ rest. last_found slot es e rest is)
+  where
+    found_later : (b : Bool) → cond b (Some x) (find (λ y. y.slot == slot) es) ≡ None
+        → (find (λ y. y.slot == slot) es ≡ None → find (λ y. y.slot == slot) (es ++ e ∷ []) ≡ Some e)
+        → cond b (Some x) (find (λ y. y.slot == slot) (es ++ e ∷ [])) ≡ Some e
+    found_later true none' rest = cc
+    found_later false none' rest = rest none'
+
+-- a request that was admitted is in its slot, and waits for its reply
+pub fresh_is_there : (from : Endpoint) (bytes : List ℕ) (now : ℕ) (m : CoapMessage) (slot : ℕ) (s u : Server) → IsMet from bytes now m (Fresh slot) s u
+    → exchange_in slot u.exchanges ≡ Some (record { arrival = arrival from now m; slot = slot; reply = None })
+fresh_is_there from bytes now m slot s u met =
+    ap (exchange_in slot) met.meets.1.2
+    ∙ last_found slot (at_moment now s.exchanges).exchanges (record { arrival = arrival from now m; slot = slot; reply = None }) met.meets.1.1 (same_number slot)
+
+reads_open : (from : Endpoint) (m : CoapMessage) (slot : ℕ) (what : PlainAsk) (ask : OpenAsk) (s t : Server) (e : Exchange) → Reads from m slot (asked what ask) s t
+    → exchange_in slot s.exchanges ≡ Some e → e.reply ≡ None → request_type m.kind ≡ e.arrival.kind → IsOpen ask t
+reads_open from m slot what ask s t e (bad_option number bytes fault con replies h) there waits kind = absurd (asks_at_once what ask bytes h)
+reads_open from m slot what ask s t e (bad_option_ignored number fault non h is) there waits kind = cc
+reads_open from m slot what ask s t e (for_proxy bytes fault replies h) there waits kind = absurd (asks_at_once what ask bytes h)
+reads_open from m slot what ask s t e (no_memory bytes none replies h) there waits kind = absurd (asks_at_once what ask bytes h)
+reads_open from m slot what ask s t e (asks none h is) there waits kind =
+    let same : ask ≡ opened_ask from m slot = cc in
+    subst (λ (x : Server). IsOpen ask x) (sym is)
+    (subst (λ (a : OpenAsk). IsOpen a s) (sym same) (record { exchange = e; there = there; waits = waits; kind = kind }))
+
+pub asks_are_open : AsksAreOpen
+asks_are_open from bytes now what ask s t (settled (malformed f fault h is)) = absurd (not_replied what ask _ h)
+asks_are_open from bytes now what ask s t (settled (no_request m of_m none h is)) = absurd (not_replied what ask _ h)
+asks_are_open from bytes now what ask s t (settled (duplicate m kept e met found h)) = absurd (not_duplicate what ask (request_type m.kind) e.reply h)
+asks_are_open from bytes now what ask s t (settled (full m u met h is)) = absurd (asks_at_once what ask _ h)
+asks_are_open from bytes now what ask s t (admitted m slot u met reads) =
+    reads_open from m slot what ask u t (record { arrival = arrival from now m; slot = slot; reply = None }) reads (fresh_is_there from bytes now m slot s u met) refl refl

@@ -96,12 +96,16 @@ forms_for t o name = forms_in t (kind_of o) name
 abbrev pub wanted : Op → Option Scheme → Wanted
 wanted o only = record { op = o; scheme = only }
 
+-- there are such forms, and what is chosen by the first of them that qualifies, or by none, is this
+abbrev pub ComesTo : Json → Wanted → List ℕ → Option Chosen → Type 0
+ComesTo t w name o = (forms : List Form) × (forms_for t w.op name ≡ Some forms) × IsFirst w (base_of t) forms o
+
 -- This is chosen: the first form that qualifies says it.
 abbrev pub IsChosen : Json → Wanted → List ℕ → Chosen → Type 0
-IsChosen t w name c = IfSome (forms_for t w.op name) (λ forms. IsFirst w (base_of t) forms (Some c))
+IsChosen t w name c = ComesTo t w name (Some c)
 
 -- Nothing is chosen: there is no such affordance, or none of its forms qualifies; or it is out of memory.
 abbrev pub IsNoChoice : Json → Wanted → List ℕ → ChooseFault → Type 0
 IsNoChoice t w name fault.NoAffordance = forms_for t w.op name ≡ None
-IsNoChoice t w name fault.NoForm = IfSome (forms_for t w.op name) (λ forms. IsFirst w (base_of t) forms None)
+IsNoChoice t w name fault.NoForm = ComesTo t w name None
 IsNoChoice t w name fault.NoMemory = ⊤

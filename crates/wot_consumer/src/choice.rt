@@ -8,6 +8,7 @@ ghost use Rattle.wot_json.specs.Meaning.{json_of};
 ghost use Rattle.wot_terms.specs.Faults.{IsValid};
 ghost use Rattle.wot_consumer.specs.Operations.{is_consumed, is_observing as observes, verb_of as verb_for};
 ghost use Rattle.wot_consumer.specs.Places.{scheme_named as scheme_of, default_port as port_by_default};
+ghost use Rattle.wot_consumer.specs.Judgement.{HasAffordance};
 ghost use Rattle.wot_consumer.specs.Choice as spec;
 
 use crate::operations::{is_observing, kind_of, verb_of};
@@ -41,6 +42,8 @@ pub fn choose(
     requires valid { IsValid (json_of tree.now) }
     requires consumed { IsTrue (is_consumed op) }
     ensures ok { IfOk result (λ c. spec.IsChosen (json_of tree.now) (spec.wanted op scheme) name.now c) }
+    // So the values of what is chosen can be judged.
+    ensures affordance { IfOk result (λ c. HasAffordance (json_of tree.now) op name.now) }
     ensures fault { IfErr result (λ f. spec.IsNoChoice (json_of tree.now) (spec.wanted op scheme) name.now f) }
 {
     let wanted = Wanted { op, scheme };

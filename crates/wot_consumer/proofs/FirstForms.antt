@@ -1,5 +1,5 @@
 -- The first form that qualifies, one form after another.
-use Rattle.std.proofs.Common.{◌≡◌, ◌<◌, ◌+◌, ◌⊎◌, inl, inr, ℕ, List, [], ◌∷◌, length, drop, get_or, Option, Some, None, refl, sym, subst}
+use Rattle.std.proofs.Common.{◌≡◌, ◌<◌, ◌+◌, inr, ℕ, List, ◌∷◌, length, drop, get_or, Option, Some, None, refl, sym, subst}
 use Rattle.std.specs.Prelude.{MatchOption}
 use Rattle.wot_schema.proofs.Steps.{rest_at}
 use Rattle.wot_forms.specs.declared.form.Form.{Form}

@@ -1,10 +1,9 @@
 -- The members of a value of all properties, one after another.
-use Rattle.std.proofs.Common.{◌≡◌, ◌<◌, ◌+◌, ◌↔◌, ℕ, List, [], ◌∷◌, length, drop, get_or, Option, Some, None, IfSome, option_map, Bor, sym, subst}
+use Rattle.std.proofs.Common.{◌≡◌, ◌<◌, ◌+◌, ◌↔◌, ℕ, List, length, drop, get_or, sym, subst}
 use Rattle.wot_json.specs.Tree.{Json, members_of}
 use Rattle.wot_json.specs.Meaning.{json_of, json_members}
 use Rattle.wot_json.specs.declared.tree.Tree.{Tree}
 use Rattle.wot_schema.proofs.Steps.{rest_at}
-use Rattle.wot_terms.specs.Schemas.{IsSchema}
 use Rattle.wot_consumer.specs.Judgement.{AreProperties, IsAcceptedBy, property_schema}
 
 abbrev pub AreAccepted : Json → List (List ℕ × Tree) → Type 0

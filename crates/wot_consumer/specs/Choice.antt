@@ -1,5 +1,5 @@
 -- Which form of a Thing Description an operation is done by, and what is asked there (TD 1.1, section 5.3.4.2).
-use Rattle.std.specs.Prelude.{◌≡◌, ◌⊎◌, ℕ, List, [], ◌∷◌, Bool, true, false, not, IsTrue, Option, Some, None, Ok, codes, unwrap_or, option_map, IfSome, Contains, ⊤, if◌then◌else◌}
+use Rattle.std.specs.Prelude.{◌≡◌, ◌⊎◌, ℕ, List, [], ◌∷◌, Bool, true, not, IsTrue, Option, Some, None, Ok, codes, unwrap_or, option_map, IfSome, Contains, ⊤, if◌then◌else◌}
 use Rattle.url.specs.Parts.{Parts, nonempty_host}
 use Rattle.url.specs.Host.{host_text}
 use Rattle.servient_base.specs.Location.{joined_url}

@@ -1,6 +1,6 @@
 -- Whether a description takes the value that an operation hands in, and the one that comes back (TD 1.1, sections 5.3.1.3
 -- and 5.3.1.4).
-use Rattle.std.specs.Prelude.{◌≡◌, ℕ, List, Option, Some, None, IfSome, IsSome, codes, option_and_then, ⊤}
+use Rattle.std.specs.Prelude.{ℕ, List, Option, Some, None, IfSome, IsSome, codes, option_and_then, ⊤}
 use Rattle.wot_json.specs.Tree.{Json, null, boolean, integer, string, array, object, Members, no_members, member}
 use Rattle.wot_schema.specs.Acceptance.{Accepts}
 use Rattle.wot_terms.specs.declared.kind.Kind.{Kind}

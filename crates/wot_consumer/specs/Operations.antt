@@ -1,12 +1,10 @@
 -- What a consumer does with a Thing (TD 1.1, section 5.3.4.2), and the method by which it is asked.
-use Rattle.std.specs.Prelude.{ℕ, List, Bool, true, false, Option, Some, None, codes, ◌||◌, ◌&&◌, not, unwrap_or, option_and_then, if◌then◌else◌}
+use Rattle.std.specs.Prelude.{ℕ, List, Bool, true, false, Option, Some, None, codes, unwrap_or, option_and_then, if◌then◌else◌}
 use Rattle.std.specs.Str.{bytes_eq}
 use Rattle.wot_terms.specs.declared.kind.Kind.{Kind}
 use Rattle.wot_terms.specs.declared.kind.Kind.TheVariants as kind
 use Rattle.wot_terms.specs.declared.op.Op.{Op}
 use Rattle.wot_terms.specs.declared.op.Op.TheVariants as op
-use Rattle.wot_forms.specs.declared.scheme.Scheme.{Scheme}
-use Rattle.wot_forms.specs.declared.scheme.Scheme.TheVariants as scheme
 use Rattle.thing_ops.specs.declared.verb.Verb.{Verb}
 use Rattle.thing_ops.specs.declared.verb.Verb.TheVariants as verb
 

@@ -1,4 +1,3 @@
-use Rattle.std.proofs.Common.{◌∙◌}
 use Rattle.std.specs.Option.{option_copied}
 use Rattle.wot_consumer.proofs.FirstForms.{first_more, passed_over}
 use Rattle.wot_consumer.proofs.choice.first.Goals as goal

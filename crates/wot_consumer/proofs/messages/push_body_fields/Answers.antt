@@ -1,4 +1,4 @@
-use Rattle.std.proofs.Common.{◌∙◌, ◌≡◌, ◌++◌, OnOk, subst, ap, string_bytes, codes, decimal}
+use Rattle.std.proofs.Common.{◌∙◌, ◌≡◌, ◌++◌, OnOk, subst, string_bytes, codes, decimal}
 use Rattle.std.proofs.lemmas.List.{append_assoc}
 use Rattle.wot_consumer.specs.Messages.{field}
 use Rattle.wot_consumer.proofs.messages.push_body_fields.Goals as goal

@@ -1,4 +1,4 @@
-use Rattle.std.proofs.Common.{◌∙◌, ◌≡◌, ap, map, [], sym}
+use Rattle.std.proofs.Common.{◌∙◌, ap, map, sym}
 use Rattle.std.proofs.lemmas.List.{take_all}
 use Rattle.percent_encoding.specs.Percent.{percent_decode}
 use Rattle.wot_consumer.proofs.SegmentLists.{decoded_parts, some_bytes}

@@ -1,4 +1,4 @@
-use Rattle.std.proofs.Common.{◌≡◌, ◌++◌, map, take}
+use Rattle.std.proofs.Common.{◌≡◌, map, take}
 use Rattle.percent_encoding.specs.Percent.{percent_decode}
 use Rattle.wot_consumer.proofs.places.segments_behind.Given as goal
 

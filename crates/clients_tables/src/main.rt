@@ -1,7 +1,10 @@
-//! Histories of a CoAP client: what it is asked, what comes to it and what is due, a step a line, and after ` => `
-//! what it sends and its news. Each argument names a file of histories; an empty line ends one, and the next
-//! client is new. The program prints each step with what does come of it, and each other line as it is: so it
-//! prints its files, if all is right.
+//! Tables of the clients. The files `choices`, `judgements` and `http_requests` have rows, as the modules of these names
+//! say: what is given, ` => `, and what comes of it; `given TEXT` is what the rows after it are about.
+//!
+//! Each other file has histories of a CoAP client: what it is asked, what comes to it and what is due, a step a line,
+//! and after ` => ` what it sends and its news. An empty line ends one, and the next client is new. Each argument names
+//! a file. The program prints each row and step with what does come of it, and each other line as it is: so it prints
+//! its files, if all is right.
 //!
 //! - `first id N`: before the first step, the id of the first message where that isn't 0;
 //! - `at MOMENT request HOST METHOD PATH`, perhaps `Content-Format=N` and a payload: asks for something;
@@ -12,9 +15,14 @@
 #![tactic(auto)]
 
 mod asking;
+mod choices;
+mod descriptions;
 mod hearing;
 mod history;
+mod http_requests;
+mod judgements;
 mod resetting;
+mod tables;
 
 use std::alloc::{AllocError, Global};
 use std::{env, fs, io};
@@ -30,17 +38,21 @@ fn put_histories(text: &mut String, alloc: Global, lines: &str) -> Result<(), Al
     Ok(())
 }
 
-/// The same as a text of its own.
-fn page(alloc: Global, lines: &str) -> Result<String, AllocError> {
+/// A file as a text of its own.
+fn page(alloc: Global, name: &str, lines: &str) -> Result<String, AllocError> {
     let mut text = String::new(alloc);
-    put_histories(&mut text, alloc, lines)?;
+    if tables::is_table(name) {
+        tables::put(&mut text, alloc, name, lines)?;
+    } else {
+        put_histories(&mut text, alloc, lines)?;
+    }
     Ok(text)
 }
 
-/// Prints the histories of a file.
+/// Prints a file.
 fn print(rt: &HostRuntime, name: &str) -> io::Result<()> {
     let lines = fs::read_to_string(rt, name)?;
-    rt.print(page(rt.alloc(), lines.as_str())?)
+    rt.print(page(rt.alloc(), name, lines.as_str())?)
 }
 
 fn main(rt: HostRuntime) -> io::Result<()> {

@@ -1,0 +1,4 @@
+pub mod SegmentLists
+pub mod FirstForms
+pub mod ValidSchemas
+pub mod MemberSteps

@@ -1,0 +1,5 @@
+pub mod Operations
+pub mod Places
+pub mod Choice
+pub mod Messages
+pub mod Judgement

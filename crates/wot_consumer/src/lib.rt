@@ -1,0 +1,35 @@
+//! What a consumer of a Thing decides by the Thing's description (TD 1.1): which form an operation is done by, what is
+//! sent there, and whether a value that is handed in or comes back is as the description says.
+//!
+//! `choose` gives the first form that qualifies, as `IsChosen` of `specs/Choice.antt` says; `http_request` writes the
+//! request, `request_bytes` of `specs/Messages.antt`; `judge_input` and `judge_output` hold values against schemas,
+//! `AcceptsInput` and `AcceptsOutput` of `specs/Judgement.antt`. Nothing here knows a socket or a moment.
+//!
+//! ```text
+//! let chosen = choose(alloc, &tree, Op::WriteProperty, "status", Some(Scheme::Http))?;
+//! let request = http_request(alloc, &chosen, Some(b"true"))?;
+//! // PUT /lamp/properties/status HTTP/1.1
+//! // Host: lamp.local:80
+//! // Accept: application/json
+//! // Content-Type: application/json
+//! // Content-Length: 4
+//! // Connection: close
+//! //
+//! // true
+//! ```
+#![tactic(auto)]
+
+mod choice;
+mod chosen;
+mod judgement;
+mod messages;
+mod operations;
+mod places;
+mod wanted;
+
+pub use choice::choose;
+pub use chosen::{ChooseFault, Chosen};
+pub use judgement::{judge_input, judge_output};
+pub use messages::http_request;
+pub use servient_base::NoMemory;
+pub use wot_forms::Scheme;

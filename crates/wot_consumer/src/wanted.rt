@@ -1,0 +1,11 @@
+//! What a form is looked for.
+
+use wot_forms::Scheme;
+use wot_terms::Op;
+
+/// An operation, over one protocol, or over either where none is named.
+#[derive(Clone, Copy, Debug, Drop)]
+pub(crate) struct Wanted {
+    pub(crate) op: Op,
+    pub(crate) scheme: Option<Scheme>,
+}

@@ -61,7 +61,7 @@ impl Model for Entries {
 
 impl Entries {
     /// No devices.
-    fn new(alloc: Global) -> Self
+    pub fn new(alloc: Global) -> Self
         ensures { result ≡ [] }
     {
         Entries {

@@ -110,7 +110,7 @@ impl Ending {
     }
 
     /// The content of a file is refused at a place, as `what` says.
-    fn input_at(alloc: Global, name: &str, what: &[u8], place: &str) -> Result<Ending, NoMemory>
+    pub fn input_at(alloc: Global, name: &str, what: &[u8], place: &str) -> Result<Ending, NoMemory>
         ensures { IfOk result (λ e.
             (e.status ≡ 4) × (e.text ≡ input_line name.now (what.now ++ json_string place.now))) }
     {

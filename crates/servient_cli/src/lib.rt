@@ -34,6 +34,8 @@ mod script;
 mod storming;
 mod turns;
 
+pub use ending::{Ended, Ending, end_with};
 pub use laws::{each_event_has_fields, lines_are_cut_in_one_way};
-pub use main_call::servient_main;
+pub use main_call::{report, servient_main};
+pub use reading::{LONGEST_JSON, read_file, read_tree};
 pub use script::{Script, ScriptFault};

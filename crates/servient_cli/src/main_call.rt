@@ -79,7 +79,7 @@ fn do_words<F: Files, N: Net, R: Handlers>(
 }
 
 /// Writes the text with which a command ended, and gives its status, or 7 where the output failed.
-fn report<O: Out>(out: &mut O, ended: &Result<Ending, Ended>) -> u8
+pub fn report<O: Out>(out: &mut O, ended: &Result<Ending, Ended>) -> u8
     ensures { IsReported (status_in ended.now) (text_in ended.now) (O.seen out.old) (O.seen out.new) result }
 {
     match out.put(final_text(ended)) {

@@ -41,7 +41,7 @@ fn run_words(rt: &HostRuntime) -> Result<u8, NoMemory> {
 
 /// The words after the program's name. Where one of them isn't UTF-8 they are no command line, and no word
 /// is handed on.
-fn words(rt: &HostRuntime) -> Result<Vec<Text>, NoMemory> {
+pub fn words(rt: &HostRuntime) -> Result<Vec<Text>, NoMemory> {
     let mut words = Vec::new(rt.alloc());
     match env::args(rt) {
         Ok(given) => {
@@ -61,7 +61,7 @@ fn words(rt: &HostRuntime) -> Result<Vec<Text>, NoMemory> {
 }
 
 /// Says that it was out of memory to begin with.
-fn out_of_memory(rt: &HostRuntime) -> ExitCode {
+pub fn out_of_memory(rt: &HostRuntime) -> ExitCode {
     let mut out = OutReal::new(io::writer(rt));
     match out.put(b"servient: memory\n") {
         Put::Done => ExitCode::from(9),

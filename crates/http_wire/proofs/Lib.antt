@@ -5,6 +5,7 @@ pub mod Digits
 pub mod ChunkRows
 pub mod Fronts
 pub mod MoreBytes
+pub mod MoreData
 pub mod OneFront
 pub mod MoreOfAStream
 pub mod FewerBytes

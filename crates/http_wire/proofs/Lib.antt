@@ -7,6 +7,8 @@ pub mod Fronts
 pub mod MoreBytes
 pub mod MoreData
 pub mod OneFront
+pub mod ReplyHeads
+pub mod ReplySteps
 pub mod MoreOfAStream
 pub mod FewerBytes
 pub mod ChunkLines

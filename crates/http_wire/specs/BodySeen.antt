@@ -18,6 +18,12 @@ IsWithin most scan.Unfinished n = Unit {0}
 IsWithin most (scan.Faulty status) n = Unit {0}
 IsWithin most (scan.Whole body used) n = (used ≤ n) × (length body ≤ most)
 
+-- a whole body takes no more bytes than there are
+abbrev pub TakesAtMost : BodyScan → ℕ → Type 0
+TakesAtMost scan.Unfinished n = Unit {0}
+TakesAtMost (scan.Faulty status) n = Unit {0}
+TakesAtMost (scan.Whole body used) n = used ≤ n
+
 -- a whole chunk takes no more bytes than there are, and with it there are at most so many bytes of data
 abbrev pub IsChunkWithin : ℕ → ℕ → ℕ → Chunk → Type 0
 IsChunkWithin most sum n chunk.Cut = Unit {0}

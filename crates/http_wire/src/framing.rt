@@ -15,7 +15,7 @@ use crate::heads::{HeadParts, count_line_feeds, has_pairs_alone, read_head};
 pub const LONGEST_BODY: usize = 16384;
 
 /// The line feeds of a head with the most header lines: 64, the start line and the empty line.
-const MOST_LINE_FEEDS: usize = 66;
+pub const MOST_LINE_FEEDS: usize = 66;
 
 /// How long a body is (RFC 9112, section 6).
 #[derive(Clone, Copy, Debug, PartialEq, Eq, Drop)]
@@ -70,7 +70,12 @@ fn judge_fields(newer: bool, fields: &Fields<'_>) -> Result<Framing, u16>
     ensures bound { IfOk result (IsBounded longest_body) }
 {
     if has_counts(newer, fields) {
-        read_framing(LONGEST_BODY, newer, fields.content_length, fields.transfer_encoding)
+        read_framing(
+            LONGEST_BODY,
+            newer,
+            fields.content_length,
+            fields.transfer_encoding,
+        )
     } else {
         Err(400)
     }
@@ -189,11 +194,7 @@ fn with_digit(most: usize, number: usize, byte: u8) -> usize
     ensures { result ≡ min (number * 10 + digit_value byte) (most + 1) }
 {
     let longer = number * 10 + digit(byte);
-    if longer > most {
-        most + 1
-    } else {
-        longer
-    }
+    if longer > most { most + 1 } else { longer }
 }
 
 /// The value of a decimal digit.

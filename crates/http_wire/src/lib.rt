@@ -43,7 +43,7 @@ mod stream;
 mod target;
 
 pub use heads::skip_pairs;
-pub use laws::{chunked_bodies_are_spelled, front_is_stable, one_front};
+pub use laws::{chunked_bodies_are_spelled, front_is_stable, one_front, one_reply};
 pub use reply::{Reply, has_reason, put_reply};
 pub use reply_scan::{ReplyScan, scan_reply};
 pub use request::{RequestParts, request_of, verb_of};

@@ -10,8 +10,8 @@ use Rattle.http_wire.specs.declared.chunks.Chunk.{Chunk}
 use Rattle.http_wire.specs.declared.chunks.Chunk.TheVariants as chunk
 use Rattle.http_wire.specs.Heads.{line_end, empty_line, length_through}
 use Rattle.http_wire.specs.Judging.{longest_body}
-use Rattle.http_wire.specs.Chunks.{BodyFront, unfinished, faulty, whole, chunk_size, trailers_to, data_before, sized_chunk, lined_chunk, chunk_at, with_chunk, chunks}
-use Rattle.http_wire.specs.Chunked.{IsShortLine, DataChunk, print_chunk, IsDataChunk, ChunkedBody, print_body, data_of, IsChunkedBody, EachWholeIsSpelled, EachSpelledIsRead}
+use Rattle.http_wire.specs.Chunks.{whole, chunk_size, trailers_to, data_before, sized_chunk, lined_chunk, chunk_at, with_chunk, chunks}
+use Rattle.http_wire.specs.Chunked.{IsShortLine, DataChunk, print_chunk, IsDataChunk, EachWholeIsSpelled, EachSpelledIsRead}
 use Rattle.http_wire.proofs.MoreBytes.{is_through, through_stays}
 use Rattle.http_wire.proofs.FewerBytes.{through_alone}
 use Rattle.http_wire.proofs.ChunkRows.{chunks_cut, chunks_wrong, chunks_last, chunks_more, whole_behind}

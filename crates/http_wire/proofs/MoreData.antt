@@ -1,11 +1,10 @@
 -- A whole body in chunks is whole where a body may have more data, too.
-use Rattle.std.proofs.Common.{◌≡◌, ◌≢◌, ℕ, zero, suc, ◌+◌, ◌≤◌, ◌-◌, Bool, true, false, true≢false, subst, List, [], ◌∷◌, length, take, drop, Option, Some, None, refl, sym, ap, ◌∙◌, arith, nat_lt, nat_le, if◌then◌else◌}
-use Rattle.std.proofs.lemmas.Bool.{ltb-false}
+use Rattle.std.proofs.Common.{◌≡◌, ℕ, zero, suc, ◌+◌, ◌≤◌, ◌-◌, Bool, true, false, List, [], ◌∷◌, take, drop, Option, Some, None, refl, sym, ap, ◌∙◌, arith, nat_lt, if◌then◌else◌}
 use Rattle.std.proofs.lemmas.Bool.Decides.{nat_tests}
 use Rattle.http_wire.specs.declared.chunks.Chunk.{Chunk}
 use Rattle.http_wire.specs.declared.chunks.Chunk.TheVariants as chunk
 use Rattle.http_wire.specs.Heads.{line_end, length_through}
-use Rattle.http_wire.specs.Chunks.{BodyFront, unfinished, faulty, whole, chunk_size, trailers_to, data_before, sized_chunk, lined_chunk, chunk_at, with_chunk, follow, chunks}
+use Rattle.http_wire.specs.Chunks.{BodyFront, whole, chunk_size, data_before, sized_chunk, lined_chunk, chunk_at, with_chunk, follow, chunks}
 use Rattle.http_wire.proofs.ChunkRows.{whole_behind}
 
 -- what a chunk is where there may be more data, if it isn't wrong

@@ -1,5 +1,5 @@
 -- A stream of replies has one front at most.
-use Rattle.std.proofs.Common.{◌≡◌, ℕ, ◌+◌, Bool, true, false, true≢false, List, [], take, drop, sym, ap, subst, ◌∙◌, arith}
+use Rattle.std.proofs.Common.{◌≡◌, ℕ, ◌+◌, Bool, true≢false, List, [], take, drop, sym, ap, subst, ◌∙◌, arith}
 use Rattle.std.specs.Prelude.{Result, Ok, Err, length}
 use Rattle.httparse.specs.Grammar.{ResponseHead}
 use Rattle.httparse.proofs.GrammarLemmas.{response_unique}

@@ -1,19 +1,19 @@
 -- Heads of replies as code reads and judges them.
-use Rattle.std.proofs.Common.{◌≡◌, ◌≢◌, ◌≤◌, ◌<◌, ℕ, List, [], length, map, take, drop, refl, sym, ap, subst, ◌∙◌, arith}
+use Rattle.std.proofs.Common.{◌≡◌, ◌≢◌, ◌≤◌, ◌<◌, ℕ, List, [], length, map, take, refl, sym, ap, subst, ◌∙◌, arith}
 use Rattle.std.specs.Prelude.{◌==◌, Some, None, Result, Ok, Err}
 use Rattle.std.proofs.lemmas.List.{drop_all, append-nil, length-map, length-take}
 use Rattle.httparse.specs.declared.spans.HeaderSpan.{HeaderSpan}
 use Rattle.httparse.specs.declared.spans.ResponseSpans.{ResponseSpans}
 use Rattle.httparse.specs.declared.Status.TheVariants.{Complete}
-use Rattle.httparse.specs.Grammar.{ResponseHead, ReadsResponse, print_response, status_code}
+use Rattle.httparse.specs.Grammar.{ResponseHead, ReadsResponse, print_response}
 use Rattle.httparse.specs.Spans.{header_bytes, name_and_value, IsResponseOf, FindsResponse}
 use Rattle.http_wire.specs.declared.reply_heads.ReplyParts.{ReplyParts}
 use Rattle.http_wire.specs.declared.reply_heads.ReplyHead.{ReplyHead}
 use Rattle.http_wire.specs.Heads.{line_feeds}
 use Rattle.http_wire.specs.Fields.{said_by}
 use Rattle.http_wire.specs.Found.{said_in, standing_of, with_lines}
-use Rattle.http_wire.specs.ReplyFronts.{IsReplyHead, IsReplyJudged, too_many_lines, no_head, one_head, reply_framing, with_status, said_in_reply}
-use Rattle.http_wire.specs.ReplySeen.{AreReplyParts, IsReplyReadAs}
+use Rattle.http_wire.specs.ReplyFronts.{IsReplyHead, IsReplyJudged, too_many_lines, no_head, one_head, reply_framing, with_status}
+use Rattle.http_wire.specs.ReplySeen.{IsReplyReadAs}
 use Rattle.http_wire.proofs.FieldLines.{all_lines}
 
 -- what is said of the parts of a head at some spans

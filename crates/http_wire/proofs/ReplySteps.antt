@@ -1,13 +1,12 @@
 -- What comes of the head of a reply.
-use Rattle.std.proofs.Common.{◌≡◌, ◌≤◌, ◌<◌, ◌+◌, ℕ, List, Bool, true, false, length, take, drop, refl, subst, ap, sym, ◌∙◌, arith}
+use Rattle.std.proofs.Common.{◌≡◌, ◌≤◌, ◌<◌, ◌+◌, ℕ, List, Bool, true, false, length, take, drop, refl, subst, ap, ◌∙◌}
 use Rattle.std.specs.Prelude.{Some, None, Result, Ok, Err}
 use Rattle.http_wire.specs.declared.reply_heads.ReplyHead.{ReplyHead}
 use Rattle.http_wire.specs.declared.reply_scan.ReplyFront.{ReplyFront}
 use Rattle.http_wire.specs.declared.reply_scan.ReplyFront.TheVariants as front
-use Rattle.http_wire.specs.declared.reply_scan.ReplyStep.{ReplyStep}
 use Rattle.http_wire.specs.declared.reply_scan.ReplyStep.TheVariants as step
 use Rattle.http_wire.specs.Heads.{length_through, empty_line}
-use Rattle.http_wire.specs.ReplyFronts.{IsReplyJudged, IsReplyAfter, no_end, wrong_head, interim, final, is_interim, reply_body, with_reply_body}
+use Rattle.http_wire.specs.ReplyFronts.{IsReplyJudged, no_end, wrong_head, interim, final, is_interim, reply_body, with_reply_body}
 use Rattle.http_wire.specs.ReplySeen.{IsReplyStep}
 
 pub awaited_step : (ended : Bool) (before : ℕ) (bytes : List ℕ) → length_through empty_line bytes ≡ None → IsReplyStep ended before bytes (step.Settled front.Awaited)

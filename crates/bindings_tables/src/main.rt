@@ -1,6 +1,6 @@
-//! Tables of the bindings: CoAP messages, what they ask for, exchanges, watchers, and the server with its notifications; HTTP requests at the
-//! front of a stream, their targets, the heads of replies, outcomes, and the connections of an HTTP server. Each
-//! argument names a file: the table of that name.
+//! Tables of the bindings: CoAP messages, what they ask for, exchanges, watchers, and the server with its notifications;
+//! HTTP requests and replies at the front of a stream, the targets of requests, the heads of replies, outcomes, and the
+//! connections of an HTTP server. Each argument names a file: the table of that name.
 //!
 //! A row is what is given, ` => `, and what comes of it. The program prints each row with what does come of it, and
 //! each other line as it is: so it prints its files, if all is right. Most rows stand alone. In some files rows are
@@ -22,6 +22,7 @@ mod notifications;
 mod outcomes;
 mod places;
 mod replies;
+mod reply_fronts;
 mod runs;
 mod streams;
 mod talk;
@@ -36,6 +37,7 @@ fn put_said(text: &mut String, alloc: Global, table: &str, bytes: &[u8]) -> Resu
     match table {
         "messages" => messages::put(text, bytes),
         "fronts" => fronts::put(text, alloc, bytes),
+        "reply_fronts" => reply_fronts::put(text, alloc, bytes),
         "targets" => targets::put(text, alloc, bytes),
         _ => text.push_str("no such table"),
     }

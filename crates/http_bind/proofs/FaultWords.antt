@@ -51,7 +51,7 @@ coded_said false false a b status r sa sb is err = let same : b ≡ status = cc 
 err_said : (a status : ℕ) (r : Result Framing ℕ) → IsSaid a → r ≡ Err a → r ≡ Err status → IsSaid status
 err_said a status r sa is err = let same : a ≡ status = cc in subst IsSaid same sa
 
-framing_said : (newer : Bool) (ls cs : Standing) (status : ℕ) (r : Result Framing ℕ) → r ≡ framing_by newer ls cs → r ≡ Err status → IsSaid status
+framing_said : (newer : Bool) (ls cs : Standing) (status : ℕ) (r : Result Framing ℕ) → r ≡ framing_by longest_body newer ls cs → r ≡ Err status → IsSaid status
 framing_said newer absent absent status r is err = absurd cc
 framing_said newer absent (once v) status r is err =
     coded_said (not newer) (str_eq_ignore_ascii_case v (codes "chunked")) 400 501 status r said_400 said_501 is err
@@ -106,7 +106,7 @@ trailers_said : (place status : ℕ) (o : Option ℕ) (r : Chunk) → r ≡ trai
 trailers_said place status None r is err = absurd cc
 trailers_said place status (Some n) r is err = absurd cc
 
-sized_said : (sum : ℕ) (bytes : List ℕ) (n status : ℕ) (o : Option ℕ) (r : Chunk) → r ≡ sized_chunk sum bytes n o → r ≡ chunk.Wrong status → IsSaid status
+sized_said : (sum : ℕ) (bytes : List ℕ) (n status : ℕ) (o : Option ℕ) (r : Chunk) → r ≡ sized_chunk longest_body sum bytes n o → r ≡ chunk.Wrong status → IsSaid status
 sized_said sum bytes n status None r is err = wrong_said 400 status r said_400 is err
 sized_said sum bytes n status (Some zero) r is err = trailers_said (n - 2) status (length_through empty_line (drop (n - 2) bytes)) r is err
 sized_said sum bytes n status (Some (suc m)) r is err =
@@ -117,7 +117,7 @@ unlined_said : (t : Bool) (a status : ℕ) (r : Chunk) → IsSaid a → r ≡ co
 unlined_said true a status r sa is err = wrong_said a status r sa is err
 unlined_said false a status r sa is err = absurd cc
 
-lined_said : (sum : ℕ) (bytes : List ℕ) (status : ℕ) (o : Option ℕ) (r : Chunk) → r ≡ lined_chunk sum bytes o → r ≡ chunk.Wrong status → IsSaid status
+lined_said : (sum : ℕ) (bytes : List ℕ) (status : ℕ) (o : Option ℕ) (r : Chunk) → r ≡ lined_chunk longest_body sum bytes o → r ≡ chunk.Wrong status → IsSaid status
 lined_said sum bytes status None r is err = unlined_said (nat_le 64 (length bytes)) 400 status r said_400 is err
 lined_said sum bytes status (Some n) r is err = sized_said sum bytes n status (chunk_size (take (n - 2) bytes)) r is err
 
@@ -127,21 +127,21 @@ behind_said piece n status unfinished by is = absurd cc
 behind_said piece n status (faulty s) by is = by is
 behind_said piece n status (whole body used) by is = absurd cc
 
-followed_said : (sum : ℕ) (bytes : List ℕ) (c : Chunk) (status : ℕ) (rest : ℕ → ℕ → BodyFront) → chunk_at sum bytes ≡ c →
+followed_said : (sum : ℕ) (bytes : List ℕ) (c : Chunk) (status : ℕ) (rest : ℕ → ℕ → BodyFront) → chunk_at longest_body sum bytes ≡ c →
     ((size skip : ℕ) → rest size skip ≡ faulty status → IsSaid status) → follow c bytes rest ≡ faulty status → IsSaid status
 followed_said sum bytes chunk.Cut status rest at by is = absurd cc
 followed_said sum bytes (chunk.Wrong s) status rest at by is =
     let same : s ≡ status = cc in
-    subst IsSaid same (lined_said sum bytes s (length_through line_end (take 64 bytes)) (chunk_at sum bytes) refl at)
+    subst IsSaid same (lined_said sum bytes s (length_through line_end (take 64 bytes)) (chunk_at longest_body sum bytes) refl at)
 followed_said sum bytes (chunk.Last used) status rest at by is = absurd cc
 followed_said sum bytes (chunk.More place size) status rest at by is =
     behind_said (take size (drop place bytes)) (place + size + 2) status (rest size (place + size + 1)) (by size (place + size + 1)) is
 
-chunks_said : (skip sum : ℕ) (bytes : List ℕ) (status : ℕ) → chunks skip sum bytes ≡ faulty status → IsSaid status
+chunks_said : (skip sum : ℕ) (bytes : List ℕ) (status : ℕ) → chunks longest_body skip sum bytes ≡ faulty status → IsSaid status
 chunks_said skip sum [] status is = absurd cc
 chunks_said (suc skip) sum (b ∷ bytes) status is = chunks_said skip sum bytes status is
 chunks_said zero sum (b ∷ bytes) status is =
-    followed_said sum (b ∷ bytes) (chunk_at sum (b ∷ bytes)) status (λ size skip. chunks skip (sum + size) bytes) refl
+    followed_said sum (b ∷ bytes) (chunk_at longest_body sum (b ∷ bytes)) status (λ size skip. chunks longest_body skip (sum + size) bytes) refl
     (λ size skip later. chunks_said skip (sum + size) bytes status later) is
 
 -- ---- bodies and fronts
@@ -163,7 +163,7 @@ stated_body_said false bytes n status is = absurd cc
 body_said : (f : Framing) (bytes : List ℕ) (status : ℕ) → body_front f bytes ≡ faulty status → IsSaid status
 body_said (framing.Stated n) bytes status is = stated_body_said (nat_le n (length bytes)) (take n bytes) n status is
 body_said framing.Chunked bytes status is =
-    coded_body_said bytes status (chunks 0 0 (take longest_coded bytes)) (chunks_said 0 0 (take longest_coded bytes) status) is
+    coded_body_said bytes status (chunks longest_body 0 0 (take longest_coded bytes)) (chunks_said 0 0 (take longest_coded bytes) status) is
 
 with_body_said : (h : RequestHead) (taken : ℕ) (e : Bool) (b : BodyFront) (status : ℕ) (expect : Bool) → ((s : ℕ) → b ≡ faulty s → IsSaid s) →
     fault status expect ≡ with_body h taken e b → IsSaid status

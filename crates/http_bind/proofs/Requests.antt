@@ -40,19 +40,19 @@ trailers_within k bytes (Some m) n within at is =
     let same : k + m ≡ n = cc in
     omega (arith, through.within, length-drop k bytes, same, within)
 
-sized_within : (sum : ℕ) (bytes : List ℕ) (k : ℕ) (o : Option ℕ) (n : ℕ) → k ≤ length bytes → sized_chunk sum bytes k o ≡ chunk.Last n → n ≤ length bytes
+sized_within : (sum : ℕ) (bytes : List ℕ) (k : ℕ) (o : Option ℕ) (n : ℕ) → k ≤ length bytes → sized_chunk longest_body sum bytes k o ≡ chunk.Last n → n ≤ length bytes
 sized_within sum bytes k None n within is = absurd cc
 sized_within sum bytes k (Some zero) n within is = trailers_within (k - 2) bytes (length_through empty_line (drop (k - 2) bytes)) n (omega (arith, within)) refl is
 sized_within sum bytes k (Some (suc m)) n within is =
-    absurd (large_isnt_last (nat_lt longest_body (sum + suc m)) n (sized_chunk sum bytes k (Some (suc m))) (data_before k (suc m) (drop (k + suc m) bytes))
+    absurd (large_isnt_last (nat_lt longest_body (sum + suc m)) n (sized_chunk longest_body sum bytes k (Some (suc m))) (data_before k (suc m) (drop (k + suc m) bytes))
     (λ small. data_isnt_last (nat_lt (length (drop (k + suc m) bytes)) 2) (starts_with nat_eq (drop (k + suc m) bytes) line_end) k (suc m) n _ small is) refl is)
 
 unlined_isnt_last : (t : Bool) (n : ℕ) (r : Chunk) → r ≡ cond t (chunk.Wrong 400) chunk.Cut → r ≡ chunk.Last n → ⊥
 unlined_isnt_last true n r is last = cc
 unlined_isnt_last false n r is last = cc
 
-last_within : (sum : ℕ) (bytes : List ℕ) (o : Option ℕ) (n : ℕ) → length_through line_end (take 64 bytes) ≡ o → lined_chunk sum bytes o ≡ chunk.Last n → n ≤ length bytes
-last_within sum bytes None n at is = absurd (unlined_isnt_last (nat_le 64 (length bytes)) n (lined_chunk sum bytes None) refl is)
+last_within : (sum : ℕ) (bytes : List ℕ) (o : Option ℕ) (n : ℕ) → length_through line_end (take 64 bytes) ≡ o → lined_chunk longest_body sum bytes o ≡ chunk.Last n → n ≤ length bytes
+last_within sum bytes None n at is = absurd (unlined_isnt_last (nat_le 64 (length bytes)) n (lined_chunk longest_body sum bytes None) refl is)
 last_within sum bytes (Some k) n at is =
     let through = is_through line_end (take 64 bytes) k at in
     sized_within sum bytes k (chunk_size (take (k - 2) bytes)) n (omega (arith, through.within, length-take 64 bytes)) is
@@ -65,7 +65,7 @@ behind_within piece k n limit (whole b u) body used by next is =
     let same : n + u ≡ used = cc in
     let few = by b u refl in omega (arith, few, same, next)
 
-followed_within : (sum b : ℕ) (bytes : List ℕ) (c : Chunk) (rest : ℕ → ℕ → BodyFront) (body : List ℕ) (used : ℕ) → chunk_at sum (b ∷ bytes) ≡ c →
+followed_within : (sum b : ℕ) (bytes : List ℕ) (c : Chunk) (rest : ℕ → ℕ → BodyFront) (body : List ℕ) (used : ℕ) → chunk_at longest_body sum (b ∷ bytes) ≡ c →
     ((size skip : ℕ) (d : List ℕ) (u : ℕ) → rest size skip ≡ whole d u → skip + u ≤ length bytes) → follow c (b ∷ bytes) rest ≡ whole body used → used ≤ length bytes + 1
 followed_within sum b bytes chunk.Cut rest body used at by is = absurd cc
 followed_within sum b bytes (chunk.Wrong status) rest body used at by is = absurd cc
@@ -75,11 +75,11 @@ followed_within sum b bytes (chunk.Last n) rest body used at by is =
 followed_within sum b bytes (chunk.More place size) rest body used at by is =
     behind_within (take size (drop place (b ∷ bytes))) (place + size + 1) (place + size + 2) (length bytes) (rest size (place + size + 1)) body used (by size (place + size + 1)) (omega arith) is
 
-chunks_within : (skip sum : ℕ) (bytes body : List ℕ) (used : ℕ) → chunks skip sum bytes ≡ whole body used → skip + used ≤ length bytes
+chunks_within : (skip sum : ℕ) (bytes body : List ℕ) (used : ℕ) → chunks longest_body skip sum bytes ≡ whole body used → skip + used ≤ length bytes
 chunks_within skip sum [] body used is = absurd cc
 chunks_within (suc skip) sum (b ∷ bytes) body used is = let few = chunks_within skip sum bytes body used is in omega (arith, few)
 chunks_within zero sum (b ∷ bytes) body used is =
-    let few = followed_within sum b bytes (chunk_at sum (b ∷ bytes)) (λ size skip. chunks skip (sum + size) bytes) body used refl
+    let few = followed_within sum b bytes (chunk_at longest_body sum (b ∷ bytes)) (λ size skip. chunks longest_body skip (sum + size) bytes) body used refl
     (λ size skip d u later. chunks_within skip (sum + size) bytes d u later) is in omega (arith, few)
 
 stated_within : (t : Bool) (n : ℕ) (bytes body : List ℕ) (used : ℕ) → nat_le n (length bytes) ≡ t → cond t (whole (take n bytes) n) unfinished ≡ whole body used → used ≤ length bytes
@@ -102,10 +102,10 @@ coded_within t bytes (whole b u) body used limit by long is = by body used is
 body_within : (f : Framing) (bytes body : List ℕ) (used : ℕ) → body_front f bytes ≡ whole body used → used ≤ length bytes
 body_within (framing.Stated n) bytes body used is = stated_within (nat_le n (length bytes)) n bytes body used refl is
 body_within framing.Chunked bytes body used is =
-    coded_within (nat_le longest_coded (length bytes)) bytes (chunks 0 0 (take longest_coded bytes)) body used (length bytes)
+    coded_within (nat_le longest_coded (length bytes)) bytes (chunks longest_body 0 0 (take longest_coded bytes)) body used (length bytes)
     (λ b u whole_is. few b u whole_is) refl is
   where
-    few : (b : List ℕ) (u : ℕ) → chunks 0 0 (take longest_coded bytes) ≡ whole b u → u ≤ length bytes
+    few : (b : List ℕ) (u : ℕ) → chunks longest_body 0 0 (take longest_coded bytes) ≡ whole b u → u ≤ length bytes
     few b u e = let under = chunks_within 0 0 (take longest_coded bytes) b u e in omega (arith, under, length-take longest_coded bytes)
 
 with_body_within : (h : RequestHead) (taken : ℕ) (e : Bool) (b : BodyFront) (f : Front) (limit : ℕ) → ((c : List ℕ) (u : ℕ) → b ≡ whole c u → taken + u ≤ limit) → f ≡ with_body h taken e b → bytes_used f ≤ limit

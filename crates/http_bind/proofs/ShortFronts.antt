@@ -18,20 +18,20 @@ use Rattle.http_wire.proofs.MoreBytes.{is_through}
 -- ---- how a head is judged
 
 stated_bounded : (t u : Bool) (n a b : ℕ) (f : Framing) (r : Result Framing ℕ) → nat_lt longest_body n ≡ u →
-    r ≡ cond t (Err a) (cond u (Err b) (Ok (framing.Stated n))) → r ≡ Ok f → IsBounded f
+    r ≡ cond t (Err a) (cond u (Err b) (Ok (framing.Stated n))) → r ≡ Ok f → IsBounded longest_body f
 stated_bounded true u n a b f r long is ok = absurd cc
 stated_bounded false true n a b f r long is ok = absurd cc
 stated_bounded false false n a b f r long is ok =
     let same : f ≡ framing.Stated n = cc in
-    subst IsBounded (sym same) (ltb-false _ _ long)
+    subst (IsBounded longest_body) (sym same) (ltb-false _ _ long)
 
-coded_bounded : (t u : Bool) (a b : ℕ) (f : Framing) (r : Result Framing ℕ) → r ≡ cond t (Err a) (cond u (Ok framing.Chunked) (Err b)) → r ≡ Ok f → IsBounded f
+coded_bounded : (t u : Bool) (a b : ℕ) (f : Framing) (r : Result Framing ℕ) → r ≡ cond t (Err a) (cond u (Ok framing.Chunked) (Err b)) → r ≡ Ok f → IsBounded longest_body f
 coded_bounded true u a b f r is ok = absurd cc
-coded_bounded false true a b f r is ok = let same : f ≡ framing.Chunked = cc in subst IsBounded (sym same) tt
+coded_bounded false true a b f r is ok = let same : f ≡ framing.Chunked = cc in subst (IsBounded longest_body) (sym same) tt
 coded_bounded false false a b f r is ok = absurd cc
 
-framing_bounded : (newer : Bool) (ls cs : Standing) (f : Framing) → Ok f ≡ framing_by newer ls cs → IsBounded f
-framing_bounded newer absent absent f is = let same : f ≡ framing.Stated 0 = cc in subst IsBounded (sym same) (omega arith)
+framing_bounded : (newer : Bool) (ls cs : Standing) (f : Framing) → Ok f ≡ framing_by longest_body newer ls cs → IsBounded longest_body f
+framing_bounded newer absent absent f is = let same : f ≡ framing.Stated 0 = cc in subst (IsBounded longest_body) (sym same) (omega arith)
 framing_bounded newer absent (once v) f is = coded_bounded (not newer) (str_eq_ignore_ascii_case v (codes "chunked")) 400 501 f (Ok f) is refl
 framing_bounded newer absent often f is = absurd cc
 framing_bounded newer (once v) absent f is = stated_bounded (not (is_length v)) (nat_lt longest_body (digits_value 10 v)) (digits_value 10 v) 400 413 f (Ok f) refl is refl
@@ -41,17 +41,17 @@ framing_bounded newer often absent f is = absurd cc
 framing_bounded newer often (once w) f is = absurd cc
 framing_bounded newer often often f is = absurd cc
 
-fields_bounded : (t : Bool) (r : Result Framing ℕ) (f : Framing) → (Ok f ≡ r → IsBounded f) → Ok f ≡ cond t r (Err 400) → IsBounded f
+fields_bounded : (t : Bool) (r : Result Framing ℕ) (f : Framing) → (Ok f ≡ r → IsBounded longest_body f) → Ok f ≡ cond t r (Err 400) → IsBounded longest_body f
 fields_bounded true r f by is = by is
 fields_bounded false r f by is = absurd cc
 
-framed_bounded : (k : RequestHead) (h : FramedHead) (r : Result Framing ℕ) → ((f : Framing) → Ok f ≡ r → IsBounded f) → Ok h ≡ with_framing k r → IsBounded h.framing
+framed_bounded : (k : RequestHead) (h : FramedHead) (r : Result Framing ℕ) → ((f : Framing) → Ok f ≡ r → IsBounded longest_body f) → Ok h ≡ with_framing k r → IsBounded longest_body h.framing
 framed_bounded k h (Err status) by is = absurd cc
 framed_bounded k h (Ok f) by is =
     let same : h ≡ record { head = k; framing = f } = cc in
-    subst (λ (x : FramedHead). IsBounded x.framing) (sym same) (by f refl)
+    subst (λ (x : FramedHead). IsBounded longest_body x.framing) (sym same) (by f refl)
 
-judged_bounded : (head : List ℕ) (h : FramedHead) → IsJudged head (Ok h) → IsBounded h.framing
+judged_bounded : (head : List ℕ) (h : FramedHead) → IsJudged head (Ok h) → IsBounded longest_body h.framing
 judged_bounded head h (too_many_lines many is) = absurd cc
 judged_bounded head h (bare_line_end few bare is) = absurd cc
 judged_bounded head h (no_head few paired none is) = absurd cc
@@ -75,9 +75,9 @@ coded_short bytes false unfinished long is = leb-false _ _ long
 coded_short bytes t (faulty status) long is = absurd cc
 coded_short bytes t (whole body used) long is = absurd cc
 
-body_short : (f : Framing) (bytes : List ℕ) → IsBounded f → body_front f bytes ≡ unfinished → length bytes < longest_coded
+body_short : (f : Framing) (bytes : List ℕ) → IsBounded longest_body f → body_front f bytes ≡ unfinished → length bytes < longest_coded
 body_short (framing.Stated n) bytes bound is = let few = stated_short n bytes (nat_le n (length bytes)) refl is in omega (arith, few, bound)
-body_short framing.Chunked bytes bound is = coded_short bytes (nat_le longest_coded (length bytes)) (chunks 0 0 (take longest_coded bytes)) refl is
+body_short framing.Chunked bytes bound is = coded_short bytes (nat_le longest_coded (length bytes)) (chunks longest_body 0 0 (take longest_coded bytes)) refl is
 
 with_body_short : (h : RequestHead) (taken : ℕ) (e : Bool) (b : BodyFront) (expect : Bool) → short expect ≡ with_body h taken e b → b ≡ unfinished
 with_body_short h taken e unfinished expect is = refl

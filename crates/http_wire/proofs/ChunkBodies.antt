@@ -10,8 +10,8 @@ use Rattle.http_wire.specs.declared.chunks.Chunk.{Chunk}
 use Rattle.http_wire.specs.declared.chunks.Chunk.TheVariants as chunk
 use Rattle.http_wire.specs.Heads.{line_end, empty_line, length_through}
 use Rattle.http_wire.specs.Judging.{longest_body}
-use Rattle.http_wire.specs.Chunks.{BodyFront, unfinished, faulty, whole, chunk_size, trailers_to, data_before, sized_chunk, lined_chunk, chunk_at, with_chunk, chunks}
-use Rattle.http_wire.specs.Chunked.{IsShortLine, DataChunk, print_chunk, IsDataChunk, ChunkedBody, print_body, data_of, IsChunkedBody, EachWholeIsSpelled, EachSpelledIsRead}
+use Rattle.http_wire.specs.Chunks.{whole, chunk_size, trailers_to, data_before, sized_chunk, lined_chunk, chunk_at, with_chunk, chunks}
+use Rattle.http_wire.specs.Chunked.{IsShortLine, DataChunk, print_chunk, IsDataChunk, EachWholeIsSpelled, EachSpelledIsRead}
 use Rattle.http_wire.proofs.MoreBytes.{is_through, through_stays}
 use Rattle.http_wire.proofs.FewerBytes.{through_alone}
 use Rattle.http_wire.proofs.ChunkRows.{chunks_cut, chunks_wrong, chunks_last, chunks_more, whole_behind}
@@ -23,14 +23,14 @@ data_read : (place size : ℕ) (rest : List ℕ) → data_before place size (13 
 data_read place size rest = rw (le-ltb (length (13 ∷ 10 ∷ rest)) 2 (omega arith)) refl
 
 sized_more : (sum n m : ℕ) (bytes rest : List ℕ) → sum + suc m ≤ longest_body → drop (n + suc m) bytes ≡ 13 ∷ 10 ∷ rest →
-    sized_chunk sum bytes n (Some (suc m)) ≡ chunk.More n (suc m)
+    sized_chunk longest_body sum bytes n (Some (suc m)) ≡ chunk.More n (suc m)
 sized_more sum n m bytes rest fits ends =
     rw (le-ltb longest_body (sum + suc m) fits) (ap (data_before n (suc m)) ends ∙ data_read n (suc m) rest)
 
 sized_as : (sum n k size : ℕ) (bytes rest : List ℕ) → k ≡ size → 0 < size → sum + size ≤ longest_body → drop (n + size) bytes ≡ 13 ∷ 10 ∷ rest →
-    sized_chunk sum bytes n (Some k) ≡ chunk.More n size
+    sized_chunk longest_body sum bytes n (Some k) ≡ chunk.More n size
 sized_as sum n k zero bytes rest same some fits ends = absurd (omega arith)
-sized_as sum n k (suc m) bytes rest same some fits ends = ap (λ (j : ℕ). sized_chunk sum bytes n (Some j)) same ∙ sized_more sum n m bytes rest fits ends
+sized_as sum n k (suc m) bytes rest same some fits ends = ap (λ (j : ℕ). sized_chunk longest_body sum bytes n (Some j)) same ∙ sized_more sum n m bytes rest fits ends
 
 -- a chunk's bytes, put otherwise
 chunk_bytes : (c : DataChunk) (rest : List ℕ) → print_chunk c ++ rest ≡ print_chunk_line c.line ++ (c.bytes ++ (13 ∷ 10 ∷ rest))
@@ -43,29 +43,29 @@ length-chunk c =
     omega (arith, length-append (print_chunk_line c.line) (c.bytes ++ line_end), length-append c.bytes line_end)
 
 chunk_read : (c : DataChunk) (rest : List ℕ) (sum : ℕ) → IsDataChunk c → sum + length c.bytes ≤ longest_body →
-    chunk_at sum (print_chunk c ++ rest) ≡ chunk.More (length (print_chunk_line c.line)) (length c.bytes)
+    chunk_at longest_body sum (print_chunk c ++ rest) ≡ chunk.More (length (print_chunk_line c.line)) (length c.bytes)
 chunk_read c rest sum is fits =
     let line = print_chunk_line c.line in
     let behind = c.bytes ++ (13 ∷ 10 ∷ rest) in
     let read = read_line c.line behind is.line in
     let ends : drop (length line + length c.bytes) (line ++ behind) ≡ 13 ∷ 10 ∷ rest =
     drop-append-add line behind (length c.bytes) ∙ drop-append_seam c.bytes (13 ∷ 10 ∷ rest) in
-    ap (chunk_at sum) (chunk_bytes c rest)
-    ∙ ap (lined_chunk sum (line ++ behind)) read.found
-    ∙ ap (sized_chunk sum (line ++ behind) (length line)) read.sized
+    ap (chunk_at longest_body sum) (chunk_bytes c rest)
+    ∙ ap (lined_chunk longest_body sum (line ++ behind)) read.found
+    ∙ ap (sized_chunk longest_body sum (line ++ behind) (length line)) read.sized
     ∙ sized_as sum (length line) (line_size c.line) (length c.bytes) (line ++ behind) rest is.size is.some fits ends
 
 last_read : (l : ChunkLine) (trailers rest : List ℕ) (sum : ℕ) → IsShortLine l → line_size l ≡ 0 →
     length_through empty_line (line_end ++ trailers) ≡ Some (length (line_end ++ trailers)) →
-    chunk_at sum (print_chunk_line l ++ (trailers ++ rest)) ≡ chunk.Last (length (print_chunk_line l) + length trailers)
+    chunk_at longest_body sum (print_chunk_line l ++ (trailers ++ rest)) ≡ chunk.Last (length (print_chunk_line l) + length trailers)
 last_read l trailers rest sum short none through =
     let line = print_chunk_line l in
     let read = read_line l (trailers ++ rest) short in
     let found : length_through empty_line (line_end ++ (trailers ++ rest)) ≡ Some (length (line_end ++ trailers)) =
     ap (length_through empty_line) (sym (append_assoc line_end trailers rest)) ∙ through_stays empty_line (line_end ++ trailers) rest (length (line_end ++ trailers)) through in
     let place : length line - 2 + length (line_end ++ trailers) ≡ length line + length trailers = omega (arith, read.long, length-append line_end trailers) in
-    ap (lined_chunk sum (line ++ (trailers ++ rest))) read.found
-    ∙ ap (sized_chunk sum (line ++ (trailers ++ rest)) (length line)) (read.sized ∙ ap Some none)
+    ap (lined_chunk longest_body sum (line ++ (trailers ++ rest))) read.found
+    ∙ ap (sized_chunk longest_body sum (line ++ (trailers ++ rest)) (length line)) (read.sized ∙ ap Some none)
     ∙ ap (λ (xs : List ℕ). trailers_to (length line - 2) (length_through empty_line xs)) read.ends
     ∙ ap (trailers_to (length line - 2)) found
     ∙ ap chunk.Last place
@@ -79,10 +79,10 @@ data_in cs = flat_map (λ c. c.bytes) cs
 
 read_from : (cs : List DataChunk) (l : ChunkLine) (trailers rest : List ℕ) (sum : ℕ) → AllByRecursion IsDataChunk cs → IsShortLine l → line_size l ≡ 0 →
     length_through empty_line (line_end ++ trailers) ≡ Some (length (line_end ++ trailers)) → sum + length (data_in cs) ≤ longest_body →
-    chunks 0 sum (print_from cs l trailers ++ rest) ≡ whole (data_in cs) (length (print_from cs l trailers))
+    chunks longest_body 0 sum (print_from cs l trailers ++ rest) ≡ whole (data_in cs) (length (print_from cs l trailers))
 read_from [] l trailers rest sum all short none through fits =
-    chunks_last sum ((print_chunk_line l ++ trailers) ++ rest) (length (print_chunk_line l) + length trailers)
-    (ap (chunk_at sum) (append_assoc (print_chunk_line l) trailers rest) ∙ last_read l trailers rest sum short none through)
+    chunks_last longest_body sum ((print_chunk_line l ++ trailers) ++ rest) (length (print_chunk_line l) + length trailers)
+    (ap (chunk_at longest_body sum) (append_assoc (print_chunk_line l) trailers rest) ∙ last_read l trailers rest sum short none through)
     ∙ ap (whole []) (sym (length-append (print_chunk_line l) trailers))
 read_from (c ∷ cs) l trailers rest sum all short none through fits =
     let others = print_from cs l trailers in
@@ -100,10 +100,10 @@ read_from (c ∷ cs) l trailers rest sum all short none through fits =
     ∙ take-append_seam c.bytes (13 ∷ 10 ∷ (others ++ rest)) in
     let behind : drop (place + size + 2) bytes ≡ others ++ rest =
     ap (λ (k : ℕ). drop k bytes) long ∙ drop-append_seam (print_chunk c) (others ++ rest) in
-    ap (chunks 0 sum) front
-    ∙ chunks_more sum bytes place size (chunk_read c (others ++ rest) sum all.0 (omega (arith, fits, total)))
-    ∙ ap (λ (xs : List ℕ). with_chunk xs (place + size + 2) (chunks 0 (sum + size) (drop (place + size + 2) bytes))) piece
-    ∙ ap (λ (xs : List ℕ). with_chunk c.bytes (place + size + 2) (chunks 0 (sum + size) xs)) behind
+    ap (chunks longest_body 0 sum) front
+    ∙ chunks_more longest_body sum bytes place size (chunk_read c (others ++ rest) sum all.0 (omega (arith, fits, total)))
+    ∙ ap (λ (xs : List ℕ). with_chunk xs (place + size + 2) (chunks longest_body 0 (sum + size) (drop (place + size + 2) bytes))) piece
+    ∙ ap (λ (xs : List ℕ). with_chunk c.bytes (place + size + 2) (chunks longest_body 0 (sum + size) xs)) behind
     ∙ ap (with_chunk c.bytes (place + size + 2)) (read_from cs l trailers rest (sum + size) all.1 short none through (omega (arith, fits, total)))
     ∙ ap (whole (c.bytes ++ data_in cs))
     (ap (λ (k : ℕ). k + length others) long
@@ -176,13 +176,13 @@ large_chunk bytes sum n m place size false line small is =
     (ltb-false _ _ small) refl refl is
 
 sized_of : (bytes : List ℕ) (sum n place size : ℕ) (s : Option ℕ) → length_through line_end (take 64 bytes) ≡ Some n → chunk_size (take (n - 2) bytes) ≡ s →
-    sized_chunk sum bytes n s ≡ chunk.More place size → IsChunkOf bytes sum place size
+    sized_chunk longest_body sum bytes n s ≡ chunk.More place size → IsChunkOf bytes sum place size
 sized_of bytes sum n place size None found sized is = absurd cc
 sized_of bytes sum n place size (Some zero) found sized is = trailers_isnt (n - 2) (length_through empty_line (drop (n - 2) bytes)) place size is
 sized_of bytes sum n place size (Some (suc m)) found sized is =
     large_chunk bytes sum n m place size (nat_lt longest_body (sum + suc m)) (line_of bytes n (suc m) found sized) refl is
 
-lined_of : (bytes : List ℕ) (sum place size : ℕ) (r : Option ℕ) → length_through line_end (take 64 bytes) ≡ r → lined_chunk sum bytes r ≡ chunk.More place size → IsChunkOf bytes sum place size
+lined_of : (bytes : List ℕ) (sum place size : ℕ) (r : Option ℕ) → length_through line_end (take 64 bytes) ≡ r → lined_chunk longest_body sum bytes r ≡ chunk.More place size → IsChunkOf bytes sum place size
 lined_of bytes sum place size None found is = unlined_isnt (nat_le 64 (length bytes)) place size is
 lined_of bytes sum place size (Some n) found is = sized_of bytes sum n place size (chunk_size (take (n - 2) bytes)) found refl is
 
@@ -243,13 +243,13 @@ ended_last bytes n used None line at is = absurd cc
 ended_last bytes n used (Some k) line at is = let same : n - 2 + k ≡ used = cc in subst (IsLastOf bytes) same (found_last bytes n k line at)
 
 sized_last : (bytes : List ℕ) (sum n used : ℕ) (s : Option ℕ) → length_through line_end (take 64 bytes) ≡ Some n → chunk_size (take (n - 2) bytes) ≡ s →
-    sized_chunk sum bytes n s ≡ chunk.Last used → IsLastOf bytes used
+    sized_chunk longest_body sum bytes n s ≡ chunk.Last used → IsLastOf bytes used
 sized_last bytes sum n used None found sized is = absurd cc
 sized_last bytes sum n used (Some zero) found sized is =
     ended_last bytes n used (length_through empty_line (drop (n - 2) bytes)) (line_of bytes n 0 found sized) refl is
 sized_last bytes sum n used (Some (suc m)) found sized is = large_isnt_last (nat_lt longest_body (sum + suc m)) bytes n m used is
 
-lined_last : (bytes : List ℕ) (sum used : ℕ) (r : Option ℕ) → length_through line_end (take 64 bytes) ≡ r → lined_chunk sum bytes r ≡ chunk.Last used → IsLastOf bytes used
+lined_last : (bytes : List ℕ) (sum used : ℕ) (r : Option ℕ) → length_through line_end (take 64 bytes) ≡ r → lined_chunk longest_body sum bytes r ≡ chunk.Last used → IsLastOf bytes used
 lined_last bytes sum used None found is = unlined_isnt_last (nat_le 64 (length bytes)) used is
 lined_last bytes sum used (Some n) found is = sized_last bytes sum n used (chunk_size (take (n - 2) bytes)) found refl is
 
@@ -295,12 +295,12 @@ more_spelled bytes body others used n sum place size one later body_is used_is =
       fits = omega (arith, later.fits, one.size_is, length-append one.found.bytes (data_in later.chunks));
     }
 
-spelled : (fuel sum : ℕ) (bytes body : List ℕ) (used : ℕ) (c : Chunk) → chunk_at sum bytes ≡ c → length bytes ≤ fuel → sum ≤ longest_body →
-    chunks 0 sum bytes ≡ whole body used → IsSpelledFrom bytes body used sum
-spelled fuel sum bytes body used chunk.Cut at few fits is = let same = sym (chunks_cut sum bytes at) ∙ is in absurd cc
-spelled fuel sum bytes body used (chunk.Wrong status) at few fits is = let same = sym (chunks_wrong sum bytes status at) ∙ is in absurd cc
+spelled : (fuel sum : ℕ) (bytes body : List ℕ) (used : ℕ) (c : Chunk) → chunk_at longest_body sum bytes ≡ c → length bytes ≤ fuel → sum ≤ longest_body →
+    chunks longest_body 0 sum bytes ≡ whole body used → IsSpelledFrom bytes body used sum
+spelled fuel sum bytes body used chunk.Cut at few fits is = let same = sym (chunks_cut longest_body sum bytes at) ∙ is in absurd cc
+spelled fuel sum bytes body used (chunk.Wrong status) at few fits is = let same = sym (chunks_wrong longest_body sum bytes status at) ∙ is in absurd cc
 spelled fuel sum bytes body used (chunk.Last k) at few fits is =
-    let same : whole [] k ≡ whole body used = sym (chunks_last sum bytes k at) ∙ is in
+    let same : whole [] k ≡ whole body used = sym (chunks_last longest_body sum bytes k at) ∙ is in
     let none : body ≡ [] = cc in
     let count : used ≡ k = cc in
     let last = lined_last bytes sum k (length_through line_end (take 64 bytes)) refl at in
@@ -324,9 +324,9 @@ spelled zero sum bytes body used (chunk.More place size) at few fits is =
 spelled (suc fuel) sum bytes body used (chunk.More place size) at few fits is =
     let one = lined_of bytes sum place size (length_through line_end (take 64 bytes)) refl at in
     let rest = drop (place + size + 2) bytes in
-    let all : with_chunk (take size (drop place bytes)) (place + size + 2) (chunks 0 (sum + size) rest) ≡ whole body used = sym (chunks_more sum bytes place size at) ∙ is in
-    let behind = whole_behind (take size (drop place bytes)) (place + size + 2) (chunks 0 (sum + size) rest) body used all in
-    let later = spelled fuel (sum + size) rest behind.others behind.used (chunk_at (sum + size) rest) refl
+    let all : with_chunk (take size (drop place bytes)) (place + size + 2) (chunks longest_body 0 (sum + size) rest) ≡ whole body used = sym (chunks_more longest_body sum bytes place size at) ∙ is in
+    let behind = whole_behind (take size (drop place bytes)) (place + size + 2) (chunks longest_body 0 (sum + size) rest) body used all in
+    let later = spelled fuel (sum + size) rest behind.others behind.used (chunk_at longest_body (sum + size) rest) refl
     (omega (arith, ap length one.is, length-append (print_chunk one.found) rest, one.long, few)) one.fits behind.rest_is in
     more_spelled bytes body behind.others used behind.used sum place size one later behind.body_is
     (used_behind (take size (drop place bytes)) body behind.others (place + size + 2) used behind.used
@@ -334,7 +334,7 @@ spelled (suc fuel) sum bytes body used (chunk.More place size) at few fits is =
 
 pub each_whole_is_spelled : EachWholeIsSpelled
 each_whole_is_spelled bytes body used is =
-    let s = spelled (length bytes) 0 bytes body used (chunk_at 0 bytes) refl (omega arith) (omega arith) is in (
+    let s = spelled (length bytes) 0 bytes body used (chunk_at longest_body 0 bytes) refl (omega arith) (omega arith) is in (
       record { chunks = s.chunks; last = s.last; trailers = s.trailers },
       s.rest,
       record { chunks = s.all; last = s.short; size = s.none; trailers = s.through; short = omega (arith, s.fits) },

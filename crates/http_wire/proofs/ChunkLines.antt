@@ -1,6 +1,6 @@
 -- Chunk lines as they are spelled, and as they are read.
-use Rattle.std.proofs.Common.{◌≡◌, ◌≢◌, ℕ, zero, suc, ◌+◌, ◌-◌, ◌<◌, ◌≤◌, ◌&&◌, ◌||◌, ◌⊎◌, inl, inr, Bool, true, false, true≢false, List, [], ◌∷◌, ◌++◌, length, take, drop, refl, sym, ap, subst, ◌∙◌, arith, cond, length-append, append_assoc}
-use Rattle.std.specs.Prelude.{Option, Some, None, option_map, nat_eq, nat_le, nat_lt, not, ◌==◌, All}
+use Rattle.std.proofs.Common.{◌≡◌, ℕ, suc, ◌+◌, ◌-◌, ◌<◌, ◌≤◌, ◌&&◌, ◌⊎◌, inl, inr, Bool, true, false, true≢false, List, [], ◌∷◌, ◌++◌, length, take, drop, refl, sym, ap, subst, ◌∙◌, arith, cond, length-append, append_assoc}
+use Rattle.std.specs.Prelude.{Option, Some, None, option_map, nat_eq, nat_le, nat_lt, ◌==◌}
 use Rattle.std.specs.List.{starts_with, list_all, position_or_len, before_first, after_first}
 use Rattle.std.specs.Char.{is_ascii_hexdigit}
 use Rattle.std.specs.Str.Parse.{digits_value}
@@ -9,7 +9,7 @@ use Rattle.std.proofs.lemmas.List.{take-append-drop, append-nil, take_all, lengt
 use Rattle.std.proofs.lemmas.List.Sums.{AllPass-from_list_all, list_all-from_AllPass}
 use Rattle.std.proofs.lemmas.List.Folds.{list_all-append}
 use Rattle.std.proofs.Math.Seq.{take-append_seam, drop-append_seam}
-use Rattle.httparse.specs.Grammar.{ChunkLine, print_chunk_line, print_extension, IsChunkLine, IsExtension, is_extension_byte, AllPass, chunk_size as line_size}
+use Rattle.httparse.specs.Grammar.{ChunkLine, print_chunk_line, print_extension, IsExtension, is_extension_byte, chunk_size as line_size}
 use Rattle.http_wire.specs.Heads.{line_end, length_through}
 use Rattle.http_wire.specs.Chunks.{size_of_digits, chunk_size}
 use Rattle.http_wire.specs.Chunked.{IsShortLine}

@@ -7,7 +7,6 @@ use Rattle.std.proofs.lemmas.List.{take-append-le, drop-append-le, length-drop, 
 use Rattle.http_wire.specs.declared.chunks.Chunk.{Chunk}
 use Rattle.http_wire.specs.declared.chunks.Chunk.TheVariants as chunk
 use Rattle.http_wire.specs.Heads.{line_end, empty_line, length_through}
-use Rattle.http_wire.specs.Judging.{longest_body}
 use Rattle.http_wire.specs.Chunks.{BodyFront, unfinished, faulty, whole, chunk_size, trailers_to, data_before, sized_chunk, lined_chunk, chunk_at, with_chunk, follow, chunks}
 use Rattle.http_wire.proofs.MoreBytes.{same_begin, is_through, take_grows, through_first_within, ended_alike}
 
@@ -77,60 +76,60 @@ trailers_alone place xs ys (Some m) within is ends =
     (through_alone empty_line (drop place xs) ys m (omega arith) (ap (length_through empty_line) (sym (drop-append-le place xs ys within)) ∙ is)
     (omega (arith, ends, length-drop place xs)))
 
-large_alone : (sum n m : ℕ) (xs ys : List ℕ) (t : Bool) → nat_lt longest_body (sum + suc m) ≡ t →
-    EndsBy (sized_chunk sum (xs ++ ys) n (Some (suc m))) (length xs) → sized_chunk sum xs n (Some (suc m)) ≡ sized_chunk sum (xs ++ ys) n (Some (suc m))
-large_alone sum n m xs ys true large ends = absurd (rw large at ends)
-large_alone sum n m xs ys false small ends = rw small (data_alone n (suc m) xs ys (rw small at ends))
+large_alone : (most : ℕ) (sum n m : ℕ) (xs ys : List ℕ) (t : Bool) → nat_lt most (sum + suc m) ≡ t →
+    EndsBy (sized_chunk most sum (xs ++ ys) n (Some (suc m))) (length xs) → sized_chunk most sum xs n (Some (suc m)) ≡ sized_chunk most sum (xs ++ ys) n (Some (suc m))
+large_alone most sum n m xs ys true large ends = absurd (rw large at ends)
+large_alone most sum n m xs ys false small ends = rw small (data_alone n (suc m) xs ys (rw small at ends))
 
-sized_alone : (sum n : ℕ) (xs ys : List ℕ) (s : Option ℕ) → n ≤ length xs → EndsBy (sized_chunk sum (xs ++ ys) n s) (length xs) →
-    sized_chunk sum xs n s ≡ sized_chunk sum (xs ++ ys) n s
-sized_alone sum n xs ys None within ends = absurd ends
-sized_alone sum n xs ys (Some zero) within ends =
+sized_alone : (most : ℕ) (sum n : ℕ) (xs ys : List ℕ) (s : Option ℕ) → n ≤ length xs → EndsBy (sized_chunk most sum (xs ++ ys) n s) (length xs) →
+    sized_chunk most sum xs n s ≡ sized_chunk most sum (xs ++ ys) n s
+sized_alone most sum n xs ys None within ends = absurd ends
+sized_alone most sum n xs ys (Some zero) within ends =
     trailers_alone (n - 2) xs ys (length_through empty_line (drop (n - 2) (xs ++ ys))) (omega arith) refl ends
-sized_alone sum n xs ys (Some (suc m)) within ends = large_alone sum n m xs ys (nat_lt longest_body (sum + suc m)) refl ends
+sized_alone most sum n xs ys (Some (suc m)) within ends = large_alone most sum n m xs ys (nat_lt most (sum + suc m)) refl ends
 
 -- a chunk ends after its line
 trailers_behind : (place : ℕ) (bytes : List ℕ) (r : Option ℕ) (k : ℕ) → length_through empty_line bytes ≡ r → EndsBy (trailers_to place r) k → place + 4 ≤ k
 trailers_behind place bytes None k is ends = absurd ends
 trailers_behind place bytes (Some m) k is ends = let bounds = is_through empty_line bytes m is in omega (arith, bounds.long, ends)
 
-large_behind : (sum n m k : ℕ) (bytes : List ℕ) (t : Bool) → nat_lt longest_body (sum + suc m) ≡ t → EndsBy (sized_chunk sum bytes n (Some (suc m))) k → n ≤ k
-large_behind sum n m k bytes true large ends = absurd (rw large at ends)
-large_behind sum n m k bytes false small ends =
+large_behind : (most : ℕ) (sum n m k : ℕ) (bytes : List ℕ) (t : Bool) → nat_lt most (sum + suc m) ≡ t → EndsBy (sized_chunk most sum bytes n (Some (suc m))) k → n ≤ k
+large_behind most sum n m k bytes true large ends = absurd (rw large at ends)
+large_behind most sum n m k bytes false small ends =
     let all = data_ends (nat_lt (length (drop (n + suc m) bytes)) 2) (starts_with nat_eq (drop (n + suc m) bytes) line_end) n (suc m) k (rw small at ends) in
     omega (arith, all)
 
-sized_behind : (sum n k : ℕ) (bytes : List ℕ) (s : Option ℕ) → 2 ≤ n → EndsBy (sized_chunk sum bytes n s) k → n ≤ k
-sized_behind sum n k bytes None two ends = absurd ends
-sized_behind sum n k bytes (Some zero) two ends =
+sized_behind : (most : ℕ) (sum n k : ℕ) (bytes : List ℕ) (s : Option ℕ) → 2 ≤ n → EndsBy (sized_chunk most sum bytes n s) k → n ≤ k
+sized_behind most sum n k bytes None two ends = absurd ends
+sized_behind most sum n k bytes (Some zero) two ends =
     let all = trailers_behind (n - 2) (drop (n - 2) bytes) (length_through empty_line (drop (n - 2) bytes)) k refl ends in omega (arith, all)
-sized_behind sum n k bytes (Some (suc m)) two ends = large_behind sum n m k bytes (nat_lt longest_body (sum + suc m)) refl ends
+sized_behind most sum n k bytes (Some (suc m)) two ends = large_behind most sum n m k bytes (nat_lt most (sum + suc m)) refl ends
 
 unlined_ends : (t : Bool) (k : ℕ) → EndsBy (cond t (chunk.Wrong 400) chunk.Cut) k → ⊥
 unlined_ends true k ends = ends
 unlined_ends false k ends = ends
 
-lined_alone : (sum : ℕ) (xs ys : List ℕ) (r : Option ℕ) → length_through line_end (take 64 (xs ++ ys)) ≡ r →
-    EndsBy (lined_chunk sum (xs ++ ys) r) (length xs) → chunk_at sum xs ≡ lined_chunk sum (xs ++ ys) r
-lined_alone sum xs ys None is ends = absurd (unlined_ends (nat_le 64 (length (xs ++ ys))) (length xs) ends)
-lined_alone sum xs ys (Some n) is ends =
+lined_alone : (most : ℕ) (sum : ℕ) (xs ys : List ℕ) (r : Option ℕ) → length_through line_end (take 64 (xs ++ ys)) ≡ r →
+    EndsBy (lined_chunk most sum (xs ++ ys) r) (length xs) → chunk_at most sum xs ≡ lined_chunk most sum (xs ++ ys) r
+lined_alone most sum xs ys None is ends = absurd (unlined_ends (nat_le 64 (length (xs ++ ys))) (length xs) ends)
+lined_alone most sum xs ys (Some n) is ends =
     let bounds = through_first_within line_end 64 (xs ++ ys) n is in
-    let within : n ≤ length xs = sized_behind sum n (length xs) (xs ++ ys) (chunk_size (take (n - 2) (xs ++ ys))) bounds.long ends in
+    let within : n ≤ length xs = sized_behind most sum n (length xs) (xs ++ ys) (chunk_size (take (n - 2) (xs ++ ys))) bounds.long ends in
     let line : take (n - 2) xs ≡ take (n - 2) (xs ++ ys) = sym (take-append-le (n - 2) xs ys (omega (arith, within))) in
-    ap (lined_chunk sum xs) (through_first_alone line_end 64 xs ys n (omega arith) is within)
-    ∙ ap (λ zs. sized_chunk sum xs n (chunk_size zs)) line
-    ∙ sized_alone sum n xs ys (chunk_size (take (n - 2) (xs ++ ys))) within ends
+    ap (lined_chunk most sum xs) (through_first_alone line_end 64 xs ys n (omega arith) is within)
+    ∙ ap (λ zs. sized_chunk most sum xs n (chunk_size zs)) line
+    ∙ sized_alone most sum n xs ys (chunk_size (take (n - 2) (xs ++ ys))) within ends
 
 -- a chunk that ends within the first bytes is the same in them alone
-chunk_alone : (sum : ℕ) (xs ys : List ℕ) → EndsBy (chunk_at sum (xs ++ ys)) (length xs) → chunk_at sum xs ≡ chunk_at sum (xs ++ ys)
-chunk_alone sum xs ys ends = lined_alone sum xs ys (length_through line_end (take 64 (xs ++ ys))) refl ends
+chunk_alone : (most : ℕ) (sum : ℕ) (xs ys : List ℕ) → EndsBy (chunk_at most sum (xs ++ ys)) (length xs) → chunk_at most sum xs ≡ chunk_at most sum (xs ++ ys)
+chunk_alone most sum xs ys ends = lined_alone most sum xs ys (length_through line_end (take 64 (xs ++ ys))) refl ends
 
 -- and has some of them
-lined_some : (sum k : ℕ) (bytes : List ℕ) (r : Option ℕ) → length_through line_end (take 64 bytes) ≡ r → EndsBy (lined_chunk sum bytes r) k → 0 < k
-lined_some sum k bytes None is ends = absurd (unlined_ends (nat_le 64 (length bytes)) k ends)
-lined_some sum k bytes (Some n) is ends =
+lined_some : (most : ℕ) (sum k : ℕ) (bytes : List ℕ) (r : Option ℕ) → length_through line_end (take 64 bytes) ≡ r → EndsBy (lined_chunk most sum bytes r) k → 0 < k
+lined_some most sum k bytes None is ends = absurd (unlined_ends (nat_le 64 (length bytes)) k ends)
+lined_some most sum k bytes (Some n) is ends =
     let bounds = through_first_within line_end 64 bytes n is in
-    let behind = sized_behind sum n k bytes (chunk_size (take (n - 2) bytes)) bounds.long ends in omega (arith, bounds.long, behind)
+    let behind = sized_behind most sum n k bytes (chunk_size (take (n - 2) bytes)) bounds.long ends in omega (arith, bounds.long, behind)
 
 -- ---- bodies
 
@@ -148,12 +147,12 @@ first_ends (chunk.More place size) bytes f body used n is within =
     more_ends done taken (whole others count) body used n is within = let sum : taken + count ≡ used = cc in omega (arith, sum, within)
 
 -- a whole body takes some bytes
-takes_some : (skip sum : ℕ) (bytes body : List ℕ) (used : ℕ) → chunks skip sum bytes ≡ whole body used → 0 < used
-takes_some skip sum [] body used is = absurd cc
-takes_some (suc skip) sum (b ∷ bytes) body used is = takes_some skip sum bytes body used is
-takes_some zero sum (b ∷ bytes) body used is =
-    lined_some sum used (b ∷ bytes) (length_through line_end (take 64 (b ∷ bytes))) refl
-    (first_ends (chunk_at sum (b ∷ bytes)) (b ∷ bytes) (λ size skip. chunks skip (sum + size) bytes) body used used is (omega arith))
+takes_some : (most : ℕ) (skip sum : ℕ) (bytes body : List ℕ) (used : ℕ) → chunks most skip sum bytes ≡ whole body used → 0 < used
+takes_some most skip sum [] body used is = absurd cc
+takes_some most (suc skip) sum (b ∷ bytes) body used is = takes_some most skip sum bytes body used is
+takes_some most zero sum (b ∷ bytes) body used is =
+    lined_some most sum used (b ∷ bytes) (length_through line_end (take 64 (b ∷ bytes))) refl
+    (first_ends (chunk_at most sum (b ∷ bytes)) (b ∷ bytes) (λ size skip. chunks most skip (sum + size) bytes) body used used is (omega arith))
 
 -- the chunks after the first, in fewer bytes
 followed_alone : (c : Chunk) (xs ys : List ℕ) (f g : ℕ → ℕ → BodyFront) (body : List ℕ) (used : ℕ) → used ≤ length xs →
@@ -181,21 +180,21 @@ followed_alone (chunk.More place size) xs ys f g body used within later is =
         ∙ ap (with_chunk (take size (drop place (xs ++ ys))) (place + size + 2)) (later others count refl (omega (arith, sum, within)))
         ∙ is
 
-chunks_alone : (skip sum : ℕ) (xs ys body : List ℕ) (used : ℕ) → chunks skip sum (xs ++ ys) ≡ whole body used → skip + used ≤ length xs →
-    chunks skip sum xs ≡ whole body used
-chunks_alone skip sum [] ys body used is within = let some = takes_some skip sum ys body used is in absurd (omega (arith, some, within))
-chunks_alone (suc skip) sum (x ∷ xs) ys body used is within = chunks_alone skip sum xs ys body used is (omega (arith, within))
-chunks_alone zero sum (x ∷ xs) ys body used is within =
-    let c = chunk_at sum (x ∷ (xs ++ ys)) in
-    let ends = first_ends c (x ∷ (xs ++ ys)) (λ size skip. chunks skip (sum + size) (xs ++ ys)) body used (length (x ∷ xs)) is (omega (arith, within)) in
-    ap (λ d. follow d (x ∷ xs) (λ size skip. chunks skip (sum + size) xs)) (chunk_alone sum (x ∷ xs) ys ends)
-    ∙ followed_alone c (x ∷ xs) ys (λ size skip. chunks skip (sum + size) (xs ++ ys)) (λ size skip. chunks skip (sum + size) xs) body used (omega (arith, within))
-    (λ size skip others count behind fits. chunks_alone skip (sum + size) xs ys others count behind (omega (arith, fits))) is
+chunks_alone : (most : ℕ) (skip sum : ℕ) (xs ys body : List ℕ) (used : ℕ) → chunks most skip sum (xs ++ ys) ≡ whole body used → skip + used ≤ length xs →
+    chunks most skip sum xs ≡ whole body used
+chunks_alone most skip sum [] ys body used is within = let some = takes_some most skip sum ys body used is in absurd (omega (arith, some, within))
+chunks_alone most (suc skip) sum (x ∷ xs) ys body used is within = chunks_alone most skip sum xs ys body used is (omega (arith, within))
+chunks_alone most zero sum (x ∷ xs) ys body used is within =
+    let c = chunk_at most sum (x ∷ (xs ++ ys)) in
+    let ends = first_ends c (x ∷ (xs ++ ys)) (λ size skip. chunks most skip (sum + size) (xs ++ ys)) body used (length (x ∷ xs)) is (omega (arith, within)) in
+    ap (λ d. follow d (x ∷ xs) (λ size skip. chunks most skip (sum + size) xs)) (chunk_alone most sum (x ∷ xs) ys ends)
+    ∙ followed_alone c (x ∷ xs) ys (λ size skip. chunks most skip (sum + size) (xs ++ ys)) (λ size skip. chunks most skip (sum + size) xs) body used (omega (arith, within))
+    (λ size skip others count behind fits. chunks_alone most skip (sum + size) xs ys others count behind (omega (arith, fits))) is
 
 -- the bytes that a whole body takes are one body
-pub body_alone : (bytes body : List ℕ) (used : ℕ) → chunks 0 0 bytes ≡ whole body used → used ≤ length bytes →
-    chunks 0 0 (take used bytes) ≡ whole body (length (take used bytes))
-body_alone bytes body used is within =
+pub body_alone : (most : ℕ) (bytes body : List ℕ) (used : ℕ) → chunks most 0 0 bytes ≡ whole body used → used ≤ length bytes →
+    chunks most 0 0 (take used bytes) ≡ whole body (length (take used bytes))
+body_alone most bytes body used is within =
     let size : length (take used bytes) ≡ used = length-take-le used bytes within in
-    chunks_alone 0 0 (take used bytes) (drop used bytes) body used (ap (chunks 0 0) (take-append-drop used bytes) ∙ is) (omega (arith, size))
+    chunks_alone most 0 0 (take used bytes) (drop used bytes) body used (ap (chunks most 0 0) (take-append-drop used bytes) ∙ is) (omega (arith, size))
     ∙ ap (whole body) (sym size)

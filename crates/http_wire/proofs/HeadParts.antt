@@ -1,5 +1,5 @@
 -- Heads as code reads and judges them: their lines, their parts, and their first fault.
-use Rattle.std.proofs.Common.{◌≡◌, ◌≢◌, ◌≤◌, ◌<◌, ℕ, ◌&&◌, ◌||◌, Bool, true, false, List, [], length, map, take, drop, refl, sym, ap, subst, ◌∙◌, arith}
+use Rattle.std.proofs.Common.{◌≡◌, ◌≢◌, ◌≤◌, ◌<◌, ℕ, ◌&&◌, ◌||◌, Bool, true, false, List, [], length, map, take, refl, sym, ap, subst, ◌∙◌, arith}
 use Rattle.std.specs.Prelude.{◌==◌, not, Some, None, Result, Ok, Err, IfOk, IfErr}
 use Rattle.std.proofs.lemmas.List.{drop_all, append-nil, length-map, length-take}
 use Rattle.httparse.specs.declared.spans.HeaderSpan.{HeaderSpan}
@@ -11,8 +11,8 @@ use Rattle.http_wire.specs.declared.heads.HeadParts.{HeadParts}
 use Rattle.http_wire.specs.declared.framing.Framing.{Framing}
 use Rattle.http_wire.specs.declared.framing.Judged.{Judged}
 use Rattle.http_wire.specs.Heads.{line_feeds, are_paired, IsHead, is_newer}
-use Rattle.http_wire.specs.Fields.{Line, lines_of, Said, said_by}
-use Rattle.http_wire.specs.Judging.{IsJudged, too_many_lines, bare_line_end, no_head, one_head, fields_judged, with_framing, has_body, expects, closes}
+use Rattle.http_wire.specs.Fields.{lines_of, said_by}
+use Rattle.http_wire.specs.Judging.{too_many_lines, bare_line_end, no_head, one_head, fields_judged, with_framing, has_body, expects, closes}
 use Rattle.http_wire.specs.Found.{said_in, with_lines, AreHeadParts, IsReadAs, IsJudgedAs}
 use Rattle.http_wire.proofs.FieldLines.{all_lines}
 

@@ -5,7 +5,11 @@ pub mod Digits
 pub mod ChunkRows
 pub mod Fronts
 pub mod MoreBytes
+pub mod MoreData
 pub mod OneFront
+pub mod ReplyHeads
+pub mod ReplySteps
+pub mod OneReply
 pub mod MoreOfAStream
 pub mod FewerBytes
 pub mod ChunkLines

@@ -126,8 +126,8 @@ ended_stays place size xs ys false long isnt =
 
 -- a chunk with a size
 large_stays : (sum n m : ℕ) (xs ys : List ℕ) (t : Bool) → nat_lt longest_body (sum + suc m) ≡ t →
-    sized_chunk sum xs n (Some (suc m)) ≢ chunk.Cut →
-    Stays (sized_chunk sum xs n (Some (suc m))) (sized_chunk sum (xs ++ ys) n (Some (suc m))) (length xs)
+    sized_chunk longest_body sum xs n (Some (suc m)) ≢ chunk.Cut →
+    Stays (sized_chunk longest_body sum xs n (Some (suc m))) (sized_chunk longest_body sum (xs ++ ys) n (Some (suc m))) (length xs)
 large_stays sum n m xs ys true large isnt = record {
   same = rw large refl;
   fits = λ place size is. absurd (wrong_isnt_more place size (rw large at is));
@@ -152,8 +152,8 @@ trailers_stay n xs ys (Some m) within is isnt = record {
     last_isnt_more used place size more = cc
 
 -- a chunk whose line ends
-sized_stays : (sum n : ℕ) (xs ys : List ℕ) (s : Option ℕ) → n ≤ length xs → sized_chunk sum xs n s ≢ chunk.Cut →
-    Stays (sized_chunk sum xs n s) (sized_chunk sum (xs ++ ys) n s) (length xs)
+sized_stays : (sum n : ℕ) (xs ys : List ℕ) (s : Option ℕ) → n ≤ length xs → sized_chunk longest_body sum xs n s ≢ chunk.Cut →
+    Stays (sized_chunk longest_body sum xs n s) (sized_chunk longest_body sum (xs ++ ys) n s) (length xs)
 sized_stays sum n xs ys None within isnt = record { same = refl; fits = λ place size is. absurd cc }
 sized_stays sum n xs ys (Some zero) within isnt =
     trailers_stay (n - 2) xs ys (length_through empty_line (drop (n - 2) xs)) (omega arith) refl isnt
@@ -161,7 +161,7 @@ sized_stays sum n xs ys (Some (suc m)) within isnt = large_stays sum n m xs ys (
 
 -- a chunk whose line doesn't end where it should
 unlined_stays : (sum : ℕ) (xs ys : List ℕ) (t : Bool) → nat_le 64 (length xs) ≡ t → length_through line_end (take 64 xs) ≡ None →
-    lined_chunk sum xs None ≢ chunk.Cut → Stays (lined_chunk sum xs None) (chunk_at sum (xs ++ ys)) (length xs)
+    lined_chunk longest_body sum xs None ≢ chunk.Cut → Stays (lined_chunk longest_body sum xs None) (chunk_at longest_body sum (xs ++ ys)) (length xs)
 unlined_stays sum xs ys false short none isnt = absurd (isnt (rw short refl))
 unlined_stays sum xs ys true long none isnt =
     let all : 64 ≤ length xs = leb-true _ _ long in
@@ -169,18 +169,18 @@ unlined_stays sum xs ys true long none isnt =
     let still : length_through line_end (take 64 (xs ++ ys)) ≡ None =
     ap (length_through line_end) (take-append-le 64 xs ys all) ∙ none in
     record {
-      same = ap (lined_chunk sum (xs ++ ys)) still ∙ wrong_both sum xs (xs ++ ys) long longer;
+      same = ap (lined_chunk longest_body sum (xs ++ ys)) still ∙ wrong_both sum xs (xs ++ ys) long longer;
       fits = λ place size is. absurd (wrong_isnt_more place size (rw long at is));
     }
   where
-    wrong_both : (sum : ℕ) (old new : List ℕ) → nat_le 64 (length old) ≡ true → nat_le 64 (length new) ≡ true → lined_chunk sum new None ≡ lined_chunk sum old None
+    wrong_both : (sum : ℕ) (old new : List ℕ) → nat_le 64 (length old) ≡ true → nat_le 64 (length new) ≡ true → lined_chunk longest_body sum new None ≡ lined_chunk longest_body sum old None
     wrong_both sum old new of_a of_b = rw (of_a, of_b) refl
 
     wrong_isnt_more : (place size : ℕ) → chunk.Wrong 400 ≡ chunk.More place size → ⊥
     wrong_isnt_more place size is = cc
 
-lined_stays : (sum : ℕ) (xs ys : List ℕ) (r : Option ℕ) → length_through line_end (take 64 xs) ≡ r → lined_chunk sum xs r ≢ chunk.Cut →
-    Stays (lined_chunk sum xs r) (chunk_at sum (xs ++ ys)) (length xs)
+lined_stays : (sum : ℕ) (xs ys : List ℕ) (r : Option ℕ) → length_through line_end (take 64 xs) ≡ r → lined_chunk longest_body sum xs r ≢ chunk.Cut →
+    Stays (lined_chunk longest_body sum xs r) (chunk_at longest_body sum (xs ++ ys)) (length xs)
 lined_stays sum xs ys None is isnt = unlined_stays sum xs ys (nat_le 64 (length xs)) refl is isnt
 lined_stays sum xs ys (Some n) is isnt =
     let bounds = through_first_within line_end 64 xs n is in
@@ -188,12 +188,12 @@ lined_stays sum xs ys (Some n) is isnt =
     let line : take (n - 2) (xs ++ ys) ≡ take (n - 2) xs = take-append-le (n - 2) xs ys (omega (arith, bounds.within)) in
     let sized = sized_stays sum n xs ys (chunk_size (take (n - 2) xs)) bounds.within isnt in
     record {
-      same = ap (lined_chunk sum (xs ++ ys)) found ∙ ap (λ zs. sized_chunk sum (xs ++ ys) n (chunk_size zs)) line ∙ sized.same;
+      same = ap (lined_chunk longest_body sum (xs ++ ys)) found ∙ ap (λ zs. sized_chunk longest_body sum (xs ++ ys) n (chunk_size zs)) line ∙ sized.same;
       fits = sized.fits;
     }
 
 -- a chunk that isn't cut stays the same
-pub chunk_stays : (sum : ℕ) (xs ys : List ℕ) → chunk_at sum xs ≢ chunk.Cut → Stays (chunk_at sum xs) (chunk_at sum (xs ++ ys)) (length xs)
+pub chunk_stays : (sum : ℕ) (xs ys : List ℕ) → chunk_at longest_body sum xs ≢ chunk.Cut → Stays (chunk_at longest_body sum xs) (chunk_at longest_body sum (xs ++ ys)) (length xs)
 chunk_stays sum xs ys isnt = lined_stays sum xs ys (length_through line_end (take 64 xs)) refl isnt
 
 -- ---- bodies
@@ -226,14 +226,14 @@ cut_follows : (c : Chunk) (xs : List ℕ) (f : ℕ → ℕ → BodyFront) → fo
 cut_follows c xs f settled = λ is. settled (ap (λ d. follow d xs f) is)
 
 -- chunks that are settled stay as they are
-pub chunks_stay : (skip sum : ℕ) (xs ys : List ℕ) → chunks skip sum xs ≢ unfinished → chunks skip sum (xs ++ ys) ≡ chunks skip sum xs
+pub chunks_stay : (skip sum : ℕ) (xs ys : List ℕ) → chunks longest_body skip sum xs ≢ unfinished → chunks longest_body skip sum (xs ++ ys) ≡ chunks longest_body skip sum xs
 chunks_stay skip sum [] ys settled = absurd (settled refl)
 chunks_stay (suc skip) sum (x ∷ xs) ys settled = chunks_stay skip sum xs ys settled
 chunks_stay zero sum (x ∷ xs) ys settled =
-    let isnt = cut_follows (chunk_at sum (x ∷ xs)) (x ∷ xs) (λ size skip. chunks skip (sum + size) xs) settled in
+    let isnt = cut_follows (chunk_at longest_body sum (x ∷ xs)) (x ∷ xs) (λ size skip. chunks longest_body skip (sum + size) xs) settled in
     let stays = chunk_stays sum (x ∷ xs) ys isnt in
-    ap (λ c. follow c (x ∷ (xs ++ ys)) (λ size skip. chunks skip (sum + size) (xs ++ ys))) stays.same
-    ∙ followed_stay (chunk_at sum (x ∷ xs)) (x ∷ xs) ys (λ size skip. chunks skip (sum + size) xs) (λ size skip. chunks skip (sum + size) (xs ++ ys))
+    ap (λ c. follow c (x ∷ (xs ++ ys)) (λ size skip. chunks longest_body skip (sum + size) (xs ++ ys))) stays.same
+    ∙ followed_stay (chunk_at longest_body sum (x ∷ xs)) (x ∷ xs) ys (λ size skip. chunks longest_body skip (sum + size) xs) (λ size skip. chunks longest_body skip (sum + size) (xs ++ ys))
     isnt stays.fits (λ size skip isnt_too. chunks_stay skip (sum + size) xs ys isnt_too) settled
 
 -- a body of a stated length
@@ -248,14 +248,14 @@ stated_stays n xs ys true long settled =
     both_whole n old new of_a of_b same = rw (of_a, of_b, same) refl
 
 -- a body in chunks that is too long
-long_stays : (xs ys : List ℕ) (t : Bool) → nat_le longest_coded (length xs) ≡ t → chunks 0 0 (take longest_coded xs) ≡ unfinished →
+long_stays : (xs ys : List ℕ) (t : Bool) → nat_le longest_coded (length xs) ≡ t → chunks longest_body 0 0 (take longest_coded xs) ≡ unfinished →
     within_longest xs unfinished ≢ unfinished →
-    within_longest (xs ++ ys) (chunks 0 0 (take longest_coded (xs ++ ys))) ≡ within_longest xs unfinished
+    within_longest (xs ++ ys) (chunks longest_body 0 0 (take longest_coded (xs ++ ys))) ≡ within_longest xs unfinished
 long_stays xs ys false short is settled = absurd (settled (rw short refl))
 long_stays xs ys true long is settled =
     let all : longest_coded ≤ length xs = leb-true _ _ long in
     let longer : nat_le longest_coded (length (xs ++ ys)) ≡ true = le-leb _ _ (omega (arith, all, length-append xs ys)) in
-    ap (λ zs. within_longest (xs ++ ys) (chunks 0 0 zs)) (take-append-le longest_coded xs ys all)
+    ap (λ zs. within_longest (xs ++ ys) (chunks longest_body 0 0 zs)) (take-append-le longest_coded xs ys all)
     ∙ ap (within_longest (xs ++ ys)) is ∙ both_long xs (xs ++ ys) long longer
   where
     both_long : (old new : List ℕ) → nat_le longest_coded (length old) ≡ true → nat_le longest_coded (length new) ≡ true →
@@ -263,14 +263,14 @@ long_stays xs ys true long is settled =
     both_long old new of_a of_b = rw (of_a, of_b) refl
 
 -- a body in chunks that is settled before that
-short_stays : (xs ys : List ℕ) (r : BodyFront) → chunks 0 0 (take longest_coded xs) ≡ r → r ≢ unfinished →
-    chunks 0 0 (take longest_coded (xs ++ ys)) ≡ r
+short_stays : (xs ys : List ℕ) (r : BodyFront) → chunks longest_body 0 0 (take longest_coded xs) ≡ r → r ≢ unfinished →
+    chunks longest_body 0 0 (take longest_coded (xs ++ ys)) ≡ r
 short_stays xs ys r is settled =
     let grown = take_grows longest_coded xs ys in
-    ap (chunks 0 0) grown.1 ∙ chunks_stay 0 0 (take longest_coded xs) grown.0 (λ cut. settled (sym is ∙ cut)) ∙ is
+    ap (chunks longest_body 0 0) grown.1 ∙ chunks_stay 0 0 (take longest_coded xs) grown.0 (λ cut. settled (sym is ∙ cut)) ∙ is
 
-chunked_stays : (xs ys : List ℕ) (r : BodyFront) → chunks 0 0 (take longest_coded xs) ≡ r → within_longest xs r ≢ unfinished →
-    within_longest (xs ++ ys) (chunks 0 0 (take longest_coded (xs ++ ys))) ≡ within_longest xs r
+chunked_stays : (xs ys : List ℕ) (r : BodyFront) → chunks longest_body 0 0 (take longest_coded xs) ≡ r → within_longest xs r ≢ unfinished →
+    within_longest (xs ++ ys) (chunks longest_body 0 0 (take longest_coded (xs ++ ys))) ≡ within_longest xs r
 chunked_stays xs ys unfinished is settled = long_stays xs ys (nat_le longest_coded (length xs)) refl is settled
 chunked_stays xs ys (faulty status) is settled = ap (within_longest (xs ++ ys)) (short_stays xs ys (faulty status) is (λ cut. cc))
 chunked_stays xs ys (whole body used) is settled = ap (within_longest (xs ++ ys)) (short_stays xs ys (whole body used) is (λ cut. cc))
@@ -278,4 +278,4 @@ chunked_stays xs ys (whole body used) is settled = ap (within_longest (xs ++ ys)
 -- a body that is settled stays as it is
 pub body_stays : (f : Framing) (xs ys : List ℕ) → body_front f xs ≢ unfinished → body_front f (xs ++ ys) ≡ body_front f xs
 body_stays (framing.Stated n) xs ys settled = stated_stays n xs ys (nat_le n (length xs)) refl settled
-body_stays framing.Chunked xs ys settled = chunked_stays xs ys (chunks 0 0 (take longest_coded xs)) refl settled
+body_stays framing.Chunked xs ys settled = chunked_stays xs ys (chunks longest_body 0 0 (take longest_coded xs)) refl settled

@@ -2,6 +2,10 @@
 use Rattle.std.specs.Prelude.{◌≡◌, ℕ, List, [], length, Bool, true, false}
 use Rattle.http_wire.specs.Chunks.{BodyFront, unfinished, faulty, whole, chunks}
 
+-- The most bytes of a reply with all that is before it, and so of any body when it is decoded.
+abbrev pub longest_reply : ℕ
+longest_reply = 65536
+
 -- the decoded bytes of a body that is whole
 abbrev pub body_in : BodyFront → List ℕ
 body_in unfinished = []
@@ -10,10 +14,10 @@ body_in (whole body used) = body
 
 -- the bytes of a whole body that is in chunks, or isn't
 abbrev pub decoded : Bool → List ℕ → List ℕ
-decoded true coded = body_in (chunks 0 0 coded)
+decoded true coded = body_in (chunks longest_reply 0 0 coded)
 decoded false coded = coded
 
 -- the coded bytes are one whole body of this many decoded bytes
 abbrev pub AreOneBody : Bool → List ℕ → ℕ → Type 0
-AreOneBody true coded n = (body : List ℕ) × (chunks 0 0 coded ≡ whole body (length coded)) × (length body ≡ n)
+AreOneBody true coded n = (body : List ℕ) × (chunks longest_reply 0 0 coded ≡ whole body (length coded)) × (length body ≡ n)
 AreOneBody false coded n = length coded ≡ n

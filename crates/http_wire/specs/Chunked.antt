@@ -51,9 +51,9 @@ pub record IsChunkedBody (b : ChunkedBody) : Type 0 where
 
 -- What is read as a whole body is what some body spells, at the front of the bytes.
 abbrev pub EachWholeIsSpelled : Type 0
-EachWholeIsSpelled = (bytes body : List ℕ) (used : ℕ) → chunks 0 0 bytes ≡ whole body used →
+EachWholeIsSpelled = (bytes body : List ℕ) (used : ℕ) → chunks longest_body 0 0 bytes ≡ whole body used →
     (b : ChunkedBody) × (rest : List ℕ) × IsChunkedBody b × (bytes ≡ print_body b ++ rest) × (body ≡ data_of b) × (used ≡ length (print_body b))
 
 -- And each body that is spelled there is read.
 abbrev pub EachSpelledIsRead : Type 0
-EachSpelledIsRead = (b : ChunkedBody) (rest : List ℕ) → IsChunkedBody b → chunks 0 0 (print_body b ++ rest) ≡ whole (data_of b) (length (print_body b))
+EachSpelledIsRead = (b : ChunkedBody) (rest : List ℕ) → IsChunkedBody b → chunks longest_body 0 0 (print_body b ++ rest) ≡ whole (data_of b) (length (print_body b))

@@ -9,7 +9,6 @@ use Rattle.httparse.specs.Grammar.{is_extension_byte}
 use Rattle.http_wire.specs.declared.chunks.Chunk.{Chunk}
 use Rattle.http_wire.specs.declared.chunks.Chunk.TheVariants as chunk
 use Rattle.http_wire.specs.Heads.{line_end, empty_line, length_through}
-use Rattle.http_wire.specs.Judging.{longest_body}
 
 -- What is at the front of the bytes after a head: the body isn't whole yet, or has a fault with its status, or is
 -- whole, with its decoded bytes and how many coded ones it has.
@@ -41,22 +40,23 @@ data_before place size after =
     else if starts_with nat_eq after line_end then chunk.More place size
     else chunk.Wrong 400
 
--- a chunk whose line, of n bytes with its CR LF, says this size, after n bytes of data
-abbrev pub sized_chunk : ℕ → List ℕ → ℕ → Option ℕ → Chunk
-sized_chunk sum bytes n None = chunk.Wrong 400
-sized_chunk sum bytes n (Some zero) = trailers_to (n - 2) (length_through empty_line (drop (n - 2) bytes))
-sized_chunk sum bytes n (Some (suc m)) =
-    if nat_lt longest_body (sum + suc m) then chunk.Wrong 413
+-- A chunk whose line, of n bytes with its CR LF, says this size, after a sum of data. Of all data there are at most so
+-- many bytes as the first number says.
+abbrev pub sized_chunk : ℕ → ℕ → List ℕ → ℕ → Option ℕ → Chunk
+sized_chunk most sum bytes n None = chunk.Wrong 400
+sized_chunk most sum bytes n (Some zero) = trailers_to (n - 2) (length_through empty_line (drop (n - 2) bytes))
+sized_chunk most sum bytes n (Some (suc m)) =
+    if nat_lt most (sum + suc m) then chunk.Wrong 413
     else data_before n (suc m) (drop (n + suc m) bytes)
 
 -- a chunk whose line ends there; it ends within 64 bytes
-abbrev pub lined_chunk : ℕ → List ℕ → Option ℕ → Chunk
-lined_chunk sum bytes None = if nat_le 64 (length bytes) then chunk.Wrong 400 else chunk.Cut
-lined_chunk sum bytes (Some n) = sized_chunk sum bytes n (chunk_size (take (n - 2) bytes))
+abbrev pub lined_chunk : ℕ → ℕ → List ℕ → Option ℕ → Chunk
+lined_chunk most sum bytes None = if nat_le 64 (length bytes) then chunk.Wrong 400 else chunk.Cut
+lined_chunk most sum bytes (Some n) = sized_chunk most sum bytes n (chunk_size (take (n - 2) bytes))
 
--- the chunk at the front of bytes, after n bytes of data
-abbrev pub chunk_at : ℕ → List ℕ → Chunk
-chunk_at sum bytes = lined_chunk sum bytes (length_through line_end (take 64 bytes))
+-- the chunk at the front of bytes, after a sum of data
+abbrev pub chunk_at : ℕ → ℕ → List ℕ → Chunk
+chunk_at most sum bytes = lined_chunk most sum bytes (length_through line_end (take 64 bytes))
 
 -- a chunk's data, and then the rest of the body
 abbrev pub with_chunk : List ℕ → ℕ → BodyFront → BodyFront
@@ -71,9 +71,9 @@ follow (chunk.Wrong status) bytes rest = faulty status
 follow (chunk.Last used) bytes rest = whole [] used
 follow (chunk.More place size) bytes rest = with_chunk (take size (drop place bytes)) (place + size + 2) (rest size (place + size + 1))
 
--- The chunks of the bytes from the place `skip` on, after n bytes of data. Each of them has a byte or more, so
--- that the next begins after the first byte of this one.
-abbrev pub chunks : ℕ → ℕ → List ℕ → BodyFront
-chunks skip sum [] = unfinished
-chunks (suc skip) sum (b ∷ bytes) = chunks skip sum bytes
-chunks zero sum (b ∷ bytes) = follow (chunk_at sum (b ∷ bytes)) (b ∷ bytes) (λ size skip. chunks skip (sum + size) bytes)
+-- The chunks of the bytes from the place `skip` on, after a sum of data, with at most so many bytes of data in all. Each
+-- of them has a byte or more, so that the next begins after the first byte of this one.
+abbrev pub chunks : ℕ → ℕ → ℕ → List ℕ → BodyFront
+chunks most skip sum [] = unfinished
+chunks most (suc skip) sum (b ∷ bytes) = chunks most skip sum bytes
+chunks most zero sum (b ∷ bytes) = follow (chunk_at most sum (b ∷ bytes)) (b ∷ bytes) (λ size skip. chunks most skip (sum + size) bytes)

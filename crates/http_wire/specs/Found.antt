@@ -1,5 +1,5 @@
 -- What code reads of a head, apart from where it lies in memory.
-use Rattle.std.specs.Prelude.{◌≡◌, ℕ, List, [], ◌∷◌, ◌||◌, Bool, true, false, codes, Option, Some, None, Result, Ok, Err, if◌then◌else◌}
+use Rattle.std.specs.Prelude.{◌≡◌, ℕ, List, [], ◌∷◌, ◌||◌, Bool, false, codes, Option, Some, None, Result, Ok, Err, if◌then◌else◌}
 use Rattle.httparse.specs.Grammar.{RequestHead}
 use Rattle.thing_ops.specs.declared.request.Accept.{Accept}
 use Rattle.http_wire.specs.declared.fields.Found.{Found}

@@ -10,7 +10,7 @@ use Rattle.httparse.specs.Grammar.{RequestHead}
 use Rattle.http_wire.specs.Heads.{line_feeds, are_paired, IsHead, is_newer}
 use Rattle.http_wire.specs.Fields.{Standing, absent, once, often, Said, said_by, lines_of}
 
--- The most bytes that a body has when it is decoded.
+-- The most bytes that the body of a request has when it is decoded.
 abbrev pub longest_body : ℕ
 longest_body = 16384
 
@@ -18,11 +18,11 @@ longest_body = 16384
 abbrev pub is_length : List ℕ → Bool
 is_length value = nat_lt 0 (length value) && list_all is_ascii_digit value
 
--- the framing of a body of this length: 400 where it is no length, 413 where it is too long
-abbrev pub stated_framing : List ℕ → Result Framing ℕ
-stated_framing value =
+-- the framing of a body of this length: 400 where it is no length, 413 where it is longer than so many bytes
+abbrev pub stated_framing : ℕ → List ℕ → Result Framing ℕ
+stated_framing most value =
     if not (is_length value) then Err 400
-    else if nat_lt longest_body (digits_value 10 value) then Err 413
+    else if nat_lt most (digits_value 10 value) then Err 413
     else Ok (framing.Stated (digits_value 10 value))
 
 -- the framing of a body in this coding: there is none in HTTP/1.0, and none but `chunked` is
@@ -33,13 +33,13 @@ coded_framing newer value =
     else if str_eq_ignore_ascii_case value (codes "chunked") then Ok framing.Chunked
     else Err 501
 
--- The framing by `Content-Length` and `Transfer-Encoding`: both together, and more than one of either, are refused
--- (RFC 9112, section 6.3).
-abbrev pub framing_by : Bool → Standing → Standing → Result Framing ℕ
-framing_by newer absent absent = Ok (framing.Stated 0)
-framing_by newer (once value) absent = stated_framing value
-framing_by newer absent (once value) = coded_framing newer value
-framing_by newer lengths codings = Err 400
+-- The framing by `Content-Length` and `Transfer-Encoding`, where a body has at most so many bytes: both together, and
+-- more than one of either, are refused (RFC 9112, section 6.3).
+abbrev pub framing_by : ℕ → Bool → Standing → Standing → Result Framing ℕ
+framing_by most newer absent absent = Ok (framing.Stated 0)
+framing_by most newer (once value) absent = stated_framing most value
+framing_by most newer absent (once value) = coded_framing newer value
+framing_by most newer lengths codings = Err 400
 
 -- a field comes just once
 abbrev pub is_once : Standing → Bool
@@ -61,7 +61,7 @@ has_right_counts newer said = (not newer || is_once said.host) && not (is_often 
 -- the framing by what the header lines say
 abbrev pub fields_judged : Bool → Said → Result Framing ℕ
 fields_judged newer said =
-    if has_right_counts newer said then framing_by newer said.content_length said.transfer_encoding else Err 400
+    if has_right_counts newer said then framing_by longest_body newer said.content_length said.transfer_encoding else Err 400
 
 -- a head, and how the body after it is framed
 pub record FramedHead : Type 0 where
@@ -82,10 +82,10 @@ pub data IsJudged (bytes : List ℕ) (r : Result FramedHead ℕ) : Type 0 where
   one_head : (h : RequestHead) → line_feeds bytes ≤ 66 → are_paired 0 bytes ≡ true → IsHead bytes h →
       r ≡ with_framing h (fields_judged (is_newer h) (said_by (lines_of h))) → IsJudged bytes r
 
--- a stated length is no longer than a body may be
-abbrev pub IsBounded : Framing → Type 0
-IsBounded (framing.Stated n) = n ≤ longest_body
-IsBounded framing.Chunked = Unit {0}
+-- a stated length is no more than so many bytes
+abbrev pub IsBounded : ℕ → Framing → Type 0
+IsBounded most (framing.Stated n) = n ≤ most
+IsBounded most framing.Chunked = Unit {0}
 
 -- a body is to come: it is chunked, or its length isn't 0
 abbrev pub has_body : Framing → Bool

@@ -13,3 +13,5 @@ pub mod Targets
 pub mod Reading
 pub mod Writing
 pub mod Replies
+pub mod ReplyFronts
+pub mod ReplySeen

@@ -10,7 +10,7 @@ use Rattle.http_wire.specs.declared.framing.Framing.TheVariants as framing
 use Rattle.httparse.specs.Grammar.{RequestHead}
 use Rattle.http_wire.specs.Heads.{skipped, length_through, empty_line}
 use Rattle.http_wire.specs.Fields.{said_by, lines_of, format_of, accept_of}
-use Rattle.http_wire.specs.Judging.{FramedHead, IsJudged, expects, closes}
+use Rattle.http_wire.specs.Judging.{FramedHead, IsJudged, expects, closes, longest_body}
 use Rattle.http_wire.specs.Chunks.{BodyFront, unfinished, faulty, whole, chunks}
 
 -- The most bytes of a head, counted from the first that is no skipped CR LF pair.
@@ -60,7 +60,7 @@ within_longest bytes (whole body used) = whole body used
 -- the body at the front of the bytes after a head
 abbrev pub body_front : Framing → List ℕ → BodyFront
 body_front (framing.Stated n) bytes = stated_body n bytes
-body_front framing.Chunked bytes = within_longest bytes (chunks 0 0 (take longest_coded bytes))
+body_front framing.Chunked bytes = within_longest bytes (chunks longest_body 0 0 (take longest_coded bytes))
 
 -- a head and the body after it, where the head takes n bytes of the stream
 abbrev pub with_body : RequestHead → ℕ → Bool → BodyFront → Front

@@ -8,7 +8,7 @@ ghost use Rattle.httparse.specs.Grammar.{is_extension_byte};
 ghost use Rattle.http_wire.specs.Heads.{empty_line, length_through};
 ghost use Rattle.http_wire.specs.Judging.{longest_body, IsBounded};
 ghost use Rattle.http_wire.specs.Chunks.{size_of_digits, chunk_size, trailers_to, data_before, sized_chunk, chunk_at as chunk_of, chunks};
-ghost use Rattle.http_wire.specs.Bodies.{decoded, AreOneBody};
+ghost use Rattle.http_wire.specs.Bodies.{decoded, longest_reply, AreOneBody};
 ghost use Rattle.http_wire.specs.Stream.{body_front, stated_body, within_longest, longest_coded};
 ghost use Rattle.http_wire.specs.BodySeen.{body_seen, IsWithin, IsChunkWithin};
 
@@ -20,6 +20,9 @@ use servient_base::put_bytes;
 
 /// The most bytes of a body in chunks, with chunk lines and trailers.
 const LONGEST_CODED: usize = 20480;
+
+/// The most bytes of a reply with all that is before it, and so of any body when it is decoded.
+pub const LONGEST_REPLY: usize = 65536;
 
 /// The most bytes of a chunk line, with its CR LF.
 const LONGEST_LINE: usize = 64;
@@ -60,9 +63,9 @@ pub enum Chunk {
 
 /// The body at the front of the bytes after a head.
 pub fn body_at_front(framing: Framing, bytes: &[u8]) -> BodyScan<'_>
-    requires { IsBounded framing }
+    requires { IsBounded longest_body framing }
     ensures ok { body_seen result ≡ body_front framing bytes.now }
-    ensures within { IsWithin result (length bytes.now) }
+    ensures within { IsWithin longest_body result (length bytes.now) }
 {
     match framing {
         Framing::Stated(size) => stated_at_front(size, bytes),
@@ -71,10 +74,9 @@ pub fn body_at_front(framing: Framing, bytes: &[u8]) -> BodyScan<'_>
 }
 
 /// The body of a stated length.
-fn stated_at_front(size: usize, bytes: &[u8]) -> BodyScan<'_>
-    requires { size ≤ longest_body }
+pub fn stated_at_front(size: usize, bytes: &[u8]) -> BodyScan<'_>
     ensures ok { body_seen result ≡ stated_body size bytes.now }
-    ensures within { IsWithin result (length bytes.now) }
+    ensures within { IsWithin size result (length bytes.now) }
 {
     if size <= bytes.len() {
         BodyScan::Whole {
@@ -88,10 +90,10 @@ fn stated_at_front(size: usize, bytes: &[u8]) -> BodyScan<'_>
 
 /// The body in chunks.
 fn chunked_at_front(bytes: &[u8]) -> BodyScan<'_>
-    ensures ok { body_seen result ≡ within_longest bytes.now (chunks 0 0 (take longest_coded bytes.now)) }
-    ensures within { IsWithin result (length bytes.now) }
+    ensures ok { body_seen result ≡ within_longest bytes.now (chunks longest_body 0 0 (take longest_coded bytes.now)) }
+    ensures within { IsWithin longest_body result (length bytes.now) }
 {
-    match chunks_at_front(front(bytes, LONGEST_CODED)) {
+    match chunks_at_front(LONGEST_BODY, front(bytes, LONGEST_CODED)) {
         BodyScan::Unfinished => {
             if bytes.len() >= LONGEST_CODED {
                 BodyScan::Faulty(413)
@@ -104,15 +106,16 @@ fn chunked_at_front(bytes: &[u8]) -> BodyScan<'_>
     }
 }
 
-/// The chunks at the front of bytes, all of which the body may have.
-fn chunks_at_front(bytes: &[u8]) -> BodyScan<'_>
-    ensures ok { body_seen result ≡ chunks 0 0 bytes.now }
-    ensures within { IsWithin result (length bytes.now) }
+/// The chunks at the front of bytes, all of which the body may have, with at most so many bytes of data.
+pub fn chunks_at_front(most: usize, bytes: &[u8]) -> BodyScan<'_>
+    requires { most ≤ longest_reply }
+    ensures ok { body_seen result ≡ chunks most 0 0 bytes.now }
+    ensures within { IsWithin most result (length bytes.now) }
 {
     let mut place = 0;
     let mut sum = 0;
     loop {
-        match chunk_at(sum, rest_from(bytes, place)) {
+        match chunk_at(most, sum, rest_from(bytes, place)) {
             Chunk::Cut => return BodyScan::Unfinished,
             Chunk::Wrong(status) => return BodyScan::Faulty(status),
             Chunk::Last(used) => {
@@ -130,11 +133,11 @@ fn chunks_at_front(bytes: &[u8]) -> BodyScan<'_>
     }
 }
 
-/// The chunk at the front of bytes, after `sum` bytes of data.
-fn chunk_at(sum: usize, bytes: &[u8]) -> Chunk
-    requires { sum ≤ longest_body }
-    ensures ok { result ≡ chunk_of sum bytes.now }
-    ensures within { IsChunkWithin sum (length bytes.now) result }
+/// The chunk at the front of bytes, after `sum` bytes of data, of which there are at most so many.
+fn chunk_at(most: usize, sum: usize, bytes: &[u8]) -> Chunk
+    requires { sum ≤ most }
+    ensures ok { result ≡ chunk_of most sum bytes.now }
+    ensures within { IsChunkWithin most sum (length bytes.now) result }
 {
     match length_through_mark(b"\r\n", front(bytes, LONGEST_LINE)) {
         None => {
@@ -144,23 +147,23 @@ fn chunk_at(sum: usize, bytes: &[u8]) -> Chunk
                 Chunk::Cut
             }
         }
-        Some(end) => sized_at(sum, bytes, end),
+        Some(end) => sized_at(most, sum, bytes, end),
     }
 }
 
 /// The chunk whose line has this many bytes.
-fn sized_at(sum: usize, bytes: &[u8], end: usize) -> Chunk
-    requires sum { sum ≤ longest_body }
+fn sized_at(most: usize, sum: usize, bytes: &[u8], end: usize) -> Chunk
+    requires sum { sum ≤ most }
     requires line { 2 ≤ end }
     requires within { end ≤ length bytes.now }
-    ensures ok { result ≡ sized_chunk sum bytes.now end (chunk_size (take (end - 2) bytes.now)) }
-    ensures within { IsChunkWithin sum (length bytes.now) result }
+    ensures ok { result ≡ sized_chunk most sum bytes.now end (chunk_size (take (end - 2) bytes.now)) }
+    ensures within { IsChunkWithin most sum (length bytes.now) result }
 {
     match size_of(&bytes[..end - 2]) {
         None => Chunk::Wrong(400),
         Some(0) => last_at(end - 2, &bytes[end - 2..]),
         Some(size) => {
-            if size > LONGEST_BODY - sum {
+            if size > most - sum {
                 Chunk::Wrong(413)
             } else {
                 data_at(end, size, &bytes[end..])
@@ -173,7 +176,7 @@ fn sized_at(sum: usize, bytes: &[u8], end: usize) -> Chunk
 fn last_at(place: usize, bytes: &[u8]) -> Chunk
     requires { place + length bytes.now < 2 ^ 64 }
     ensures ok { result ≡ trailers_to place (length_through empty_line bytes.now) }
-    ensures within { IsChunkWithin 0 (place + length bytes.now) result }
+    ensures within { IsChunkWithin 0 0 (place + length bytes.now) result }
 {
     match length_through_mark(b"\r\n\r\n", bytes) {
         None => Chunk::Cut,
@@ -258,7 +261,7 @@ pub fn copy_chunks(coded: &[u8], out: &mut [u8])
     let mut place = 0;
     let mut sum = 0;
     loop {
-        match chunk_at(sum, rest_from(coded, place)) {
+        match chunk_at(LONGEST_REPLY, sum, rest_from(coded, place)) {
             Chunk::Cut | Chunk::Wrong(_) | Chunk::Last(_) => return,
             Chunk::More { place: after, size } => {
                 sum = put_bytes(out, sum, part(rest_from(coded, place), after, size));

@@ -1,10 +1,11 @@
 //! How a head is judged, and how the end of the body after it is found.
 
-ghost use Rattle.std.specs.Prelude.{◌≡◌, ◌≤◌, ◌<◌, ◌+◌, ◌*◌, ◌||◌, not, true, min, length, Ok, Err, IfOk, IfErr};
+ghost use Rattle.std.specs.Prelude.{◌≡◌, ◌≤◌, ◌<◌, ◌+◌, ◌*◌, ◌||◌, not, true, ℕ, min, length, Ok, Err, IfOk, IfErr};
 ghost use Rattle.std.specs.List.{list_all};
 ghost use Rattle.std.specs.Char.{is_ascii_digit, digit_value};
 ghost use Rattle.std.specs.Str.Parse.{digits_value};
 ghost use Rattle.http_wire.specs.Judging.{longest_body, IsBounded, is_length, framing_by, stated_framing, coded_framing, is_once, is_often, has_right_counts, fields_judged, has_body as brings_body};
+ghost use Rattle.http_wire.specs.Bodies.{longest_reply};
 ghost use Rattle.http_wire.specs.Found.{standing_of, said_in, IsJudgedAs};
 
 use crate::fields::{Fields, Found, is_alike};
@@ -14,7 +15,7 @@ use crate::heads::{HeadParts, count_line_feeds, has_pairs_alone, read_head};
 pub const LONGEST_BODY: usize = 16384;
 
 /// The line feeds of a head with the most header lines: 64, the start line and the empty line.
-const MOST_LINE_FEEDS: usize = 66;
+pub const MOST_LINE_FEEDS: usize = 66;
 
 /// How long a body is (RFC 9112, section 6).
 #[derive(Clone, Copy, Debug, PartialEq, Eq, Drop)]
@@ -38,7 +39,7 @@ pub struct Judged<'a> {
 #[tactic(auto, using(crate::proofs::HeadParts::judged_many, crate::proofs::HeadParts::judged_bare, crate::proofs::HeadParts::judged_none, crate::proofs::HeadParts::judged_head))]
 pub fn judge(head: &[u8]) -> Result<Judged<'_>, u16>
     ensures ok { IsJudgedAs head.now result }
-    ensures bound { IfOk result (λ j. IsBounded j.framing) }
+    ensures bound { IfOk result (λ j. IsBounded longest_body j.framing) }
     ensures target { IfOk result (λ j. length j.head.target.now ≤ length head.now) }
 {
     if count_line_feeds(head) > MOST_LINE_FEEDS {
@@ -57,7 +58,7 @@ pub fn judge(head: &[u8]) -> Result<Judged<'_>, u16>
 fn judge_parts(head: HeadParts<'_>) -> Result<Judged<'_>, u16>
     ensures ok { IfOk result (λ j. (j.head ≡ head.entry) × (fields_judged head.entry.newer (said_in head.entry.fields) ≡ Ok j.framing)) }
     ensures fault { IfErr result (λ status. fields_judged head.entry.newer (said_in head.entry.fields) ≡ Err status) }
-    ensures bound { IfOk result (λ j. IsBounded j.framing) }
+    ensures bound { IfOk result (λ j. IsBounded longest_body j.framing) }
 {
     let framing = judge_fields(head.newer, &head.fields)?;
     Ok(Judged { head, framing })
@@ -66,10 +67,15 @@ fn judge_parts(head: HeadParts<'_>) -> Result<Judged<'_>, u16>
 /// The framing by the fields of a head.
 fn judge_fields(newer: bool, fields: &Fields<'_>) -> Result<Framing, u16>
     ensures ok { result ≡ fields_judged newer (said_in fields.now) }
-    ensures bound { IfOk result IsBounded }
+    ensures bound { IfOk result (IsBounded longest_body) }
 {
     if has_counts(newer, fields) {
-        read_framing(newer, fields.content_length, fields.transfer_encoding)
+        read_framing(
+            LONGEST_BODY,
+            newer,
+            fields.content_length,
+            fields.transfer_encoding,
+        )
     } else {
         Err(400)
     }
@@ -96,10 +102,16 @@ fn stands_often(found: Found<'_>) -> bool
     matches!(found, Found::Often)
 }
 
-/// The framing by `Content-Length` and `Transfer-Encoding`.
-fn read_framing(newer: bool, length: Found<'_>, coding: Found<'_>) -> Result<Framing, u16>
-    ensures ok { result ≡ framing_by newer (standing_of length.entry) (standing_of coding.entry) }
-    ensures bound { IfOk result IsBounded }
+/// The framing by `Content-Length` and `Transfer-Encoding`, where a body has at most so many bytes.
+pub fn read_framing(
+    most: usize,
+    newer: bool,
+    length: Found<'_>,
+    coding: Found<'_>,
+) -> Result<Framing, u16>
+    requires { most ≤ longest_reply }
+    ensures ok { result ≡ framing_by most newer (standing_of length.entry) (standing_of coding.entry) }
+    ensures bound { IfOk result (IsBounded most) }
 {
     match length {
         Found::Absent => match coding {
@@ -108,7 +120,7 @@ fn read_framing(newer: bool, length: Found<'_>, coding: Found<'_>) -> Result<Fra
             Found::Often => Err(400),
         },
         Found::Once(value) => match coding {
-            Found::Absent => stated(value),
+            Found::Absent => stated(most, value),
             Found::Once(_) => Err(400),
             Found::Often => Err(400),
         },
@@ -119,7 +131,7 @@ fn read_framing(newer: bool, length: Found<'_>, coding: Found<'_>) -> Result<Fra
 /// The framing of a body in this coding.
 fn coded(newer: bool, value: &[u8]) -> Result<Framing, u16>
     ensures ok { result ≡ coded_framing newer value.now }
-    ensures bound { IfOk result IsBounded }
+    ensures bound { (most : ℕ) → IfOk result (IsBounded most) }
 {
     if !newer {
         Err(400)
@@ -130,16 +142,17 @@ fn coded(newer: bool, value: &[u8]) -> Result<Framing, u16>
     }
 }
 
-/// The framing of a body of this length.
-fn stated(value: &[u8]) -> Result<Framing, u16>
-    ensures ok { result ≡ stated_framing value.now }
-    ensures bound { IfOk result IsBounded }
+/// The framing of a body of this length, where it is no more than so many bytes.
+fn stated(most: usize, value: &[u8]) -> Result<Framing, u16>
+    requires { most ≤ longest_reply }
+    ensures ok { result ≡ stated_framing most value.now }
+    ensures bound { IfOk result (IsBounded most) }
 {
     if !is_number(value) {
         return Err(400);
     }
-    let length = number(value);
-    if length > LONGEST_BODY {
+    let length = number(most, value);
+    if length > most {
         Err(413)
     } else {
         Ok(Framing::Stated(length))
@@ -160,30 +173,28 @@ fn are_digits(bytes: &[u8]) -> bool
     bytes.iter().all(|byte| byte.is_ascii_digit())
 }
 
-/// The number that decimal digits write, if it is no longer than a body may be; else one more than that.
-fn number(value: &[u8]) -> usize
-    requires { list_all is_ascii_digit value.now ≡ true }
-    ensures { result ≡ min (digits_value 10 value.now) (longest_body + 1) }
+/// The number that decimal digits write, if it is at most so much; else one more than that.
+fn number(most: usize, value: &[u8]) -> usize
+    requires most { most ≤ longest_reply }
+    requires digits { list_all is_ascii_digit value.now ≡ true }
+    ensures { result ≡ min (digits_value 10 value.now) (most + 1) }
 {
     let mut number = 0;
     for byte in value {
-        number = with_digit(number, *byte);
+        number = with_digit(most, number, *byte);
     }
     number
 }
 
-/// A number with one digit more, if it is no longer than a body may be; else one more than that.
-fn with_digit(number: usize, byte: u8) -> usize
+/// A number with one digit more, if it is at most so much; else one more than that.
+fn with_digit(most: usize, number: usize, byte: u8) -> usize
+    requires most { most ≤ longest_reply }
     requires digit { is_ascii_digit byte ≡ true }
-    requires bound { number ≤ longest_body + 1 }
-    ensures { result ≡ min (number * 10 + digit_value byte) (longest_body + 1) }
+    requires bound { number ≤ most + 1 }
+    ensures { result ≡ min (number * 10 + digit_value byte) (most + 1) }
 {
     let longer = number * 10 + digit(byte);
-    if longer > LONGEST_BODY {
-        LONGEST_BODY + 1
-    } else {
-        longer
-    }
+    if longer > most { most + 1 } else { longer }
 }
 
 /// The value of a decimal digit.

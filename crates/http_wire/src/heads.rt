@@ -13,7 +13,7 @@ use httparse::spans::{EMPTY_HEADER_SPAN, HeaderSpan, RequestSpans, parse_request
 use memchr::memmem;
 
 /// The most header lines of a head.
-const MOST_LINES: usize = 64;
+pub const MOST_LINES: usize = 64;
 
 /// The bytes after the CR LF pairs in front.
 pub fn skip_pairs(bytes: &[u8]) -> &[u8]

@@ -2,7 +2,7 @@
 
 ghost use Rattle.std.specs.Prelude.{◌≡◌, ◌≤◌, ◌<◌, ◌+◌, ◌^◌, length};
 ghost use Rattle.httparse.specs.Grammar.{RequestHead};
-ghost use Rattle.http_wire.specs.Judging.{IsBounded, expects};
+ghost use Rattle.http_wire.specs.Judging.{IsBounded, longest_body, expects};
 ghost use Rattle.http_wire.specs.Stream.{IsFront, without_head as front_without, with_body, body_front, longest_head};
 ghost use Rattle.http_wire.specs.Scanned.{front_of, IsHeadFront, TakesBetween};
 ghost use Rattle.http_wire.specs.Found.{AreHeadParts};
@@ -69,7 +69,7 @@ fn scan_head<'a>(head: &'a [u8], taken: usize, after: &'a [u8]) -> Scanned<'a>
 /// What is at the front where a head without fault is followed by its body.
 #[tactic(auto, using(crate::proofs::Fronts::short_with_body, crate::proofs::Fronts::fault_with_body, crate::proofs::Fronts::message_with_body))]
 fn scan_body<'a>(judged: &Judged<'a>, taken: usize, after: &'a [u8]) -> Scanned<'a>
-    requires bound { IsBounded judged.now.framing }
+    requires bound { IsBounded longest_body judged.now.framing }
     requires short { length judged.now.head.target.now ≤ longest_head }
     requires fits { taken + length after.now < 2 ^ 64 }
     ensures ok { (h : RequestHead) → AreHeadParts h judged.now.head →

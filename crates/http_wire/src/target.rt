@@ -2,7 +2,7 @@
 
 ghost use Rattle.std.specs.Prelude.{◌≡◌, ◌<◌, ◌++◌, ◌∷◌, ◌⊎◌, [], length, Some, None, IsSome, IfSome, IfOk, IfErr, OnOk, option_map};
 ghost use Rattle.percent_encoding.specs.Percent.{percent_decode as decoded_part};
-ghost use Rattle.http_wire.specs.Targets.{path_behind_authority, path_in, path_of, segments_behind, segments_of, query_place};
+ghost use Rattle.http_wire.specs.Targets.{path_behind_authority, path_in, path_of, segments_behind as segments_behind_of, segments_of, query_place};
 ghost use Rattle.http_wire.specs.declared.target.TargetFault.TheVariants.{BadTarget, NoMemory as no_memory};
 
 use crate::lines::{cut, cut_at_each, place_of};
@@ -42,7 +42,7 @@ pub fn segments(alloc: Global, target: &[u8]) -> Result<(Segments, usize), Targe
 {
     match path(target) {
         Some(path) => {
-            let segments = decoded(alloc, &path[1..])?;
+            let segments = segments_behind(alloc, &path[1..])?;
             Ok((segments, place_of_query(target)))
         }
         None => Err(TargetFault::BadTarget),
@@ -89,9 +89,9 @@ fn behind_authority(bytes: &[u8]) -> Option<&[u8]>
     }
 }
 
-/// The segments after the first `/` of a path.
-fn decoded(alloc: Global, path: &[u8]) -> Result<Segments, NoMemory>
-    ensures { IfOk result (λ s. s ≡ segments_behind path.now) }
+/// The segments after the first `/` of a path, percent-encoding taken away.
+pub fn segments_behind(alloc: Global, path: &[u8]) -> Result<Segments, NoMemory>
+    ensures { IfOk result (λ s. s ≡ segments_behind_of path.now) }
 {
     if path.is_empty() {
         return Ok(Segments::new(alloc));

@@ -3,11 +3,8 @@ use Rattle.std.specs.Prelude.{ℕ, List, [], ◌∷◌, ◌++◌, length, Option
 use Rattle.std.specs.List.{flat_map}
 use Rattle.servient_base.specs.Encoding.{encoded}
 use Rattle.thing_ops.specs.Verbs.{verb_name}
+use Rattle.http_wire.specs.Heads.{line_end}
 use Rattle.wot_consumer.specs.declared.chosen.Chosen.{Chosen}
-
--- CR LF, which ends a line
-abbrev pub line_end : List ℕ
-line_end = 13 ∷ 10 ∷ []
 
 -- a header line
 abbrev pub field : List ℕ → List ℕ → List ℕ

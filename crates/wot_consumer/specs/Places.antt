@@ -1,9 +1,8 @@
 -- Where a URL leads: the scheme, the host, the port, the segments of the path (RFC 3986, section 3; RFC 9110, section
 -- 4.2.1; RFC 7252, sections 6.1 and 6.4).
-use Rattle.std.specs.Prelude.{◌≤◌, ℕ, List, [], ◌∷◌, length, All, Option, Some, None, codes, map, ⊤, ◌==◌, if◌then◌else◌}
-use Rattle.std.specs.List.{slice_split}
+use Rattle.std.specs.Prelude.{◌≤◌, ℕ, List, [], ◌∷◌, length, All, Option, Some, None, codes, ⊤, ◌==◌, if◌then◌else◌}
 use Rattle.std.specs.Str.{bytes_eq}
-use Rattle.percent_encoding.specs.Percent.{percent_decode}
+use Rattle.http_wire.specs.Targets.{segments_behind}
 use Rattle.coap_msg.specs.declared.constants.TheConstants.{LONGEST_SEGMENT}
 use Rattle.wot_forms.specs.declared.scheme.Scheme.{Scheme}
 use Rattle.wot_forms.specs.declared.scheme.Scheme.TheVariants as scheme
@@ -20,13 +19,8 @@ abbrev pub default_port : Scheme → ℕ
 default_port scheme.Http = 80
 default_port scheme.Coap = 5683
 
--- The segments after the first `/` of a path: none where nothing is there, else the parts between `/`, percent-encoding
--- taken away.
-abbrev pub segments_behind : List ℕ → List (List ℕ)
-segments_behind [] = []
-segments_behind (b ∷ bytes) = map percent_decode (slice_split (λ c. c == 47) (b ∷ bytes))
-
--- the segments of the path of a URL: none where it doesn't begin with `/`, as where it is empty
+-- the segments of the path of a URL, percent-encoding taken away: none where it doesn't begin with `/`, as where it is
+-- empty
 abbrev pub segments_of : List ℕ → List (List ℕ)
 segments_of [] = []
 segments_of (b ∷ bytes) = if b == 47 then segments_behind bytes else []

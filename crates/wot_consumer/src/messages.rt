@@ -3,6 +3,7 @@
 ghost use Rattle.std.specs.Prelude.{◌≡◌, ◌++◌, [], None, Some, codes, decimal, option_map, slice_get, IfOk, OnOk, string_bytes};
 ghost use Rattle.std.specs.Option.{option_map_or};
 ghost use Rattle.thing_ops.specs.Verbs.{verb_name};
+ghost use Rattle.http_wire.specs.Heads.{line_end};
 ghost use Rattle.wot_consumer.specs.Messages as message;
 
 use crate::Chosen;
@@ -61,7 +62,7 @@ fn push_head(text: &mut String, chosen: &Chosen) -> Result<(), NoMemory>
 /// Puts the request line at the end.
 fn push_request_line(text: &mut String, verb: Verb, path: &Segments) -> Result<(), NoMemory>
     ensures { OnOk result (string_bytes text.new ≡ string_bytes text.old
-        ++ (verb_name verb ++ codes " " ++ message.path_text path.now ++ codes " HTTP/1.1" ++ message.line_end)) }
+        ++ (verb_name verb ++ codes " " ++ message.path_text path.now ++ codes " HTTP/1.1" ++ line_end)) }
 {
     text.push_str(method_of(verb))?;
     text.push_str(" ")?;
@@ -146,7 +147,7 @@ fn push_body_fields(text: &mut String, length: usize) -> Result<(), NoMemory>
 /// Puts the last field and the line that ends the head at the end.
 fn push_end(text: &mut String) -> Result<(), NoMemory>
     ensures { OnOk result (string_bytes text.new ≡ string_bytes text.old
-        ++ message.field (codes "Connection") (codes "close") ++ message.line_end) }
+        ++ message.field (codes "Connection") (codes "close") ++ line_end) }
 {
     push_field(text, "Connection", "close")?;
     text.push_str("\r\n")

@@ -1,14 +1,12 @@
 //! Where a URL leads.
 
 ghost use Rattle.std.specs.Prelude.{◌≡◌, ◌≤◌, ◌++◌, ◌∷◌, ◌↔◌, ◌==◌, [], length, map, nat_lt, false, All, IfOk, OnOk, IsTrue, slice_get};
-ghost use Rattle.std.specs.List.{slice_split};
 ghost use Rattle.std.specs.Option.{option_map_or};
-ghost use Rattle.percent_encoding.specs.Percent.{percent_decode as decoded_part};
 ghost use Rattle.coap_msg.specs.declared.constants.TheConstants.{LONGEST_SEGMENT as longest_segment};
 ghost use Rattle.wot_consumer.specs.Places as place;
 
 use coap_msg::LONGEST_SEGMENT;
-use percent_encoding::percent_decode;
+use http_wire::segments_behind;
 use servient_base::NoMemory;
 use std::alloc::Global;
 use thing_ops::Segments;
@@ -39,40 +37,10 @@ pub(crate) fn default_port(scheme: Scheme) -> u16
 pub(crate) fn segments_of(alloc: Global, path: &str) -> Result<Segments, NoMemory>
     ensures { IfOk result (λ s. s ≡ place.segments_of path.now) }
 {
-    match path.strip_prefix('/') {
-        Some(behind) => segments_behind(alloc, behind),
-        None => Ok(Segments::new(alloc)),
+    match path.as_bytes() {
+        [b'/', behind @ ..] => segments_behind(alloc, behind),
+        _ => Ok(Segments::new(alloc)),
     }
-}
-
-/// The segments after the first `/` of a path.
-fn segments_behind(alloc: Global, behind: &str) -> Result<Segments, NoMemory>
-    ensures { IfOk result (λ s. s ≡ place.segments_behind behind.now) }
-{
-    if behind.is_empty() {
-        return Ok(Segments::new(alloc));
-    }
-    let parts = parts_of(alloc, behind)?;
-    let mut segments = Segments::with_capacity(alloc, behind.len())?;
-    for part in &parts {
-        push_decoded(alloc, &mut segments, part)?;
-    }
-    Ok(segments)
-}
-
-/// The parts of a path between `/`.
-fn parts_of(alloc: Global, behind: &str) -> Result<Vec<&str>, NoMemory>
-    ensures { IfOk result (λ parts. map (λ p. p.now) parts.items ≡ slice_split (λ c. c == 47) behind.now) }
-{
-    behind.split('/').collect(alloc)
-}
-
-/// Puts a part of a path at the end, percent-encoding taken away.
-fn push_decoded(alloc: Global, segments: &mut Segments, part: &str) -> Result<(), NoMemory>
-    ensures { OnOk result (segments.new ≡ segments.old ++ decoded_part part.now ∷ []) }
-{
-    let decoded = percent_decode(part.as_bytes()).into_cow(alloc)?;
-    segments.push(&decoded)
 }
 
 /// The segments can be sent over this protocol.

@@ -1,5 +1,6 @@
 use Rattle.std.proofs.Common.{◌≡◌, ◌++◌, ap, sym, ◌∙◌, arith, length, ◌≤◌, ◌+◌, take, drop, List, ℕ, length-append}
 use Rattle.http_wire.specs.Chunks.{chunk_at, chunks}
+use Rattle.http_wire.specs.Bodies.{longest_reply}
 use Rattle.http_wire.proofs.ChunkRows.{IsRead, read_more, whole_behind, data_at, length-data_at, length-drop_from}
 use Rattle.http_wire.proofs.chunks.copy_chunks.Goals as goal
 
@@ -14,11 +15,11 @@ put_bytes-sum-requires c =
     omega (arith, c.in-More.ensures.within.0, ap length c.rest_from.ensures) in
     let part : c.part.result.now ≡ data_at coded place after size =
     c.part.ensures ∙ ap (λ (xs : List ℕ). take size (drop after xs)) c.rest_from-in-More.ensures in
-    let read : IsRead coded (inv.0 ++ data_at coded place after size) (place + (after + size + 2)) (c.loop-after.sum + size) =
-    read_more coded inv.0 place c.loop-after.sum after size inv.1
-    (sym (c.in-More.ensures.ok ∙ ap (chunk_at c.loop-after.sum) c.rest_from.ensures)) within in
+    let read : IsRead longest_reply coded (inv.0 ++ data_at coded place after size) (place + (after + size + 2)) (c.loop-after.sum + size) =
+    read_more longest_reply coded inv.0 place c.loop-after.sum after size inv.1
+    (sym (c.in-More.ensures.ok ∙ ap (chunk_at longest_reply c.loop-after.sum) c.rest_from.ensures)) within in
     let behind = whole_behind (inv.0 ++ data_at coded place after size) (place + (after + size + 2))
-    (chunks 0 (c.loop-after.sum + size) (drop (place + (after + size + 2)) coded)) c.requires.0 (length coded) (sym read.rest_is ∙ c.requires.1) in
+    (chunks longest_reply 0 (c.loop-after.sum + size) (drop (place + (after + size + 2)) coded)) c.requires.0 (length coded) (sym read.rest_is ∙ c.requires.1) in
     omega (
       arith,
       ap length part,
@@ -43,9 +44,9 @@ loop-after-preserved c =
     c.part.ensures ∙ ap (λ (xs : List ℕ). take size (drop after xs)) c.rest_from-in-More.ensures in
     let sized : length c.part.result.now ≡ size = ap length part ∙ length-data_at coded place after size within in
     let end : c.put_bytes-sum.result ≡ c.loop-after.sum + size = c.put_bytes-sum.ensures.end ∙ ap (λ (n : ℕ). c.loop-after.sum + n) sized in
-    let read : IsRead coded (inv.0 ++ data_at coded place after size) (place + (after + size + 2)) (c.loop-after.sum + size) =
-    read_more coded inv.0 place c.loop-after.sum after size inv.1
-    (sym (c.in-More.ensures.ok ∙ ap (chunk_at c.loop-after.sum) c.rest_from.ensures)) within in (
+    let read : IsRead longest_reply coded (inv.0 ++ data_at coded place after size) (place + (after + size + 2)) (c.loop-after.sum + size) =
+    read_more longest_reply coded inv.0 place c.loop-after.sum after size inv.1
+    (sym (c.in-More.ensures.ok ∙ ap (chunk_at longest_reply c.loop-after.sum) c.rest_from.ensures)) within in (
       inv.0 ++ data_at coded place after size,
       rw end read,
       c.put_bytes-sum.ensures.bytes ∙ ap (λ (xs : List ℕ). xs ++ c.part.result.now) inv.2 ∙ ap (λ (xs : List ℕ). inv.0 ++ xs) part,

@@ -3,10 +3,9 @@ use Rattle.std.specs.Prelude.{min}
 use Rattle.std.specs.List.{list_all}
 use Rattle.std.specs.Char.{is_ascii_digit}
 use Rattle.std.specs.Str.Parse.{digits_value, digits_value_after}
-use Rattle.http_wire.specs.Judging.{longest_body}
 use Rattle.http_wire.proofs.framing.number.Given as goal
 
 abbrev pub invariant-loop-byte : goal.invariant-loop-byte
 invariant-loop-byte l =
     (list_all is_ascii_digit (drop l.byte-index l.value) ≡ true)
-    × ((n : ℕ) × (digits_value 10 l.value ≡ digits_value_after 10 n (drop l.byte-index l.value)) × (l.number ≡ min n (longest_body + 1)))
+    × ((n : ℕ) × (digits_value 10 l.value ≡ digits_value_after 10 n (drop l.byte-index l.value)) × (l.number ≡ min n (l.most + 1)))

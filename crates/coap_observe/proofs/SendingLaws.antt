@@ -1,5 +1,5 @@
 -- How often a notification is sent that nothing answers.
-use Rattle.std.proofs.Common.{◌≡◌, ℕ, ◌+◌, ◌≤◌, ◌&&◌, Bool, true, false, not, cond, List, [], ◌∷◌, ◌++◌, map, take, find, Option, Some, None, is_some, option_map, refl, sym, ap, subst, ◌∙◌, arith, inl, inr, ◌⊎◌}
+use Rattle.std.proofs.Common.{◌≡◌, ℕ, ◌+◌, ◌≤◌, ◌&&◌, Bool, true, false, not, cond, List, [], ◌∷◌, ◌++◌, map, find, Option, Some, None, is_some, option_map, refl, sym, ap, subst, ◌∙◌, arith, inl, inr, ◌⊎◌}
 use Rattle.std.specs.Prelude.{◌==◌, nat_le, option_and_then, if◌then◌else◌}
 use Rattle.std.specs.List.{filter, list_any}
 use Rattle.std.specs.Option.{option_or}
@@ -8,7 +8,6 @@ use Rattle.std.proofs.lemmas.Bool.{cases_Bool}
 use Rattle.std.proofs.lemmas.Bool.Decides.{nat_tests}
 use Rattle.std.proofs.lemmas.List.Folds.{find-append}
 use Rattle.coap_msg.specs.declared.endpoint.Endpoint.{Endpoint}
-use Rattle.coap_msg.specs.declared.transmission.TheConstants.{MOST_RETRANSMISSIONS}
 use Rattle.coap_msg.specs.Endpoints.{is_same_endpoint}
 use Rattle.coap_msg.proofs.SameEndpoints.{both, same_endpoint, itself}
 use Rattle.coap_observe.specs.declared.watcher.Watcher.{Watcher}
@@ -139,6 +138,7 @@ few_at (Some d) c s e none was =
     not_spent : (b : Bool) → cond b (Some d.from) None ≡ None → b ≡ false
     not_spent true e' = cc
     not_spent false e' = refl
+
     few : (n : ℕ) → nat_le 4 n ≡ false → n + 1 ≤ 4
     few n e' = grind (arith, nat_tests)
 
@@ -170,7 +170,7 @@ again_at from token r now f ws us c m true mine whom most none found keeps rises
     subst (λ n. Holds from token (r + n) us) (sym one) (record {
       bound = omega (arith, less, has.2);
       busy = λ v there.
-      subst (HasSent (r + 1)) (same_one (f c) v (sym both_are.1 ∙ subst (λ (vs : List Watcher). find (is_pair from token) vs ≡ Some v) is there)) (rises c has);
+          subst (HasSent (r + 1)) (same_one (f c) v (sym both_are.1 ∙ subst (λ (vs : List Watcher). find (is_pair from token) vs ≡ Some v) is there)) (rises c has);
     })
 again_at from token r now f ws us c m false other whom most none found keeps rises is h =
     let stays = found_beside (is_pair from token) (is_due now) f ws c found other (keeps c ∙ other) in

@@ -1,8 +1,9 @@
 //! Watchers of a CoAP server, of which there may be four, or as many as the first line of a history says
-//! (`capacity 2`). A step is `register ENDPOINT TOKEN TARGET`, `cancel ENDPOINT TOKEN`, `emit TARGET`,
-//! `acked ENDPOINT ID`, `reset ENDPOINT ID` or `next MOMENT ID`, and what it comes to.
+//! (`capacity 2`). A step is `register ENDPOINT TOKEN TARGET`, the same N times as `again ENDPOINT TOKEN TARGET N`,
+//! `cancel ENDPOINT TOKEN`, `emit TARGET`, `acked ENDPOINT ID`, `reset ENDPOINT ID` or `next MOMENT ID`, and what it
+//! comes to.
 
-ghost use Rattle.std.specs.Prelude.{◌≤◌};
+ghost use Rattle.std.specs.Prelude.{◌≤◌, length};
 
 use crate::exchanges::{endpoint_of, put_words};
 use case_notation::{bytes_of, number, put as put_bytes};
@@ -63,6 +64,23 @@ fn put_next(text: &mut String, next: Option<Notice>) -> Result<(), AllocError> {
     }
 }
 
+/// Registers so many times: what the last of them comes to.
+fn register_times(
+    watchers: &mut Watchers,
+    from: Endpoint,
+    token: &[u8],
+    target: u32,
+    times: u64,
+) -> Registered
+    requires { length token.now ≤ LONGEST_TOKEN }
+{
+    let mut last = Registered::Full;
+    for _time in 0..times {
+        last = watchers.register(from, token, target);
+    }
+    last
+}
+
 /// A step of which a token is a part.
 fn put_named(
     text: &mut String,
@@ -79,10 +97,13 @@ fn put_named(
     if token.len() > LONGEST_TOKEN {
         return text.push_str("no token");
     }
-    put_registered(
-        text,
-        watchers.register(from, token, target_of(fields.nth(1))),
-    )
+    let target = target_of(fields.nth(1));
+    let times = if word == "again" {
+        number(fields.next())
+    } else {
+        1
+    };
+    put_registered(text, register_times(watchers, from, token, target, times))
 }
 
 /// A step without a token.
@@ -112,7 +133,7 @@ fn put_step(
 ) -> Result<(), AllocError> {
     text.push_str(step)?;
     text.push_str(" => ")?;
-    if step.starts_with("register") || step.starts_with("cancel") {
+    if step.starts_with("register") || step.starts_with("again") || step.starts_with("cancel") {
         let token = bytes_of(alloc, step.split(' ').nth(2).unwrap_or("-"))?;
         put_named(text, watchers, step, token.as_slice())?;
     } else {

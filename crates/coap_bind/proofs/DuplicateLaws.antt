@@ -1,6 +1,6 @@
 -- What a server says to duplicates of requests.
 use Rattle.std.proofs.Common.{◌≡◌, ◌≤◌, ◌⊎◌, ◌∙◌, inl, inr, ℕ, Bool, true, false, Option, Some, None, List, [], ◌∷◌, refl, sym, ap, subst, arith}
-use Rattle.std.specs.Prelude.{◌==◌, ◌&&◌, find}
+use Rattle.std.specs.Prelude.{◌==◌, find}
 use Rattle.std.specs.Option.{option_or}
 use Rattle.std.proofs.lemmas.List.Folds.{find-append}
 use Rattle.std.proofs.lemmas.Bool.{eqb-true}
@@ -11,6 +11,7 @@ use Rattle.coap_msg.specs.Grammar.{CoapMessage, Spells}
 use Rattle.coap_msg.specs.Requests.{request_type}
 use Rattle.coap_msg.proofs.Messages.{at_most_one_message}
 use Rattle.coap_msg.proofs.FaultLaws.{no_fault_of_message}
+use Rattle.coap_msg.proofs.SameEndpoints.{both}
 use Rattle.coap_exchange.specs.Admission.{Arrival, lives, is_same_exchange, is_duplicate_of, admitted as is_admitted, duplicate as is_duplicate, refused as is_refused}
 use Rattle.coap_exchange.specs.Table.{Exchange, Table, at_moment, exchange_in, duplicated_exchange, Meets}
 use Rattle.coap_exchange.specs.declared.met.Met.{Met}
@@ -327,13 +328,9 @@ repeats Confirmable Confirmable reply = refl
 repeats Confirmable NonConfirmable reply = refl
 repeats NonConfirmable other reply = refl
 
-both_first : (b c : Bool) → (b && c) ≡ true → b ≡ true
-both_first true c e = refl
-both_first false c e = e
-
 pub duplicates_get_the_first_reply : DuplicatesGetTheFirstReply
 duplicates_get_the_first_reply capacity history later s t u v request reply from bytes now m heard did replied since early spells of_m again hears =
-    let alive : lives now request ≡ true = both_first (lives now request) (is_same_exchange (arrival from now m) request) again in
+    let alive : lives now request ≡ true = (both (lives now request) (is_same_exchange (arrival from now m) request) again).0 in
     let first = replied_keeps request reply s t replied in
     let kept = keeps_moment now first.0 request (kept_reply request.kind reply) u.exchanges alive (keeps_from t later u now first.0 request reply since early alive first.1) in
     let order = tidy_moment now u.exchanges (tidy_from t later u since (tidy_replied request reply s t replied (tidy capacity history s did))) in

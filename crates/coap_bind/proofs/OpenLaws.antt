@@ -1,7 +1,10 @@
 -- What a datagram asks may be answered at once.
-use Rattle.std.proofs.Common.{◌≡◌, ◌∙◌, cond, ℕ, Bool, true, false, Some, None, List, [], ◌∷◌, ◌++◌, refl, sym, ap, subst, arith}
+use Rattle.std.proofs.Common.{Option, ◌≡◌, ◌∙◌, ℕ, true, Some, None, List, [], ◌∷◌, ◌++◌, refl, sym, ap, subst, arith}
 use Rattle.std.specs.Prelude.{◌==◌, find}
+use Rattle.std.specs.Option.{option_or}
+use Rattle.std.proofs.lemmas.List.Folds.{find-append}
 use Rattle.std.proofs.lemmas.Bool.Decides.{nat_tests}
+use Rattle.coap_observe.proofs.Found.{here}
 use Rattle.coap_msg.specs.declared.endpoint.Endpoint.{Endpoint}
 use Rattle.coap_msg.specs.Grammar.{CoapMessage}
 use Rattle.coap_msg.specs.Requests.{request_type}
@@ -22,18 +25,9 @@ asks_at_once what ask bytes e = cc
 
 last_found : (slot : ℕ) (es : List Exchange) (e : Exchange) → find (λ x. x.slot == slot) es ≡ None → (e.slot == slot) ≡ true
     → find (λ x. x.slot == slot) (es ++ e ∷ []) ≡ Some e
-last_found slot [] e none is = found_here (e.slot == slot) is
-  where
-    found_here : (b : Bool) → b ≡ true → cond b (Some e) None ≡ Some e
-    found_here true is' = refl
-    found_here false is' = cc
-last_found slot (x ∷ es) e none is = found_later (x.slot == slot) none (λ rest. last_found slot es e rest is)
-  where
-    found_later : (b : Bool) → cond b (Some x) (find (λ y. y.slot == slot) es) ≡ None
-        → (find (λ y. y.slot == slot) es ≡ None → find (λ y. y.slot == slot) (es ++ e ∷ []) ≡ Some e)
-        → cond b (Some x) (find (λ y. y.slot == slot) (es ++ e ∷ [])) ≡ Some e
-    found_later true none' rest = cc
-    found_later false none' rest = rest none'
+last_found slot es e none is =
+    find-append (λ x. x.slot == slot) es (e ∷ []) ∙ ap (λ (o : Option Exchange). option_or o (find (λ x. x.slot == slot) (e ∷ []))) none
+    ∙ here (λ x. x.slot == slot) e [] is
 
 -- a request that was admitted is in its slot, and waits for its reply
 pub fresh_is_there : (from : Endpoint) (bytes : List ℕ) (now : ℕ) (m : CoapMessage) (slot : ℕ) (s u : Server) → IsMet from bytes now m (Fresh slot) s u

@@ -24,7 +24,8 @@ use Rattle.coap_bind.specs.Laws.{AreArrivals, IsOpen, DidFrom, nothing, heard_of
 use Rattle.coap_bind.specs.Duplicates.{may_keep, IsRepliedTo, at_once, afterwards, WasRepliedTo, OnlyTheFirstReplyIsRepeated}
 use Rattle.coap_bind.proofs.HistoryLaws.{met_as_duplicate}
 use Rattle.coap_bind.proofs.OpenLaws.{fresh_is_there}
-use Rattle.coap_bind.proofs.TidyLaws.{found_passes, in_slot_unfilter, was_in, WasIn, well_in_slot}
+use Rattle.coap_observe.proofs.Counts.{found_passes}
+use Rattle.coap_bind.proofs.TidyLaws.{in_slot_unfilter, was_in, WasIn, well_in_slot}
 use Rattle.coap_bind.proofs.DuplicateLaws.{Tidy, tidy_from, tidy, used_stays, sent_exchanges, same_exchange}
 
 -- ---- where an exchange with a reply comes from

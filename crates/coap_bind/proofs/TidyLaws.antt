@@ -4,8 +4,11 @@ use Rattle.std.specs.Prelude.{◌==◌, ◌&&◌, find, filter, if◌then◌else
 use Rattle.std.specs.List.{AllByRecursion}
 use Rattle.std.proofs.lemmas.Bool.Decides.{nat_tests}
 use Rattle.coap_msg.specs.declared.message.RequestType.TheVariants.{Confirmable}
+use Rattle.coap_msg.proofs.SameEndpoints.{both}
 use Rattle.coap_exchange.specs.Admission.{Arrival, lives, is_same_exchange, is_duplicate_of}
 use Rattle.coap_exchange.specs.Table.{Exchange, answered as with_answer}
+use Rattle.coap_observe.proofs.Counts.{found_passes}
+use Rattle.coap_observe.proofs.Found.{found_filter}
 use Rattle.coap_bind.specs.Duplicates.{may_keep}
 
 -- ---- what is meant
@@ -153,22 +156,6 @@ apart_from x [] slot e h found = absurd (none found)
     none found' = cc
 apart_from x (y ∷ ys) slot e h found = differ_of x y ys slot e (y.slot == slot) refl h.0 found (λ later. apart_from x ys slot e h.1 later)
 
-found_passes_at : {X : Type 0} (p : X → Bool) (x y : X) (found : Option X) (b : Bool) → p x ≡ b → cond b (Some x) found ≡ Some y
-    → (found ≡ Some y → p y ≡ true) → p y ≡ true
-found_passes_at p x y found true t is rest = subst (λ z. p z ≡ true) (same is) t
-  where
-    same : Some x ≡ Some y → x ≡ y
-    same is' = cc
-found_passes_at p x y found false t is rest = rest is
-
--- what is found passes
-pub found_passes : {X : Type 0} (p : X → Bool) (xs : List X) (y : X) → find p xs ≡ Some y → p y ≡ true
-found_passes p [] y found = absurd (none found)
-  where
-    none : None ≡ Some y → ⊥
-    none found' = cc
-found_passes p (x ∷ xs) y found = found_passes_at p x y (find p xs) (p x) refl found (λ later. found_passes p xs y later)
-
 -- the exchange in a slot has that slot
 in_slot : (xs : List Exchange) (slot : ℕ) (e : Exchange) → find (λ z. z.slot == slot) xs ≡ Some e → (e.slot == slot) ≡ true
 in_slot xs slot e found = found_passes (λ z. z.slot == slot) xs e found
@@ -181,10 +168,6 @@ same_trans a b c one two = grind (arith, nat_tests)
 no_duplicate_of : (b c : Bool) → c ≡ false → (b && c) ≡ false
 no_duplicate_of true c e = e
 no_duplicate_of false c e = refl
-
-second_of : (b c : Bool) → (b && c) ≡ true → c ≡ true
-second_of true c e = e
-second_of false c e = cc
 
 found_first : (x e : Exchange) (b : Bool) (found : Option Exchange) → b ≡ true → x ≡ e → cond b (Some x) found ≡ Some e
 found_first x e true found t is = ap Some is
@@ -206,7 +189,7 @@ duplicated_at a x xs slot e true t apart found again rest =
     same found' = cc
 duplicated_at a x xs slot e false t apart found again rest =
     let other = (apart_from x xs slot e apart found).1 in
-    let one : is_same_exchange a e.arrival ≡ true = second_of (lives a.moment e.arrival) (is_same_exchange a e.arrival) again in
+    let one : is_same_exchange a e.arrival ≡ true = (both (lives a.moment e.arrival) (is_same_exchange a e.arrival) again).1 in
     found_rest x e (is_duplicate_of a x.arrival) (find (λ z. is_duplicate_of a z.arrival) xs)
     (no_duplicate_of (lives a.moment x.arrival) (is_same_exchange a x.arrival) (same_trans a e.arrival x.arrival one other)) (rest found)
 
@@ -222,35 +205,10 @@ duplicated_in a (x ∷ xs) slot e h found again =
 
 -- ---- what is in a slot later
 
-in_slot_filter_at : (p : Exchange → Bool) (x : Exchange) (xs : List Exchange) (slot : ℕ) (e : Exchange) (b c : Bool) → p x ≡ c
-    → cond b (Some x) (find (λ z. z.slot == slot) xs) ≡ Some e → (x.slot == slot) ≡ b → p e ≡ true
-    → (find (λ z. z.slot == slot) xs ≡ Some e → find (λ z. z.slot == slot) (filter p xs) ≡ Some e)
-    → find (λ z. z.slot == slot) (cond c (x ∷ filter p xs) (filter p xs)) ≡ Some e
-in_slot_filter_at p x xs slot e true true t found here passes rest =
-    found_first x e (x.slot == slot) (find (λ z. z.slot == slot) (filter p xs)) here (same found)
-  where
-    same : Some x ≡ Some e → x ≡ e
-    same found' = cc
-in_slot_filter_at p x xs slot e true false t found here passes rest = absurd (differ (sym t ∙ ap p (same found) ∙ passes))
-  where
-    same : Some x ≡ Some e → x ≡ e
-    same found' = cc
-
-    differ : false ≡ true → ⊥
-    differ e' = cc
-in_slot_filter_at p x xs slot e false true t found here passes rest =
-    found_rest x e (x.slot == slot) (find (λ z. z.slot == slot) (filter p xs)) here (rest found)
-in_slot_filter_at p x xs slot e false false t found here passes rest = rest found
-
 -- the one in a slot stays there while it passes
 pub in_slot_filter : (p : Exchange → Bool) (xs : List Exchange) (slot : ℕ) (e : Exchange) → find (λ z. z.slot == slot) xs ≡ Some e → p e ≡ true
     → find (λ z. z.slot == slot) (filter p xs) ≡ Some e
-in_slot_filter p [] slot e found passes = absurd (none found)
-  where
-    none : None ≡ Some e → ⊥
-    none found' = cc
-in_slot_filter p (x ∷ xs) slot e found passes =
-    in_slot_filter_at p x xs slot e (x.slot == slot) (p x) refl found refl passes (λ later. in_slot_filter p xs slot e later passes)
+in_slot_filter p xs slot e found passes = found_filter (λ z. z.slot == slot) p xs e found passes
 
 -- a reply to another slot leaves it
 other_slot_at : (slot other : ℕ) (bytes : List ℕ) (x : Exchange) (xs : List Exchange) (e : Exchange) (b : Bool) → (x.slot == slot) ≡ b → (slot == other) ≡ false

@@ -1,29 +1,39 @@
-//! The CoAP server (RFC 7252): which datagrams are requests to act on, and the replies to them. It has no
-//! clock, no socket and no resources: moments and datagrams are handed in, what is asked is handed out, and what is to
-//! be sent is written into the caller's room. `CoapBind`, `CoapNext` and `Ticket` carry everything.
+//! The CoAP server (RFC 7252, RFC 7641): which datagrams are requests to act on, the replies to them, and the
+//! notifications of those that observe. It has no clock, no socket and no resources: moments and datagrams are handed in,
+//! what is asked is handed out, and what is to be sent is written into the caller's room. `CoapBind`, `CoapNext`,
+//! `Ticket` and `coap_observe`'s `Notice` carry everything.
 //!
 //! ```
 //! use coap_bind::{CoapBind, CoapNext};
 //!
-//! let mut server = CoapBind::new(alloc, 1024)?;
+//! let mut server = CoapBind::new(alloc, 1024, 64)?;
 //! let mut room = [0; 1152];
 //! // For each datagram that comes:
 //! match server.datagram(from, datagram, now, &mut room) {
 //!     CoapNext::Nothing => {}
 //!     CoapNext::Send(size) => send(from, &room[..size]),
 //!     CoapNext::Ask(ask, ticket) => {
-//!         let outcome = act(&ask.request);
-//!         let size = server.answer(ticket, &outcome, &mut room);
+//!         // `target` is the number of what may be observed at the request's path, if there is such a thing.
+//!         let (outcome, target) = act(&ask.request);
+//!         let size = server.answer(ticket, &outcome, target, &mut room);
 //!         send(from, &room[..size]);
 //!     }
 //! }
+//! // For each new value of a target, and then after each event:
+//! server.emit(target);
+//! while let Some(notice) = server.next_send(now) {
+//!     let size = server.put_notice(&notice, value_of(notice.target), &mut room);
+//!     send(notice.to, &room[..size]);
+//! }
 //! ```
 //!
-//! What a server holds and what its calls do is one machine, `specs/Server.antt`, and what a reply is on the wire is
-//! `specs/Writing.antt`. The contract in a sentence: each call does what the machine does (`Hears`, `Answers`),
-//! for all that comes in any order. The laws: the exchanges of a server are those of the admitted requests that live,
-//! a duplicate asks for nothing, and a reply fits its room. Memory is taken when the server is made, and then by the
-//! path of a request that was admitted.
+//! What a server holds and what its calls do is one machine, `specs/Server.antt`; what a request wants of the watchers is
+//! `specs/Observing.antt`, and what a reply and a notification are on the wire is `specs/Writing.antt`. The contract in a
+//! sentence: each call does what the machine does (`Hears`, `Answers`, `SendsNext`), for all that comes in any order. The
+//! laws (`specs/Laws.antt`, `specs/Duplicates.antt`): the exchanges of a server are those of the admitted requests that
+//! live; a duplicate asks for nothing and changes nothing, and where it is answered it gets the bytes that were sent
+//! first, which it gets exactly where both requests are Confirmable and the first was replied to; and a reply fits its
+//! room. Memory is taken when the server is made, and then by the path of a request that was admitted.
 #![tactic(auto)]
 
 mod answering;

@@ -253,7 +253,7 @@ not_for from token w id sequence fresh n notice other =
     ap (λ (e : Endpoint). is_same_endpoint from e && bytes_eq token (take n.token_length n.token)) notice.to
     ∙ ap (λ (x : List ℕ). is_same_endpoint from w.from && bytes_eq token x) notice.token ∙ other
 
-unsent : (now id : ℕ) (ws us : List Watcher) (o : Option Notice) → Sends now id ws o us → (from : Endpoint) (token : List ℕ) (n : Notice)
+pub unsent : (now id : ℕ) (ws us : List Watcher) (o : Option Notice) → Sends now id ws o us → (from : Endpoint) (token : List ℕ) (n : Notice)
     → list_any (is_pair from token) ws ≡ false → o ≡ Some n → is_for from token n ≡ false
 unsent now id ws _ _ (same w s m us found plain was notice is) from token n absent e =
     let it : m ≡ n = (cc) in

@@ -56,6 +56,22 @@ found_kept {X} q r (x ∷ xs) w v most found kept = elim (cases_Bool (q x)) [
       found_kept q r xs w v (fewer_behind q x xs failing most) (sym (past q x xs failing) ∙ found) (kept_past (r x) q x (filter r xs) failing ∙ kept)
 ]
 
+-- one that isn't taken away is found still
+filtered_at : {X : Type 0} (q r : X → Bool) (x : X) (xs : List X) (w : X) (b c : Bool) → q x ≡ b → r x ≡ c → cond b (Some x) (find q xs) ≡ Some w → r w ≡ true
+    → (find q xs ≡ Some w → find q (filter r xs) ≡ Some w) → find q (cond c (x ∷ filter r xs) (filter r xs)) ≡ Some w
+filtered_at q r x xs w true true passing t found stays rest = here q x (filter r xs) passing ∙ found
+filtered_at q r x xs w true false passing t found stays rest =
+    let first : Some x ≡ Some w = found in
+    let is : x ≡ w = (cc) in
+    let wrong : false ≡ true = sym t ∙ ap r is ∙ stays in
+    absurd (cc)
+filtered_at q r x xs w false true failing t found stays rest = past q x (filter r xs) failing ∙ rest found
+filtered_at q r x xs w false false failing t found stays rest = rest found
+
+pub found_filter : {X : Type 0} (q r : X → Bool) (xs : List X) (w : X) → find q xs ≡ Some w → r w ≡ true → find q (filter r xs) ≡ Some w
+found_filter q r [] w found stays = found
+found_filter q r (x ∷ xs) w found stays = filtered_at q r x xs w (q x) (r x) refl refl found stays (λ later. found_filter q r xs w later stays)
+
 -- the first that passes another test is changed, and isn't the one
 pub found_beside : {X : Type 0} (q p : X → Bool) (f : X → X) (xs : List X) (c : X) → find p xs ≡ Some c → q c ≡ false → q (f c) ≡ false
     → find q (with_first p f xs) ≡ find q xs

@@ -1,7 +1,8 @@
 mod Changed
 mod Due
-mod Counts
-mod Found
+pub mod Counts
+pub mod Found
 mod Tokens
 mod CallLaws
 mod NumberLaws
+mod SendingLaws

@@ -21,7 +21,7 @@ use Rattle.coap_observe.proofs.CallLaws.{where_same, absent_after, fewer_after, 
 abbrev Rises : ℕ → ℕ → Type 0
 Rises before after = (after ≡ before) ⊎ (after ≡ next_sequence before)
 
-either : {X : Type 0} (o : Option X) → ((x : X) × (o ≡ Some x)) ⊎ (o ≡ None)
+pub either : {X : Type 0} (o : Option X) → ((x : X) × (o ≡ Some x)) ⊎ (o ≡ None)
 either None = inr refl
 either (Some x) = inl (x, refl)
 
@@ -34,7 +34,7 @@ number_of (Some w) n e = (w, refl, (cc))
 absent_of : (q : Watcher → Bool) (ws : List Watcher) → find q ws ≡ None → list_any q ws ≡ false
 absent_of q ws none = none_passes q ws none
 
-kept_after : (q : Watcher → Bool) (now : ℕ) (ws us : List Watcher) → GivesUp now ws us → (w v : Watcher) → count q ws ≤ 1
+pub kept_after : (q : Watcher → Bool) (now : ℕ) (ws us : List Watcher) → GivesUp now ws us → (w v : Watcher) → count q ws ≤ 1
     → find q ws ≡ Some w → find q us ≡ Some v → v ≡ w
 kept_after q now _ _ (nobody ws us nobody_due is) w v most found kept =
     let at : find q ws ≡ Some v = subst (λ (vs : List Watcher). find q vs ≡ Some v) is kept in
@@ -48,7 +48,7 @@ kept_after q now _ _ (endpoint from ws us due rest) w v most found kept = elim (
       absurd (not_found q us v (absent_after q now (filter (λ x. not (is_from from x)) ws) us rest (absent_of q (filter (λ x. not (is_from from x)) ws) none)) kept)
 ]
 
-kept_before : (q : Watcher → Bool) (now : ℕ) (ws us : List Watcher) (v : Watcher) → GivesUp now ws us → count q ws ≤ 1
+pub kept_before : (q : Watcher → Bool) (now : ℕ) (ws us : List Watcher) (v : Watcher) → GivesUp now ws us → count q ws ≤ 1
     → find q us ≡ Some v → find q ws ≡ Some v
 kept_before q now ws us v gives most kept = elim (either (find q ws)) [
   | inl some ↦ some.1 ∙ ap (λ (x : Watcher). Some x) (sym (kept_after q now ws us gives some.0 v most some.1 kept))

@@ -1,5 +1,5 @@
 -- Laws of watchers, over all that is done to them from the beginning (RFC 7641, sections 3.6, 4.1 and 4.5).
-use Rattle.std.specs.Prelude.{◌≡◌, ◌≤◌, ◌&&◌, ℕ, Bool, true, false, List, length, take, filter, find, Option, Some, None, option_map, ◌⊎◌, if◌then◌else◌}
+use Rattle.std.specs.Prelude.{◌≡◌, ◌≤◌, ◌+◌, ◌&&◌, ℕ, Bool, true, false, List, length, take, filter, find, Option, Some, None, option_map, ◌⊎◌, if◌then◌else◌}
 use Rattle.std.specs.List.{list_any}
 use Rattle.std.specs.Str.{bytes_eq}
 use Rattle.coap_msg.specs.declared.endpoint.Endpoint.{Endpoint}
@@ -8,7 +8,9 @@ use Rattle.coap_observe.specs.declared.watcher.Watcher.{Watcher}
 use Rattle.coap_observe.specs.declared.notice.Registered.{Registered}
 use Rattle.coap_observe.specs.declared.notice.Registered.TheVariants.{New, Replaced, Full}
 use Rattle.coap_observe.specs.declared.notice.Notice.{Notice}
-use Rattle.coap_observe.specs.Watching.{Watching, next_sequence, sequence_of, none_watch, is_from, is_pair, is_busy, is_sent_as, Registers, without_pair, with_emission, with_acknowledgement, with_reset, hopeless, GivesUp, Notifies}
+use Rattle.coap_msg.specs.declared.transmission.TheConstants.{MOST_RETRANSMISSIONS}
+use Rattle.coap_observe.specs.Sending.{Sent}
+use Rattle.coap_observe.specs.Watching.{Watching, next_sequence, sequence_of, none_watch, is_from, is_pair, is_busy, is_sent_as, is_due, Registers, without_pair, with_emission, with_acknowledgement, with_reset, hopeless, GivesUp, IsNotice, Notifies}
 
 -- What one call does to watchers, where a registration may be of each endpoint and token of which `May` holds.
 pub data Goes (May : Endpoint → List ℕ → Type 0) (t u : Watching) : Type 0 where
@@ -105,3 +107,54 @@ NoticesSayIt =
     → (before : ℕ) × (last_number n.to (take n.token_length n.token) t.list ≡ Some before)
     × (last_number n.to (take n.token_length n.token) us ≡ Some n.sequence)
     × (n.sequence ≡ (if n.fresh then next_sequence before else before))
+
+-- ---- sendings
+
+-- A call that isn't about a pair: it is neither registered nor cancelled, and its endpoint acknowledges and rejects nothing.
+abbrev pub IsUnanswered : (from : Endpoint) (token : List ℕ) (t u : Watching) → Goes Any t u → Type 0
+IsUnanswered from token t u (registers end name target r may is) = (is_same_endpoint from end && bytes_eq token name) ≡ false
+IsUnanswered from token t u (cancels end name is) = (is_same_endpoint from end && bytes_eq token name) ≡ false
+IsUnanswered from token t u (emits target is) = Unit {0}
+IsUnanswered from token t u (acknowledges end id is) = is_same_endpoint from end ≡ false
+IsUnanswered from token t u (rejects end id is) = is_same_endpoint from end ≡ false
+IsUnanswered from token t u (sends now id n capacity is) = Unit {0}
+
+-- how many messages a call sends to a pair
+abbrev pub count_of : Endpoint → List ℕ → Option Notice → ℕ
+count_of from token None = 0
+count_of from token (Some n) = if is_for from token n then 1 else 0
+
+abbrev pub sendings_in : (from : Endpoint) (token : List ℕ) (t u : Watching) → Goes Any t u → ℕ
+sendings_in from token t u (sends now id n capacity is) = count_of from token n
+sendings_in from token t u (registers end name target r may is) = 0
+sendings_in from token t u (cancels end name is) = 0
+sendings_in from token t u (emits target is) = 0
+sendings_in from token t u (acknowledges end id is) = 0
+sendings_in from token t u (rejects end id is) = 0
+
+-- What such calls lead to, and how many messages they send to the pair.
+pub data StaysUnanswered (from : Endpoint) (token : List ℕ) (before : Watching) : ℕ → Watching → Type 0 where
+  starts : (t : Watching) → t ≡ before → StaysUnanswered from token before 0 t
+  continues : (n : ℕ) (t u : Watching) (goes : Goes Any t u) → StaysUnanswered from token before n t → IsUnanswered from token t u goes
+      → StaysUnanswered from token before (n + sendings_in from token t u goes) u
+
+-- After a notification was sent for the first time, at most four further messages are sent to its pair while nothing answers
+-- it (section 4.5; RFC 7252, section 4.2).
+abbrev pub AtMostFiveSendings : Type 0
+AtMostFiveSendings =
+    (capacity n : ℕ) (t u : Watching) (from : Endpoint) (token : List ℕ) (w : Watcher) (s : Sent) → Comes capacity t → find (is_pair from token) t.list ≡ Some w
+    → w.notification ≡ Some s → s.retransmissions ≡ 0 → StaysUnanswered from token t n u → n ≤ MOST_RETRANSMISSIONS
+
+-- Each of them is the same message, or a new one where the target has a newer value.
+abbrev pub SendsTheSame : Type 0
+SendsTheSame =
+    (capacity now id : ℕ) (t : Watching) (from : Endpoint) (token : List ℕ) (w : Watcher) (s : Sent) (n : Notice) (us : List Watcher) → Comes capacity t
+    → find (is_pair from token) t.list ≡ Some w → w.notification ≡ Some s → Notifies now id t.list (Some n) us → is_for from token n ≡ true
+    → ((w.is_marked ≡ false) × IsNotice w s.id w.sequence false n) ⊎ ((w.is_marked ≡ true) × IsNotice w id (next_sequence w.sequence) true n)
+
+-- And then all watchers of the endpoint are gone: where nothing is sent any more at a moment, those are whose notifications
+-- are due.
+abbrev pub DueAreGone : Type 0
+DueAreGone =
+    (capacity now id : ℕ) (t : Watching) (from : Endpoint) (token : List ℕ) (w : Watcher) (us : List Watcher) → Comes capacity t
+    → find (is_pair from token) t.list ≡ Some w → is_due now w ≡ true → Notifies now id t.list None us → list_any (is_from from) us ≡ false

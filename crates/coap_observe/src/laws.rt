@@ -1,6 +1,6 @@
 //! Laws of watchers, as contracts of functions that do nothing.
 
-ghost use Rattle.coap_observe.specs.Laws.{OneUnacknowledged, PairsDiffer, GivenUpLeavesNone, ResetForgets, AbsentStays, NothingForAbsent, NumbersRise, RegistrationsSayIt, NoticesSayIt};
+ghost use Rattle.coap_observe.specs.Laws.{OneUnacknowledged, PairsDiffer, GivenUpLeavesNone, ResetForgets, AbsentStays, NothingForAbsent, NumbersRise, RegistrationsSayIt, NoticesSayIt, AtMostFiveSendings, SendsTheSame, DueAreGone};
 
 /// At most one notification to an endpoint is unacknowledged at a time (RFC 7641, section 4.5.1).
 pub fn one_is_unacknowledged()
@@ -31,4 +31,13 @@ pub fn numbers_rise()
     ensures rise { NumbersRise }
     ensures registrations { RegistrationsSayIt }
     ensures notices { NoticesSayIt }
+{}
+
+/// While nothing answers a notification, and its watcher isn't registered or cancelled anew, it is sent at most five
+/// times: each further time the same message, or a new one where its target has a newer value. Then all watchers of its
+/// endpoint are gone (RFC 7641, section 4.5).
+pub fn sent_five_times()
+    ensures five { AtMostFiveSendings }
+    ensures same { SendsTheSame }
+    ensures gone { DueAreGone }
 {}

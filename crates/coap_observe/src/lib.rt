@@ -20,8 +20,8 @@
 //!
 //! The contract in a sentence: each call is its step of `specs/Watching.antt`, and `next_send` is `Notifies` there. The
 //! laws (`specs/Laws.antt`): at most one notification to an endpoint is unacknowledged, an endpoint that is given up
-//! has no watcher left, after a Reset nothing is sent to its watcher until that registers again, and sequence numbers
-//! rise by one.
+//! has no watcher left, after a Reset nothing is sent to its watcher until that registers again, sequence numbers rise by
+//! one, and a notification that nothing answers is sent at most five times.
 #![tactic(auto)]
 
 mod laws;
@@ -34,6 +34,7 @@ mod watchers;
 
 pub use laws::{
     given_up_leaves_none, numbers_rise, one_is_unacknowledged, pairs_differ, reset_forgets,
+    sent_five_times,
 };
 pub use notice::{Notice, Registered};
 pub use servient_base::NoMemory;

@@ -1,6 +1,6 @@
 -- What is done on one connection, put together.
 use Rattle.std.proofs.Common.{◌≡◌, ℕ, zero, suc, ◌<◌, ◌≤◌, List, [], ◌∷◌, map, Bool, true, false, refl, sym, ap, subst, ◌∙◌, arith}
-use Rattle.std.specs.Prelude.{Option, Some, None, not, ◌==◌, IsSome}
+use Rattle.std.specs.Prelude.{Option, Some, None, ◌==◌, IsSome}
 use Rattle.std.proofs.lemmas.Bool.{eqb-true}
 use Rattle.servient_base.specs.Moves.{Passing, is_done, Makes, Refines}
 use Rattle.servient_base.proofs.MovesLaws.{refines_goes_on, refines_is_done}

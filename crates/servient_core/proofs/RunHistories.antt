@@ -3,21 +3,15 @@ use Rattle.std.proofs.Common.{None, ◌≡◌, ℕ, ◌≤◌, ◌++◌, List, [
 use Rattle.std.proofs.lemmas.List.{append-nil}
 use Rattle.servient_base.specs.Moves.{Becomes, Until, is_done, goes_on}
 use Rattle.coap_msg.specs.declared.endpoint.Endpoint.{Endpoint}
-use Rattle.coap_msg.specs.declared.message.RequestType.{RequestType}
-use Rattle.coap_msg.specs.declared.message.RequestType.TheVariants.{Confirmable, NonConfirmable}
 use Rattle.coap_msg.specs.Grammar.{CoapMessage}
-use Rattle.coap_msg.specs.Requests.{request_type}
 use Rattle.coap_msg.proofs.Messages.{at_most_one_message}
 use Rattle.coap_msg.proofs.FaultLaws.{no_fault_of_message}
 use Rattle.coap_exchange.specs.Admission.{Arrival}
-use Rattle.coap_exchange.specs.Table.{Table, at_moment, Meets}
 use Rattle.coap_exchange.specs.declared.met.Met.{Met}
 use Rattle.coap_exchange.specs.declared.met.Met.TheVariants.{Fresh, Repeat, Full}
-use Rattle.coap_bind.specs.declared.head.OpenRequest.{OpenRequest}
 use Rattle.coap_bind.specs.declared.head.OpenAsk.{OpenAsk}
 use Rattle.coap_bind.specs.declared.server.Server.{Server}
-use Rattle.coap_bind.specs.Writing.{Reply}
-use Rattle.coap_bind.specs.Server.{Heard, ignored, answered_at_once, asked, arrival, is_request, with_id_used, with_kept, with_watchers, IsMet, Replies, Reads, bad_option, bad_option_ignored, for_proxy, asks as are_asked, no_memory, malformed, no_request, duplicate, full, Hears, settled, admitted, Answers, opened}
+use Rattle.coap_bind.specs.Server.{Heard, ignored, answered_at_once, asked, arrival, is_request, with_watchers, IsMet, malformed, no_request, duplicate, full, Hears, settled, admitted, Answers}
 use Rattle.coap_opts.specs.Reading.{PlainAsk}
 use Rattle.coap_bind.specs.Laws.{AreArrivals, IsOpen, Did, nothing, heard_of, answered}
 use Rattle.coap_bind.proofs.OpenLaws.{asks_are_open}

@@ -1,5 +1,5 @@
 -- Laws of what is seen of the servient.
-use Rattle.std.proofs.Common.{◌≡◌, ◌+◌, List, [], ◌∷◌, ◌++◌, refl, sym, ap, subst, ◌∙◌}
+use Rattle.std.proofs.Common.{◌≡◌, ◌+◌, List, [], ◌∷◌, ◌++◌, sym, ap, subst, ◌∙◌}
 use Rattle.std.proofs.lemmas.List.Elements.{filter_map-append}
 use Rattle.servient_base.specs.Moves.{ShowsInOrder}
 use Rattle.thing_handler.specs.Handler.{Seen}

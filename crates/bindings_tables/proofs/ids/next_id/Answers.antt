@@ -3,6 +3,6 @@ use Rattle.thing_ops.specs.declared.outcome.Outcome.TheVariants.{NotFound}
 use Rattle.coap_bind.proofs.LengthLaws.{replies_fit}
 use Rattle.bindings_tables.proofs.ids.next_id.Goals as goal
 
-pub answer-size-requires-clause-room : goal.answer-_size-requires-clause-room
+pub answer-size-requires-clause-room : goal.answer-size-requires-clause-room
 answer-size-requires-clause-room c =
     λ observe watchers watches. replies_fit NotFound observe c.in-Ask.ticket.request.head c.datagram.new.self.next_id c.in-Ask.ensures.ticket.token tt

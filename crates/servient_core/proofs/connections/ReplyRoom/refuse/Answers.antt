@@ -1,4 +1,4 @@
-use Rattle.std.proofs.Common.{◌++◌, ◌∙◌, ◌==◌, ℕ, List, Bool, map, ap, subst, ◌≤◌}
+use Rattle.std.proofs.Common.{◌++◌, ◌∙◌, ℕ, List, Bool, map, ap, subst, ◌≤◌}
 use Rattle.http_bind.specs.Slots.{left_at}
 use Rattle.std.proofs.Common.{cond}
 use Rattle.std.specs.Prelude.{not}

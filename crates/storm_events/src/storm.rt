@@ -43,7 +43,7 @@ pub struct Storm {
     pub events: Events,
 }
 
-/// The first `count` events of the storm of a seed. 100,000 of them take some 20 MB.
+/// The first `count` events of the storm of a seed. Of a run of 100,000 they take about 20 MB.
 pub fn storm_events(alloc: Global, seed: u32, count: u32) -> Result<Events, NoMemory>
     ensures { IfOk result (λ events. events ≡ events_of seed count) }
 {

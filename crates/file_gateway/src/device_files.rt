@@ -1,5 +1,7 @@
 //! The files of the machine as devices' files.
 
+ghost use Rattle.servient_base.specs.Count.{Rose};
+
 use file_devices::{DeviceFiles, Wrote};
 use servient_edge::FilesReal;
 use servient_outside::{Files, Got};
@@ -28,7 +30,9 @@ impl<R: rt::Files + Drop> DeviceFilesReal<R> {
     }
 
     /// Counts a call that failed.
-    fn count_fault(&mut self) {
+    fn count_fault(&mut self)
+        ensures { Rose self.old.faults self.new.faults }
+    {
         self.faults = self.faults.saturating_add(1);
     }
 }
@@ -67,22 +71,31 @@ fn write_opened<F: Write + Drop>(opened: io::Result<F>, content: &[u8]) -> Wrote
 
 impl<R: rt::Files + Drop> DeviceFiles for DeviceFilesReal<R> {
     ghost use Rattle.std.specs.Prelude.{None};
+    ghost use Rattle.file_devices.specs.Files.{Fails, Reads, Writes};
 
     ghost seen = { λ f. record { held = None; faults = f.faults } };
 
     fn read(&mut self, alloc: Global, name: &str, limit: usize, into: &mut Bytes) -> Got {
-        let got = self.files.read(alloc, name, limit, into);
-        if got == Got::Failed {
-            self.count_fault();
+        match self.files.read(alloc, name, limit, into) {
+            Got::Whole => Got::Whole,
+            Got::Absent => Got::Absent,
+            Got::TooLong => Got::TooLong,
+            Got::NoMemory => Got::NoMemory,
+            Got::Failed => {
+                self.count_fault();
+                Got::Failed
+            }
         }
-        got
     }
 
     fn write(&mut self, name: &str, content: Bytes) -> Wrote {
-        let wrote = write_opened(open_to_write(&self.rt, name), content.as_slice());
-        if wrote == Wrote::Failed {
-            self.count_fault();
+        match write_opened(open_to_write(&self.rt, name), content.as_slice()) {
+            Wrote::Done => Wrote::Done,
+            Wrote::Absent => Wrote::Absent,
+            Wrote::Failed => {
+                self.count_fault();
+                Wrote::Failed
+            }
         }
-        wrote
     }
 }

@@ -4,6 +4,8 @@
 //! Its stored run replays a script on devices whose files lie in its own folder.
 #![tactic(auto)]
 
+ghost use Rattle.std.specs.Prelude.{◌<◌};
+
 mod device_files;
 mod devices;
 

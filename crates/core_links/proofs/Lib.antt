@@ -1,0 +1,6 @@
+mod Values
+mod Runs
+mod Stands
+mod Means
+mod Outcomes
+mod ReadsBack

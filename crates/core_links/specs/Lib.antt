@@ -1,0 +1,3 @@
+pub mod Links
+pub mod Writing
+pub mod Steps

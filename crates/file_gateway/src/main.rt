@@ -1,80 +1,8 @@
-//! The program `file_gateway`: the servient with devices behind files. Its first word names a list of devices
-//! (docs/DEVICES.md), and the words after it are those of `servient`, as are the statuses.
-//!
-//! Its stored run replays a script on devices whose files lie in its own folder.
+//! The program `file_gateway`. Its stored run replays a script on devices whose files lie in its own folder.
 #![tactic(auto)]
 
-ghost use Rattle.std.specs.Prelude.{◌<◌};
-
-mod device_files;
-mod devices;
-
-use device_files::DeviceFilesReal;
-use devices::read_devices;
-use file_devices::{Entries, SlotHandler, file_handler, shipped_handler};
-use servient_base::NoMemory;
-use servient_cli::{report, servient_main};
-use servient_edge::{FilesReal, MioNet, OutReal};
-use servient_program::{out_of_memory, words};
-use std::alloc::Global;
-use std::io;
 use std::process::ExitCode;
-use thing_handler::{Handler, Rack, SHIPPED_SLOTS};
-use wot_json::Text;
 
 fn main(rt: HostRuntime) -> ExitCode {
-    match run_words(&rt) {
-        Ok(status) => ExitCode::from(status),
-        Err(_) => out_of_memory(&rt),
-    }
-}
-
-/// Does what the words say. Without any they are no command line of the servient either.
-fn run_words(rt: &HostRuntime) -> Result<u8, NoMemory> {
-    let words = words(rt)?;
-    match words.as_slice() {
-        [] => run_command(rt, &Entries::new(rt.alloc()), words.as_slice()),
-        [devices, command @ ..] => run_devices(rt, devices, command),
-    }
-}
-
-/// Reads the list of devices of this name, and does what the words after it say.
-fn run_devices(rt: &HostRuntime, name: &Text, words: &[Text]) -> Result<u8, NoMemory> {
-    let mut files = FilesReal::new(rt.clone()?);
-    match read_devices(rt.alloc(), name.as_str(), &mut files) {
-        Ok(entries) => run_command(rt, &entries, words),
-        Err(ended) => {
-            let mut out = OutReal::new(io::writer(rt));
-            Ok(report(&mut out, &Err(ended)))
-        }
-    }
-}
-
-/// Does what words of the servient say, with these devices.
-fn run_command(rt: &HostRuntime, entries: &Entries, words: &[Text]) -> Result<u8, NoMemory> {
-    let alloc = rt.alloc();
-    let mut list: Vec<Box<dyn Handler>> = Vec::new(alloc);
-    for slot in 0..SHIPPED_SLOTS {
-        list.push(Box::new(alloc, handler_at(rt, entries, slot)?)?)?;
-    }
-    let mut rack = Rack::new(alloc, list);
-    let mut files = FilesReal::new(rt.clone()?);
-    let mut net = MioNet::new(rt.clone()?);
-    let mut out = OutReal::new(io::writer(rt));
-    Ok(servient_main(alloc, words, &mut files, &mut net, &mut rack, &mut out))
-}
-
-/// The handler of a slot: that of its device, or the one that the product ships.
-fn handler_at(
-    rt: &HostRuntime,
-    entries: &Entries,
-    slot: usize,
-) -> Result<SlotHandler<DeviceFilesReal<HostRuntime>>, NoMemory>
-    requires { slot < 64 }
-{
-    let alloc: Global = rt.alloc();
-    match entries.at(slot as u32) {
-        Some(entry) => file_handler(alloc, DeviceFilesReal::new(rt.clone()?, rt.clone()?), entry),
-        None => Ok(shipped_handler(alloc, slot)),
-    }
+    gateway_program::run(&rt)
 }

@@ -1,4 +1,0 @@
-use Rattle.file_gateway.proofs.device_files.DeviceFilesRealDeviceFiles.write.Goals as goal
-
-pub returns : goal.returns
-returns g c = record { counted = c.count_fault.ensures }

@@ -1,12 +1,12 @@
-//! Tables of the times of a directory's entries. Each word names a file of cases, whose rows are what is given, ` => `, and
-//! what comes of it.
+//! Tables of the times of a directory's entries. Each word names a file of cases, whose rows are what is given, ` => `,
+//! and what comes of it.
 //!
 //! ```text
 //! dates   MILLISECONDS => the text of the date and time that lies so many after the start of 1970
 //! ```
 //!
-//! The program prints each row with what does come of it, and each other line as it is: so it prints its files, if all is
-//! right.
+//! The program prints each row with what does come of it, and each other line as it is: so it prints its files, if all
+//! is right.
 #![tactic(auto)]
 
 use std::alloc::{AllocError, Global};

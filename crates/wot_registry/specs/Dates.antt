@@ -1,6 +1,7 @@
 -- The text of a date and time (RFC 3339, section 5.6), found by counting days through the Gregorian calendar from
 -- 1 January 1970. Days have 24 hours: there are no leap seconds.
-use Rattle.std.specs.Prelude.{ℕ, zero, suc, ◌+◌, ◌-◌, ◌/◌, ◌%◌, min, nat_lt, if◌then◌else◌, List, ◌++◌, length, replicate, codes, decimal, pos, unsigned_abs}
+use Rattle.std.specs.Prelude.{ℕ, zero, suc, ◌+◌, ◌-◌, ◌/◌, ◌%◌, min, nat_lt, if◌then◌else◌, List, ◌++◌, length, replicate}
+use Rattle.std.specs.Prelude.{codes, decimal, pos, unsigned_abs}
 use Rattle.jiff_core.specs.declared.civil.datetime.DateTime.{DateTime}
 use Rattle.jiff_core.specs.Calendar.{days_in_month}
 
@@ -16,7 +17,7 @@ pub record Day : Type 0 where
 abbrev pub first_day : Day
 first_day = record { year = 1970; month = 1; day = 1 }
 
--- the next day of the month; after its last day the first of the next month; after December the first of January
+-- the next day of the month; after its last day the first of the next month; after 31 December the first of the next year
 abbrev pub day_after : Day → Day
 day_after d =
     if nat_lt d.day (days_in_month (pos d.year) d.month) then record { year = d.year; month = d.month; day = d.day + 1 }
@@ -41,12 +42,14 @@ day_text d = in_digits 4 d.year ++ codes "-" ++ in_digits 2 d.month ++ codes "-"
 -- `HH:MM:SS.mmm`
 abbrev pub clock_text : ℕ → ℕ → ℕ → ℕ → List ℕ
 clock_text hour minute second millisecond =
-    in_digits 2 hour ++ codes ":" ++ in_digits 2 minute ++ codes ":" ++ in_digits 2 second ++ codes "." ++ in_digits 3 millisecond
+    in_digits 2 hour ++ codes ":" ++ in_digits 2 minute ++ codes ":" ++ in_digits 2 second ++ codes "."
+    ++ in_digits 3 millisecond
 
 -- the time so many milliseconds after midnight
 abbrev pub time_text : ℕ → List ℕ
 time_text milliseconds =
-    clock_text (milliseconds / 3_600_000) (milliseconds / 60_000 % 60) (milliseconds / 1_000 % 60) (milliseconds % 1_000)
+    clock_text (milliseconds / 3_600_000) (milliseconds / 60_000 % 60) (milliseconds / 1_000 % 60)
+    (milliseconds % 1_000)
 
 -- the UTC date and time that lies so many milliseconds after 1970-01-01T00:00:00Z
 abbrev pub moment_text : ℕ → List ℕ
@@ -57,18 +60,17 @@ moment_text milliseconds =
 abbrev pub last_millisecond : ℕ
 last_millisecond = 253_402_300_799_999
 
--- The text of the date and time that lies so many milliseconds after 1970-01-01T00:00:00Z, or of the last millisecond of
--- 9999 where it lies after that.
+-- the same, or the last millisecond of 9999 where that is earlier
 abbrev pub date_text : ℕ → List ℕ
 date_text milliseconds = moment_text (min milliseconds last_millisecond)
 
 -- ---- civil date-times of `jiff`
 
--- the day of a date from the year 0 on
+-- the day of a date of the year 0 or later
 abbrev pub day_of : DateTime → Day
 day_of at = record { year = unsigned_abs at.date.year; month = at.date.month; day = at.date.day }
 
--- the text of a date and time from the year 0 on, without what is below a millisecond
+-- the text of a date and time of the year 0 or later, without what is below a millisecond
 abbrev pub date_time_text : DateTime → List ℕ
 date_time_text at =
     day_text (day_of at) ++ codes "T"

@@ -14,13 +14,20 @@ use wot_json::Text;
 /// The last millisecond of the year 9999, counted from the start of 1970.
 const LAST_MILLISECOND: u64 = 253_402_300_799_999;
 
+/// The start of 1970.
+#[tactic(auto, using(crate::proofs::Start::start_is_zero))]
+fn start() -> DateTime
+    ensures { civil_nanos result ≡ pos 0 }
+{
+    date(1970, 1, 1).at(0, 0, 0, 0)
+}
+
 /// The date and time that lies so many milliseconds after the start of 1970, which is before the year 10000.
 fn date_time_at(milliseconds: u64) -> DateTime
     requires { milliseconds ≤ last_millisecond }
     ensures { civil_nanos result ≡ pos milliseconds *ℤ pos 1_000_000 }
 {
-    let start = date(1970, 1, 1).at(0, 0, 0, 0);
-    start
+    start()
         .checked_add(SignedDuration::from_millis(milliseconds as i64))
         .unwrap()
 }

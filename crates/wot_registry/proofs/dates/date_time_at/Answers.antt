@@ -1,20 +1,20 @@
 use Rattle.std.proofs.Common.{arith, ◌≡◌, pos, ◌∙◌, w64, to_z}
 use Rattle.std.proofs.lemmas.Int.{to_z_pos}
-use Rattle.jiff.proofs.SpanFacts.{signed_arith}
-use Rattle.wot_registry.proofs.Start.{start_is_zero}
+use Rattle.jiff_core.proofs.SignedLemmas.{signed_arith}
 use Rattle.wot_registry.proofs.dates.date_time_at.Goals as goal
 
 pub unwrap-requires : goal.unwrap-requires
 unwrap-requires c =
-    let zero = start_is_zero c.at-start.result c.date.result c.date.ensures.0 c.date.ensures.1 c.date.ensures.2 c.at-start.ensures.date c.at-start.ensures.time in
-    let cast : to_z w64 c.args.milliseconds ≡ pos c.args.milliseconds = to_z_pos w64 c.args.milliseconds (omega (arith, c.requires)) in
+    let cast : to_z w64 c.args.milliseconds ≡ pos c.args.milliseconds =
+    to_z_pos w64 c.args.milliseconds (omega (arith, c.requires)) in
     let step = rw cast at c.from_millis.ensures in
-    c.checked_add.ensures.succeeds.1 (rw (zero, step) (omega (arith, signed_arith, c.requires), omega (arith, signed_arith, c.requires)))
+    c.checked_add.ensures.succeeds.1
+    (rw (c.start.ensures, step) (omega (arith, signed_arith, c.requires), omega (arith, signed_arith, c.requires)))
 
 pub returns : goal.returns
 returns c =
-    let zero = start_is_zero c.at-start.result c.date.result c.date.ensures.0 c.date.ensures.1 c.date.ensures.2 c.at-start.ensures.date c.at-start.ensures.time in
-    let cast : to_z w64 c.args.milliseconds ≡ pos c.args.milliseconds = to_z_pos w64 c.args.milliseconds (omega (arith, c.requires)) in
+    let cast : to_z w64 c.args.milliseconds ≡ pos c.args.milliseconds =
+    to_z_pos w64 c.args.milliseconds (omega (arith, c.requires)) in
     let step = rw cast at c.from_millis.ensures in
     let value = rw c.unwrap.ensures at c.checked_add.ensures.value in
-    value ∙ rw (zero, step) (omega (arith, signed_arith))
+    value ∙ rw (c.start.ensures, step) (omega (arith, signed_arith))

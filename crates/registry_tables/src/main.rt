@@ -1,0 +1,52 @@
+//! Tables of the times of a directory's entries. Each word names a file of cases, whose rows are what is given, ` => `,
+//! and what comes of it.
+//!
+//! ```text
+//! dates   MILLISECONDS => the text of the date and time that lies so many after the start of 1970
+//! ```
+//!
+//! The program prints each row with what does come of it, and each other line as it is: so it prints its files, if all
+//! is right.
+#![tactic(auto)]
+
+use std::alloc::{AllocError, Global};
+use std::{env, fs, io};
+use wot_registry::date_text;
+
+/// Writes the text of the date and time that a number of milliseconds names.
+fn put_date(text: &mut String, alloc: Global, given: &str) -> Result<(), AllocError> {
+    match given.parse::<u64>() {
+        Ok(milliseconds) => text.push_str(date_text(alloc, milliseconds)?.as_str()),
+        Err(_) => text.push_str("no number"),
+    }
+}
+
+/// The rows of a file, each with what comes of it.
+fn page(alloc: Global, lines: &str) -> Result<String, AllocError> {
+    let mut text = String::new(alloc);
+    for line in lines.lines() {
+        match line.split_once(" => ") {
+            Some((given, _wanted)) => {
+                text.push_str(given)?;
+                text.push_str(" => ")?;
+                put_date(&mut text, alloc, given)?;
+            }
+            None => text.push_str(line)?,
+        }
+        text.push_str("\n")?;
+    }
+    Ok(text)
+}
+
+/// Prints a file with what comes of it.
+fn print(rt: &HostRuntime, table: &str) -> io::Result<()> {
+    let lines = fs::read_to_string(rt, table)?;
+    rt.print(page(rt.alloc(), lines.as_str())?)
+}
+
+fn main(rt: HostRuntime) -> io::Result<()> {
+    for table in env::args(&rt)?.skip(1) {
+        print(&rt, table.as_str())?;
+    }
+    Ok(())
+}

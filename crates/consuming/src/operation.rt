@@ -1,0 +1,14 @@
+//! What is asked of a Thing.
+
+use wot_json::Tree;
+use wot_terms::Op;
+
+/// An operation of a Thing.
+#[derive(Clone, Copy)]
+pub struct Operation<'a> {
+    /// The Thing's description.
+    pub tree: &'a Tree,
+    pub op: Op,
+    /// The name of the property or the action; any text where all properties are read.
+    pub name: &'a str,
+}

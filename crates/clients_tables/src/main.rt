@@ -1,4 +1,4 @@
-//! Tables of the clients. The files `choices`, `judgements` and `http_requests` have rows, as the modules of these names
+//! Tables of the clients. The files `choices`, `judgements`, `http_requests` and `consumptions` have rows, as the modules of these names
 //! say: what is given, ` => `, and what comes of it; `given TEXT` is what the rows after it are about.
 //!
 //! Each other file has histories of a CoAP client: what it is asked, what comes to it and what is due, a step a line,
@@ -16,6 +16,7 @@
 
 mod asking;
 mod choices;
+mod consumptions;
 mod descriptions;
 mod hearing;
 mod history;

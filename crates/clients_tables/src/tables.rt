@@ -1,11 +1,14 @@
 //! Tables of a consumer's decisions: each row with what comes of it.
 
-use crate::{choices, http_requests, judgements};
+use crate::{choices, consumptions, http_requests, judgements};
 use std::alloc::{AllocError, Global};
 
 /// Whether a file is one of these tables.
 pub fn is_table(name: &str) -> bool {
-    matches!(name, "choices" | "judgements" | "http_requests")
+    matches!(
+        name,
+        "choices" | "judgements" | "http_requests" | "consumptions"
+    )
 }
 
 /// Writes a row of a table with what comes of it. `shared` is what the rows are about.
@@ -20,6 +23,7 @@ fn put_row(
     text.push_str(" => ")?;
     match table {
         "choices" => choices::put(text, alloc, shared, given),
+        "consumptions" => consumptions::put(text, alloc, shared, given),
         "judgements" => judgements::put(text, alloc, shared, given),
         _ => http_requests::put(text, alloc, given),
     }

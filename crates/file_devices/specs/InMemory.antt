@@ -1,5 +1,7 @@
 -- What is seen of devices' files in memory.
-use Rattle.std.specs.Prelude.{◌≡◌, ◌≤◌, ◌<◌, ℕ, Bool, List, Some, None, IsSome, length}
+use Rattle.std.specs.Prelude.{◌≡◌, ◌≤◌, ◌<◌, ℕ, Bool, List, Some, None, IsSome, length, IsTrue}
+use Rattle.servient_base.specs.Count.{one_more}
+use Rattle.servient_outside.specs.CallCount.{is_failing}
 use Rattle.std.specs.Str.{bytes_eq}
 use Rattle.servient_outside.specs.declared.files.Got.{Got}
 use Rattle.servient_outside.specs.declared.files.Got.TheVariants.{Whole, Absent, TooLong, Failed, NoMemory}
@@ -14,12 +16,13 @@ use Rattle.file_devices.specs.Files.{FilesSeen, with_content}
 abbrev pub held_files : DeviceFilesMemory → List HeldFile
 held_files f = f.files.items
 
--- which calls of the two are to fail, and how many were made
-abbrev pub failing_calls : DeviceFilesMemory → List ℕ
-failing_calls f = f.fails
+-- the next call is among those that fail
+abbrev pub FailsNext : DeviceFilesMemory → Type 0
+FailsNext f = IsTrue (is_failing f.fails (one_more f.made))
 
-abbrev pub calls_made : DeviceFilesMemory → ℕ
-calls_made f = f.made
+-- one more call was made, and the same ones fail
+abbrev pub IsCounted : DeviceFilesMemory → DeviceFilesMemory → Type 0
+IsCounted before now = (now.made ≡ one_more before.made) × (now.fails ≡ before.fails)
 
 abbrev pub seen_of : DeviceFilesMemory → FilesSeen
 seen_of f = record { held = Some (held_files f); faults = f.faults }

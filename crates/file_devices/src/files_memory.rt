@@ -1,10 +1,10 @@
 //! Files of devices in memory.
 
-ghost use Rattle.std.specs.Prelude.{◌≡◌, ◌≢◌, Some, IsTrue, IsFalse};
+ghost use Rattle.std.specs.Prelude.{◌≡◌, ◌≢◌, ◌↔◌, Some, IsTrue, IsFalse};
 ghost use Rattle.std.specs.List.{position};
 ghost use Rattle.servient_outside.specs.Files.{AnswersRead};
 ghost use Rattle.file_devices.specs.Files.{Fails};
-ghost use Rattle.file_devices.specs.InMemory.{ReadsContent, WritesAmong, is_named, seen_of};
+ghost use Rattle.file_devices.specs.InMemory.{FailsNext, IsCounted, ReadsContent, WritesAmong, is_named, seen_of};
 
 use crate::files::{DeviceFiles, Wrote};
 use servient_outside::{Calls, Got, Held, HeldFile};
@@ -23,7 +23,8 @@ pub struct DeviceFilesMemory {
 impl DeviceFilesMemory {
     /// Files that hold this, and whose calls of these numbers fail, reads and writes counted together from 1.
     pub fn new(files: Held, fails: Calls) -> Self
-        ensures { seen_of result ≡ record { held = Some files; faults = 0 } }
+        ensures calls { (result.made ≡ 0) × (result.fails ≡ fails) }
+        ensures seen { seen_of result ≡ record { held = Some files; faults = 0 } }
     {
         DeviceFilesMemory {
             files: files.into_vec(),
@@ -43,6 +44,8 @@ impl DeviceFilesMemory {
     /// Counts a call, and says whether it fails. A failure is counted.
     fn fails_now(&mut self) -> bool
         ensures files { self.new.files ≡ self.old.files }
+        ensures next { IsTrue result ↔ FailsNext self.old }
+        ensures counted { IsCounted self.old self.new }
         ensures fails { IsTrue result → Fails (seen_of self.old) (seen_of self.new) }
         ensures works { IsFalse result → self.new.faults ≡ self.old.faults }
     {
@@ -58,18 +61,29 @@ impl DeviceFilesMemory {
 impl DeviceFiles for DeviceFilesMemory {
     ghost use Rattle.std.specs.Prelude.{◌≡◌};
     ghost use Rattle.file_devices.specs.Files.{Reads, Writes};
-    ghost use Rattle.file_devices.specs.InMemory.{seen_of};
+    ghost use Rattle.file_devices.specs.InMemory.{FailsNext, IsCounted, seen_of};
 
     ghost seen = { seen_of };
 
-    fn read(&mut self, alloc: Global, name: &str, limit: usize, into: &mut Bytes) -> Got {
+    /// A call whose number is in the list that `new` took fails, and no other.
+    fn read(&mut self, alloc: Global, name: &str, limit: usize, into: &mut Bytes) -> Got
+        ensures reads { Reads (seen_of self.old) (seen_of self.new) name.now limit result into.new }
+        ensures fails_only { result ≡ Got.Failed → FailsNext self.old }
+        ensures fails { FailsNext self.old → result ≡ Got.Failed }
+        ensures counted { IsCounted self.old self.new }
+    {
         if self.fails_now() {
             return Got::Failed;
         }
         read_named(self.files.as_slice(), alloc, name, limit, into)
     }
 
-    fn write(&mut self, name: &str, content: Bytes) -> Wrote {
+    fn write(&mut self, name: &str, content: Bytes) -> Wrote
+        ensures writes { Writes (seen_of self.old) (seen_of self.new) name.now content result }
+        ensures fails_only { result ≡ Wrote.Failed → FailsNext self.old }
+        ensures fails { FailsNext self.old → result ≡ Wrote.Failed }
+        ensures counted { IsCounted self.old self.new }
+    {
         if self.fails_now() {
             return Wrote::Failed;
         }

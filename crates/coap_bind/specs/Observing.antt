@@ -26,7 +26,7 @@ may_notify (outcome.Content value) = nat_le (length value) LONGEST_PAYLOAD
 may_notify outcome.Empty = true
 may_notify _ = false
 
--- the request wasn't acted on for want of memory
+-- the request wasn't acted on, since the server was out of memory
 abbrev pub is_memory : Outcome → Bool
 is_memory outcome.Memory = true
 is_memory _ = false
@@ -37,7 +37,8 @@ registering None = effect.Nothing
 registering (Some target) = effect.Registers target
 
 -- What the answer does to the watchers, where a request with this outcome is for this target, if it is for one. To
--- deregister ends an observation whatever comes of the request (section 3.6), but not where the server had no memory.
+-- deregister ends an observation whatever comes of the request (section 3.6), but not where the server was out of
+-- memory.
 abbrev pub effect_of : Observing → Outcome → Option ℕ → Effect
 effect_of observing.Unchanged o target = effect.Nothing
 effect_of observing.Registers o target = if may_notify o then registering target else effect.Nothing

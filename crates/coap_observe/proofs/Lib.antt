@@ -6,3 +6,4 @@ mod Tokens
 mod CallLaws
 mod NumberLaws
 mod SendingLaws
+mod UnsentLaws

@@ -1,3 +1,4 @@
 pub mod Sending
 pub mod Watching
 pub mod Laws
+pub mod Unsent

@@ -20,8 +20,8 @@ impl Model for Notification {
 
     ghost view = { λ n. record { id = n.id; retransmissions = n.retransmissions; timeout = n.timeout; last = n.last } };
 
-    // At most four retransmissions, so that the timeout can be doubled.
-    ghost invariant = { λ n. record { few : n.retransmissions ≤ 4; bound : n.timeout ≤ 3000 * 2 ^ n.retransmissions } };
+    // At most four retransmissions, so that the timeout can be doubled; and a timeout isn't over at once.
+    ghost invariant = { λ n. record { few : n.retransmissions ≤ 4; bound : n.timeout ≤ 3000 * 2 ^ n.retransmissions; least : 1 ≤ n.timeout } };
 }
 
 impl Notification {
@@ -30,7 +30,8 @@ impl Notification {
 
     /// A notification that is sent now for the first time.
     pub fn first(now: u64, id: u16) -> Self
-        ensures { result ≡ first_sent now id }
+        ensures sent { result ≡ first_sent now id }
+        ensures waits { is_due now result ≡ false }
     {
         Notification {
             id,
@@ -43,7 +44,8 @@ impl Notification {
     /// The notification once it is sent again now, with this message ID: its timeout is twice as long.
     pub fn again(&self, now: u64, id: u16) -> Self
         requires { is_exhausted self.now ≡ false }
-        ensures { result ≡ sent_again now id self.now }
+        ensures sent { result ≡ sent_again now id self.now }
+        ensures waits { is_due now result ≡ false }
     {
         Notification {
             id,

@@ -1,7 +1,8 @@
 //! What is sent next (RFC 7641, section 4.5).
 
-ghost use Rattle.std.specs.Prelude.{◌≡◌, ◌≤◌, Some, None, IfSome, length, find, option_map, vec_capacity};
+ghost use Rattle.std.specs.Prelude.{◌≡◌, ◌<◌, ◌≤◌, Some, None, IfSome, length, find, option_map, vec_capacity};
 ghost use Rattle.std.specs.List.{list_any, position};
+ghost use Rattle.coap_observe.specs.Unsent.{unsent};
 ghost use Rattle.coap_observe.specs.Watching.{is_due, hopeless, is_free, is_from, is_busy, without, GivesUp, Sends, IsSendable};
 
 use crate::notice::Notice;
@@ -11,6 +12,7 @@ use coap_msg::Endpoint;
 /// Removes all watchers of each endpoint whose first due notification was sent again as often as it may be.
 pub fn give_up(list: &mut Vec<Watcher>, now: u64)
     ensures gives_up { GivesUp now list.old.items list.new.items }
+    ensures less { unsent now list.new.items ≤ unsent now list.old.items }
     ensures served { hopeless now list.new.items ≡ None }
     ensures fewer { length list.new.items ≤ length list.old.items }
     ensures room { vec_capacity list.new ≡ vec_capacity list.old }
@@ -50,6 +52,7 @@ pub fn send(list: &mut [Watcher], now: u64, id: u16) -> Option<Notice>
     requires { hopeless now list.old ≡ None }
     ensures sends { Sends now id list.old result list.new }
     ensures bounds { IfSome result IsSendable }
+    ensures less { IfSome result (λ n. unsent now list.new < unsent now list.old) }
 {
     match first_due(list, now) {
         Some(index) => Some(send_again(list, index, now, id)),
@@ -63,6 +66,7 @@ fn send_again(list: &mut [Watcher], index: usize, now: u64, id: u16) -> Notice
     requires served { hopeless now list.old ≡ None }
     ensures sends { Sends now id list.old (Some result) list.new }
     ensures bounds { IsSendable result }
+    ensures less { unsent now list.new < unsent now list.old }
 {
     let watcher = &mut list[index];
     if watcher.is_marked {
@@ -82,6 +86,7 @@ fn send_first(list: &mut [Watcher], now: u64, id: u16) -> Option<Notice>
     requires { position (is_due now) list.old ≡ None }
     ensures sends { Sends now id list.old result list.new }
     ensures bounds { IfSome result IsSendable }
+    ensures less { IfSome result (λ n. unsent now list.new < unsent now list.old) }
 {
     match first_free(list) {
         Some(index) => {

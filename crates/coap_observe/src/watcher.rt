@@ -93,7 +93,8 @@ impl Watcher {
     /// What was sent to it is sent again now, if something was.
     pub fn resend(&mut self, now: u64)
         requires { is_given_up self.old ≡ false }
-        ensures { self.new ≡ resent now self.old }
+        ensures sent { self.new ≡ resent now self.old }
+        ensures waits { is_due now self.new ≡ false }
     {
         self.notification = match &self.notification {
             Some(notification) => Some(notification.again(now, notification.id())),
@@ -104,7 +105,8 @@ impl Watcher {
     /// A new message with this message ID is sent now in place of what was sent to it, if something was.
     pub fn renew(&mut self, now: u64, id: u16)
         requires { is_given_up self.old ≡ false }
-        ensures { self.new ≡ renewed now id self.old }
+        ensures sent { self.new ≡ renewed now id self.old }
+        ensures waits { is_due now self.new ≡ false }
     {
         self.sequence = self.sequence.next();
         self.is_marked = false;
@@ -116,7 +118,8 @@ impl Watcher {
 
     /// The last value is sent to it now, with this message ID.
     pub fn notify(&mut self, now: u64, id: u16)
-        ensures { self.new ≡ notified now id self.old }
+        ensures sent { self.new ≡ notified now id self.old }
+        ensures waits { is_due now self.new ≡ false }
     {
         self.sequence = self.sequence.next();
         self.is_marked = false;

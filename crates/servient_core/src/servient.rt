@@ -126,6 +126,6 @@ impl Servient {
     {
         self.parts.moment = self.parts.moment.max(event.moment);
         self.parts.follow(net, rack, event, bytes, &mut self.rooms);
-        self.parts.close_idle(net);
+        self.parts.end_event(net, &mut self.rooms.reply);
     }
 }

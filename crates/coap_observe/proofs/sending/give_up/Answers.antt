@@ -3,6 +3,8 @@ use Rattle.coap_observe.specs.declared.watcher.Watcher.{Watcher}
 use Rattle.coap_observe.specs.Watching.{is_due, is_from, hopeless, GivesUp, nobody, endpoint}
 use Rattle.coap_observe.proofs.Changed.{fewer, no_longer}
 use Rattle.coap_observe.proofs.Due.{hopeless_by}
+use Rattle.coap_observe.specs.Unsent.{unsent}
+use Rattle.coap_observe.proofs.UnsentLaws.{some_less}
 use Rattle.coap_observe.proofs.sending.give_up.Goals as goal
 
 pub loop-from-smaller : goal.loop-from-smaller
@@ -22,6 +24,12 @@ loop-from-preserved c =
           (endpoint c.in-Some.from c.loop-from.list.items us is (subst (λ (ws : List Watcher). GivesUp c.args.now ws us) c.remove_endpoint.ensures.items rest));
       fewer = omega (arith, no_longer (λ (w : Watcher). not (is_from c.in-Some.from w)) c.loop-from.list.items, ap length c.remove_endpoint.ensures.items, c.loop-from.invariant.fewer);
       room = c.remove_endpoint.ensures.room ∙ c.loop-from.invariant.room;
+      less = omega (
+        arith,
+        some_less c.args.now (λ (w : Watcher). not (is_from c.in-Some.from w)) c.loop-from.list.items,
+        ap (λ (ws : List Watcher). unsent c.args.now ws) c.remove_endpoint.ensures.items,
+        c.loop-from.invariant.less,
+      );
     }
 
 pub returns-clause-gives_up : goal.returns-clause-gives_up

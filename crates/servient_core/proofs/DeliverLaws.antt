@@ -131,32 +131,38 @@ delivering_begins k n = record {
 }
 
 -- one is
-delivers : (target : ℕ) (k l : Parts) (e : Kept) (c : Server) (n m : NetSeen) (slots : List Seen) → e.state ≡ k.exposed.state
-    → Refines StandsFor Shows (AnswersWaits target) (record k { exposed = e }) l (outside n slots) (outside m slots) → c ≡ with_emitted target l.coap
-    → Refines StandsFor Shows (Delivers target) k (record l { coap = c }) (outside n slots) (outside m slots)
-delivers target k l e c n m slots state answers marks =
-    refines_from (Delivers target) k (record k { exposed = e }) (record l { coap = c }) (outside n slots) (outside m slots) refl refl refl state
-    (then_moves (AnswersWaits target) (MarksWatchers target) (record k { exposed = e }) l (record l { coap = c }) (outside n slots) (outside m slots) (outside m slots) answers
-    (refines_coap (λ now before after. after ≡ with_emitted target before) l c (outside m slots) marks))
+pub delivers_one : (target : ℕ) (k l : Parts) (c : Server) (n m : NetSeen) → DoesQuietly (AnswersWaits target) k l n m → c ≡ with_emitted target l.coap
+    → DoesQuietly (Delivers target) k (record l { coap = c }) n m
+delivers_one target k l c n m answers marks = λ slots.
+    then_moves (AnswersWaits target) (MarksWatchers target) k l (record l { coap = c }) (outside n slots) (outside m slots) (outside m slots) (answers slots)
+    (refines_coap (λ now before after. after ≡ with_emitted target before) l c (outside m slots) marks)
 
-pub delivering_more : (target : ℕ) (first k l : Parts) (e : Kept) (c : Server) (n m o : NetSeen) → Delivering first k n m
+pub only_delivers : (target : ℕ) (k l : Parts) (c : Server) → l ≡ record k { http = l.http } → LeavesNoMore k.http l.http → c ≡ with_emitted target l.coap
+    → OnlyDelivers k (record l { coap = c })
+only_delivers target k l c rest less marks = record {
+  moment = ap (λ (x : Parts). x.moment) rest;
+  site = ap (λ (x : Parts). x.exposed.site) rest;
+  exchanges = ap (λ (x : Server). x.exchanges) marks ∙ ap (λ (x : Parts). x.coap.exchanges) rest;
+  left = less;
+}
+
+pub delivering_more : (target : ℕ) (first k l : Parts) (e : Kept) (n m o : NetSeen) → Delivering first k n m
     → k.exposed.pending ≡ target ∷ e.pending → e.state ≡ k.exposed.state → e.site ≡ k.exposed.site
-    → DoesQuietly (AnswersWaits target) (record k { exposed = e }) l m o → l ≡ record (record k { exposed = e }) { http = l.http } → LeavesNoMore k.http l.http
-    → c ≡ with_emitted target l.coap → Delivering first (record l { coap = c }) n o
-delivering_more target first k l e c n m o d first_is state site answers rest less marks = record {
+    → DoesQuietly (Delivers target) (record k { exposed = e }) l m o → l.exposed ≡ e → OnlyDelivers (record k { exposed = e }) l → Delivering first l n o
+delivering_more target first k l e n m o d first_is state site delivered same only = record {
   done = d.done ++ target ∷ [];
   made = λ slots.
-      refines_each_more StandsFor Shows shows_in_order Delivers d.done target first k (record l { coap = c }) (outside n slots) (outside m slots) (outside o slots) (d.made slots)
-      (delivers target k l e c m o slots state (answers slots) marks);
+      refines_each_more StandsFor Shows shows_in_order Delivers d.done target first k l (outside n slots) (outside m slots) (outside o slots) (d.made slots)
+      (refines_from (Delivers target) k (record k { exposed = e }) l (outside m slots) (outside o slots) refl refl refl state (delivered slots));
   pending = append_assoc d.done (target ∷ []) l.exposed.pending
-      ∙ ap (λ (x : Parts). d.done ++ target ∷ x.exposed.pending) rest
+      ∙ ap (λ (x : Kept). d.done ++ target ∷ x.pending) same
       ∙ ap (λ (ts : List ℕ). d.done ++ ts) (sym first_is)
       ∙ d.pending;
   only = record {
-    moment = ap (λ (x : Parts). x.moment) rest ∙ d.only.moment;
-    site = ap (λ (x : Parts). x.exposed.site) rest ∙ site ∙ d.only.site;
-    exchanges = ap (λ (x : Server). x.exchanges) marks ∙ ap (λ (x : Parts). x.coap.exchanges) rest ∙ d.only.exchanges;
-    left = leaves_then first.http k.http l.http d.only.left less;
+    moment = only.moment ∙ d.only.moment;
+    site = only.site ∙ site ∙ d.only.site;
+    exchanges = only.exchanges ∙ d.only.exchanges;
+    left = leaves_then first.http k.http l.http d.only.left only.left;
   };
 }
 

@@ -174,7 +174,6 @@ handles_keeps site c (is_faulty status) s seen t is =
     let both = is.1 in
     then_keeps [] [] s both.mid t both.first both.second seen (http_keeps (λ now. Refuses c status is.0) s both.first both.mid both.one)
     (does_keeps (acts_of_reply c (is.0, true)) both.mid both.second t both.other) both.whole
-
 handles_keeps site c interrupts s seen t does = does_keeps (act.Closed c ∷ []) s seen t does
 
 takes_keeps : (site : Site) (c : ℕ) (s : State) (seen : List Sighting) (t : State) → TakesNextMessage site c s seen t → Keeps [] s seen t

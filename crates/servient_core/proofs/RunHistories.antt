@@ -158,7 +158,6 @@ handles_holds k history now site c wants_continue s t seen is h =
     becomes k history now is.1.mid t is.1.other.next (http_stays k history now s is.1.mid is.1.one.0 is.1.first is.1.one.2 h)
 handles_holds k history now site c (is_faulty status) s t seen is h =
     becomes k history now is.1.mid t is.1.other.next (http_stays k history now s is.1.mid is.1.one.0 is.1.first is.1.one.2 h)
-
 handles_holds k history now site c interrupts s t seen does h = becomes k history now s t does.next h
 
 takes_holds : (k : ℕ) (history : List Arrival) (now : ℕ) (site : Site) (c : ℕ) (s t : State) (seen : List Sighting) → TakesNextMessage site c s seen t

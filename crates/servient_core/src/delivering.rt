@@ -24,9 +24,18 @@ impl Parts {
         ensures only { OnlyDelivers self.old self.new }
     {
         while let Some(target) = self.exposed.emitted() {
-            self.answer_waits(net, target, room);
-            self.coap.emit(target);
+            self.deliver_one(net, target, room);
         }
+    }
+
+    /// Delivers the last value of a target, by both bindings.
+    fn deliver_one<N: Net>(&mut self, net: &mut N, target: u32, room: &mut ReplyRoom)
+        ensures delivered { DoesQuietly (Delivers target) self.old self.new (N.seen net.old) (N.seen net.new) }
+        ensures exposed { self.new.exposed ≡ self.old.exposed }
+        ensures only { OnlyDelivers self.old self.new }
+    {
+        self.answer_waits(net, target, room);
+        self.coap.emit(target);
     }
 
     /// Those that wait for a target get its last value, the oldest first.
@@ -42,12 +51,7 @@ impl Parts {
     }
 
     /// Polls all event affordances, one after another.
-    pub fn poll_all<N: Net, R: Handlers>(
-        &mut self,
-        net: &mut N,
-        rack: &mut R,
-        room: &mut ReplyRoom,
-    )
+    pub fn poll_all<N: Net, R: Handlers>(&mut self, net: &mut N, rack: &mut R, room: &mut ReplyRoom)
         requires ready { IsReady self.old }
         requires fits { Fits self.old.exposed.site (R.slots rack.old) }
         ensures { DoesMove (Each PollsAndDelivers (events_of self.old.exposed.site)) self.old self.new

@@ -1,5 +1,5 @@
 use Rattle.std.proofs.Common.{length, ap, arith, ℕ, List, ◌∙◌}
-use Rattle.servient_core.specs.declared.parts.Parts.{Parts}
+use Rattle.thing_core.specs.Kept.{Kept}
 use Rattle.servient_core.proofs.DeliverLaws.{delivering_begins, delivering_more, delivering_ends}
 use Rattle.servient_core.proofs.parts.Parts.deliver.Goals as goal
 
@@ -11,14 +11,14 @@ loop-target-smaller g c =
     omega (
       arith,
       ap (λ (l : List ℕ). length l) c.in-Some.ensures.first,
-      ap (λ (x : Parts). length x.exposed.pending) c.answer_waits.ensures.rest,
+      ap (λ (x : Kept). length x.pending) c.deliver_one.ensures.exposed,
     )
 
 pub loop-target-preserved : goal.loop-target-preserved
 loop-target-preserved g c =
-    delivering_more c.in-Some.target c.args.self.now c.loop-target.self c.answer_waits.new.self c.emitted.new.self c.emit.new.self
-    (g.N.Net.seen c.args.net.now) (g.N.Net.seen c.loop-target.net) (g.N.Net.seen c.answer_waits.new.net)
-    c.loop-target.invariant c.in-Some.ensures.first c.in-Some.ensures.state c.in-Some.ensures.site c.answer_waits.ensures.answered c.answer_waits.ensures.rest c.answer_waits.ensures.left c.emit.ensures
+    delivering_more c.in-Some.target c.args.self.now c.loop-target.self c.deliver_one.new.self c.emitted.new.self
+    (g.N.Net.seen c.args.net.now) (g.N.Net.seen c.loop-target.net) (g.N.Net.seen c.deliver_one.new.net)
+    c.loop-target.invariant c.in-Some.ensures.first c.in-Some.ensures.state c.in-Some.ensures.site c.deliver_one.ensures.delivered c.deliver_one.ensures.exposed c.deliver_one.ensures.only
 
 pub returns-clause-delivered : goal.returns-clause-delivered
 returns-clause-delivered g c =

@@ -100,7 +100,7 @@ busy_sends now id ws _ _ (first w m us none_due found notice is) from most =
 busy_sends now id ws _ _ (nothing us none_due none_free is) from most =
     subst (λ (vs : List Watcher). count (is_busy from) vs ≤ 1) (sym is) most
 
-busy_goes : (t u : Watching) → Goes Any t u → (from : Endpoint) → count (is_busy from) t.list ≤ 1 → count (is_busy from) u.list ≤ 1
+pub busy_goes : (t u : Watching) → Goes Any t u → (from : Endpoint) → count (is_busy from) t.list ≤ 1 → count (is_busy from) u.list ≤ 1
 busy_goes t u (registers f token target (Replaced n) may reg) from most =
     let le = count_map (is_busy from) (where_so (is_pair f token) (replaced target))
     (λ w. where_weaker (is_busy from) (is_pair f token) (replaced target) w (not_busy from w)) t.list in
@@ -166,7 +166,7 @@ new_pair t f from name token target absent most = elim (cases_Bool (is_pair from
       omega (arith, le, most)
 ]
 
-pair_goes : (t u : Watching) → Goes Any t u → (from : Endpoint) (token : List ℕ) → count (is_pair from token) t.list ≤ 1
+pub pair_goes : (t u : Watching) → Goes Any t u → (from : Endpoint) (token : List ℕ) → count (is_pair from token) t.list ≤ 1
     → count (is_pair from token) u.list ≤ 1
 pair_goes t u (registers f name target (Replaced n) may reg) from token most =
     let le = count_map (is_pair from token) (where_so (is_pair f name) (replaced target))

@@ -18,6 +18,11 @@ pub count_map : {X : Type 0} (q : X → Bool) (f : X → X) → ((x : X) → q (
 count_map q f h [] = omega arith
 count_map q f h (x ∷ xs) = weigh (q (f x)) (q x) (f x) x (filter q (map f xs)) (filter q xs) (h x) (count_map q f h xs)
 
+-- a test that another one follows from
+pub count_weaker : {X : Type 0} (p q : X → Bool) → ((x : X) → p x ≡ true → q x ≡ true) → (xs : List X) → length (filter p xs) ≤ length (filter q xs)
+count_weaker p q h [] = omega arith
+count_weaker p q h (x ∷ xs) = weigh (p x) (q x) x x (filter p xs) (filter q xs) (h x) (count_weaker p q h xs)
+
 at_least : {X : Type 0} (s : Bool) (x : X) (xs ys : List X) → length xs ≤ length ys → length xs ≤ length (cond s (x ∷ ys) ys)
 at_least true x xs ys le = omega arith
 at_least false x xs ys le = le

@@ -1,9 +1,17 @@
-mod Changed
-mod Due
+pub mod Changed
+pub mod Due
 pub mod Counts
 pub mod Found
 mod Tokens
-mod CallLaws
+pub mod CallLaws
 mod NumberLaws
 mod SendingLaws
+mod SlotLaws
+mod KeptLaws
+mod PlaceLaws
+mod WalkLaws
+mod CallUses
+mod ViewLaws
+mod WatchedLaws
+mod SendLaws
 mod UnsentLaws

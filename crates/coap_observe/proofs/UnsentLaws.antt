@@ -1,9 +1,13 @@
 -- A message that is sent leaves less to be sent.
-use Rattle.std.proofs.Common.{◌≡◌, ◌+◌, ◌<◌, ◌≤◌, ℕ, Bool, true, false, cond, List, [], ◌∷◌, refl, sym, arith, subst}
+use Rattle.std.proofs.Common.{◌≡◌, ◌+◌, ◌<◌, ◌≤◌, ℕ, Bool, true, false, cond, List, [], ◌∷◌, refl, sym, ap, ◌∙◌, inl, inr, arith, subst}
 use Rattle.std.specs.Prelude.{Some, find, filter, ◌&&◌}
 use Rattle.std.proofs.lemmas.Option.{same_Some}
 use Rattle.coap_observe.specs.declared.watcher.Watcher.{Watcher}
+use Rattle.std.proofs.lemmas.Bool.{cases_Bool}
+use Rattle.coap_observe.specs.Places.{Place, Places, watchers_in, IsAt, with_change, FindsFirst, sent_once_more}
 use Rattle.coap_observe.specs.Watching.{is_due, is_free, with_first, resent, renewed, notified}
+use Rattle.coap_observe.proofs.Counts.{found_passes}
+use Rattle.coap_observe.proofs.ViewLaws.{changed_first, found_watcher}
 use Rattle.coap_observe.specs.Unsent.{unsent_to, unsent}
 
 -- the first that passes a test is changed into one with less to be sent
@@ -30,30 +34,48 @@ some_less now test (x ∷ ws) = by_test (test x) (some_less now test ws)
 
 -- ---- one that a message is sent to
 
--- what was due isn't any more
-no_longer_due : (now : ℕ) (w v : Watcher) → is_due now w ≡ true → is_due now v ≡ false → v.is_marked ≡ w.is_marked → unsent_to now v < unsent_to now w
-no_longer_due now w v due waits same = subst (λ (b : Bool). unsent_to now v < cond b 1 0 + cond w.is_marked 1 0) (sym due)
+-- it isn't due any more and has no new value, where it was due
+no_longer_due : (now : ℕ) (w v : Watcher) → is_due now w ≡ true → is_due now v ≡ false → v.is_marked ≡ false → unsent_to now v < unsent_to now w
+no_longer_due now w v due waits none = subst (λ (b : Bool). unsent_to now v < cond b 1 0 + cond w.is_marked 1 0) (sym due)
     (subst (λ (b : Bool). cond b 1 0 + cond v.is_marked 1 0 < 1 + cond w.is_marked 1 0) (sym waits)
-    (subst (λ (b : Bool). cond false 1 0 + cond b 1 0 < 1 + cond w.is_marked 1 0) (sym same) (omega arith)))
+    (subst (λ (b : Bool). cond false 1 0 + cond b 1 0 < 1 + cond w.is_marked 1 0) (sym none) (omega arith)))
 
-pub resent_less : (now : ℕ) (w : Watcher) → is_due now w ≡ true → is_due now (resent now w) ≡ false → unsent_to now (resent now w) < unsent_to now w
-resent_less now w due waits = no_longer_due now w (resent now w) due waits refl
-
--- and a new value was sent
+-- or had a new value
 no_longer_marked : (now : ℕ) (w v : Watcher) → w.is_marked ≡ true → is_due now v ≡ false → v.is_marked ≡ false → unsent_to now v < unsent_to now w
 no_longer_marked now w v marked waits none = subst (λ (b : Bool). unsent_to now v < cond (is_due now w) 1 0 + cond b 1 0) (sym marked)
     (subst (λ (b : Bool). cond b 1 0 + cond v.is_marked 1 0 < cond (is_due now w) 1 0 + 1) (sym waits)
     (subst (λ (b : Bool). cond false 1 0 + cond b 1 0 < cond (is_due now w) 1 0 + 1) (sym none) (omega arith)))
 
-pub renewed_less : (now id : ℕ) (w : Watcher) → w.is_marked ≡ true → is_due now (renewed now id w) ≡ false → unsent_to now (renewed now id w) < unsent_to now w
-renewed_less now id w marked waits = no_longer_marked now w (renewed now id w) marked waits refl
+-- what is sent once more is no new value
+once_more_unmarked : (now id : ℕ) (w : Watcher) → (sent_once_more now id w).is_marked ≡ false
+once_more_unmarked now id w = elim (cases_Bool w.is_marked) [
+  | inl marked_one ↦ ap (λ (b : Bool). (cond b (renewed now id w) (resent now w)).is_marked) marked_one
+  | inr plain ↦ ap (λ (b : Bool). (cond b (renewed now id w) (resent now w)).is_marked) plain ∙ plain
+]
 
-pub notified_less : (now id : ℕ) (w : Watcher) → w.is_marked ≡ true → is_due now (notified now id w) ≡ false → unsent_to now (notified now id w) < unsent_to now w
-notified_less now id w marked waits = no_longer_marked now w (notified now id w) marked waits refl
+has_value : (m b : Bool) → (m && b) ≡ true → m ≡ true
+has_value true b e = refl
+has_value false b e = e
 
-free_is_marked : (m b : Bool) → (m && b) ≡ true → m ≡ true
-free_is_marked true b e = refl
-free_is_marked false b e = e
+-- ---- by the places of watchers
 
-pub free_has_value : (ws : List Watcher) (w : Watcher) → is_free ws w ≡ true → w.is_marked ≡ true
-free_has_value ws w free = free_is_marked w.is_marked _ free
+pub again_less : (now id : ℕ) (t t2 : Places) (slot : ℕ) → FindsFirst (is_due now) t (Some slot) → t2 ≡ with_change slot (sent_once_more now id) t
+    → ((p : Place) → IsAt slot p t → is_due now (sent_once_more now id p.watcher) ≡ false) → unsent now (watchers_in t2) < unsent now (watchers_in t)
+again_less now id t t2 slot found is waits =
+    let there = found_watcher (is_due now) t found.0 found.2 in
+    subst (λ (ws : List Watcher). unsent now ws < unsent now (watchers_in t))
+    (sym (ap watchers_in is ∙ changed_first (is_due now) (sent_once_more now id) t slot found.0 found.1 found.2))
+    (first_less now (is_due now) (sent_once_more now id) (watchers_in t) found.0.watcher there
+    (no_longer_due now found.0.watcher (sent_once_more now id found.0.watcher) (found_passes (is_due now) (watchers_in t) found.0.watcher there)
+    (waits found.0 found.1) (once_more_unmarked now id found.0.watcher)))
+
+pub first_sent_less : (now id : ℕ) (t t2 : Places) (slot : ℕ) → FindsFirst (is_free (watchers_in t)) t (Some slot) → t2 ≡ with_change slot (notified now id) t
+    → ((p : Place) → IsAt slot p t → is_due now (notified now id p.watcher) ≡ false) → unsent now (watchers_in t2) < unsent now (watchers_in t)
+first_sent_less now id t t2 slot found is waits =
+    let free = is_free (watchers_in t) in
+    let there = found_watcher free t found.0 found.2 in
+    subst (λ (ws : List Watcher). unsent now ws < unsent now (watchers_in t))
+    (sym (ap watchers_in is ∙ changed_first free (notified now id) t slot found.0 found.1 found.2))
+    (first_less now free (notified now id) (watchers_in t) found.0.watcher there
+    (no_longer_marked now found.0.watcher (notified now id found.0.watcher) (has_value found.0.watcher.is_marked _ (found_passes free (watchers_in t) found.0.watcher there))
+    (waits found.0 found.1) refl))

@@ -24,11 +24,14 @@
 //! one, and a notification that nothing answers is sent at most five times.
 #![tactic(auto)]
 
+mod buckets;
 mod laws;
 mod notice;
 mod notification;
 mod sending;
 mod sequence;
+mod slots;
+mod walks;
 mod watcher;
 mod watchers;
 

@@ -13,19 +13,19 @@ pub struct Notification {
 }
 
 impl Model for Notification {
-    ghost use Rattle.std.specs.Prelude.{◌≤◌, ◌*◌, ◌^◌};
+    ghost use Rattle.std.specs.Prelude.{◌≤◌, ◌<◌, ◌*◌, ◌^◌};
     ghost use Rattle.coap_observe.specs.Sending.{Sent};
 
     ghost Value = { Sent };
 
     ghost view = { λ n. record { id = n.id; retransmissions = n.retransmissions; timeout = n.timeout; last = n.last } };
 
-    // At most four retransmissions, so that the timeout can be doubled; and a timeout isn't over at once.
-    ghost invariant = { λ n. record { few : n.retransmissions ≤ 4; bound : n.timeout ≤ 3000 * 2 ^ n.retransmissions; least : 1 ≤ n.timeout } };
+    // At most four retransmissions, so that the timeout can be doubled; and no timeout is over at once.
+    ghost invariant = { λ n. record { few : n.retransmissions ≤ 4; some : 0 < n.timeout; bound : n.timeout ≤ 3000 * 2 ^ n.retransmissions } };
 }
 
 impl Notification {
-    ghost use Rattle.std.specs.Prelude.{◌≡◌, false};
+    ghost use Rattle.std.specs.Prelude.{◌≡◌, ◌<◌, ℕ, false};
     ghost use Rattle.coap_observe.specs.Sending.{first_sent, sent_again, is_due, is_exhausted};
 
     /// A notification that is sent now for the first time.
@@ -67,6 +67,13 @@ impl Notification {
         ensures { result ≡ is_due now self.now }
     {
         now.saturating_sub(self.last) >= self.timeout
+    }
+
+    /// A moment before which its timeout isn't over.
+    pub fn due_from(&self) -> u64
+        ensures { (now : ℕ) → now < result → is_due now self.now ≡ false }
+    {
+        self.last.saturating_add(self.timeout)
     }
 
     /// Whether it was sent again as often as it may be.

@@ -5,6 +5,19 @@ use crate::notification::Notification;
 use crate::sequence::Sequence;
 use coap_msg::{BoundedBytes, Endpoint, LONGEST_TOKEN, is_same_endpoint};
 
+/// Which watcher of an endpoint is looked for.
+#[derive(Clone, Copy)]
+pub enum Wanted {
+    /// Any.
+    Any,
+    /// One to which something was sent with this message ID that isn't acknowledged.
+    SentAs(u16),
+    /// One to which something was sent that isn't acknowledged.
+    Unacknowledged,
+    /// One whose target has a value that wasn't sent to it yet.
+    Marked,
+}
+
 /// An observer of a target (RFC 7641, section 4.1).
 #[derive(Drop)]
 pub struct Watcher {
@@ -23,8 +36,9 @@ pub struct Watcher {
 }
 
 impl Watcher {
-    ghost use Rattle.std.specs.Prelude.{◌≡◌, ◌≤◌, ◌<◌, ◌^◌, length, false, Some};
+    ghost use Rattle.std.specs.Prelude.{◌≡◌, ◌≤◌, ◌<◌, ◌^◌, ℕ, length, true, false, Some};
     ghost use Rattle.coap_observe.specs.Sending.{Sent};
+    ghost use Rattle.coap_observe.specs.Places.{is_wanted, sent_once_more, IsSentOnceMore};
     ghost use Rattle.coap_observe.specs.Watching.{where_so, newcomer, replaced, marked, acknowledged, is_of_target, is_from, is_pair, is_sent_as, is_busy, is_due, is_given_up, given_up_endpoint, next_sequence, resent, renewed, notified, IsNotice, IsSendable};
 
     /// One that registers.
@@ -50,16 +64,14 @@ impl Watcher {
         self.sequence.next().number()
     }
 
-    /// It registers anew, if it is the one of this endpoint and token.
-    pub fn replace_if(&mut self, from: Endpoint, token: &[u8], target: u32)
-        ensures { self.new ≡ where_so (is_pair from token.now) (replaced target) self.old }
+    /// It registers anew, for this target.
+    pub fn replace(&mut self, target: u32)
+        ensures { self.new ≡ replaced target self.old }
     {
-        if self.is_pair(from, token) {
-            self.target = target;
-            self.sequence = self.sequence.next();
-            self.is_marked = false;
-            self.notification = None;
-        }
+        self.target = target;
+        self.sequence = self.sequence.next();
+        self.is_marked = false;
+        self.notification = None;
     }
 
     /// It is to be notified, if it observes this target.
@@ -71,17 +83,47 @@ impl Watcher {
         }
     }
 
-    /// What was sent to it is acknowledged, if that was sent from this endpoint with this message ID.
-    pub fn acknowledge_if(&mut self, from: Endpoint, id: u16)
-        ensures { self.new ≡ where_so (is_sent_as from id) acknowledged self.old }
+    /// What was sent to it is acknowledged.
+    pub fn acknowledge(&mut self)
+        ensures { self.new ≡ acknowledged self.old }
     {
-        if self.is_sent_as(from, id) {
-            self.notification = None;
+        self.notification = None;
+    }
+
+    /// What was sent to it is sent again now, or a new message with this message ID in place of it, where its target has a
+    /// newer value.
+    pub fn send_again(&mut self, now: u64, id: u16) -> Notice
+        requires { is_given_up self.old ≡ false }
+        ensures state { self.new ≡ sent_once_more now id self.old }
+        ensures waits { is_due now self.new ≡ false }
+        ensures notice { IsSentOnceMore id self.old result }
+        ensures bounds { IsSendable result }
+    {
+        if self.is_marked {
+            let notice = self.notice(id, self.sequence_after(), true);
+            self.renew(now, id);
+            notice
+        } else {
+            let notice = self.notice(self.last_id(), self.sequence.number(), false);
+            self.resend(now);
+            notice
         }
     }
 
+    /// The last value is sent to it now, with this message ID.
+    pub fn send_first(&mut self, now: u64, id: u16) -> Notice
+        ensures state { self.new ≡ notified now id self.old }
+        ensures waits { is_due now self.new ≡ false }
+        ensures notice { IsNotice self.old id (next_sequence self.old.sequence) true result }
+        ensures bounds { IsSendable result }
+    {
+        let notice = self.notice(id, self.sequence_after(), true);
+        self.notify(now, id);
+        notice
+    }
+
     /// The message ID of what was sent to it; 0 where nothing was.
-    pub fn last_id(&self) -> u16
+    fn last_id(&self) -> u16
         ensures { (s : Sent) → self.now.notification ≡ Some s → result ≡ s.id }
     {
         match &self.notification {
@@ -91,7 +133,7 @@ impl Watcher {
     }
 
     /// What was sent to it is sent again now, if something was.
-    pub fn resend(&mut self, now: u64)
+    fn resend(&mut self, now: u64)
         requires { is_given_up self.old ≡ false }
         ensures sent { self.new ≡ resent now self.old }
         ensures waits { is_due now self.new ≡ false }
@@ -103,7 +145,7 @@ impl Watcher {
     }
 
     /// A new message with this message ID is sent now in place of what was sent to it, if something was.
-    pub fn renew(&mut self, now: u64, id: u16)
+    fn renew(&mut self, now: u64, id: u16)
         requires { is_given_up self.old ≡ false }
         ensures sent { self.new ≡ renewed now id self.old }
         ensures waits { is_due now self.new ≡ false }
@@ -117,7 +159,7 @@ impl Watcher {
     }
 
     /// The last value is sent to it now, with this message ID.
-    pub fn notify(&mut self, now: u64, id: u16)
+    fn notify(&mut self, now: u64, id: u16)
         ensures sent { self.new ≡ notified now id self.old }
         ensures waits { is_due now self.new ≡ false }
     {
@@ -127,7 +169,7 @@ impl Watcher {
     }
 
     /// The notice of a message to it.
-    pub fn notice(&self, id: u16, sequence: u32, fresh: bool) -> Notice
+    fn notice(&self, id: u16, sequence: u32, fresh: bool) -> Notice
         requires { sequence < 2 ^ 24 }
         ensures notice { IsNotice self.now id sequence fresh result }
         ensures bounds { IsSendable result }
@@ -177,6 +219,18 @@ impl Watcher {
         self.notification.is_some() && is_same_endpoint(from, self.from)
     }
 
+    /// Whether it is of this endpoint, and wanted.
+    pub fn is_wanted(&self, from: Endpoint, wanted: Wanted) -> bool
+        ensures { result ≡ is_wanted from wanted self.now }
+    {
+        match wanted {
+            Wanted::Any => self.is_from(from),
+            Wanted::SentAs(id) => self.is_sent_as(from, id),
+            Wanted::Unacknowledged => self.is_busy(from),
+            Wanted::Marked => self.is_from(from) && self.is_marked,
+        }
+    }
+
     /// Whether what was sent to it is to be sent again, or given up.
     pub fn is_due(&self, now: u64) -> bool
         ensures { result ≡ is_due now self.now }
@@ -184,6 +238,16 @@ impl Watcher {
         match &self.notification {
             Some(notification) => notification.is_due(now),
             None => false,
+        }
+    }
+
+    /// A moment before which it isn't due.
+    pub fn due_from(&self) -> u64
+        ensures { (now : ℕ) → now < result → is_due now self.now ≡ false }
+    {
+        match &self.notification {
+            Some(notification) => notification.due_from(),
+            None => u64::MAX,
         }
     }
 

@@ -2,29 +2,32 @@
 
 use crate::notice::{Notice, Registered};
 use crate::sending::{give_up, send};
-use crate::watcher::Watcher;
+use crate::slots::WatcherSlots;
+use crate::watcher::Wanted;
 use coap_msg::{Endpoint, LONGEST_TOKEN};
 use servient_base::NoMemory;
 use std::alloc::Global;
 use std::marker::Model;
 
 /// The watchers of a server. Contracts see them in order of registration, and how many there may be (`Watching` of
-/// specs/Watching.antt).
+/// specs/Watching.antt). Beside where they are, the code keeps a moment before which nothing is to be sent: so
+/// `next_send` looks at them only from then on. 0 says that it must look.
 #[derive(Drop)]
 pub struct Watchers {
-    capacity: u32,
-    list: Vec<Watcher>,
+    slots: WatcherSlots,
+    quiet_until: u64,
 }
 
 impl Model for Watchers {
-    ghost use Rattle.std.specs.Prelude.{◌≤◌, length, vec_capacity};
     ghost use Rattle.coap_observe.specs.Watching.{Watching};
 
     ghost Value = { Watching };
 
-    ghost view = { λ w. record { capacity = w.capacity; list = w.list.items } };
+    ghost use Rattle.coap_observe.specs.Watched.{watching_of, IsWatched};
 
-    ghost invariant = { λ w. record { few : length w.list.items ≤ w.capacity; room : w.capacity ≤ vec_capacity w.list } };
+    ghost view = { watching_of };
+
+    ghost invariant = { IsWatched };
 }
 
 impl Watchers {
@@ -39,8 +42,11 @@ impl Watchers {
         requires most { capacity ≤ 1024 }
         ensures { IfOk result (λ w. w ≡ none_watch capacity) }
     {
-        let list = Vec::with_capacity(alloc, capacity as usize)?;
-        Ok(Watchers { capacity, list })
+        let slots = WatcherSlots::new(alloc, capacity)?;
+        Ok(Watchers {
+            slots,
+            quiet_until: 0,
+        })
     }
 
     /// Registers the watcher of this endpoint and token for a target (RFC 7641, section 4.1).
@@ -49,15 +55,21 @@ impl Watchers {
         ensures ok { Registers from token.now target self.old result self.new }
         ensures bound { IfSome (sequence_of result) (λ n. n < 2 ^ 24) }
     {
-        if let Some(sequence) = sequence_after(self.list.as_slice(), from, token) {
-            replace(self.list.as_mut_slice(), from, token, target);
-            return Registered::Replaced(sequence);
+        match self.slots.pair_slot(from, token) {
+            Some(slot) => {
+                let sequence = self.slots.watcher(slot).sequence_after();
+                self.quiet_until = 0;
+                self.slots.replace(slot, target);
+                Registered::Replaced(sequence)
+            }
+            None => {
+                if self.slots.add(from, token, target) {
+                    Registered::New(0)
+                } else {
+                    Registered::Full
+                }
+            }
         }
-        if self.list.len() >= self.capacity as usize {
-            return Registered::Full;
-        }
-        self.list.push(Watcher::new(from, token, target)).unwrap();
-        Registered::New(0)
     }
 
     /// Ends the observation of this endpoint and token (RFC 7641, section 3.6). Whether there was one.
@@ -65,16 +77,22 @@ impl Watchers {
         ensures list { self.new ≡ without_pair from token.now self.old }
         ensures found { result ≡ list_any (is_pair from token.now) self.old.list }
     {
-        let found = self.list.iter().any(|watcher| watcher.is_pair(from, token));
-        remove_pair(&mut self.list, from, token);
-        found
+        match self.slots.pair_slot(from, token) {
+            Some(slot) => {
+                self.quiet_until = 0;
+                self.slots.remove(slot);
+                true
+            }
+            None => false,
+        }
     }
 
     /// A target has a new value: its watchers are to be notified.
     pub fn emit(&mut self, target: u32)
         ensures { self.new ≡ with_emission target self.old }
     {
-        mark(self.list.as_mut_slice(), target);
+        self.quiet_until = 0;
+        self.slots.mark(target);
     }
 
     /// An endpoint acknowledged the message with this ID (RFC 7252, section 4.2). Whether a notification to it had that
@@ -83,9 +101,17 @@ impl Watchers {
         ensures list { self.new ≡ with_acknowledgement from id self.old }
         ensures found { result ≡ list_any (is_sent_as from id) self.old.list }
     {
-        let found = self.list.iter().any(|watcher| watcher.is_sent_as(from, id));
-        acknowledge(self.list.as_mut_slice(), from, id);
-        found
+        match self.slots.wanted_slot(from, Wanted::SentAs(id)) {
+            Some(slot) => {
+                self.slots.acknowledge(slot);
+                // Nothing becomes due, and only to this endpoint something may now be sent.
+                if self.slots.has_marked(from) {
+                    self.quiet_until = 0;
+                }
+                true
+            }
+            None => false,
+        }
     }
 
     /// An endpoint rejected the message with this ID, which ends the observation (RFC 7641, section 3.6). Whether a
@@ -94,9 +120,14 @@ impl Watchers {
         ensures list { self.new ≡ with_reset from id self.old }
         ensures found { result ≡ list_any (is_sent_as from id) self.old.list }
     {
-        let found = self.list.iter().any(|watcher| watcher.is_sent_as(from, id));
-        remove_sent_as(&mut self.list, from, id);
-        found
+        match self.slots.wanted_slot(from, Wanted::SentAs(id)) {
+            Some(rejected) => {
+                self.quiet_until = 0;
+                self.slots.remove(rejected);
+                true
+            }
+            None => false,
+        }
     }
 
     /// What is to be sent now, with this message ID where it is no message that was sent before: one notification at
@@ -107,66 +138,17 @@ impl Watchers {
         ensures bounds { IfSome result IsSendable }
         ensures less { IfSome result (λ n. unsent now self.new.list < unsent now self.old.list) }
     {
-        give_up(&mut self.list, now);
-        send(self.list.as_mut_slice(), now, id)
+        if now < self.quiet_until {
+            return None;
+        }
+        self.quiet_until = 0;
+        give_up(&mut self.slots, now);
+        match send(&mut self.slots, now, id) {
+            Some(notice) => Some(notice),
+            None => {
+                self.quiet_until = self.slots.next_due();
+                None
+            }
+        }
     }
-}
-
-ghost use Rattle.std.specs.Prelude.{◌≡◌, ◌≤◌, ◌<◌, ◌^◌, map, find, length, option_map, vec_capacity, IfSome};
-ghost use Rattle.coap_observe.specs.Watching.{next_sequence, where_so, without, is_pair, is_sent_as, is_of_target, replaced, marked, acknowledged};
-
-/// The sequence number after the last one of the watcher of this endpoint and token, if there is one.
-fn sequence_after(list: &[Watcher], from: Endpoint, token: &[u8]) -> Option<u32>
-    ensures ok { result ≡ option_map (λ w. next_sequence w.sequence) (find (is_pair from token.now) list.now) }
-    ensures bound { IfSome result (λ n. n < 2 ^ 24) }
-{
-    match list.iter().find(|watcher| watcher.is_pair(from, token)) {
-        Some(watcher) => Some(watcher.sequence_after()),
-        None => None,
-    }
-}
-
-/// The watcher of this endpoint and token registers anew.
-fn replace(list: &mut [Watcher], from: Endpoint, token: &[u8], target: u32)
-    ensures { list.new ≡ map (where_so (is_pair from token.now) (replaced target)) list.old }
-{
-    for watcher in list.iter_mut() {
-        watcher.replace_if(from, token, target);
-    }
-}
-
-/// The watchers of a target are to be notified.
-fn mark(list: &mut [Watcher], target: u32)
-    ensures { list.new ≡ map (where_so (is_of_target target) marked) list.old }
-{
-    for watcher in list.iter_mut() {
-        watcher.mark_if(target);
-    }
-}
-
-/// What was sent to this endpoint with this message ID is acknowledged.
-fn acknowledge(list: &mut [Watcher], from: Endpoint, id: u16)
-    ensures { list.new ≡ map (where_so (is_sent_as from id) acknowledged) list.old }
-{
-    for watcher in list.iter_mut() {
-        watcher.acknowledge_if(from, id);
-    }
-}
-
-/// The watcher of this endpoint and token is removed.
-fn remove_pair(list: &mut Vec<Watcher>, from: Endpoint, token: &[u8])
-    ensures items { list.new.items ≡ without (is_pair from token.now) list.old.items }
-    ensures fewer { length list.new.items ≤ length list.old.items }
-    ensures room { vec_capacity list.new ≡ vec_capacity list.old }
-{
-    list.retain(|watcher| !watcher.is_pair(from, token));
-}
-
-/// The watcher is removed to which something was sent from this endpoint with this message ID.
-fn remove_sent_as(list: &mut Vec<Watcher>, from: Endpoint, id: u16)
-    ensures items { list.new.items ≡ without (is_sent_as from id) list.old.items }
-    ensures fewer { length list.new.items ≤ length list.old.items }
-    ensures room { vec_capacity list.new ≡ vec_capacity list.old }
-{
-    list.retain(|watcher| !watcher.is_sent_as(from, id));
 }

@@ -1,0 +1,11 @@
+-- The steps of the code are those of the definition.
+use Rattle.std.proofs.Common.{◌%◌, ◌∙◌, bit_xor, ap}
+use Rattle.coap_observe.specs.Buckets.{scattered, endpoint_bucket}
+use Rattle.coap_observe.proofs.buckets.endpoint_bucket.Goals as goal
+
+pub returns-clause-bucket : goal.returns-clause-bucket
+unfolding endpoint_bucket
+returns-clause-bucket c =
+    ap (λ n. n % c.args.count) (c.scatter-all.ensures
+    ∙ ap (λ n. scattered (bit_xor n c.args.from.port)) (c.scatter-host.ensures
+    ∙ ap (λ n. scattered (bit_xor n (c.args.from.host % 18446744073709551616))) c.scatter.ensures))

@@ -1,0 +1,14 @@
+-- What is left without the endpoint's watchers is what is left of all without them.
+use Rattle.std.proofs.Common.{◌≡◌, length}
+use Rattle.coap_observe.specs.Places.{watchers_in}
+use Rattle.coap_observe.specs.Watching.{is_from, without}
+use Rattle.coap_observe.proofs.sending.remove_endpoint.Given as goal
+
+abbrev pub invariant-loop-slot : goal.invariant-loop-slot
+invariant-loop-slot l = record {
+  left : without (is_from l.from) (watchers_in l.slots) ≡ without (is_from l.from) (watchers_in l.initial.slots);
+  capacity : l.slots.capacity ≡ l.initial.slots.capacity;
+}
+
+abbrev pub decreases-loop-slot : goal.decreases-loop-slot
+decreases-loop-slot l = length l.slots.list

@@ -1,0 +1,17 @@
+-- What the rest of the walk makes of what is there now is what the whole walk makes of what was there.
+use Rattle.std.proofs.Common.{◌≡◌, ℕ, IfSome, cond, length}
+use Rattle.slot_lists.specs.Lists.{list_at, from_slot, is_among, IsIn}
+use Rattle.coap_observe.specs.Kept.{watcher_at}
+use Rattle.coap_observe.specs.Watching.{where_so, is_of_target, marked}
+use Rattle.coap_observe.proofs.walks.mark.Given as goal
+
+abbrev pub invariant-loop-current : goal.invariant-loop-current
+invariant-loop-current l = record {
+  count : length l.watchers ≡ length l.initial.watchers;
+  each : (slot : ℕ) → cond (is_among slot (from_slot l.current (list_at l.list l.lists))) (where_so (is_of_target l.target) marked (watcher_at l.watchers slot)) (watcher_at l.watchers slot)
+      ≡ cond (is_among slot (list_at l.list l.lists)) (where_so (is_of_target l.target) marked (watcher_at l.initial.watchers slot)) (watcher_at l.initial.watchers slot);
+  member : IfSome l.current (IsIn l.list l.lists);
+}
+
+abbrev pub decreases-loop-current : goal.decreases-loop-current
+decreases-loop-current l = length (from_slot l.current (list_at l.list l.lists))

@@ -1,0 +1,245 @@
+//! The watchers in their slots.
+
+use crate::buckets::{endpoint_bucket, target_bucket};
+use crate::notice::Notice;
+use crate::walks::{
+    FREE, ORDERS, USED, due_slot, free_slot, mark, next_due, pair_slot, wanted_slot,
+};
+use crate::watcher::{Wanted, Watcher};
+use coap_msg::{Endpoint, LONGEST_TOKEN};
+use servient_base::NoMemory;
+use slot_lists::SlotLists;
+use std::alloc::Global;
+use std::marker::Model;
+
+/// Watchers in slots. Contracts see those that are there in order of registration, each with its slot (`Places` of
+/// specs/Places.antt). A slot is linked by its index: with a watcher it is in the list of all (`USED` of `order`), in
+/// that of its target's bucket and in that of its endpoint's; without one it is in the list of the free slots (`FREE` of
+/// `order`), and holds what it held last. So a call about one target or one endpoint looks at one bucket.
+#[derive(Drop)]
+pub struct WatcherSlots {
+    capacity: u32,
+    watchers: Vec<Watcher>,
+    order: SlotLists,
+    // As many as there are slots, as well as those of the endpoints.
+    targets: SlotLists,
+    endpoints: SlotLists,
+}
+
+impl Model for WatcherSlots {
+    ghost use Rattle.coap_observe.specs.Places.{Places};
+
+    ghost Value = { Places };
+
+    ghost use Rattle.coap_observe.specs.Kept.{places_of, IsKept};
+
+    ghost view = { places_of };
+
+    ghost invariant = { IsKept };
+}
+
+impl WatcherSlots {
+    ghost use Rattle.std.specs.Prelude.{◌≡◌, ◌≤◌, ◌<◌, ℕ, true, false, length, IfOk};
+    ghost use Rattle.std.specs.List.{list_any};
+    ghost use Rattle.coap_observe.specs.Places.{Place, none_placed, watchers_in, IsAt, IsUsed, with_change, with_changes, without_slot, IsAdded, Finds, FindsFirst, is_wanted, sent_once_more, IsSentOnceMore};
+    ghost use Rattle.coap_observe.specs.Watching.{newcomer, replaced, acknowledged, marked, notified, where_so, is_of_target, is_pair, is_due, is_free, is_given_up, next_sequence, IsNotice, IsSendable};
+
+    /// Slots for at most `capacity` watchers, all free. All memory is taken here.
+    pub fn new(alloc: Global, capacity: u32) -> Result<WatcherSlots, NoMemory>
+        requires { 1 ≤ capacity }
+        ensures { IfOk result (λ t. t ≡ none_placed capacity) }
+    {
+        let watchers = no_watchers(alloc, capacity)?;
+        let order = all_free(alloc, capacity)?;
+        let targets = SlotLists::new(alloc, capacity, capacity)?;
+        let endpoints = SlotLists::new(alloc, capacity, capacity)?;
+        Ok(WatcherSlots {
+            capacity,
+            watchers,
+            order,
+            targets,
+            endpoints,
+        })
+    }
+
+    /// The slot of the watcher of this endpoint and token.
+    pub fn pair_slot(&self, from: Endpoint, token: &[u8]) -> Option<u32>
+        ensures { Finds (is_pair from token.now) self.now result }
+    {
+        let bucket = endpoint_bucket(from, self.capacity);
+        pair_slot(&self.endpoints, bucket, &self.watchers, from, token)
+    }
+
+    /// The slot of a watcher of this endpoint that is wanted.
+    pub fn wanted_slot(&self, from: Endpoint, wanted: Wanted) -> Option<u32>
+        ensures { Finds (is_wanted from wanted) self.now result }
+    {
+        let bucket = endpoint_bucket(from, self.capacity);
+        wanted_slot(&self.endpoints, bucket, &self.watchers, from, wanted)
+    }
+
+    /// Whether a watcher of this endpoint has a value to be sent.
+    pub fn has_marked(&self, from: Endpoint) -> bool
+        ensures { result ≡ list_any (is_wanted from Wanted.Marked) (watchers_in self.now) }
+    {
+        self.wanted_slot(from, Wanted::Marked).is_some()
+    }
+
+    /// The slot of the first watcher whose notification is due.
+    pub fn due_slot(&self, now: u64) -> Option<u32>
+        ensures { FindsFirst (is_due now) self.now result }
+    {
+        due_slot(&self.order, &self.watchers, now)
+    }
+
+    /// The slot of the first watcher that has a value to be sent and whose endpoint acknowledged all.
+    pub fn free_slot(&self) -> Option<u32>
+        ensures { FindsFirst (is_free (watchers_in self.now)) self.now result }
+    {
+        free_slot(&self.order, &self.endpoints, &self.watchers, self.capacity)
+    }
+
+    /// A moment before which no notification is due.
+    pub fn next_due(&self) -> u64
+        ensures { (now : ℕ) → now < result → list_any (is_due now) (watchers_in self.now) ≡ false }
+    {
+        next_due(&self.order, &self.watchers)
+    }
+
+    /// The watcher in a slot.
+    pub fn watcher(&self, slot: u32) -> &Watcher
+        requires { IsUsed slot self.now }
+        ensures { (p : Place) → IsAt slot p self.now → result.now ≡ p.watcher }
+    {
+        &self.watchers[slot as usize]
+    }
+
+    /// Puts a watcher of this endpoint and token, for a target, behind the others. Whether there was room.
+    pub fn add(&mut self, from: Endpoint, token: &[u8], target: u32) -> bool
+        requires { length token.now ≤ LONGEST_TOKEN }
+        ensures { IsAdded (newcomer from token.now target) self.old result self.new }
+    {
+        match self.order.first(FREE) {
+            Some(slot) => {
+                self.watchers[slot as usize] = Watcher::new(from, token, target);
+                self.order.remove(FREE, slot);
+                self.order.push_back(USED, slot);
+                self.targets
+                    .push_back(target_bucket(target, self.capacity), slot);
+                self.endpoints
+                    .push_back(endpoint_bucket(from, self.capacity), slot);
+                true
+            }
+            None => false,
+        }
+    }
+
+    /// Takes the watcher in a slot away.
+    pub fn remove(&mut self, slot: u32)
+        requires { IsUsed slot self.old }
+        ensures { self.new ≡ without_slot slot self.old }
+    {
+        let target = self.watchers[slot as usize].target;
+        let from = self.watchers[slot as usize].from;
+        self.targets
+            .remove(target_bucket(target, self.capacity), slot);
+        self.endpoints
+            .remove(endpoint_bucket(from, self.capacity), slot);
+        self.order.remove(USED, slot);
+        self.order.push_back(FREE, slot);
+    }
+
+    /// The watcher in a slot registers anew, for this target. It keeps its place among all, and moves to the list of
+    /// the target's bucket.
+    pub fn replace(&mut self, slot: u32, target: u32)
+        requires { IsUsed slot self.old }
+        ensures { self.new ≡ with_change slot (replaced target) self.old }
+    {
+        let left = target_bucket(self.watchers[slot as usize].target, self.capacity);
+        let taken = target_bucket(target, self.capacity);
+        self.watchers[slot as usize].replace(target);
+        move_slot(&mut self.targets, left, taken, slot);
+    }
+
+    /// The watchers of a target are to be notified.
+    pub fn mark(&mut self, target: u32)
+        ensures { self.new ≡ with_changes (where_so (is_of_target target) marked) self.old }
+    {
+        let bucket = target_bucket(target, self.capacity);
+        mark(&self.targets, bucket, self.watchers.as_mut_slice(), target);
+    }
+
+    /// What was sent to the watcher in a slot is acknowledged.
+    pub fn acknowledge(&mut self, slot: u32)
+        requires { IsUsed slot self.old }
+        ensures { self.new ≡ with_change slot acknowledged self.old }
+    {
+        self.watchers[slot as usize].acknowledge();
+    }
+
+    /// What was sent to the watcher in a slot is sent again now, or a new message with this message ID in place of it.
+    pub fn send_again(&mut self, slot: u32, now: u64, id: u16) -> Notice
+        requires slot { IsUsed slot self.old }
+        requires served { (p : Place) → IsAt slot p self.old → is_given_up p.watcher ≡ false }
+        ensures changed { self.new ≡ with_change slot (sent_once_more now id) self.old }
+        ensures notice { (p : Place) → IsAt slot p self.old → IsSentOnceMore id p.watcher result }
+        ensures waits { (p : Place) → IsAt slot p self.old → is_due now (sent_once_more now id p.watcher) ≡ false }
+        ensures bounds { IsSendable result }
+    {
+        self.watchers[slot as usize].send_again(now, id)
+    }
+
+    /// The last value is sent to the watcher in a slot now, with this message ID.
+    pub fn send_first(&mut self, slot: u32, now: u64, id: u16) -> Notice
+        requires { IsUsed slot self.old }
+        ensures changed { self.new ≡ with_change slot (notified now id) self.old }
+        ensures notice { (p : Place) → IsAt slot p self.old → IsNotice p.watcher id (next_sequence p.watcher.sequence) true result }
+        ensures waits { (p : Place) → IsAt slot p self.old → is_due now (notified now id p.watcher) ≡ false }
+        ensures bounds { IsSendable result }
+    {
+        self.watchers[slot as usize].send_first(now, id)
+    }
+}
+
+ghost use Rattle.std.specs.Prelude.{◌≡◌, ◌<◌, [], ℕ, true, IfOk, length};
+ghost use Rattle.slot_lists.specs.Lists.{list_at, is_among, IsInNone};
+ghost use Rattle.coap_observe.specs.Kept.{times_in, once_below, pushed_at, without_at};
+
+/// A slot goes from one list to the end of another.
+fn move_slot(lists: &mut SlotLists, left: u32, taken: u32, slot: u32)
+    requires left { left < length lists.old.lists }
+    requires taken { taken < length lists.old.lists }
+    requires slot { slot < lists.old.capacity }
+    requires there { is_among slot (list_at left lists.old) ≡ true }
+    requires apart { IsInNone slot (without_at left slot lists.old) }
+    ensures { lists.new ≡ pushed_at taken slot (without_at left slot lists.old) }
+{
+    lists.remove(left, slot);
+    lists.push_back(taken, slot);
+}
+
+/// The order of all, with all slots below the capacity free.
+fn all_free(alloc: Global, capacity: u32) -> Result<SlotLists, NoMemory>
+    ensures capacity { IfOk result (λ order. order.capacity ≡ capacity) }
+    ensures lists { IfOk result (λ order. length order.lists ≡ 2) }
+    ensures slots { IfOk result (λ order. (s : ℕ) → times_in s (list_at 1 order) ≡ once_below s capacity) }
+    ensures count { IfOk result (λ order. length (list_at 1 order) ≡ capacity) }
+    ensures used { IfOk result (λ order. list_at 0 order ≡ []) }
+{
+    let mut order = SlotLists::new(alloc, capacity, ORDERS)?;
+    for slot in 0..capacity {
+        order.push_back(FREE, slot);
+    }
+    Ok(order)
+}
+
+/// What slots hold that were never used.
+fn no_watchers(alloc: Global, capacity: u32) -> Result<Vec<Watcher>, NoMemory>
+    ensures { IfOk result (λ watchers. length watchers.items ≡ capacity) }
+{
+    let mut watchers = Vec::with_capacity(alloc, capacity as usize)?;
+    for _slot in 0..capacity {
+        watchers.push(Watcher::new(Endpoint { host: 0, port: 0 }, &[], 0))?;
+    }
+    Ok(watchers)
+}

@@ -1,9 +1,7 @@
 -- What is left of a round of polls.
 use Rattle.std.proofs.Common.{◌≡◌, ℕ, zero, suc, ◌+◌, ◌<◌, ◌≤◌, List, [], ◌∷◌, ◌++◌, map, drop, get_or, length, length-append, refl, sym, ap, subst, ◌∙◌, arith, append_assoc}
 use Rattle.std.specs.Prelude.{Bool, true, false, slice_get, Some}
-use Rattle.std.specs.List.{filter}
 use Rattle.std.proofs.lemmas.List.{append-nil, at_drop_all, at_drop_more}
-use Rattle.servient_base.specs.Moves.{Makes}
 use Rattle.wot_terms.specs.declared.kind.Kind.TheVariants as kind
 use Rattle.thing_handler.specs.Handler.{Seen}
 use Rattle.thing_handler.specs.Turns.{HandlerCall, RackShows}
@@ -11,8 +9,7 @@ use Rattle.thing_site.specs.Site.{Placed, ExposedThing, Site, is_kind, events_of
 use Rattle.thing_core.specs.declared.polling.Round.{Round}
 use Rattle.thing_core.specs.State.{State, Emission}
 use Rattle.thing_core.specs.Course.{Course}
-use Rattle.thing_core.specs.Kept.{Kept}
-use Rattle.thing_core.specs.Thing.{PollsEvent, PollsEach}
+use Rattle.thing_core.specs.Thing.{PollsEvent}
 use Rattle.thing_core.specs.Performing.{AllStand, PollsSome}
 use Rattle.thing_core.specs.Rounds.{events_from, events_left, MakesPoll, PollsNext}
 use Rattle.thing_core.proofs.PlacedLists.{events_among, events_more, placed_more, stands_rest}
@@ -70,8 +67,8 @@ part_from (p ∷ ps) (suc a) =
     let rest = part_from ps a in (
       events_among (p ∷ []) ++ rest.0,
       events_more p ps
-      ∙ ap (λ (l : List Placed). events_among (p ∷ []) ++ l) rest.1
-      ∙ sym (append_assoc (events_among (p ∷ [])) rest.0 (events_among (drop a ps))),
+          ∙ ap (λ (l : List Placed). events_among (p ∷ []) ++ l) rest.1
+          ∙ sym (append_assoc (events_among (p ∷ [])) rest.0 (events_among (drop a ps))),
     )
 
 part_left : (things : List ExposedThing) (i a : ℕ) → (front : List Placed) × (events_of things ≡ front ++ events_from a (drop i things))
@@ -81,13 +78,13 @@ part_left (t ∷ things) zero a =
     let own = part_from t.affordances a in (
       own.0,
       ap (λ (l : List Placed). l ++ events_of things) own.1
-      ∙ append_assoc own.0 (events_among (drop a t.affordances)) (events_of things),
+          ∙ append_assoc own.0 (events_among (drop a t.affordances)) (events_of things),
     )
 part_left (t ∷ things) (suc i) a =
     let rest = part_left things i a in (
       events_among t.affordances ++ rest.0,
       ap (λ (l : List Placed). events_among t.affordances ++ l) rest.1
-      ∙ sym (append_assoc (events_among t.affordances) rest.0 (events_from a (drop i things))),
+          ∙ sym (append_assoc (events_among t.affordances) rest.0 (events_from a (drop i things))),
     )
 
 -- a rack that has the slots of all events has those of the ones that are left
@@ -114,8 +111,8 @@ poll_made site p c d before after none k =
     record {
       emissions = q.0;
       pending = k.pending
-      ∙ ap (λ (l : List ℕ). l ++ map (λ (e : Emission). e.target) k.emissions) none
-      ∙ ap (λ (es : List Emission). map (λ (e : Emission). e.target) es) all;
+          ∙ ap (λ (l : List ℕ). l ++ map (λ (e : Emission). e.target) k.emissions) none
+          ∙ ap (λ (es : List Emission). map (λ (e : Emission). e.target) es) all;
       site = refl;
       made = record {
         seen = q.3.first;

@@ -2,27 +2,25 @@
 use Rattle.std.proofs.Common.{◌≡◌, ℕ, ◌<◌, ◌≤◌, List, [], ◌∷◌, ◌++◌, length, Bool, true, false, refl, sym, ap, subst, ◌∙◌, arith, append_assoc}
 use Rattle.std.specs.Prelude.{Option, Some, None}
 use Rattle.std.proofs.lemmas.List.{append-nil}
-use Rattle.servient_base.specs.Moves.{Each, Passing, Then, Until, Makes, Refines}
+use Rattle.servient_base.specs.Moves.{Each, Until, Refines}
 use Rattle.servient_base.proofs.MovesLaws.{refines_each_none, refines_each_more}
 use Rattle.thing_handler.specs.Handler.{Seen}
-use Rattle.thing_handler.specs.Turns.{RackShows, turns_in}
 use Rattle.thing_site.specs.Site.{Placed, Site, events_of}
 use Rattle.thing_site.specs.Fits.{Fits}
-use Rattle.thing_core.specs.State.{State as ThingState, Emission, last_of}
+use Rattle.thing_core.specs.State.{State as ThingState, last_of}
 use Rattle.thing_core.specs.Thing.{PollsEvent}
 use Rattle.thing_core.specs.Kept.{Kept}
 use Rattle.thing_core.specs.declared.polling.Round.{Round}
 use Rattle.thing_core.specs.Rounds.{events_left, MakesPoll, PollsNext}
-use Rattle.thing_core.proofs.ThingLaws.{site_stays}
 use Rattle.coap_exchange.specs.Table.{Table}
 use Rattle.coap_bind.specs.declared.server.Server.{Server}
 use Rattle.coap_bind.specs.Server.{with_emitted}
-use Rattle.http_bind.specs.Streams.{Streams, Wakes, oldest_for, oldest_late}
+use Rattle.http_bind.specs.Streams.{Wakes, oldest_for, oldest_late}
 use Rattle.http_bind.specs.declared.waits.Wait.{Wait}
-use Rattle.http_bind.specs.Slots.{Slots, Leads, StandsFor as ConnectionsStandFor, HasRoom}
-use Rattle.servient_outside.specs.Network.{NetSeen, NetShows, did}
-use Rattle.servient_core.specs.Trace.{Outside, outside, Shows, calls_in}
-use Rattle.servient_core.specs.Machine.{State, Move, OnHttp, OnCoap, OnThing, Sends, acts_of_reply, RepliesToWait, AnswersWait, AnswersWaits, AnswersLateWait, MarksWatchers, Delivers, DeliversEach, PollsAndDelivers}
+use Rattle.http_bind.specs.Slots.{Slots, HasRoom}
+use Rattle.servient_outside.specs.Network.{NetSeen}
+use Rattle.servient_core.specs.Trace.{Outside, outside, Shows}
+use Rattle.servient_core.specs.Machine.{State, Move, OnHttp, OnThing, Sends, acts_of_reply, RepliesToWait, AnswersWait, AnswersWaits, AnswersLateWait, MarksWatchers, Delivers, DeliversEach, PollsAndDelivers}
 use Rattle.servient_core.specs.Serving.{StandsFor, IsReady}
 use Rattle.servient_core.specs.Keeping.{DoesQuietly, DoesMove, LeavesNoMore, OnlyDelivers, SendsToWait, PollsOne, polls, ends}
 use Rattle.servient_core.specs.declared.parts.Parts.{Parts}

@@ -1,5 +1,5 @@
 -- The end of each event: notifications, requests that waited too long, idle connections.
-use Rattle.std.proofs.Common.{◌≡◌, ℕ, ◌≤◌, List, [], ◌∷◌, refl, sym, ap, subst, ◌∙◌, arith}
+use Rattle.std.proofs.Common.{◌≡◌, ℕ, List, [], ◌∷◌, refl, sym, ap, subst, ◌∙◌, arith}
 use Rattle.std.specs.Prelude.{Some, None}
 use Rattle.servient_base.specs.Moves.{Passing, Then, Until, Refines}
 use Rattle.thing_handler.specs.Handler.{Seen}
@@ -12,7 +12,7 @@ use Rattle.http_bind.specs.Slots.{Slots}
 use Rattle.servient_outside.specs.declared.net.Act.TheVariants as act
 use Rattle.servient_outside.specs.Network.{NetSeen, NetShows, did}
 use Rattle.servient_core.specs.Trace.{outside, Shows}
-use Rattle.servient_core.specs.Machine.{State, OnCoap, Does, SendsNotification, NothingIsDue, SendsNotifications, AnswersLateWaits, ClosesAllIdle, EndsEvent, notice_bytes}
+use Rattle.servient_core.specs.Machine.{OnCoap, Does, SendsNotification, NothingIsDue, SendsNotifications, AnswersLateWaits, ClosesAllIdle, EndsEvent, notice_bytes}
 use Rattle.servient_core.specs.Serving.{StandsFor, IsReady}
 use Rattle.servient_core.specs.Keeping.{DoesQuietly, LeavesNoMore}
 use Rattle.servient_core.specs.declared.parts.Parts.{Parts}

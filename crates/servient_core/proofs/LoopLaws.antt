@@ -1,13 +1,11 @@
 -- Loops of the code: a move that is made again and again, and moves of the parts that change in them.
-use Rattle.std.proofs.Common.{◌≡◌, ℕ, ◌+◌, ◌*◌, ◌≤◌, List, [], ◌∷◌, ◌++◌, map, length, Bool, true, false, cond, subst, arith, inl, inr}
+use Rattle.std.proofs.Common.{◌≡◌, ℕ, ◌≤◌, Bool, true, false, cond, subst, arith, inl, inr}
 use Rattle.std.specs.Prelude.{Option, Some, None}
 use Rattle.std.proofs.lemmas.Bool.{cases_lt}
-use Rattle.servient_base.specs.Moves.{Refines, Until, Each}
-use Rattle.servient_base.proofs.MovesLaws.{refines_goes_on, refines_is_done, refines_each_none, refines_each_more}
-use Rattle.thing_handler.specs.Handler.{Seen}
-use Rattle.http_bind.specs.Slots.{Held, Slots, left_in, left_at, HasRoomFor, HasRoom, held_at, longest_piece}
-use Rattle.servient_outside.specs.Network.{NetSeen}
-use Rattle.servient_core.specs.Trace.{Outside, outside, Shows}
+use Rattle.servient_base.specs.Moves.{Refines, Until}
+use Rattle.servient_base.proofs.MovesLaws.{refines_goes_on, refines_is_done}
+use Rattle.http_bind.specs.Slots.{Held, Slots, left_in, HasRoomFor, HasRoom, held_at, longest_piece}
+use Rattle.servient_core.specs.Trace.{Outside, Shows}
 use Rattle.servient_core.specs.Machine.{State, Move}
 use Rattle.servient_core.specs.Serving.{StandsFor}
 use Rattle.servient_core.specs.Keeping.{LeavesNoMore, OthersKeep}

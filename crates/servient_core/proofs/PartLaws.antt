@@ -15,7 +15,6 @@ use Rattle.thing_core.specs.Kept.{Kept}
 use Rattle.thing_core.specs.Performing.{MakesAct}
 use Rattle.thing_core.proofs.ThingLaws.{site_stays}
 use Rattle.thing_ops.specs.declared.outcome.Outcome.{Outcome}
-use Rattle.thing_ops.specs.Requests.{PlainRequest}
 use Rattle.coap_opts.specs.Reading.{PlainAsk}
 use Rattle.coap_bind.specs.declared.head.OpenAsk.{OpenAsk}
 use Rattle.coap_bind.specs.declared.server.Server.{Server}

@@ -1,7 +1,7 @@
-use Rattle.std.proofs.Common.{◌++◌, ℕ, List, Bool, [], refl, subst, ap, cond}
-use Rattle.std.specs.Prelude.{Option, Some, None}
+use Rattle.std.proofs.Common.{◌++◌, ℕ, List, Bool, subst, cond}
+use Rattle.std.specs.Prelude.{Some, None}
 use Rattle.http_bind.specs.Streams.{Answers}
-use Rattle.http_bind.specs.Slots.{Leads, sent_in}
+use Rattle.http_bind.specs.Slots.{Leads}
 use Rattle.servient_outside.proofs.NetLaws.{net_shows_none}
 use Rattle.servient_core.proofs.PartLaws.{others_left}
 use Rattle.servient_core.proofs.connections.ReplyRoom.answer.Goals as goal

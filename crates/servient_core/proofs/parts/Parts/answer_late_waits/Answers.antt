@@ -1,8 +1,7 @@
-use Rattle.std.proofs.Common.{◌≡◌, ◌∙◌, ℕ, List, sym, subst}
-use Rattle.std.specs.Prelude.{Option, Some, None}
+use Rattle.std.proofs.Common.{◌≡◌, ◌∙◌, sym}
+use Rattle.std.specs.Prelude.{None}
 use Rattle.http_bind.specs.Streams.{oldest_late}
 use Rattle.servient_core.specs.Machine.{AnswersLateWait}
-use Rattle.servient_core.specs.Keeping.{SendsToWait}
 use Rattle.servient_core.proofs.DeliverLaws.{answers_late_wait, none_late, answering_begins, answering_more, answering_ends}
 use Rattle.servient_core.proofs.parts.Parts.answer_late_waits.Goals as goal
 

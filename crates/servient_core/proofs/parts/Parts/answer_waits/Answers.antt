@@ -1,5 +1,5 @@
 use Rattle.std.proofs.Common.{◌≡◌, ◌∙◌, ℕ, List, sym, subst}
-use Rattle.std.specs.Prelude.{Option, Some, None}
+use Rattle.std.specs.Prelude.{Option, None}
 use Rattle.http_bind.specs.Streams.{oldest_for}
 use Rattle.servient_core.specs.Machine.{AnswersWait}
 use Rattle.servient_core.specs.Keeping.{SendsToWait}

@@ -1,5 +1,4 @@
 use Rattle.std.proofs.Common.{ap, ◌∙◌}
-use Rattle.thing_core.specs.Kept.{Kept}
 use Rattle.servient_core.specs.declared.parts.Parts.{Parts}
 use Rattle.servient_core.proofs.EndLaws.{ends_event, ready_notified, ready_answered}
 use Rattle.servient_core.proofs.parts.Parts.end_event.Goals as goal

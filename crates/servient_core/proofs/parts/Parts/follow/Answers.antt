@@ -1,14 +1,10 @@
 use Rattle.std.proofs.Common.{refl, sym, subst}
 use Rattle.servient_base.specs.Moves.{Refines}
-use Rattle.servient_base.proofs.MovesLaws.{refines_as}
-use Rattle.thing_core.specs.Thing.{Polls}
 use Rattle.http_bind.specs.Streams.{Opened, Ended}
 use Rattle.servient_outside.specs.declared.net.What.{What}
-use Rattle.servient_outside.specs.declared.net.What.TheVariants as what
 use Rattle.servient_core.specs.Trace.{Shows, outside}
-use Rattle.servient_core.specs.Machine.{Follows, OnThing}
+use Rattle.servient_core.specs.Machine.{Follows}
 use Rattle.servient_core.specs.Serving.{StandsFor}
-use Rattle.servient_core.specs.declared.parts.Parts.{Parts}
 use Rattle.servient_core.proofs.PartLaws.{refines_http, refines_nothing, room_after}
 use Rattle.servient_core.proofs.parts.Parts.follow.Goals as goal
 

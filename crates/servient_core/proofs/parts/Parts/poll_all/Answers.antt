@@ -1,4 +1,4 @@
-use Rattle.std.proofs.Common.{◌≡◌, ◌<◌, Bool, true, false, ℕ, length, sym, subst}
+use Rattle.std.proofs.Common.{◌<◌, Bool, length, sym, subst}
 use Rattle.thing_site.specs.Site.{Site}
 use Rattle.thing_core.specs.Rounds.{events_left}
 use Rattle.servient_core.specs.Trace.{outside}

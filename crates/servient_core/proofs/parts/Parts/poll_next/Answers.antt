@@ -1,13 +1,6 @@
-use Rattle.std.proofs.Common.{◌≡◌, Bool, true, false, sym, ap, subst, refl, ◌∙◌, List}
-use Rattle.thing_handler.specs.Handler.{Seen}
-use Rattle.thing_site.specs.Site.{Site}
-use Rattle.thing_site.specs.Fits.{Fits}
-use Rattle.thing_core.specs.Kept.{Kept}
+use Rattle.std.proofs.Common.{Bool, subst, ◌∙◌}
 use Rattle.thing_core.specs.Rounds.{PollsNext}
-use Rattle.servient_core.specs.Trace.{outside}
-use Rattle.servient_core.specs.Keeping.{PollsOne, polls, ends}
-use Rattle.servient_core.specs.declared.parts.Parts.{Parts}
-use Rattle.servient_core.proofs.DeliverLaws.{none_polled, one_polled, polls_and_delivers, ready_after, poll_fits}
+use Rattle.servient_core.proofs.DeliverLaws.{none_polled, one_polled, ready_after, poll_fits}
 use Rattle.servient_core.proofs.parts.Parts.poll_next.Goals as goal
 
 pub returns-then-not-poll_next-clause-polled : goal.returns-then-not-poll_next-clause-polled

@@ -1,7 +1,4 @@
-use Rattle.std.proofs.Common.{◌≡◌, ◌∙◌, sym, subst, ap}
-use Rattle.std.specs.Prelude.{Option, Some, None}
-use Rattle.coap_observe.specs.declared.notice.Notice.{Notice}
-use Rattle.coap_bind.specs.Server.{SendsNext}
+use Rattle.std.proofs.Common.{◌∙◌, ap}
 use Rattle.servient_core.specs.declared.parts.Parts.{Parts}
 use Rattle.servient_core.proofs.EndLaws.{notifying_begins, notifying_more, notifying_ends}
 use Rattle.servient_core.proofs.parts.Parts.send_notifications.Goals as goal

@@ -1,4 +1,4 @@
-use Rattle.std.proofs.Common.{◌≡◌, ◌∙◌, List, ℕ, sym, subst, arith, ap, map}
+use Rattle.std.proofs.Common.{◌∙◌, List, ℕ, sym, subst, arith, ap}
 use Rattle.servient_base.specs.Moves.{Each, Refines}
 use Rattle.thing_ops.specs.Requests.{plain_request}
 use Rattle.thing_site.specs.Site.{Site}

@@ -6,13 +6,18 @@
 //! - `does`: what is to be done on it is done, at this moment: what is sent, `-` for nothing; of all connections that
 //!   of the first, and that of any other where it is something else;
 //! - `ends`: it has ended;
+//! - `waiting`, with the number of a target in place of a connection: the one that waits longest for it;
+//! - `wakes`, with a target and a text: what is sent to that one;
+//! - `late` (without a number): the one that waits longest, of those that are late;
+//! - `expires` (without a number): what is sent to that one;
 //! - `idle` (without a number): the lowest that is idle.
 
-ghost use Rattle.std.specs.Prelude.{◌≤◌, ◌<◌, length};
+ghost use Rattle.std.specs.Prelude.{◌≤◌, ◌<◌, IfSome, length};
+ghost use Rattle.http_bind.specs.Slots.{IsWaiting, longest_text};
 
 use crate::exchanges::put_words;
 use crate::runs;
-use crate::talk::{Talk, handle};
+use crate::talk::{Talk, handle, wake};
 use case_notation::{bytes_of, number};
 use http_bind::{HttpBind, new_room};
 use std::alloc::{AllocError, Global};
@@ -155,12 +160,66 @@ fn act_as_told(
     act_on_each(http, numbers_of(step.connections), talk, room, done)
 }
 
-/// Which connection is idle.
-fn put_idle(text: &mut String, http: &HttpBind, now: u64) -> Result<(), AllocError> {
-    match http.idle(now) {
+/// Which connection it is.
+fn put_connection(text: &mut String, connection: Option<u32>) -> Result<(), AllocError> {
+    match connection {
         Some(c) => write!(text, "{c}"),
         None => text.push_str("none"),
     }
+}
+
+/// The longest text that a request waits for.
+const LONGEST_TEXT: usize = 1024;
+
+/// Replies to a request that waits, and says on which connection.
+fn put_woken(
+    text: &mut String,
+    http: &mut HttpBind,
+    c: Option<u32>,
+    told: Option<&[u8]>,
+    talk: &mut Talk,
+) -> Result<(), AllocError>
+    requires waits { IfSome c (λ d. IsWaiting d http.old) }
+    requires told { IfSome told (λ t. length t.now ≤ longest_text) }
+{
+    talk.sent.clear();
+    put_connection(text, c)?;
+    if let Some(c) = c {
+        wake(http, c, told, talk)?;
+        text.push_str(" ")?;
+        runs::put(text, talk.sent.as_slice())?;
+    }
+    Ok(())
+}
+
+/// Wakes the connection that waits longest for a target, with a text that isn't too long.
+fn put_wakes(
+    text: &mut String,
+    alloc: Global,
+    http: &mut HttpBind,
+    talk: &mut Talk,
+    step: Step<'_>,
+) -> Result<(), AllocError> {
+    let told = bytes_of(alloc, step.bytes)?;
+    let c = http.waiting(target_of(step));
+    if told.len() > LONGEST_TEXT {
+        return text.push_str("too long");
+    }
+    put_woken(text, http, c, Some(told.as_slice()), talk)
+}
+
+/// The target of a step.
+fn target_of(step: Step<'_>) -> u32 {
+    match step.connections.parse::<u32>() {
+        Ok(target) => target,
+        Err(_) => 0,
+    }
+}
+
+/// Wakes the connection that waits longest, if it is late, without a text.
+fn put_expiry(text: &mut String, http: &mut HttpBind, talk: &mut Talk) -> Result<(), AllocError> {
+    let c = http.late(talk.now);
+    put_woken(text, http, c, None, talk)
 }
 
 /// Does a step, and says what comes of it.
@@ -172,7 +231,6 @@ fn put_act(
     step: Step<'_>,
 ) -> Result<(), AllocError> {
     let mut room = new_room(alloc)?;
-    talk.now = step.now;
     act_as_told(alloc, http, talk, room.as_mut_slice(), step)?;
     runs::put(text, talk.sent.as_slice())
 }
@@ -188,8 +246,13 @@ fn put_step(
     text.push_str(line)?;
     text.push_str(" => ")?;
     let step = step_of(line);
+    talk.now = step.now;
     match step.word {
-        "idle" => put_idle(text, http, step.now)?,
+        "idle" => put_connection(text, http.idle(step.now))?,
+        "late" => put_connection(text, http.late(step.now))?,
+        "waiting" => put_connection(text, http.waiting(target_of(step)))?,
+        "expires" => put_expiry(text, http, talk)?,
+        "wakes" => put_wakes(text, alloc, http, talk, step)?,
         _ => put_act(text, alloc, http, talk, step)?,
     }
     text.push_str("\n")

@@ -2,7 +2,7 @@
 //! the bytes that are sent.
 
 ghost use Rattle.std.specs.Prelude.{◌<◌};
-ghost use Rattle.http_bind.specs.Slots.{IsOpen};
+ghost use Rattle.http_bind.specs.Slots.{IsOwed};
 
 use crate::outcomes::{copied, number_in, outcome_of};
 use crate::runs;
@@ -42,8 +42,11 @@ fn any_outcome_of(alloc: Global, word: &str) -> Result<Outcome, AllocError> {
     }
 }
 
-/// What is sent.
+/// What is sent, or that the request waits.
 pub fn put_out(text: &mut String, out: &HttpOut<'_>) -> Result<(), AllocError> {
+    if out.waits {
+        text.push_str("waits")?;
+    }
     runs::put_plain(text, out.head)?;
     runs::put_plain(text, out.body)?;
     if out.close {
@@ -60,7 +63,7 @@ fn put_answer(
     outcome: &Outcome,
 ) -> Result<(), AllocError>
     requires connection { c < 64 }
-    requires open { IsOpen c http.old }
+    requires owed { IsOwed c http.old }
 {
     let mut out = [0; 4096];
     let mut word = [0; 32];

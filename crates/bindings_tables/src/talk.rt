@@ -1,12 +1,13 @@
 //! What an HTTP server with one value says on its connections. The value is 7 at first: GET reads it, or gives the
-//! query where there is one, PUT writes it, POST changes nothing, and no other method is taken.
+//! query where there is one, PUT writes it, POST changes nothing, and no other method is taken. A request to a path of
+//! two segments of which the first is `waits` waits for the target whose number is the second, a digit.
 //!
 //! The room that requests are read in is lent to all functions here, since to take it anew for each message
 //! costs more than all else.
 
-ghost use Rattle.std.specs.Prelude.{◌≡◌, ◌<◌, ◌≤◌, ◌⊎◌, Ok, false, IsSome, OnOk, length};
+ghost use Rattle.std.specs.Prelude.{◌≡◌, ◌<◌, ◌≤◌, ◌⊎◌, Ok, false, IsSome, OnOk, length, IfSome};
 ghost use Rattle.http_bind.specs.Replying.{fault_word};
-ghost use Rattle.http_bind.specs.Slots.{HasRoom, IsOpen};
+ghost use Rattle.http_bind.specs.Slots.{HasRoom, IsOwed, IsWaiting, longest_text};
 
 use crate::outcomes::property_verbs;
 use http_bind::{HttpBind, HttpNext, HttpOut};
@@ -47,19 +48,43 @@ impl Talk {
         self.value.extend_from_slice(value)
     }
 
+    /// Puts down that a connection is closed.
+    fn close(&mut self) -> Result<(), AllocError> {
+        self.sent.extend_from_slice(b"<closed>")
+    }
+
     /// Puts down what is sent.
     fn send(&mut self, out: &HttpOut<'_>) -> Result<(), AllocError> {
         self.sent.extend_from_slice(out.head)?;
         self.sent.extend_from_slice(out.body)?;
         if out.close {
-            self.sent.extend_from_slice(b"<closed>")?;
+            self.close()?;
         }
         Ok(())
     }
 }
 
-/// What the one value is asked.
+/// The target that a request waits for, if it waits.
+fn target_of(request: &Request<'_>) -> Option<u32> {
+    if request.path.get(0) != Some(b"waits".as_slice()) {
+        return None;
+    }
+    match request.path.get(1) {
+        Some([digit]) => Some(u32::from(*digit).saturating_sub(u32::from(b'0'))),
+        _ => None,
+    }
+}
+
+/// What a request comes to.
 fn perform(request: &Request<'_>, talk: &mut Talk) -> Result<Outcome, AllocError> {
+    match target_of(request) {
+        Some(target) => Ok(Outcome::Wait(target)),
+        None => perform_on_value(request, talk),
+    }
+}
+
+/// What the one value is asked.
+fn perform_on_value(request: &Request<'_>, talk: &mut Talk) -> Result<Outcome, AllocError> {
     match request.verb {
         Verb::Get | Verb::Head => {
             let text = if request.query.is_empty() {
@@ -91,11 +116,25 @@ fn refuse(http: &mut HttpBind, c: u32, status: u16, talk: &mut Talk) -> Result<(
 /// Puts down the reply to a request with this outcome.
 fn answer(http: &mut HttpBind, c: u32, outcome: &Outcome, talk: &mut Talk) -> Result<(), AllocError>
     requires connection { c < 64 }
-    requires open { IsOpen c http.old }
+    requires owed { IsOwed c http.old }
 {
     let mut out = [0; 4096];
     let mut word = [0; 32];
     talk.send(&http.answered(c, outcome, talk.now, &mut out, &mut word))
+}
+
+/// Puts down the reply to a request that waits.
+pub fn wake(
+    http: &mut HttpBind,
+    c: u32,
+    text: Option<&[u8]>,
+    talk: &mut Talk,
+) -> Result<(), AllocError>
+    requires waits { IsWaiting c http.old }
+    requires text { IfSome text (λ t. length t.now ≤ longest_text) }
+{
+    let mut out = [0; 4096];
+    talk.send(&http.woken(c, text, talk.now, &mut out))
 }
 
 /// Does what is to be done next on a connection; false where that is nothing.
@@ -113,6 +152,7 @@ fn turn(http: &mut HttpBind, c: u32, talk: &mut Talk, room: &mut [u8]) -> Result
             answer(http, c, &outcome, talk)?;
         }
         HttpNext::Memory => return Err(AllocError),
+        HttpNext::Close => talk.close()?,
     }
     Ok(true)
 }

@@ -30,11 +30,12 @@ impl Model for CoapBind {
 }
 
 impl CoapBind {
-    ghost use Rattle.std.specs.Prelude.{◌≡◌, ◌≤◌, ◌⊎◌, length, IfOk, IfSome};
+    ghost use Rattle.std.specs.Prelude.{◌≡◌, ◌<◌, ◌≤◌, ◌⊎◌, length, IfOk, IfSome};
     ghost use Rattle.coap_msg.specs.Grammar.{spelling};
     ghost use Rattle.coap_exchange.specs.Table.{IsAwaited};
     ghost use Rattle.thing_ops.specs.Outcomes.{HasCode};
     ghost use Rattle.coap_msg.specs.Written.{IsWritten};
+    ghost use Rattle.coap_observe.specs.Unsent.{unsent};
     ghost use Rattle.coap_observe.specs.Watching.{IsSendable};
     ghost use Rattle.coap_bind.specs.Writing.{notification};
     ghost use Rattle.coap_bind.specs.Server.{start, with_emitted, SendsNext};
@@ -119,11 +120,13 @@ impl CoapBind {
     }
 
     /// What is to be sent to a watcher now: one notification at most, which goes to `put_notice` with the last value of
-    /// its target. A caller calls it until it returns None. The moment isn't one of the exchanges'.
+    /// its target, after which less is to be sent. A caller calls it until it returns None. The moment isn't one of the
+    /// exchanges'.
     pub fn next_send(&mut self, now: u64) -> Option<Notice>
         ensures sends { SendsNext now result self.old self.new }
         ensures bounds { IfSome result IsSendable }
         ensures exchanges { self.new.exchanges ≡ self.old.exchanges }
+        ensures less { IfSome result (λ n. unsent now self.new.watchers.list < unsent now self.old.watchers.list) }
     {
         self.server.next_send(now)
     }

@@ -32,9 +32,10 @@ pub struct Server {
 }
 
 impl Server {
-    ghost use Rattle.std.specs.Prelude.{◌≡◌, ◌≤◌, ℕ, true, length, Some, option_map, IfSome};
+    ghost use Rattle.std.specs.Prelude.{◌≡◌, ◌<◌, ◌≤◌, ℕ, true, length, Some, option_map, IfSome};
     ghost use Rattle.coap_msg.specs.MessageOf.{message_of};
     ghost use Rattle.coap_exchange.specs.Table.{Exchange, exchange_in, HasReply, IsAwaited};
+    ghost use Rattle.coap_observe.specs.Unsent.{unsent};
     ghost use Rattle.coap_observe.specs.Watching.{IsSendable};
     ghost use Rattle.coap_bind.specs.Server.{is_request, duplicate_reply, with_watchers, told_by_empty, with_report, with_notice_sent, SendsNext};
     ghost use Rattle.coap_bind.specs.Telling.{TicketIsOpen};
@@ -102,6 +103,7 @@ impl Server {
         ensures sends { SendsNext now result self.old self.new }
         ensures bounds { IfSome result IsSendable }
         ensures exchanges { self.new.exchanges ≡ self.old.exchanges }
+        ensures less { IfSome result (λ n. unsent now self.new.watchers.list < unsent now self.old.watchers.list) }
     {
         let sent = self.watchers.next_send(now, self.next_id);
         self.use_id_of(sent);
@@ -112,6 +114,7 @@ impl Server {
     fn use_id_of(&mut self, sent: Option<Notice>)
         ensures ok { self.new ≡ with_notice_sent sent self.old }
         ensures exchanges { self.new.exchanges ≡ self.old.exchanges }
+        ensures watchers { self.new.watchers ≡ self.old.watchers }
     {
         match sent {
             Some(notice) => {

@@ -14,3 +14,4 @@ mod CallUses
 mod ViewLaws
 mod WatchedLaws
 mod SendLaws
+mod UnsentLaws

@@ -5,3 +5,4 @@ pub mod Buckets
 pub mod Places
 pub mod Kept
 pub mod Watched
+pub mod Unsent

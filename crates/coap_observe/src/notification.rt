@@ -20,7 +20,7 @@ impl Model for Notification {
 
     ghost view = { λ n. record { id = n.id; retransmissions = n.retransmissions; timeout = n.timeout; last = n.last } };
 
-    // At most four retransmissions, so that the timeout can be doubled.
+    // At most four retransmissions, so that the timeout can be doubled; and no timeout is over at once.
     ghost invariant = { λ n. record { few : n.retransmissions ≤ 4; some : 0 < n.timeout; bound : n.timeout ≤ 3000 * 2 ^ n.retransmissions } };
 }
 
@@ -30,7 +30,8 @@ impl Notification {
 
     /// A notification that is sent now for the first time.
     pub fn first(now: u64, id: u16) -> Self
-        ensures { result ≡ first_sent now id }
+        ensures sent { result ≡ first_sent now id }
+        ensures waits { is_due now result ≡ false }
     {
         Notification {
             id,
@@ -43,7 +44,8 @@ impl Notification {
     /// The notification once it is sent again now, with this message ID: its timeout is twice as long.
     pub fn again(&self, now: u64, id: u16) -> Self
         requires { is_exhausted self.now ≡ false }
-        ensures { result ≡ sent_again now id self.now }
+        ensures sent { result ≡ sent_again now id self.now }
+        ensures waits { is_due now result ≡ false }
     {
         Notification {
             id,

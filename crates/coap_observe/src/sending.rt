@@ -1,8 +1,9 @@
 //! What is sent next (RFC 7641, section 4.5).
 
-ghost use Rattle.std.specs.Prelude.{◌≡◌, false, None, IfSome};
+ghost use Rattle.std.specs.Prelude.{◌≡◌, ◌<◌, ◌≤◌, false, None, IfSome};
 ghost use Rattle.std.specs.List.{list_any};
 ghost use Rattle.coap_observe.specs.Places.{watchers_in};
+ghost use Rattle.coap_observe.specs.Unsent.{unsent};
 ghost use Rattle.coap_observe.specs.Watching.{is_due, hopeless, is_from, without, GivesUp, Sends, IsSendable};
 
 use crate::notice::Notice;
@@ -13,6 +14,7 @@ use coap_msg::Endpoint;
 /// Removes all watchers of each endpoint whose first due notification was sent again as often as it may be.
 pub fn give_up(slots: &mut WatcherSlots, now: u64)
     ensures gives_up { GivesUp now (watchers_in slots.old) (watchers_in slots.new) }
+    ensures less { unsent now (watchers_in slots.new) ≤ unsent now (watchers_in slots.old) }
     ensures served { hopeless now (watchers_in slots.new) ≡ None }
     ensures capacity { slots.new.capacity ≡ slots.old.capacity }
 {
@@ -47,6 +49,7 @@ pub fn send(slots: &mut WatcherSlots, now: u64, id: u16) -> Option<Notice>
     ensures sends { Sends now id (watchers_in slots.old) result (watchers_in slots.new) }
     ensures capacity { slots.new.capacity ≡ slots.old.capacity }
     ensures bounds { IfSome result IsSendable }
+    ensures less { IfSome result (λ n. unsent now (watchers_in slots.new) < unsent now (watchers_in slots.old)) }
 {
     match slots.due_slot(now) {
         Some(slot) => Some(slots.send_again(slot, now, id)),
@@ -61,6 +64,7 @@ fn send_first(slots: &mut WatcherSlots, now: u64, id: u16) -> Option<Notice>
     ensures sends { Sends now id (watchers_in slots.old) result (watchers_in slots.new) }
     ensures capacity { slots.new.capacity ≡ slots.old.capacity }
     ensures bounds { IfSome result IsSendable }
+    ensures less { IfSome result (λ n. unsent now (watchers_in slots.new) < unsent now (watchers_in slots.old)) }
 {
     match slots.free_slot() {
         Some(slot) => Some(slots.send_first(slot, now, id)),

@@ -183,6 +183,7 @@ impl WatcherSlots {
         requires served { (p : Place) → IsAt slot p self.old → is_given_up p.watcher ≡ false }
         ensures changed { self.new ≡ with_change slot (sent_once_more now id) self.old }
         ensures notice { (p : Place) → IsAt slot p self.old → IsSentOnceMore id p.watcher result }
+        ensures waits { (p : Place) → IsAt slot p self.old → is_due now (sent_once_more now id p.watcher) ≡ false }
         ensures bounds { IsSendable result }
     {
         self.watchers[slot as usize].send_again(now, id)
@@ -193,6 +194,7 @@ impl WatcherSlots {
         requires { IsUsed slot self.old }
         ensures changed { self.new ≡ with_change slot (notified now id) self.old }
         ensures notice { (p : Place) → IsAt slot p self.old → IsNotice p.watcher id (next_sequence p.watcher.sequence) true result }
+        ensures waits { (p : Place) → IsAt slot p self.old → is_due now (notified now id p.watcher) ≡ false }
         ensures bounds { IsSendable result }
     {
         self.watchers[slot as usize].send_first(now, id)

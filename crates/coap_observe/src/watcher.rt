@@ -95,6 +95,7 @@ impl Watcher {
     pub fn send_again(&mut self, now: u64, id: u16) -> Notice
         requires { is_given_up self.old ≡ false }
         ensures state { self.new ≡ sent_once_more now id self.old }
+        ensures waits { is_due now self.new ≡ false }
         ensures notice { IsSentOnceMore id self.old result }
         ensures bounds { IsSendable result }
     {
@@ -112,6 +113,7 @@ impl Watcher {
     /// The last value is sent to it now, with this message ID.
     pub fn send_first(&mut self, now: u64, id: u16) -> Notice
         ensures state { self.new ≡ notified now id self.old }
+        ensures waits { is_due now self.new ≡ false }
         ensures notice { IsNotice self.old id (next_sequence self.old.sequence) true result }
         ensures bounds { IsSendable result }
     {
@@ -133,7 +135,8 @@ impl Watcher {
     /// What was sent to it is sent again now, if something was.
     fn resend(&mut self, now: u64)
         requires { is_given_up self.old ≡ false }
-        ensures { self.new ≡ resent now self.old }
+        ensures sent { self.new ≡ resent now self.old }
+        ensures waits { is_due now self.new ≡ false }
     {
         self.notification = match &self.notification {
             Some(notification) => Some(notification.again(now, notification.id())),
@@ -144,7 +147,8 @@ impl Watcher {
     /// A new message with this message ID is sent now in place of what was sent to it, if something was.
     fn renew(&mut self, now: u64, id: u16)
         requires { is_given_up self.old ≡ false }
-        ensures { self.new ≡ renewed now id self.old }
+        ensures sent { self.new ≡ renewed now id self.old }
+        ensures waits { is_due now self.new ≡ false }
     {
         self.sequence = self.sequence.next();
         self.is_marked = false;
@@ -156,7 +160,8 @@ impl Watcher {
 
     /// The last value is sent to it now, with this message ID.
     fn notify(&mut self, now: u64, id: u16)
-        ensures { self.new ≡ notified now id self.old }
+        ensures sent { self.new ≡ notified now id self.old }
+        ensures waits { is_due now self.new ≡ false }
     {
         self.sequence = self.sequence.next();
         self.is_marked = false;

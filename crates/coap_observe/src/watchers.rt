@@ -33,6 +33,7 @@ impl Model for Watchers {
 impl Watchers {
     ghost use Rattle.std.specs.Prelude.{◌≡◌, ◌≤◌, ◌<◌, ◌^◌, length, IfOk, IfSome};
     ghost use Rattle.std.specs.List.{list_any};
+    ghost use Rattle.coap_observe.specs.Unsent.{unsent};
     ghost use Rattle.coap_observe.specs.Watching.{none_watch, Registers, sequence_of, is_pair, is_sent_as, without_pair, with_emission, with_acknowledgement, with_reset, Notifies, IsSendable};
 
     /// A list for at most `capacity` watchers. All its memory is taken here.
@@ -130,11 +131,12 @@ impl Watchers {
     }
 
     /// What is to be sent now, with this message ID where it is no message that was sent before: one notification at
-    /// most. A caller calls it until it returns None.
+    /// most, after which less is to be sent. A caller calls it until it returns None.
     pub fn next_send(&mut self, now: u64, id: u16) -> Option<Notice>
         ensures list { Notifies now id self.old.list result self.new.list }
         ensures capacity { self.new.capacity ≡ self.old.capacity }
         ensures bounds { IfSome result IsSendable }
+        ensures less { IfSome result (λ n. unsent now self.new.list < unsent now self.old.list) }
     {
         if now < self.quiet_until {
             return None;

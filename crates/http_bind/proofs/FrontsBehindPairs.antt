@@ -1,5 +1,5 @@
 -- The front of a stream, and that of what is left of it without the CR LF pairs in front.
-use Rattle.std.proofs.Common.{◌≡◌, ℕ, ◌+◌, ◌-◌, ◌&&◌, Bool, true, false, List, length, take, drop, refl, sym, ap, subst, ◌∙◌, arith, cond}
+use Rattle.std.proofs.Common.{◌≡◌, ℕ, ◌+◌, ◌-◌, ◌&&◌, Bool, true, false, List, length, drop, refl, sym, ap, subst, ◌∙◌, arith, cond}
 use Rattle.std.specs.Prelude.{Some, None, Result, Ok, Err, not, nat_le}
 use Rattle.thing_ops.specs.Requests.{PlainRequest}
 use Rattle.httparse.specs.Grammar.{RequestHead}

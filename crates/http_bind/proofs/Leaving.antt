@@ -1,12 +1,12 @@
 -- What is taken of a connection leaves less to take.
-use Rattle.std.proofs.Common.{◌≡◌, ℕ, zero, suc, ◌<◌, ◌≤◌, ◌+◌, ◌*◌, Bool, true, false, List, [], ◌∷◌, length, take, drop, refl, sym, ap, subst, ◌∙◌, arith}
-use Rattle.std.specs.Prelude.{Option, Some, None, Result, Ok, Err, option_map, unwrap_or, not, ◌&&◌, nat_eq, nat_le, if◌then◌else◌, slice_index_or, slice_set}
+use Rattle.std.proofs.Common.{◌≡◌, ℕ, ◌<◌, ◌≤◌, ◌+◌, ◌⊎◌, inl, inr, Bool, true, false, List, [], ◌∷◌, length, take, drop, refl, sym, ap, subst, ◌∙◌, arith}
+use Rattle.std.specs.Prelude.{Option, Some, None, Result, Ok, Err, is_some, IsSome, option_map, unwrap_or, not, ◌&&◌, nat_eq, nat_le, if◌then◌else◌}
 use Rattle.std.specs.List.{starts_with}
 use Rattle.std.proofs.lemmas.List.{length-drop}
 use Rattle.httparse.specs.Grammar.{RequestHead}
 use Rattle.http_wire.specs.Heads.{skipped, length_through, empty_line}
 use Rattle.http_wire.specs.Chunks.{BodyFront, unfinished, faulty, whole}
-use Rattle.http_wire.specs.Stream.{Front, short, message, fault, IsFront, IsFrontAfter, no_end, one_end, with_body, with_head, without_head, body_front, longest_head}
+use Rattle.http_wire.specs.Stream.{Front, short, message, fault, IsFrontAfter, no_end, one_end, with_body, with_head, without_head, body_front, longest_head}
 use Rattle.http_wire.specs.Judging.{FramedHead, expects}
 use Rattle.http_wire.specs.Reading.{asked}
 use Rattle.thing_ops.specs.Requests.{PlainRequest}
@@ -14,13 +14,13 @@ use Rattle.http_bind.specs.declared.looking.Found.{Found}
 use Rattle.http_bind.specs.declared.looking.Found.TheVariants as seen
 use Rattle.http_bind.specs.declared.next.HttpNext.{HttpNext}
 use Rattle.http_bind.specs.declared.next.HttpNext.TheVariants as next
-use Rattle.http_bind.specs.Streams.{Taken, asks, wants_continue, is_faulty, to_take, found, read_as, bytes_used, expected}
-use Rattle.http_wire.specs.Reading.{request_in}
-use Rattle.http_bind.specs.Looking.{Shows, IsWithin}
-use Rattle.http_bind.specs.Shown.{Passes, TakesAt, Lends, after_finding}
-use Rattle.http_bind.specs.Slots.{Held, Slots, held_at, with_held, without_pairs, left_in, left_at}
+use Rattle.http_bind.specs.Streams.{asks, wants_continue, found, read_as, bytes_used, expected, other_waits}
+use Rattle.http_bind.specs.declared.waits.Wait.{Wait}
+use Rattle.http_bind.specs.Shown.{FindsBehind, PassesBy, Lends, after_finding, waits_after}
+use Rattle.http_bind.specs.Slots.{Held, Slots, place_at, held_at, without_pairs, owed_in, HasRoomFor, IsOwed, IsSound, left_in, left_at}
 use Rattle.http_bind.specs.Given.{LeavesLess}
-use Rattle.http_bind.proofs.Giving.{held_after}
+use Rattle.http_bind.proofs.Giving.{Took, both}
+use Rattle.http_bind.proofs.Sound.{place_after, left_sound, kept_sound}
 
 -- ---- a message has bytes
 
@@ -84,6 +84,7 @@ skipped_few (a ∷ b ∷ bytes) = either _ (skipped_few bytes)
 -- less is left after what was found, if it is no fault
 abbrev FindsLess : Found → ℕ → ℕ → Type 0
 FindsLess seen.Nothing before after = Unit {0}
+FindsLess seen.Interrupted before after = after < before
 FindsLess seen.Continue before after = after < before
 FindsLess (seen.Fault status) before after = after ≤ before
 FindsLess (seen.Message step parts) before after = after < before
@@ -111,15 +112,26 @@ at_least : (c : Bool) → 1 ≤ (if c then 1 else 2)
 at_least true = omega arith
 at_least false = omega arith
 
-passes_less : (old : Option Held) (what : Found) (after : Option Held) (room : List ℕ) → Passes old what after room → FindsLess what (left_in old) (left_in after)
-passes_less None what after room p = subst (λ (w : Found). FindsLess w (left_in None) (left_in after)) (sym p.0) tt
-passes_less (Some h) seen.Nothing after room p = tt
-passes_less (Some h) seen.Continue after room p =
+-- where a reply is owed, a connection that is given up had something left
+behind_less : (h : Held) (what : Found) (after : Option Held) (rest : List ℕ) → FindsBehind rest h what after → FindsLess what (left_in (Some h)) (left_in after)
+behind_less h what after [] finds = subst (λ (w : Found). FindsLess w (left_in (Some h)) (left_in after)) (sym finds.0) tt
+behind_less h what after (b ∷ bytes) finds =
+    let some = at_least h.continued in
+    subst (λ (w : Found). FindsLess w (left_in (Some h)) (left_in after)) (sym finds.0)
+    (subst (λ (a : Option Held). left_in a < left_in (Some h)) (sym finds.1) (omega (arith, some)))
+
+passes_less : (t : Bool) (old : Option Held) (what : Found) (after : Option Held) (room : List ℕ) → PassesBy t old what after room → FindsLess what (left_in old) (left_in after)
+passes_less true None what after room p = absurd p
+passes_less true (Some h) what after room p = behind_less h what after h.rest p
+passes_less false None what after room p = subst (λ (w : Found). FindsLess w (left_in None) (left_in after)) (sym p.0) tt
+passes_less false (Some h) seen.Nothing after room p = tt
+passes_less false (Some h) seen.Interrupted after room p = absurd p.0.2
+passes_less false (Some h) seen.Continue after room p =
     subst (λ (a : Option Held). left_in a < left_in (Some h)) (sym p.2)
     (omega (arith, skipped_few h.rest, one_more h.continued (not_sent (expected p.0.0) h.continued p.0.0 p.0.2)))
-passes_less (Some h) (seen.Fault status) after room p =
+passes_less false (Some h) (seen.Fault status) after room p =
     subst (λ (a : Option Held). left_in a ≤ left_in (Some h)) (sym p.2) (omega (arith, skipped_few h.rest))
-passes_less (Some h) (seen.Message step parts) after room p =
+passes_less false (Some h) (seen.Message step parts) after room p =
     let least = at_least h.continued in
     let f = p.0.0 in
     let fits = p.0.2 in
@@ -130,6 +142,7 @@ passes_less (Some h) (seen.Message step parts) after room p =
 -- what was found is what was given
 given_less : (what : Found) (room : List ℕ) (given : HttpNext) (before after : ℕ) → Lends what room given → FindsLess what before after → LeavesLess given before after
 given_less seen.Nothing room given before after lends less = subst (λ (g : HttpNext). LeavesLess g before after) (sym lends) tt
+given_less seen.Interrupted room given before after lends less = subst (λ (g : HttpNext). LeavesLess g before after) (sym lends) less
 given_less seen.Continue room given before after lends less = subst (λ (g : HttpNext). LeavesLess g before after) (sym lends) less
 given_less (seen.Fault status) room given before after lends less = subst (λ (g : HttpNext). LeavesLess g before after) (sym lends) less
 given_less (seen.Message step None) room given before after lends less = subst (λ (g : HttpNext). LeavesLess g before after) (sym lends) less
@@ -138,12 +151,71 @@ given_less (seen.Message step (Some p)) room next.Continue before after lends le
 given_less (seen.Message step (Some p)) room (next.Ask request) before after lends less = less
 given_less (seen.Message step (Some p)) room (next.Refuse status) before after lends less = absurd lends
 given_less (seen.Message step (Some p)) room next.Memory before after lends less = absurd lends
+given_less (seen.Message step (Some p)) room next.Close before after lends less = absurd lends
 
 -- Taking leaves less.
-pub takes_less : (c : ℕ) (b d : Slots) (what : Found) (room : List ℕ) (given : HttpNext) → c < length b → TakesAt c b what d room → Lends what room given
-    → LeavesLess given (left_at c b) (left_at c d)
-takes_less c b d what room given within takes lends =
+pub takes_less : (c : ℕ) (b d : Slots) (what : Found) (room : List ℕ) (given : HttpNext) → Took c b d what room → Lends what room given →
+    LeavesLess given (left_at c b) (left_at c d)
+takes_less c b d what room given took lends =
     given_less what room given (left_at c b) (left_at c d) lends
-    (subst (λ (e : Slots). FindsLess what (left_at c b) (left_at c e)) (sym takes.2)
-    (subst (λ (h : Option Held). FindsLess what (left_at c b) (left_in h)) (sym (held_after c b takes.0 within))
-    (passes_less (held_at c b) what takes.0 room takes.1)))
+    (subst (λ (e : List (Option Held)). FindsLess what (left_at c b) (left_in (place_at c e))) (sym took.takes.2)
+    (subst (λ (h : Option Held). FindsLess what (left_at c b) (left_in h)) (sym (place_after c b.places took.takes.0 (omega (arith, took.within, took.sound.count))))
+    (passes_less (is_some (owed_in (place_at c b.places))) (place_at c b.places) what took.takes.0 room took.takes.1)))
+
+-- ---- no more is held
+
+-- what was taken leaves no more bytes
+rest_less : (t : Bool) (old : Option Held) (what : Found) (after : Option Held) (room : List ℕ) → PassesBy t old what after room → HasRoomFor 0 old → HasRoomFor 0 after
+rest_less true None what after room p few = absurd p
+rest_less true (Some h) what after room p few = behind h.rest p
+  where
+    behind : (rest : List ℕ) → FindsBehind rest h what after → HasRoomFor 0 after
+    behind [] finds = subst (HasRoomFor 0) (sym finds.1) few
+    behind (b ∷ bytes) finds = subst (HasRoomFor 0) (sym finds.1) tt
+rest_less false None what after room p few = subst (HasRoomFor 0) (sym p.1) tt
+rest_less false (Some h) what after room p few = subst (HasRoomFor 0) (sym p.2) (found what)
+  where
+    found : (w : Found) → HasRoomFor 0 (Some (after_finding w (without_pairs h)))
+    found seen.Nothing = omega (arith, few, skipped_few h.rest)
+    found seen.Interrupted = omega (arith, few, skipped_few h.rest)
+    found seen.Continue = omega (arith, few, skipped_few h.rest)
+    found (seen.Fault status) = omega (arith, few, skipped_few h.rest)
+    found (seen.Message step parts) = omega (arith, few, skipped_few h.rest, length-drop step.used (skipped h.rest))
+
+isnt_true : (t : Bool) → t ≡ false → t ≡ true → ⊥
+isnt_true t no_one one = cc
+
+-- unless it was interrupted, a connection is owed a reply if it was
+owed_after : (t : Bool) (old : Option Held) (what : Found) (after : Option Held) (room : List ℕ) → is_some (owed_in old) ≡ t → PassesBy t old what after room →
+    (what ≡ seen.Interrupted) ⊎ (IsSome (owed_in old) → IsSome (owed_in after))
+owed_after true None what after room owed p = absurd p
+owed_after true (Some h) what after room owed p = behind h.rest p
+  where
+    behind : (rest : List ℕ) → FindsBehind rest h what after → (what ≡ seen.Interrupted) ⊎ (IsSome (owed_in (Some h)) → IsSome (owed_in after))
+    behind [] finds = inr (λ some. subst (λ (k : Option Held). IsSome (owed_in k)) (sym finds.1) some)
+    behind (b ∷ bytes) finds = inl finds.0
+owed_after false old what after room owed p = inr (λ some. absurd (isnt_true (is_some (owed_in old)) owed some))
+
+either_waits : (c : ℕ) (ws : List Wait) (what : Found) → (waits_after what c ws ≡ ws) ⊎ (waits_after what c ws ≡ other_waits c ws)
+either_waits c ws seen.Nothing = inl refl
+either_waits c ws seen.Interrupted = inr refl
+either_waits c ws seen.Continue = inl refl
+either_waits c ws (seen.Fault status) = inl refl
+either_waits c ws (seen.Message step parts) = inl refl
+
+sound_without : (c : ℕ) (b d : Slots) (what : Found) (room : List ℕ) (took : Took c b d what room) → HasRoomFor 0 took.takes.0 → waits_after what c b.waits ≡ other_waits c b.waits → IsSound d
+sound_without c b d what room took few gone =
+    subst IsSound (sym (both c b d took.takes.0 (other_waits c b.waits) took.takes.2 (took.waits ∙ gone))) (left_sound c took.takes.0 b took.sound few)
+
+-- what always holds stays so
+pub sound_taking : (c : ℕ) (b d : Slots) (what : Found) (room : List ℕ) → Took c b d what room → IsSound d
+sound_taking c b d what room took = by (owed_after (is_some (owed_in (held_at c b))) (held_at c b) what took.takes.0 room refl took.takes.1) (either_waits c b.waits what)
+  where
+    few : HasRoomFor 0 took.takes.0
+    few = rest_less (is_some (owed_in (held_at c b))) (held_at c b) what took.takes.0 room took.takes.1 (took.sound.bounded c)
+
+    by : (what ≡ seen.Interrupted) ⊎ (IsOwed c b → IsSome (owed_in took.takes.0)) → (waits_after what c b.waits ≡ b.waits) ⊎ (waits_after what c b.waits ≡ other_waits c b.waits) → IsSound d
+    by (inl is) waits = sound_without c b d what room took few (ap (λ (w : Found). waits_after w c b.waits) is)
+    by (inr owed) (inl same) =
+        subst IsSound (sym (both c b d took.takes.0 b.waits took.takes.2 (took.waits ∙ same))) (kept_sound c took.takes.0 b took.sound few owed)
+    by (inr owed) (inr gone) = sound_without c b d what room took few gone

@@ -1,13 +1,16 @@
 pub mod Skipping
 pub mod FrontsBehindPairs
+pub mod WaitLists
 pub mod Holding
 pub mod Standing
+pub mod Sound
 pub mod ShortFronts
 pub mod FaultWords
 pub mod Messages
 pub mod SlotViews
 pub mod Calls
 pub mod Giving
+pub mod Staying
 pub mod ShortReplies
 pub mod AllowLines
 pub mod Requests

@@ -23,7 +23,7 @@ verb_at h body (Some path) q is = let same : request_at h body path ≡ q = cc i
 
 -- a step takes a message
 pub message_step : (h : PlainHead) (body : List ℕ) (n : ℕ) (q : PlainRequest) (bodiless : Bool) → asked h body ≡ Some q → bodiless ≡ is_head (verb_of h.method) →
-    IsMessageStep h n q (record { used = n; bodiless = bodiless; closes = h.close })
+    IsMessageStep h n q (record { used = n; owed = record { bodiless = bodiless; closes = h.close } })
 message_step h body n q bodiless is head = record {
   used = refl;
   bodiless = head ∙ ap is_head (sym (verb_at h body (segments_of h.target) q is));
@@ -40,6 +40,7 @@ pub shows_message : (continued : Bool) (h : PlainHead) (body : List ℕ) (used :
     to_take continued (message h body used expect) ≡ found (message h body used expect) → ShowsMessage h body used what room →
     Fits continued (message h body used expect) what room
 shows_message continued h body used expect seen.Nothing room is shows = absurd shows
+shows_message continued h body used expect seen.Interrupted room is shows = absurd shows
 shows_message continued h body used expect seen.Continue room is shows = absurd shows
 shows_message continued h body used expect (seen.Fault status) room is shows = (
   is ∙ ap (λ (r : Option PlainRequest). Some (read_as r)) shows.0 ∙ ap (λ (n : ℕ). Some (is_faulty n)) (sym shows.1),

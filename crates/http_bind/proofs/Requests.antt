@@ -17,7 +17,8 @@ use Rattle.http_wire.specs.Stream.{Front, short, message, fault, IsFront, IsFron
 use Rattle.http_wire.proofs.MoreBytes.{is_through}
 use Rattle.http_wire.proofs.MoreOfAStream.{front_stays}
 use Rattle.http_wire.proofs.OneFront.{at_most_one_front}
-use Rattle.http_bind.specs.Streams.{Connection, rest_of, Taken, asks, wants_continue, expected, found, bytes_used, LetsTake}
+use Rattle.http_bind.specs.declared.owed.Owed.{Owed}
+use Rattle.http_bind.specs.Streams.{Connection, rest_of, Taken, asks, wants_continue, is_faulty, expected, found, bytes_used, after_taking, LetsTake, takes_front, is_interrupted, IsSpent}
 use Rattle.http_bind.specs.Cutting.{IsFirst, AreFirst, IsNoRequest, EndsThere, HasTaken, at_opening, with_piece, with_request, with_continue, with_fault, with_reply, TakesTheFirst, TakesAll, HasOneList}
 use Rattle.http_bind.proofs.Skipping.{skipped_is_end}
 use Rattle.http_bind.proofs.ShortFronts.{head_within}
@@ -186,12 +187,28 @@ pub record Follows (x : Connection) (qs : List PlainRequest) : Type 0 where
   pub first : AreFirst x.stream qs x.taken
   pub within : x.taken ≤ length x.stream
 
-asks_follows : (x y : Connection) (qs : List PlainRequest) (q : PlainRequest) → Follows x qs → LetsTake (asks q) x y → Follows y (qs ++ q ∷ [])
-asks_follows x y qs q a (f, front, is, after) =
+the_same : (y z : Connection) → Some y ≡ Some z → z ≡ y
+the_same y z is = cc
+
+isnt_none : (y : Connection) → Some y ≡ None → ⊥
+isnt_none y is = cc
+
+asks_follows : (x y : Connection) (qs : List PlainRequest) (q : PlainRequest) → Follows x qs → LetsTake (asks q) x (Some y) → Follows y (qs ++ q ∷ [])
+asks_follows x y qs q a (takes_front f free front is after) =
     let at : IsFirst (rest_of x) q (bytes_used f) = (f, front, asked_found (expected f && not x.continued) (found f) q is, refl) in
     let few = front_within (rest_of x) f front in
-    subst (λ (z : Connection). Follows z (qs ++ q ∷ [])) (sym after)
+    subst (λ (z : Connection). Follows z (qs ++ q ∷ [])) (the_same y (after_taking (asks q) f x) after)
     (record { first = first_more x.stream qs x.taken q (bytes_used f) a.first at; within = omega (arith, few, a.within, length-drop x.taken x.stream) })
+asks_follows x y qs q a (is_interrupted o owed some is gone) = absurd (isnt_none y gone)
+
+continue_follows : (x y : Connection) (qs : List PlainRequest) → Follows x qs → LetsTake wants_continue x (Some y) → Follows y qs
+continue_follows x y qs a (takes_front f free front is after) =
+    subst (λ (z : Connection). Follows z qs) (the_same y (after_taking wants_continue f x) after) (record { first = a.first; within = a.within })
+continue_follows x y qs a (is_interrupted o owed some is gone) = absurd (isnt_none y gone)
+
+fault_follows : (x y : Connection) (qs : List PlainRequest) (status : ℕ) → Follows x qs → LetsTake (is_faulty status) x (Some y) → Follows y qs
+fault_follows x y qs status a (takes_front f free front is after) = subst (λ (z : Connection). Follows z qs) (the_same y x after) a
+fault_follows x y qs status a (is_interrupted o owed some is gone) = absurd (isnt_none y gone)
 
 follows : (x : Connection) (qs : List PlainRequest) → HasTaken x qs → Follows x qs
 follows x qs (at_opening now) = record { first = refl; within = omega arith }
@@ -199,20 +216,23 @@ follows x qs (with_piece y ps piece now before) =
     let a = follows y ps before in
     record { first = first_stay y.stream piece ps y.taken a.first; within = omega (arith, a.within, length-append y.stream piece) }
 follows x qs (with_request y z ps q before lets) = asks_follows y z ps q (follows y ps before) lets
-follows x qs (with_continue y z ps before lets) =
-    let a = follows y ps before in subst (λ (k : Connection). Follows k ps) (sym lets.3) (record { first = a.first; within = a.within })
-follows x qs (with_fault y z ps status before lets) = subst (λ (k : Connection). Follows k ps) (sym lets.3) (follows y ps before)
+follows x qs (with_continue y z ps before lets) = continue_follows y z ps (follows y ps before) lets
+follows x qs (with_fault y z ps status before lets) = fault_follows y z ps status (follows y ps before) lets
 follows x qs (with_reply y ps now before) = let a = follows y ps before in record { first = a.first; within = a.within }
 
 pub takes_the_first : TakesTheFirst
 takes_the_first x qs taken = (follows x qs taken).first
 
+-- where no byte is left, no message is whole
+empty_ends : (bytes : List ℕ) → bytes ≡ [] → EndsThere bytes
+empty_ends bytes none = subst EndsThere (sym none) (short false, no_end refl refl, tt)
+
+spent_ends : (x : Connection) (o : Option Owed) → IsSpent o x → EndsThere (rest_of x)
+spent_ends x None (f, front, none) = (f, front, subst IsNoRequest (sym (none_found (expected f && not x.continued) (found f) none)) tt)
+spent_ends x (Some o) none = empty_ends (rest_of x) none
+
 pub takes_all : TakesAll
-takes_all x qs taken (f, front, none) = (
-  x.taken,
-  (follows x qs taken).first,
-  (f, front, subst IsNoRequest (sym (none_found (expected f && not x.continued) (found f) none)) tt),
-)
+takes_all x qs taken spent = (x.taken, (follows x qs taken).first, spent_ends x x.owed spent)
 
 -- ---- a stream has one list of requests
 

@@ -1,5 +1,5 @@
 -- Bounds on what is at the front of a stream.
-use Rattle.std.proofs.Common.{◌≡◌, ℕ, ◌+◌, ◌<◌, ◌≤◌, Bool, true, false, List, [], ◌∷◌, length, take, drop, refl, sym, subst, arith, cond, length-drop, length-take}
+use Rattle.std.proofs.Common.{◌≡◌, ℕ, ◌+◌, ◌<◌, ◌≤◌, Bool, true, false, List, length, take, drop, refl, sym, subst, arith, cond, length-drop, length-take}
 use Rattle.std.specs.Prelude.{Some, Result, Ok, Err, not, nat_le, nat_lt}
 use Rattle.std.proofs.lemmas.Bool.{leb-false, ltb-false}
 use Rattle.http_wire.specs.declared.framing.Framing.{Framing}

@@ -7,7 +7,7 @@ use Rattle.http_bind.specs.declared.slot.State.{State}
 use Rattle.http_bind.specs.declared.looking.Found.{Found}
 use Rattle.http_bind.specs.Kept.{held_with}
 use Rattle.http_bind.specs.Slots.{Held, without_pairs}
-use Rattle.http_bind.specs.Shown.{ShowsIfOpen, MayPass, after_finding, Passes}
+use Rattle.http_bind.specs.Shown.{ShowsIfOpen, MayPass, after_finding, TakesFront}
 use Rattle.http_bind.proofs.Skipping.{skipped_from}
 
 -- where what is left begins in all bytes
@@ -38,9 +38,9 @@ seen_without_pairs bytes rest left None same is = refl
 seen_without_pairs bytes rest left (Some st) same is = ap (λ (xs : List ℕ). Some (held_with xs st)) (same ∙ is)
 
 -- what is at the front without the pairs was found and taken
-pub passes : (old mid new : Option Held) (what : Found) (room : List ℕ) → mid ≡ option_map without_pairs old → ShowsIfOpen mid what room → MayPass what mid →
-    new ≡ option_map (after_finding what) mid → Passes old what new room
-passes None mid new what room skips shows may takes =
+pub front_taken : (old mid new : Option Held) (what : Found) (room : List ℕ) → mid ≡ option_map without_pairs old → ShowsIfOpen mid what room → MayPass what mid →
+    new ≡ option_map (after_finding what) mid → TakesFront old what new room
+front_taken None mid new what room skips shows may takes =
     (subst (λ (k : Option Held). ShowsIfOpen k what room) skips shows, takes ∙ ap (option_map (after_finding what)) skips)
-passes (Some h) mid new what room skips shows may takes =
+front_taken (Some h) mid new what room skips shows may takes =
     (subst (λ (k : Option Held). ShowsIfOpen k what room) skips shows, subst (MayPass what) skips may, takes ∙ ap (option_map (after_finding what)) skips)

@@ -3,7 +3,7 @@
 use Rattle.std.specs.Prelude.{◌≡◌, ℕ, ◌+◌, List, [], ◌∷◌, ◌++◌, drop, Option, Some, None}
 use Rattle.thing_ops.specs.Requests.{PlainRequest}
 use Rattle.http_wire.specs.Stream.{Front, IsFront}
-use Rattle.http_bind.specs.Streams.{Connection, opened_at, lengthened, LetsTake, HasNothing, Taken, asks, wants_continue, is_faulty, found, bytes_used}
+use Rattle.http_bind.specs.Streams.{Connection, opened_at, lengthened, LetsTake, HasNothing, Taken, asks, wants_continue, is_faulty, interrupts, found, bytes_used}
 
 -- a whole message at the front asks for this, and has n bytes
 abbrev pub IsFirst : List ℕ → PlainRequest → ℕ → Type 0
@@ -21,6 +21,7 @@ IsNoRequest None = Unit {0}
 IsNoRequest (Some (asks request)) = ⊥
 IsNoRequest (Some wants_continue) = Unit {0}
 IsNoRequest (Some (is_faulty status)) = Unit {0}
+IsNoRequest (Some interrupts) = Unit {0}
 
 -- a message that isn't whole, or a fault, is at the front
 abbrev pub EndsThere : List ℕ → Type 0
@@ -30,16 +31,17 @@ EndsThere bytes = (f : Front) × IsFront bytes f × IsNoRequest (found f)
 abbrev pub AreRequests : List ℕ → List PlainRequest → Type 0
 AreRequests bytes requests = (n : ℕ) × AreFirst bytes requests n × EndsThere (drop n bytes)
 
--- What one connection has been through since its opening, and the requests that were taken from it, in their order.
+-- What one connection has been through since its opening, and the requests that were taken from it, in their order. One
+-- that waits and is woken is replied to once, and one that is interrupted is gone.
 pub data HasTaken : Connection → List PlainRequest → Type 0 where
   at_opening : (now : ℕ) → HasTaken (opened_at now) []
   with_piece : (x : Connection) (requests : List PlainRequest) (piece : List ℕ) (now : ℕ) → HasTaken x requests →
       HasTaken (lengthened piece now x) requests
   with_request : (x y : Connection) (requests : List PlainRequest) (request : PlainRequest) → HasTaken x requests →
-      LetsTake (asks request) x y → HasTaken y (requests ++ request ∷ [])
-  with_continue : (x y : Connection) (requests : List PlainRequest) → HasTaken x requests → LetsTake wants_continue x y → HasTaken y requests
-  with_fault : (x y : Connection) (requests : List PlainRequest) (status : ℕ) → HasTaken x requests → LetsTake (is_faulty status) x y → HasTaken y requests
-  with_reply : (x : Connection) (requests : List PlainRequest) (now : ℕ) → HasTaken x requests → HasTaken (record x { active = now }) requests
+      LetsTake (asks request) x (Some y) → HasTaken y (requests ++ request ∷ [])
+  with_continue : (x y : Connection) (requests : List PlainRequest) → HasTaken x requests → LetsTake wants_continue x (Some y) → HasTaken y requests
+  with_fault : (x y : Connection) (requests : List PlainRequest) (status : ℕ) → HasTaken x requests → LetsTake (is_faulty status) x (Some y) → HasTaken y requests
+  with_reply : (x : Connection) (requests : List PlainRequest) (now : ℕ) → HasTaken x requests → HasTaken (record x { owed = None; active = now }) requests
 
 -- The requests taken from a connection are the first of its stream.
 abbrev pub TakesTheFirst : Type 0

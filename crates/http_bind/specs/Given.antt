@@ -4,18 +4,16 @@ use Rattle.thing_ops.specs.Requests.{PlainRequest, plain_request}
 use Rattle.http_bind.specs.declared.next.HttpNext.{HttpNext}
 use Rattle.http_bind.specs.declared.next.HttpNext.TheVariants as next
 use Rattle.http_bind.specs.Replying.{fault_word}
-use Rattle.http_bind.specs.Streams.{Streams, Takes, IsDry, asks, wants_continue, is_faulty}
-use Rattle.http_bind.specs.Slots.{Slots, Leads, HasRoom, IsOpen, IsAskedBy}
+use Rattle.http_bind.specs.Streams.{Streams, Takes, IsDry, asks, wants_continue, is_faulty, interrupts}
+use Rattle.http_bind.specs.Slots.{Slots, Leads, HasRoom, IsOpen, IsOwed}
 
 -- nothing can be taken, and the streams stay
 abbrev pub StaysDry : ℕ → Streams → Streams → Type 0
 StaysDry c s t = (t ≡ s) × IsDry c t
 
--- a request was taken
-pub record AsksFor (c : ℕ) (request : PlainRequest) (b d : Slots) : Type 0 where
-  pub takes : Leads (Takes c (asks request)) b d
-  pub asked : IsAskedBy c request d
-  pub is_open : IsOpen c d
+-- a request was taken, to which a reply is owed
+abbrev pub AsksFor : ℕ → PlainRequest → Slots → Slots → Type 0
+AsksFor c request b d = Leads (Takes c (asks request)) b d × IsOwed c d
 
 -- What was given, and what is held after it.
 abbrev pub Gives : ℕ → HttpNext → Slots → Slots → Type 0
@@ -24,6 +22,7 @@ Gives c next.Continue b d = Leads (Takes c wants_continue) b d × IsOpen c d
 Gives c (next.Ask request) b d = AsksFor c (plain_request request) b d
 Gives c (next.Refuse status) b d = Leads (Takes c (is_faulty status)) b d × IsOpen c d × IsSome (fault_word status)
 Gives c next.Memory b d = (request : PlainRequest) × AsksFor c request b d
+Gives c next.Close b d = Leads (Takes c interrupts) b d × HasRoom c d
 
 -- Less is left after what was taken; a fault leaves what there was, until it is refused.
 abbrev pub LeavesLess : HttpNext → ℕ → ℕ → Type 0
@@ -32,3 +31,4 @@ LeavesLess next.Continue before after = after < before
 LeavesLess (next.Ask request) before after = after < before
 LeavesLess (next.Refuse status) before after = after ≤ before
 LeavesLess next.Memory before after = after < before
+LeavesLess next.Close before after = after < before

@@ -7,7 +7,7 @@ use Rattle.std.specs.Prelude.{List, ℕ}
 
 -- these bytes are held, in this state
 abbrev pub held_with : List ℕ → State → Held
-held_with rest st = record { rest = rest; continued = st.continued; bodiless = st.bodiless; closes = st.closes; active = st.active }
+held_with rest st = record { rest = rest; continued = st.continued; owed = st.owed; active = st.active }
 
 -- what is seen: the bytes after those that were taken
 abbrev pub seen : Inside → Option Held

@@ -16,12 +16,13 @@ room_size = 24576
 -- a step takes the message at a front, which asks for this
 pub record IsStep (f : Front) (q : PlainRequest) (step : Step) : Type 0 where
   pub used : step.used ≡ bytes_used f
-  pub bodiless : step.bodiless ≡ is_head q.verb
-  pub closes : step.closes ≡ asks_to_close f
+  pub bodiless : step.owed.bodiless ≡ is_head q.verb
+  pub closes : step.owed.closes ≡ asks_to_close f
 
 -- what was found is what can be taken at this front
 abbrev pub Fits : Bool → Front → Found → List ℕ → Type 0
 Fits continued f seen.Nothing room = to_take continued f ≡ None
+Fits continued f seen.Interrupted room = ⊥
 Fits continued f seen.Continue room = to_take continued f ≡ Some wants_continue
 Fits continued f (seen.Fault status) room = (to_take continued f ≡ Some (is_faulty status)) × IsSome (fault_word status)
 Fits continued f (seen.Message step parts) room =
@@ -34,6 +35,7 @@ Shows continued bytes what room = (f : Front) × IsFront bytes f × Fits continu
 -- a message that is taken has no more bytes than there are
 abbrev pub IsWithin : ℕ → Found → Type 0
 IsWithin n seen.Nothing = Unit {0}
+IsWithin n seen.Interrupted = Unit {0}
 IsWithin n seen.Continue = Unit {0}
 IsWithin n (seen.Fault status) = Unit {0}
 IsWithin n (seen.Message step parts) = step.used ≤ n
@@ -41,12 +43,13 @@ IsWithin n (seen.Message step parts) = step.used ≤ n
 -- a step takes a message with this head and n bytes, which asks for this
 pub record IsMessageStep (h : PlainHead) (n : ℕ) (q : PlainRequest) (step : Step) : Type 0 where
   pub used : step.used ≡ n
-  pub bodiless : step.bodiless ≡ is_head q.verb
-  pub closes : step.closes ≡ h.close
+  pub bodiless : step.owed.bodiless ≡ is_head q.verb
+  pub closes : step.owed.closes ≡ h.close
 
 -- what was found is what a whole message is taken for
 abbrev pub ShowsMessage : PlainHead → List ℕ → ℕ → Found → List ℕ → Type 0
 ShowsMessage h body used seen.Nothing room = ⊥
+ShowsMessage h body used seen.Interrupted room = ⊥
 ShowsMessage h body used seen.Continue room = ⊥
 ShowsMessage h body used (seen.Fault status) room = (asked h body ≡ None) × (status ≡ 400)
 ShowsMessage h body used (seen.Message step parts) room =

@@ -1,5 +1,5 @@
 -- How an outcome is replied over HTTP (RFC 9110, sections 8.3, 8.6, 9.3.2, 10.2.1 and 10.2.2).
-use Rattle.std.specs.Prelude.{ℕ, ◌==◌, List, [], ◌∷◌, ◌++◌, length, codes, Bool, true, false, nat_le, Option, Some, None, unwrap_or, if◌then◌else◌}
+use Rattle.std.specs.Prelude.{ℕ, ◌==◌, List, [], ◌∷◌, ◌++◌, length, codes, Bool, true, false, nat_le, Option, Some, None, unwrap_or, option_map, if◌then◌else◌}
 use Rattle.thing_ops.specs.declared.outcome.Outcome.{Outcome}
 use Rattle.thing_ops.specs.declared.outcome.Outcome.TheVariants as outcome
 use Rattle.thing_ops.specs.declared.verb.Verb.{Verb}
@@ -12,10 +12,6 @@ use Rattle.http_bind.specs.Places.{path_text}
 -- The most bytes of the head of a reply.
 abbrev pub longest_reply_head : ℕ
 longest_reply_head = 4096
-
--- The status. A request that waits is answered as if there was nothing at its path: nothing waits yet.
-abbrev pub status_of : Outcome → ℕ
-status_of o = unwrap_or (answer_of o).status 404
 
 -- the media type of a payload
 abbrev pub type_of_payload : Payload → Option (List ℕ)
@@ -39,10 +35,10 @@ abbrev pub allow_of : Outcome → Option (List ℕ)
 allow_of (outcome.NotAllowed allow) = Some (names_of (verbs_in allow))
 allow_of o = None
 
--- what the head of a reply says, with this place
-abbrev pub head_of : Bool → Option (List ℕ) → Outcome → PlainReply
-head_of closes location o = record {
-  status = status_of o;
+-- what the head of a reply says, with this status and this place
+abbrev pub head_of : ℕ → Bool → Option (List ℕ) → Outcome → PlainReply
+head_of status closes location o = record {
+  status = status;
   content_type = media_type_of o;
   location = location;
   allow = allow_of o;
@@ -54,9 +50,13 @@ head_of closes location o = record {
 abbrev pub shorter_head : List ℕ → List ℕ → List ℕ
 shorter_head with_place without = if nat_le (length with_place) longest_reply_head then with_place else without
 
--- The head of the reply; its `Location` line is left out where the head would be too long with it.
-abbrev pub reply_head : Bool → Outcome → List ℕ
-reply_head closes o = shorter_head (http_reply (head_of closes (location_of o) o)) (http_reply (head_of closes None o))
+-- The head of the reply with this status; its `Location` line is left out where the head would be too long with it.
+abbrev pub head_with : Bool → Outcome → ℕ → List ℕ
+head_with closes o status = shorter_head (http_reply (head_of status closes (location_of o) o)) (http_reply (head_of status closes None o))
+
+-- The head of the reply; a request that waits has none yet.
+abbrev pub reply_head : Bool → Outcome → Option (List ℕ)
+reply_head closes o = option_map (head_with closes o) (answer_of o).status
 
 -- a HEAD request
 abbrev pub is_head : Verb → Bool
@@ -68,9 +68,9 @@ abbrev pub reply_body : Bool → Outcome → List ℕ
 reply_body true o = []
 reply_body false o = payload_of o
 
--- The reply of an outcome to a request with this verb.
-abbrev pub reply : Verb → Bool → Outcome → List ℕ
-reply v closes o = reply_head closes o ++ reply_body (is_head v) o
+-- The reply of an outcome, to a HEAD request or to another one; a request that waits has none yet.
+abbrev pub reply : Bool → Bool → Outcome → Option (List ℕ)
+reply bodiless closes o = option_map (λ head. head ++ reply_body bodiless o) (reply_head closes o)
 
 -- ---- what is answered without an outcome
 

@@ -1,9 +1,12 @@
 -- What contracts see of an `HttpBind`, and the streams that it stands for.
-use Rattle.std.specs.Prelude.{◌≡◌, ◌≤◌, ℕ, ◌+◌, ◌-◌, ◌*◌, Bool, false, nat_le, List, [], ◌∷◌, ◌++◌, length, replicate, slice_index_or, slice_set, Option, Some, None, IsSome, if◌then◌else◌}
-use Rattle.thing_ops.specs.Requests.{PlainRequest}
+use Rattle.std.specs.Prelude.{◌≡◌, ◌≤◌, ℕ, ◌+◌, ◌-◌, ◌*◌, ◌&&◌, Bool, true, false, eqb, nat_le, List, [], ◌∷◌, ◌++◌, length, map, replicate, slice_index_or, slice_set, Option, Some, None, option_and_then, IsSome, if◌then◌else◌}
+use Rattle.std.specs.List.{IsDistinct}
+use Rattle.std.specs.Option.{is_none}
 use Rattle.http_wire.specs.Heads.{skipped}
-use Rattle.http_bind.specs.Replying.{is_head}
-use Rattle.http_bind.specs.Streams.{Connection, Streams, rest_of}
+use Rattle.http_bind.specs.declared.owed.Owed.{Owed}
+use Rattle.http_bind.specs.declared.out.HttpOut.{HttpOut}
+use Rattle.http_bind.specs.declared.waits.Wait.{Wait}
+use Rattle.http_bind.specs.Streams.{Connection, Streams, rest_of, is_waiting, other_waits}
 
 -- The most bytes that are held of a connection.
 abbrev pub longest_rest : ℕ
@@ -13,38 +16,59 @@ longest_rest = 32768
 abbrev pub longest_piece : ℕ
 longest_piece = 4096
 
+-- The most bytes of a text by which a request that waits is replied.
+abbrev pub longest_text : ℕ
+longest_text = 1024
+
 -- What is held of an open connection: the bytes of its stream that weren't taken, but for CR LF pairs that are skipped;
--- whether the 100 reply was sent for the message at their front; whether the message taken last is a HEAD request, and
--- whether it asks to close the connection, because its reply asks for both; and the moment of its last activity.
+-- whether the 100 reply was sent for the message at their front; what is owed to the request taken last, until it is
+-- replied to; and the moment of its last activity.
 pub record Held : Type 0 where
   pub rest : List ℕ
   pub continued : Bool
-  pub bodiless : Bool
-  pub closes : Bool
+  pub owed : Option Owed
   pub active : ℕ
 
--- what is held, by the numbers of the connections
-abbrev pub Slots : Type 0
-Slots = List (Option Held)
+-- what is held, by the numbers of the connections, and the requests that wait, the oldest first
+pub record Slots : Type 0 where
+  pub places : List (Option Held)
+  pub waits : List Wait
+
+-- what is held at a place, and what is there with something else at that place
+abbrev pub place_at : ℕ → List (Option Held) → Option Held
+place_at c places = slice_index_or places c None
+
+abbrev pub with_place : ℕ → Option Held → List (Option Held) → List (Option Held)
+with_place c x places = slice_set places c x
 
 abbrev pub held_at : ℕ → Slots → Option Held
-held_at c b = slice_index_or b c None
+held_at c b = place_at c b.places
 
 abbrev pub with_held : ℕ → Option Held → Slots → Slots
-with_held c x b = slice_set b c x
+with_held c x b = record b { places = with_place c x b.places }
+
+-- a connection waits no longer, if it did
+abbrev pub without_wait_of : ℕ → Slots → Slots
+without_wait_of c b = record b { waits = other_waits c b.waits }
+
+-- the request taken last from a connection waits for a target since this moment, behind all that wait already
+abbrev pub with_wait : ℕ → ℕ → ℕ → Slots → Slots
+with_wait c target now b = record b { waits = other_waits c b.waits ++ record { connection = c; target = target; since = now } ∷ [] }
 
 -- no connection is open
-abbrev pub nothing_held : Slots
+abbrev pub nothing_held : List (Option Held)
 nothing_held = replicate 64 None
 
 -- ---- the streams that are stood for
 
--- what is held of a connection stands for it
+-- What is held of a connection stands for it. Where a reply is owed, all bytes behind the messages taken are held, CR
+-- LF pairs too, since each of them ends the wait for that reply.
 pub record Holds (h : Held) (x : Connection) : Type 0 where
   pub rest : skipped h.rest ≡ skipped (rest_of x)
+  pub behind : IsSome x.owed → h.rest ≡ rest_of x
   pub within : x.taken ≤ length x.stream
   pub continued : h.continued ≡ x.continued
-  pub closes : h.closes ≡ x.closes
+  pub owed : h.owed ≡ x.owed
   pub active : h.active ≡ x.active
 
 abbrev pub HoldsIfOpen : Option Held → Option Connection → Type 0
@@ -53,12 +77,17 @@ HoldsIfOpen None (Some x) = ⊥
 HoldsIfOpen (Some h) None = ⊥
 HoldsIfOpen (Some h) (Some x) = Holds h x
 
--- What is held stands for these streams: the same connections are open, and of each the rest of its stream is held.
-abbrev pub StandsFor : Slots → Streams → Type 0
-StandsFor [] [] = Unit {0}
-StandsFor [] (x ∷ s) = ⊥
-StandsFor (h ∷ b) [] = ⊥
-StandsFor (h ∷ b) (x ∷ s) = HoldsIfOpen h x × StandsFor b s
+abbrev pub HoldAll : List (Option Held) → List (Option Connection) → Type 0
+HoldAll [] [] = Unit {0}
+HoldAll [] (x ∷ xs) = ⊥
+HoldAll (h ∷ hs) [] = ⊥
+HoldAll (h ∷ hs) (x ∷ xs) = HoldsIfOpen h x × HoldAll hs xs
+
+-- What is held stands for these streams: the same connections are open, of each the rest of its stream is held, and the
+-- same requests wait.
+pub record StandsFor (b : Slots) (s : Streams) : Type 0 where
+  pub places : HoldAll b.places s.places
+  pub waits : b.waits ≡ s.waits
 
 -- For all streams that what is held stood for before, it stands afterwards for some to which this leads.
 abbrev pub Leads : (Streams → Streams → Type 0) → Slots → Slots → Type 0
@@ -68,7 +97,7 @@ Leads Does b d = (s : Streams) → StandsFor b s → (t : Streams) × StandsFor 
 
 -- a connection that was opened at this moment
 abbrev pub held_at_opening : ℕ → Held
-held_at_opening now = record { rest = []; continued = false; bodiless = false; closes = false; active = now }
+held_at_opening now = record { rest = []; continued = false; owed = None; active = now }
 
 -- the CR LF pairs in front are left out
 abbrev pub without_pairs : Held → Held
@@ -78,10 +107,10 @@ without_pairs h = record h { rest = skipped h.rest }
 abbrev pub longer : List ℕ → ℕ → Held → Held
 longer piece now h = record h { rest = h.rest ++ piece; active = now }
 
--- the last activity was 120 seconds ago or longer
+-- no reply is owed, and the last activity was 120 seconds ago or longer
 abbrev pub is_idle : ℕ → Option Held → Bool
 is_idle now None = false
-is_idle now (Some h) = nat_le 120000 (now - h.active)
+is_idle now (Some h) = is_none h.owed && nat_le 120000 (now - h.active)
 
 -- there is room for n bytes more
 abbrev pub HasRoomFor : ℕ → Option Held → Type 0
@@ -100,6 +129,25 @@ IsBounded c b = HasRoomFor 0 (held_at c b)
 abbrev pub IsOpen : ℕ → Slots → Type 0
 IsOpen c b = IsSome (held_at c b)
 
+-- the connection is open, and a reply is owed to the request that was taken last
+abbrev pub owed_in : Option Held → Option Owed
+owed_in x = option_and_then (λ h. h.owed) x
+
+abbrev pub IsOwed : ℕ → Slots → Type 0
+IsOwed c b = IsSome (owed_in (held_at c b))
+
+-- that request waits
+abbrev pub IsWaiting : ℕ → Slots → Type 0
+IsWaiting c b = is_waiting c b.waits ≡ true
+
+-- What always holds: 64 connections, of each no more bytes than may be held, and each wait is of a connection that is
+-- owed a reply, which has no other wait.
+pub record IsSound (b : Slots) : Type 0 where
+  pub count : length b.places ≡ 64
+  pub bounded : (c : ℕ) → IsBounded c b
+  pub owed : (c : ℕ) → IsWaiting c b → IsOwed c b
+  pub once : IsDistinct eqb (map (λ w. w.connection) b.waits)
+
 -- How much may still be taken of a connection: each thing that is taken leaves less, and a closed one has nothing.
 abbrev pub left_in : Option Held → ℕ
 left_in None = 0
@@ -108,15 +156,14 @@ left_in (Some h) = 2 * length h.rest + (if h.continued then 1 else 2)
 abbrev pub left_at : ℕ → Slots → ℕ
 left_at c b = left_in (held_at c b)
 
--- A reply to this request is what the message taken last asks for. `answered` is said of the requests that fit, because
--- whether that message is HEAD the code alone keeps.
-abbrev pub AwaitsReply : PlainRequest → Option Held → Type 0
-AwaitsReply request None = ⊥
-AwaitsReply request (Some h) = h.bodiless ≡ is_head request.verb
+-- all other connections, and their waits, are as they were
+pub record OthersStay (c : ℕ) (b d : Slots) : Type 0 where
+  pub held : Option Held
+  pub places : d.places ≡ with_place c held b.places
+  pub waits : other_waits c d.waits ≡ other_waits c b.waits
 
-abbrev pub IsAskedBy : ℕ → PlainRequest → Slots → Type 0
-IsAskedBy c request b = AwaitsReply request (held_at c b)
+-- ---- replies that were written
 
--- all other connections are as they were
-abbrev pub OthersStay : ℕ → Slots → Slots → Type 0
-OthersStay c b d = (x : Option Held) × (d ≡ with_held c x b)
+-- what is sent for the outcome of a request; nothing, while it waits
+abbrev pub sent_in : HttpOut → Option (List ℕ × Bool)
+sent_in out = if out.waits then None else Some (out.head.now ++ out.body.now, out.close)

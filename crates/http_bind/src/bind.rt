@@ -1,14 +1,16 @@
 //! The connections of an HTTP server: bytes come in, requests come out, replies are written.
 
-ghost use Rattle.std.specs.Prelude.{◌≡◌, ◌≤◌, ◌<◌, ◌++◌, ◌⊎◌, ℕ, [], length, position, None, not, ◌==◌, IfOk, IfSome, IsSome, if◌then◌else◌};
-ghost use Rattle.thing_ops.specs.Requests.{PlainRequest};
-ghost use Rattle.http_bind.specs.Slots.{nothing_held, with_held, is_idle};
+ghost use Rattle.std.specs.Prelude.{◌≡◌, ◌≤◌, ◌<◌, ◌++◌, ◌⊎◌, ℕ, [], length, position, Some, None, false, not, ◌==◌, option_map, unwrap_or, IfOk, IfSome, IsSome, if◌then◌else◌};
+ghost use Rattle.thing_ops.specs.Outcomes.{HasStatus};
+ghost use Rattle.http_bind.specs.Slots.{nothing_held, with_held, without_wait_of, with_wait, is_idle};
 ghost use Rattle.http_bind.specs.Looking.{room_size};
-ghost use Rattle.http_bind.specs.Shown.{TakesAt, MayLend, Lends};
+ghost use Rattle.http_bind.specs.Shown.{TakesAt, MayLend, Lends, Replied, SettlesAt, waits_after};
 
 use crate::looking::Found;
+use crate::owed::Owed;
 use crate::slot::Slot;
-use crate::writing::{fault_word, payload, put_answer, put_status_head};
+use crate::waits::{Wait, Waits};
+use crate::writing::{fault_word, payload, put_answer, put_status_head, put_woken};
 use crate::{HttpNext, HttpOut};
 use servient_base::put_bytes;
 use std::alloc::Global;
@@ -21,30 +23,33 @@ const CONNECTIONS: usize = 64;
 /// How many bytes the query and the body of a request have together at most.
 pub const ROOM: usize = 24576;
 
-/// The connections of an HTTP server, numbered from 0 to 63. Contracts see what is held of each (`Slots` of
-/// specs/Slots.antt). A connection is given up by `ended`, by the reply to a message that asks for it, and by the reply
-/// to a fault. Moments are milliseconds, and may fall.
+/// The connections of an HTTP server, numbered from 0 to 63. Contracts see what is held of each, and which requests
+/// wait (`Slots` of specs/Slots.antt). A connection is given up by `ended`, by the reply to a message that asks for it,
+/// by the reply to a fault, and by `next` where bytes came behind a request that waits. Moments are milliseconds, and
+/// may fall.
 #[derive(Drop)]
 pub struct HttpBind {
     alloc: Global,
     slots: Vec<Slot>,
+    waits: Waits,
 }
 
 impl Model for HttpBind {
-    ghost use Rattle.std.specs.Prelude.{◌≡◌, length};
     ghost use Rattle.http_bind.specs.Slots.{Slots};
 
     ghost Value = { Slots };
 
-    ghost view = { λ b. b.slots.items };
+    ghost use Rattle.http_bind.specs.Slots.{IsSound};
 
-    ghost invariant = { λ b. length b.slots.items ≡ 64 };
+    ghost view = { λ b. record { places = b.slots.items; waits = b.waits } };
+
+    ghost invariant = { λ b. IsSound (record { places = b.slots.items; waits = b.waits }) };
 }
 
 impl HttpBind {
-    ghost use Rattle.http_bind.specs.Replying.{fault_word as word_of_fault, reply_head, reply_body, status_head, fault_body};
-    ghost use Rattle.http_bind.specs.Streams.{Streams, Opened, Ended, Lengthened, Replies, Continues, Refuses, IsIdle, NoneIdle, none_open};
-    ghost use Rattle.http_bind.specs.Slots.{StandsFor, Leads, OthersStay, HasRoom, IsBounded, IsOpen, IsAskedBy, longest_piece, left_at};
+    ghost use Rattle.http_bind.specs.Replying.{fault_word as word_of_fault, reply_head, status_head, fault_body};
+    ghost use Rattle.http_bind.specs.Streams.{Streams, Opened, Ended, Lengthened, Answers, Wakes, Continues, Refuses, IsIdle, NoneIdle, none_open, woken_by, oldest_for, oldest_late};
+    ghost use Rattle.http_bind.specs.Slots.{StandsFor, Leads, OthersStay, IsSound, HasRoom, IsBounded, IsOpen, IsOwed, IsWaiting, longest_piece, longest_text, left_at, sent_in};
     ghost use Rattle.http_bind.specs.Given.{Gives, LeavesLess};
 
     /// No connection is open. All memory but that for paths is taken here.
@@ -52,7 +57,21 @@ impl HttpBind {
         ensures { IfOk result (λ b. StandsFor b none_open) }
     {
         let slots = free_slots(alloc)?;
-        Ok(HttpBind { alloc, slots })
+        let waits = Waits::new(alloc)?;
+        Ok(HttpBind {
+            alloc,
+            slots,
+            waits,
+        })
+    }
+
+    /// What always holds: of each connection no more bytes are held than may be, and each request that waits is of a
+    /// connection of its own, which is open and owed a reply. It does nothing.
+    pub fn always_sound(&self)
+        ensures { IsSound self.now }
+    {
+        // The prover knows what always holds where a field is read.
+        let _slots = &self.slots;
     }
 
     /// A connection is opened; what was held of an earlier one of this number is given up.
@@ -63,6 +82,7 @@ impl HttpBind {
         ensures others { OthersStay c self.old self.new }
     {
         self.slots[c as usize].open(now);
+        self.waits.remove(c);
     }
 
     /// Bytes came on a connection; where it isn't open nothing happens. There is room for them once `next` was `Idle`.
@@ -77,15 +97,16 @@ impl HttpBind {
         self.slots[c as usize].append(piece, now);
     }
 
-    /// A connection isn't open any more: its peer ended it, or it is closed.
+    /// A connection isn't open any more: its peer ended it, or it is closed. Nobody waits on it any more.
     pub fn ended(&mut self, c: u32)
         requires { c < 64 }
         ensures leads { Leads (Ended c) self.old self.new }
-        ensures held { self.new ≡ with_held c None self.old }
+        ensures held { self.new ≡ with_held c None (without_wait_of c self.old) }
         ensures room { HasRoom c self.new }
         ensures others { OthersStay c self.old self.new }
     {
         self.slots[c as usize].free();
+        self.waits.remove(c);
     }
 
     /// What to do next on a connection. A message is taken, also where its path is out of memory. The query and the
@@ -100,12 +121,12 @@ impl HttpBind {
         ensures others { OthersStay c self.old self.new }
     {
         let found = take(&mut self.slots, c, self.alloc, room);
+        forget_wait(&mut self.waits, c, &found);
         lend(found, room)
     }
 
-    /// The reply to the message that was taken last from a connection. Its head is in `out`; its payload is the
-    /// outcome's text, or its word in `word`. It asks that the connection is open and no more: that follows from what
-    /// `next` ensures.
+    /// What comes of the request that was taken last from a connection: it waits, or it is replied. The head of a reply
+    /// is in `out`; its payload is the outcome's text, or its word in `word`.
     pub fn answered<'a>(
         &mut self,
         c: u32,
@@ -115,20 +136,50 @@ impl HttpBind {
         word: &'a mut [u8; 32],
     ) -> HttpOut<'a>
         requires connection { c < 64 }
-        requires open { IsOpen c self.old }
-        ensures leads { (request : PlainRequest) → IsAskedBy c request self.old
-            → Leads (Replies c request outcome.now now (result.head.now ++ result.body.now) result.close) self.old self.new }
-        ensures head { result.head.now ≡ reply_head result.close outcome.now }
+        requires owed { IsOwed c self.old }
+        ensures leads { Leads (Answers c outcome.now now (sent_in result)) self.old self.new }
+        ensures head { result.head.now ≡ unwrap_or (reply_head result.close outcome.now) [] }
         ensures left { left_at c self.new ≤ left_at c self.old }
+        ensures room { HasRoom c self.old → HasRoom c self.new }
         ensures others { OthersStay c self.old self.new }
     {
-        let (bodiless, close) = self.slots[c as usize].answer(now);
-        let payload = payload(outcome, word);
-        let length = put_answer(outcome, payload.len(), close, out);
+        match outcome {
+            Outcome::Wait(target) => {
+                self.begin_wait(c, *target, now);
+                HttpOut::of_a_wait()
+            }
+            _ => self.reply(c, outcome, now, out, word),
+        }
+    }
+
+    /// The reply to a request that waits: with the text that was emitted, or without one, if there was none for 60
+    /// seconds. Its head is in `out`.
+    pub fn woken<'a>(
+        &mut self,
+        c: u32,
+        text: Option<&'a [u8]>,
+        now: u64,
+        out: &'a mut [u8; 4096],
+    ) -> HttpOut<'a>
+        requires waits { IsWaiting c self.old }
+        requires text { IfSome text (λ t. length t.now ≤ longest_text) }
+        ensures leads { Leads (Wakes c (option_map (λ t. t.now) text.entry) now (result.head.now ++ result.body.now) result.close) self.old self.new }
+        ensures sent { result.waits ≡ false }
+        ensures head { Some result.head.now ≡ reply_head result.close (woken_by (option_map (λ t. t.now) text.entry)) }
+        ensures left { left_at c self.new ≤ left_at c self.old }
+        ensures room { HasRoom c self.old → HasRoom c self.new }
+        ensures fewer { length self.new.waits < length self.old.waits }
+        ensures others { OthersStay c self.old self.new }
+    {
+        // For the proof: who waits is owed a reply.
+        self.always_sound();
+        let owed = self.settle(c, now);
+        let length = put_woken(text, owed.closes, out);
         HttpOut {
             head: &out[..length],
-            body: body_of(bodiless, payload),
-            close,
+            body: body_of(owed.bodiless, text_of(text)),
+            close: owed.closes,
+            waits: false,
         }
     }
 
@@ -158,10 +209,30 @@ impl HttpBind {
             head: &out[..length],
             body: &word[..end],
             close: status != 100,
+            waits: false,
         }
     }
 
-    /// The lowest connection whose last activity (its opening, bytes, or a reply) was 120,000 ms ago or longer.
+    /// The connection that waits longest for an emission of this target.
+    pub fn waiting(&self, target: u32) -> Option<u32>
+        ensures first { result ≡ oldest_for target self.now.waits }
+        ensures waits { (c : ℕ) → result ≡ Some c → IsWaiting c self.now }
+        ensures bound { (c : ℕ) → result ≡ Some c → c < 64 }
+    {
+        self.waits.oldest_for(target)
+    }
+
+    /// The connection that waits longest, of those that have waited for 60,000 ms or longer.
+    pub fn late(&self, now: u64) -> Option<u32>
+        ensures first { result ≡ oldest_late now self.now.waits }
+        ensures waits { (c : ℕ) → result ≡ Some c → IsWaiting c self.now }
+        ensures bound { (c : ℕ) → result ≡ Some c → c < 64 }
+    {
+        self.waits.oldest_late(now)
+    }
+
+    /// The lowest connection that is owed no reply and whose last activity (its opening, bytes, or a reply) was 120,000
+    /// ms ago or longer.
     pub fn idle(&self, now: u64) -> Option<u32>
         ensures idle { (c : ℕ) → result ≡ Some c → (s : Streams) → StandsFor self.now s → IsIdle c now s }
         ensures none { result ≡ None → (s : Streams) → StandsFor self.now s → NoneIdle now s }
@@ -174,13 +245,61 @@ impl HttpBind {
         }
     }
 
+    /// The request that was taken last from a connection waits for an emission of a target.
+    fn begin_wait(&mut self, c: u32, target: u32, now: u64)
+        requires { IsOwed c self.old }
+        ensures { self.new ≡ with_wait c target now self.old }
+    {
+        self.waits.remove(c);
+        self.waits.push(Wait {
+            connection: c,
+            target,
+            since: now,
+        });
+    }
+
+    /// The reply to the request that was taken last from a connection.
+    fn reply<'a>(
+        &mut self,
+        c: u32,
+        outcome: &'a Outcome,
+        now: u64,
+        out: &'a mut [u8; 4096],
+        word: &'a mut [u8; 32],
+    ) -> HttpOut<'a>
+        requires owed { IsOwed c self.old }
+        requires status { HasStatus outcome.now }
+        ensures { Replied c now outcome.now self.old result self.new }
+    {
+        let owed = self.settle(c, now);
+        let payload = payload(outcome, word);
+        let length = put_answer(outcome, payload.len(), owed.closes, out);
+        HttpOut {
+            head: &out[..length],
+            body: body_of(owed.bodiless, payload),
+            close: owed.closes,
+            waits: false,
+        }
+    }
+
+    /// The request that was taken last from a connection is replied to, and waits no longer if it did. Returns what was
+    /// owed to it.
+    fn settle(&mut self, c: u32, now: u64) -> Owed
+        requires { IsOwed c self.old }
+        ensures { SettlesAt c now self.old result self.new }
+    {
+        self.waits.remove(c);
+        self.slots[c as usize].settle(now)
+    }
+
     /// Gives up a connection that doesn't go on.
     fn free_unless(&mut self, c: u32, goes_on: bool)
         requires { c < 64 }
-        ensures { self.new ≡ (if goes_on then self.old else with_held c None self.old) }
+        ensures { self.new ≡ (if goes_on then self.old else with_held c None (without_wait_of c self.old)) }
     {
         if !goes_on {
             self.slots[c as usize].free();
+            self.waits.remove(c);
         }
     }
 }
@@ -198,6 +317,16 @@ fn body_of(bodiless: bool, payload: &[u8]) -> &[u8]
     ensures { result.now ≡ (if bodiless then [] else payload.now) }
 {
     if bodiless { &[] } else { payload }
+}
+
+/// The text that is sent to a request that waited; nothing, where there is none.
+fn text_of(text: Option<&[u8]>) -> &[u8]
+    ensures { result.now ≡ unwrap_or (option_map (λ t. t.now) text.entry) [] }
+{
+    match text {
+        Some(text) => text,
+        None => &[],
+    }
 }
 
 /// The room for the query and the body of a request, which `next` asks for.
@@ -227,6 +356,15 @@ fn take(slots: &mut Vec<Slot>, c: u32, alloc: Global, room: &mut [u8]) -> Found
     slots[c as usize].next(alloc, room)
 }
 
+/// Where a request that waits was interrupted, it waits no longer.
+fn forget_wait(waits: &mut Waits, c: u32, found: &Found)
+    ensures { waits.new ≡ waits_after found.now c waits.old }
+{
+    if matches!(found, Found::Interrupted) {
+        waits.remove(c);
+    }
+}
+
 /// What was found, with the query and the body of a request, which lie in `room`.
 fn lend(found: Found, room: &[u8]) -> HttpNext<'_>
     requires { MayLend found room.now }
@@ -234,6 +372,7 @@ fn lend(found: Found, room: &[u8]) -> HttpNext<'_>
 {
     match found {
         Found::Nothing => HttpNext::Idle,
+        Found::Interrupted => HttpNext::Close,
         Found::Continue => HttpNext::Continue,
         Found::Fault(status) => HttpNext::Refuse(status),
         Found::Message(_, None) => HttpNext::Memory,

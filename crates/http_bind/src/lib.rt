@@ -1,7 +1,7 @@
 //! The connections of an HTTP/1.1 server (RFC 9112, sections 9.3 and 9.6): what has come of each stream and
-//! wasn't taken yet, which message is at its front, and how an outcome is replied. There is no socket and no
-//! clock here: pieces of bytes and moments are handed in, requests and replies are handed out. `HttpBind` and
-//! `HttpNext` carry everything.
+//! wasn't taken yet, which message is at its front, how an outcome is replied, and which requests wait (long polls).
+//! There is no socket and no clock here: pieces of bytes and moments are handed in, requests and replies are handed
+//! out. `HttpBind` and `HttpNext` carry everything.
 //!
 //! ```text
 //! let mut http = HttpBind::new(alloc)?;
@@ -11,12 +11,17 @@
 //! loop {
 //!     let outcome = match http.next(0, &mut room) {
 //!         HttpNext::Idle => break,
+//!         HttpNext::Close => { close(0); break }
 //!         HttpNext::Ask(request) => perform(&request),
 //!         HttpNext::Memory => Outcome::Memory,
 //!         HttpNext::Continue => { send(http.refused(0, 100, &mut out, &mut word)); continue }
 //!         HttpNext::Refuse(status) => { send(http.refused(0, status, &mut out, &mut word)); continue }
 //!     };
 //!     send(http.answered(0, &outcome, now, &mut out, &mut word));
+//! }
+//! // Nothing was sent for a request whose outcome is `Wait`, until its target emits.
+//! while let Some(c) = http.waiting(target) {
+//!     send(http.woken(c, Some(text), now, &mut out));
 //! }
 //! ```
 //!
@@ -33,8 +38,10 @@ mod laws;
 mod looking;
 mod next;
 mod out;
+mod owed;
 mod place;
 mod slot;
+mod waits;
 mod writing;
 
 pub use bind::{HttpBind, ROOM, new_room};

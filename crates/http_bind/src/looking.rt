@@ -8,6 +8,7 @@ ghost use Rattle.http_bind.specs.Replying.{is_head as is_head_verb};
 ghost use Rattle.http_bind.specs.Streams.{expected};
 ghost use Rattle.http_bind.specs.Looking.{room_size, Shows, ShowsMessage, IsWithin};
 
+use crate::owed::Owed;
 use http_wire::{Body, Head, RequestParts, Scanned, TargetFault, request_of, scan, verb_of};
 use std::alloc::Global;
 use thing_ops::Verb;
@@ -17,10 +18,8 @@ use thing_ops::Verb;
 pub struct Step {
     /// How many bytes the message has.
     pub used: usize,
-    /// It is a HEAD request.
-    pub bodiless: bool,
-    /// It asks that the connection be closed.
-    pub closes: bool,
+    /// What is owed to it.
+    pub owed: Owed,
 }
 
 /// What is at the front of the bytes that are held.
@@ -28,6 +27,8 @@ pub struct Step {
 pub enum Found {
     /// Nothing that can be taken.
     Nothing,
+    /// Bytes behind a request that isn't replied to yet.
+    Interrupted,
     /// A message that asks for a 100 reply, which wasn't sent.
     Continue,
     /// A fault with this status.
@@ -90,8 +91,10 @@ fn look_at_message(
 {
     let step = Step {
         used,
-        bodiless: is_head(verb_of(head.method)),
-        closes: head.close,
+        owed: Owed {
+            bodiless: is_head(verb_of(head.method)),
+            closes: head.close,
+        },
     };
     match request_of(alloc, head, body, room) {
         Ok(parts) => Found::Message(step, Some(parts)),

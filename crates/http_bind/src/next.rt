@@ -5,7 +5,7 @@ use thing_ops::Request;
 /// What to do next on a connection.
 #[derive(Drop)]
 pub enum HttpNext<'a> {
-    /// Nothing: it isn't open, or its next message isn't whole.
+    /// Nothing: it isn't open, its next message isn't whole, or a request waits and nothing came behind it.
     Idle,
     /// The 100 reply has to be sent, by `refused` with the status 100.
     Continue,
@@ -15,4 +15,6 @@ pub enum HttpNext<'a> {
     Refuse(u16),
     /// A request was taken, and reading it is out of memory: the outcome `Memory` has to be answered.
     Memory,
+    /// Bytes came behind a request that waits: the connection was given up, and has to be closed without a reply.
+    Close,
 }

@@ -1,6 +1,7 @@
 //! A reply as it is sent: its head, and its payload.
 
-/// What to send on a connection: the bytes of `head`, and after them those of `body`.
+/// What to send on a connection: the bytes of `head`, and after them those of `body`. While a request waits, both are
+/// empty.
 #[derive(Debug, Drop)]
 pub struct HttpOut<'a> {
     /// The status line, the header lines and the empty line.
@@ -9,4 +10,25 @@ pub struct HttpOut<'a> {
     pub body: &'a [u8],
     /// The connection is closed after it.
     pub close: bool,
+    /// The request waits: nothing is sent yet.
+    pub waits: bool,
+}
+
+impl HttpOut<'_> {
+    ghost use Rattle.std.specs.Prelude.{◌≡◌, [], true, false};
+
+    /// Nothing is sent, because the request waits.
+    pub(crate) fn of_a_wait() -> HttpOut<'static>
+        ensures head { result.head.now ≡ [] }
+        ensures body { result.body.now ≡ [] }
+        ensures close { result.close ≡ false }
+        ensures waits { result.waits ≡ true }
+    {
+        HttpOut {
+            head: &[],
+            body: &[],
+            close: false,
+            waits: true,
+        }
+    }
 }

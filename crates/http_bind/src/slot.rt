@@ -1,8 +1,9 @@
 //! What is held of one connection: the rest of its stream, and what is known of its last message.
 
-ghost use Rattle.std.specs.Prelude.{◌≡◌, ◌≤◌, length, drop, option_map, vec_capacity, IfOk};
+ghost use Rattle.std.specs.Prelude.{◌≡◌, ◌≤◌, length, drop, option_map, vec_capacity, IfOk, is_some, IsSome};
 
 use crate::looking::{Found, look};
+use crate::owed::Owed;
 use http_wire::skip_pairs;
 use std::alloc::Global;
 use std::marker::Model;
@@ -19,10 +20,8 @@ const IDLE_AFTER: u64 = 120_000;
 pub struct State {
     /// The 100 reply was sent for the message at the front.
     pub continued: bool,
-    /// The message taken last is a HEAD request.
-    pub bodiless: bool,
-    /// The message taken last asks that the connection be closed.
-    pub closes: bool,
+    /// What is owed to the request taken last, until it is replied to.
+    pub owed: Option<Owed>,
     /// The moment of the last activity.
     pub active: u64,
 }
@@ -64,9 +63,9 @@ impl Model for Slot {
 }
 
 impl Slot {
-    ghost use Rattle.http_bind.specs.Slots.{held_at_opening, without_pairs, longer, is_idle, HasRoomFor};
+    ghost use Rattle.http_bind.specs.Slots.{held_at_opening, without_pairs, longer, owed_in, is_idle, HasRoomFor};
     ghost use Rattle.http_bind.specs.Looking.{room_size};
-    ghost use Rattle.http_bind.specs.Shown.{ShowsIfOpen, after_finding, MayPass, Passes, Answers};
+    ghost use Rattle.http_bind.specs.Shown.{ShowsIfOpen, after_finding, MayPass, LooksBehind, TakesFront, Passes, Settles};
 
     /// A connection that isn't open. Its memory is taken here.
     pub fn new(alloc: Global) -> Result<Slot, NoMemory>
@@ -88,8 +87,7 @@ impl Slot {
         self.start = 0;
         self.state = Some(State {
             continued: false,
-            bodiless: false,
-            closes: false,
+            owed: None,
             active: now,
         });
     }
@@ -114,10 +112,46 @@ impl Slot {
         }
     }
 
-    /// Takes what is at the front: a message, or the request for a 100 reply. A fault stays there.
+    /// Takes what is at the front: a message, or the request for a 100 reply. A fault stays there. Where a reply is
+    /// owed, nothing is taken, and a connection is given up that has bytes.
     pub fn next(&mut self, alloc: Global, room: &mut [u8]) -> Found
         requires { room_size ≤ length room.old }
         ensures { Passes self.old result self.new room.new }
+    {
+        if self.is_owed() {
+            self.look_behind()
+        } else {
+            self.take_front(alloc, room)
+        }
+    }
+
+    /// Whether a reply is owed to the request taken last.
+    fn is_owed(&self) -> bool
+        ensures { result ≡ is_some (owed_in self.now) }
+    {
+        match self.state {
+            None => false,
+            Some(state) => state.owed.is_some(),
+        }
+    }
+
+    /// Whether bytes came behind a request that a reply is owed to, CR LF pairs too; then the connection is given up.
+    fn look_behind(&mut self) -> Found
+        requires { IsSome (owed_in self.old) }
+        ensures { LooksBehind self.old result self.new }
+    {
+        if behind(&self.bytes, self.start).is_empty() {
+            Found::Nothing
+        } else {
+            self.state = None;
+            Found::Interrupted
+        }
+    }
+
+    /// Takes what is at the front, where no reply is owed.
+    fn take_front(&mut self, alloc: Global, room: &mut [u8]) -> Found
+        requires room { room_size ≤ length room.old }
+        ensures { TakesFront self.old result self.new room.new }
     {
         self.skip_pairs();
         let found = self.look(alloc, room);
@@ -157,7 +191,7 @@ impl Slot {
     {
         if let Some(state) = self.state {
             match found {
-                Found::Nothing | Found::Fault(_) => {}
+                Found::Nothing | Found::Interrupted | Found::Fault(_) => {}
                 Found::Continue => {
                     self.state = Some(State {
                         continued: true,
@@ -168,8 +202,7 @@ impl Slot {
                     self.start += step.used;
                     self.state = Some(State {
                         continued: false,
-                        bodiless: step.bodiless,
-                        closes: step.closes,
+                        owed: Some(step.owed),
                         active: state.active,
                     });
                 }
@@ -177,31 +210,34 @@ impl Slot {
         }
     }
 
-    /// The message taken last is replied to. Returns whether the reply has no payload, and whether the connection is
-    /// closed after it.
-    pub fn answer(&mut self, now: u64) -> (bool, bool)
-        ensures { Answers now self.old result self.new }
+    /// The request taken last is replied to, and the connection given up where that was asked. Returns what was owed.
+    pub fn settle(&mut self, now: u64) -> Owed
+        requires { IsSome (owed_in self.old) }
+        ensures { Settles now self.old result self.new }
     {
-        match self.state {
-            None => (false, false),
-            Some(state) => {
-                self.state = if state.closes {
-                    None
-                } else {
-                    Some(state.active_at(now))
-                };
-                (state.bodiless, state.closes)
-            }
-        }
+        let state = self.state.unwrap();
+        let owed = state.owed.unwrap();
+        self.state = if owed.closes {
+            None
+        } else {
+            Some(State {
+                owed: None,
+                active: now,
+                ..state
+            })
+        };
+        owed
     }
 
-    /// Whether there was no activity for so long that the connection may be closed.
+    /// Whether no reply is owed, and there was no activity for so long that the connection may be closed.
     pub fn is_idle(&self, now: u64) -> bool
         ensures { result ≡ is_idle now self.now }
     {
         match self.state {
             None => false,
-            Some(state) => now.saturating_sub(state.active) >= IDLE_AFTER,
+            Some(state) => {
+                state.owed.is_none() && now.saturating_sub(state.active) >= IDLE_AFTER
+            }
         }
     }
 }

@@ -1,12 +1,14 @@
 //! The head and the payload of replies, written into a caller's room.
 
 ghost use Rattle.std.specs.Prelude.{◌≡◌, ◌≤◌, ◌⊎◌, ◌∷◌, [], codes, length, option_map, take, Some, None, IsSome};
-ghost use Rattle.thing_ops.specs.Outcomes.{payload_of};
+ghost use Rattle.thing_ops.specs.Outcomes.{answer_of, payload_of, HasStatus};
 ghost use Rattle.http_wire.specs.Writing.{http_reply, phrase_of};
 ghost use Rattle.http_wire.specs.Replies.{plain_reply};
 ghost use Rattle.http_bind.specs.Places.{path_text};
-ghost use Rattle.http_bind.specs.Replying.{status_of, media_type_of, location_of, allow_of, head_of, reply_head, longest_reply_head, fault_word as word_of_fault, fault_body, status_head};
-ghost use Rattle.http_bind.specs.Written.{PutsPlaced, IsShortReply};
+ghost use Rattle.http_bind.specs.Replying.{media_type_of, location_of, allow_of, head_of, head_with, reply_head, longest_reply_head, fault_word as word_of_fault, fault_body, status_head};
+ghost use Rattle.http_bind.specs.Streams.{woken_by};
+ghost use Rattle.http_bind.specs.Written.{PutsPlaced, IsShortReply, head_of_text};
+ghost use Rattle.thing_ops.specs.declared.outcome.Outcome.TheVariants as outcome;
 
 use crate::place::{put_entry, put_path};
 use http_wire::{Reply, put_reply};
@@ -15,6 +17,9 @@ use wot_json::Text;
 
 /// The most bytes of the head of a reply.
 pub const LONGEST_HEAD: usize = 4096;
+
+/// The media type of values and lists.
+const JSON: &str = "application/json";
 
 /// The media type of words (RFC 9110, section 8.3.1).
 const PLAIN_TEXT: &str = "text/plain;charset=utf-8";
@@ -32,6 +37,16 @@ pub fn payload<'a>(outcome: &'a Outcome, out: &'a mut [u8; LONGEST_WORD]) -> &'a
     }
 }
 
+/// What the head of each reply says.
+#[derive(Clone, Copy, Drop)]
+struct Basics {
+    status: u16,
+    /// How many bytes the payload has.
+    size: usize,
+    /// It is the last reply of its connection.
+    close: bool,
+}
+
 /// Writes the head of the reply of an outcome to the beginning of `out`, and returns its length. The
 /// payload has this many bytes.
 pub fn put_answer(
@@ -40,104 +55,153 @@ pub fn put_answer(
     close: bool,
     out: &mut [u8; LONGEST_HEAD],
 ) -> usize
-    requires { size ≡ length (payload_of outcome.now) }
-    ensures text { take result out.new ≡ reply_head close outcome.now }
+    requires status { HasStatus outcome.now }
+    requires size { size ≡ length (payload_of outcome.now) }
+    ensures text { reply_head close outcome.now ≡ Some (take result out.new) }
     ensures within { result ≤ 4096 }
 {
-    match put_placed(outcome, size, close, out) {
+    let basics = Basics {
+        status: status(outcome),
+        size,
+        close,
+    };
+    put_head(outcome, basics, out)
+}
+
+/// Writes the head of the reply that is sent for a text that a request waited for, or where there was none.
+pub fn put_woken(text: Option<&[u8]>, close: bool, out: &mut [u8; LONGEST_HEAD]) -> usize
+    ensures text { reply_head close (woken_by (option_map (λ t. t.now) text.entry)) ≡ Some (take result out.new) }
+    ensures within { result ≤ 4096 }
+{
+    match text {
+        Some(text) => put_content(text.len(), close, out),
+        None => put_empty(close, out),
+    }
+}
+
+/// Writes the head of the reply with a text of this many bytes.
+fn put_content(size: usize, close: bool, out: &mut [u8]) -> usize
+    requires room { length out.old ≡ longest_reply_head }
+    ensures text { take result out.new ≡ http_reply (head_of_text size close) }
+    ensures within { result ≤ longest_reply_head }
+{
+    let reply = Reply {
+        status: 200,
+        content_type: Some(JSON),
+        location: None,
+        allow: None,
+        length: Some(size),
+        close,
+    };
+    put_short(&reply, out)
+}
+
+/// Writes the head of the reply that says that there is nothing.
+fn put_empty(close: bool, out: &mut [u8]) -> usize
+    requires room { length out.old ≡ longest_reply_head }
+    ensures text { take result out.new ≡ http_reply (head_of 204 close None outcome.Empty) }
+    ensures within { result ≤ longest_reply_head }
+{
+    let reply = Reply {
+        status: 204,
+        content_type: None,
+        location: None,
+        allow: None,
+        length: Some(0),
+        close,
+    };
+    put_short(&reply, out)
+}
+
+/// Writes the head of the reply of an outcome, with its place if it has one and there is room.
+fn put_head(outcome: &Outcome, basics: Basics, out: &mut [u8]) -> usize
+    requires phrase { IsSome (phrase_of basics.status) }
+    requires size { basics.size ≡ length (payload_of outcome.now) }
+    requires room { length out.old ≡ longest_reply_head }
+    ensures text { take result out.new ≡ head_with basics.close outcome.now basics.status }
+    ensures within { result ≤ longest_reply_head }
+{
+    match put_placed(outcome, basics, out) {
         Some(end) => end,
-        None => put_plain(outcome, size, close, out),
+        None => put_plain(outcome, basics, out),
     }
 }
 
 /// Writes the head of a reply with its place, if it has one and there is room.
-fn put_placed(outcome: &Outcome, size: usize, close: bool, out: &mut [u8]) -> Option<usize>
-    requires size { size ≡ length (payload_of outcome.now) }
+fn put_placed(outcome: &Outcome, basics: Basics, out: &mut [u8]) -> Option<usize>
+    requires phrase { IsSome (phrase_of basics.status) }
+    requires size { basics.size ≡ length (payload_of outcome.now) }
     requires room { length out.old ≡ longest_reply_head }
-    ensures { PutsPlaced close outcome.now out.new result }
+    ensures { PutsPlaced basics.status basics.close outcome.now out.new result }
 {
     match outcome {
-        Outcome::Started(place, _) => put_started(outcome, place, size, close, out),
-        Outcome::Created(Some(id)) => put_created(outcome, id, size, close, out),
+        Outcome::Started(place, _) => put_started(outcome, place, basics, out),
+        Outcome::Created(Some(id)) => put_created(outcome, id, basics, out),
         _ => None,
     }
 }
 
 /// Writes the head of a reply with the path of these segments as its place, if there is room.
-fn put_started(
-    outcome: &Outcome,
-    place: &Segments,
-    size: usize,
-    close: bool,
-    out: &mut [u8],
-) -> Option<usize>
-    requires size { size ≡ length (payload_of outcome.now) }
+fn put_started(outcome: &Outcome, place: &Segments, basics: Basics, out: &mut [u8]) -> Option<usize>
+    requires phrase { IsSome (phrase_of basics.status) }
+    requires size { basics.size ≡ length (payload_of outcome.now) }
     requires room { length out.old ≡ longest_reply_head }
     requires place { location_of outcome.now ≡ Some (path_text place.now) }
-    ensures { PutsPlaced close outcome.now out.new result }
+    ensures { PutsPlaced basics.status basics.close outcome.now out.new result }
 {
     let mut path = [0; LONGEST_HEAD];
     let end = put_path(place, &mut path)?;
-    put_at(outcome, &path[..end], size, close, out)
+    put_at(outcome, &path[..end], basics, out)
 }
 
 /// Writes the head of a reply with the path of an entry of the directory as its place, if there is room.
-fn put_created(
-    outcome: &Outcome,
-    id: &Text,
-    size: usize,
-    close: bool,
-    out: &mut [u8],
-) -> Option<usize>
-    requires size { size ≡ length (payload_of outcome.now) }
+fn put_created(outcome: &Outcome, id: &Text, basics: Basics, out: &mut [u8]) -> Option<usize>
+    requires phrase { IsSome (phrase_of basics.status) }
+    requires size { basics.size ≡ length (payload_of outcome.now) }
     requires room { length out.old ≡ longest_reply_head }
     requires place { location_of outcome.now ≡ Some (path_text (codes "things" ∷ id.now ∷ [])) }
-    ensures { PutsPlaced close outcome.now out.new result }
+    ensures { PutsPlaced basics.status basics.close outcome.now out.new result }
 {
     let mut path = [0; LONGEST_HEAD];
     let end = put_entry(id.as_str().as_bytes(), &mut path)?;
-    put_at(outcome, &path[..end], size, close, out)
+    put_at(outcome, &path[..end], basics, out)
 }
 
 /// Writes the head of a reply with this place, if there is room.
-fn put_at(
-    outcome: &Outcome,
-    place: &[u8],
-    size: usize,
-    close: bool,
-    out: &mut [u8],
-) -> Option<usize>
-    requires size { size ≡ length (payload_of outcome.now) }
+fn put_at(outcome: &Outcome, place: &[u8], basics: Basics, out: &mut [u8]) -> Option<usize>
+    requires phrase { IsSome (phrase_of basics.status) }
+    requires size { basics.size ≡ length (payload_of outcome.now) }
     requires room { length out.old ≡ longest_reply_head }
     requires place { location_of outcome.now ≡ Some place.now }
-    ensures { PutsPlaced close outcome.now out.new result }
+    ensures { PutsPlaced basics.status basics.close outcome.now out.new result }
 {
     let reply = Reply {
-        status: status(outcome),
+        status: basics.status,
         content_type: media_type(outcome),
         location: Some(place),
         allow: None,
-        length: Some(size),
-        close,
+        length: Some(basics.size),
+        close: basics.close,
     };
     put_reply(&reply, out)
 }
 
 /// Writes the head of a reply without its place.
-fn put_plain(outcome: &Outcome, size: usize, close: bool, out: &mut [u8]) -> usize
-    requires size { size ≡ length (payload_of outcome.now) }
+fn put_plain(outcome: &Outcome, basics: Basics, out: &mut [u8]) -> usize
+    requires phrase { IsSome (phrase_of basics.status) }
+    requires size { basics.size ≡ length (payload_of outcome.now) }
     requires room { length out.old ≡ longest_reply_head }
-    ensures text { take result out.new ≡ http_reply (head_of close None outcome.now) }
+    ensures text { take result out.new ≡ http_reply (head_of basics.status basics.close None outcome.now) }
     ensures within { result ≤ longest_reply_head }
 {
     let mut room = [0; LONGEST_LINE];
     let reply = Reply {
-        status: status(outcome),
+        status: basics.status,
         content_type: media_type(outcome),
         location: None,
         allow: allow(outcome, &mut room),
-        length: Some(size),
-        close,
+        length: Some(basics.size),
+        close: basics.close,
     };
     put_short(&reply, out)
 }
@@ -153,15 +217,13 @@ fn put_short(reply: &Reply<'_>, out: &mut [u8]) -> usize
     put_reply(reply, out).unwrap()
 }
 
-/// The status of an outcome. Nothing waits yet: what would wait is answered as if there was nothing at its path.
+/// The status of an outcome.
 fn status(outcome: &Outcome) -> u16
-    ensures status { result ≡ status_of outcome.now }
+    requires { HasStatus outcome.now }
+    ensures status { (answer_of outcome.now).status ≡ Some result }
     ensures phrase { IsSome (phrase_of result) }
 {
-    match outcome {
-        Outcome::Wait(_) => 404,
-        _ => http_status(outcome),
-    }
+    http_status(outcome)
 }
 
 /// The media type of the payload of an outcome.
@@ -174,7 +236,7 @@ fn media_type(outcome: &Outcome) -> Option<&'static str>
         | Outcome::Content(_)
         | Outcome::Output(_)
         | Outcome::Started(_, _)
-        | Outcome::Listed(_) => Some("application/json"),
+        | Outcome::Listed(_) => Some(JSON),
         Outcome::Empty | Outcome::Changed | Outcome::Deleted | Outcome::Created(_) => None,
         Outcome::Wait(_)
         | Outcome::NotFound

@@ -2,7 +2,7 @@
 use Rattle.std.proofs.Common.{◌≡◌, ℕ, zero, suc, ◌<◌, ◌≤◌, List, [], ◌∷◌, map, Bool, true, false, refl, sym, ap, subst, ◌∙◌, arith}
 use Rattle.std.specs.Prelude.{Option, Some, None, ◌==◌, IsSome}
 use Rattle.std.proofs.lemmas.Bool.{eqb-true}
-use Rattle.servient_base.specs.Moves.{Passing, is_done, Makes, Refines}
+use Rattle.servient_base.specs.Moves.{Then, is_done, Makes, Refines}
 use Rattle.servient_base.proofs.MovesLaws.{refines_goes_on, refines_is_done}
 use Rattle.thing_ops.specs.declared.outcome.Outcome.{Outcome}
 use Rattle.thing_ops.specs.declared.outcome.Outcome.TheVariants as outcome
@@ -14,22 +14,23 @@ use Rattle.thing_site.specs.Site.{Site}
 use Rattle.thing_core.specs.Thing.{Done, only, Acts, has_no_memory}
 use Rattle.thing_core.specs.Kept.{Kept}
 use Rattle.http_bind.specs.Replying.{fault_word}
-use Rattle.http_bind.specs.Streams.{Streams, asks, wants_continue, is_faulty, Takes, IsDry, Replies, Continues, Refuses, Ended, Closes, IsIdle, NoneIdle}
-use Rattle.http_bind.specs.Slots.{Held, Slots, Leads, StandsFor as ConnectionsStandFor, OthersStay, IsOpen, with_held, HasRoomFor, longest_piece}
+use Rattle.http_bind.specs.Streams.{Streams, asks, wants_continue, is_faulty, interrupts, Takes, IsDry, Answers, Continues, Refuses, Ended, Closes, IsIdle, NoneIdle}
+use Rattle.http_bind.specs.Slots.{Held, Slots, Leads, StandsFor as ConnectionsStandFor, place_at, with_place, HasRoom}
 use Rattle.coap_bind.specs.declared.server.Server.{Server}
-use Rattle.std.specs.List.{AllByRecursion}
 use Rattle.http_bind.specs.Given.{StaysDry as StreamStaysDry}
 use Rattle.servient_outside.specs.declared.net.Act.{Act}
 use Rattle.servient_outside.specs.declared.net.Act.TheVariants as act
 use Rattle.servient_outside.specs.Network.{Happening, NetSeen, NetShows, did}
 use Rattle.servient_outside.proofs.NetLaws.{net_shows_then}
 use Rattle.servient_core.specs.Trace.{at_network, happened_in, calls_in, Outside, outside, Shows}
-use Rattle.servient_core.specs.Machine.{State, OnHttp, Does, Performs, acts_of_reply, Sends, AnswersTaken, TakesNextMessage, TakesEveryMessage, ClosesIdle, ClosesAllIdle}
+use Rattle.servient_core.specs.Machine.{State, OnHttp, Does, Performs, DeliversEach, acts_of_reply, Sends, SendsIfAny, AnswersMessage, AnswersTaken, TakesNextMessage, TakesEveryMessage, ClosesIdle, ClosesAllIdle}
 use Rattle.servient_core.specs.Serving.{StandsFor, IsReady}
-use Rattle.servient_core.specs.Connections.{IsOn, SendsReply, SendsContinue, SendsRefusal, StaysDry}
+use Rattle.servient_core.specs.Keeping.{OthersKeep}
+use Rattle.servient_core.specs.Connections.{IsOn, SendsAnswer, SendsContinue, SendsRefusal, StaysDry, acts_of_answer}
 use Rattle.servient_core.specs.declared.parts.Parts.{Parts}
 use Rattle.servient_core.proofs.TraceLaws.{shows_in_order}
-use Rattle.servient_core.proofs.PartLaws.{refines_http, refines_thing, refines_act, passing_moves, others_same, others_then}
+use Rattle.servient_core.proofs.PartLaws.{refines_http, refines_thing, refines_act, refines_nothing, passing_moves, then_moves}
+use Rattle.servient_core.proofs.LoopLaws.{leaves_same, others_all, others_then}
 
 -- ---- acts
 
@@ -70,32 +71,51 @@ shows_kept c bytes close n m stays sent = subst (λ (b : Bool). NetShows n m (ma
 
 -- ---- one message
 
--- a request is taken, done and replied
-pub takes_request : (site : Site) (c : ℕ) (q : PlainRequest) (done : Done) (o : Outcome) (k : Parts) (b d : Slots) (e : Kept) (n m : NetSeen) (before after : List Seen)
-    → Leads (Takes c (asks q)) k.http b → Makes RackShows (Acts site q done) k.exposed.state e.state before after → done.outcome ≡ o → SendsReply c q o k.moment b d n m
-    → Refines StandsFor Shows (TakesNextMessage site c) k (record k { http = d; exposed = e }) (outside n before) (outside m after)
-takes_request site c q done o k b d e n m before after leads made comes sends =
+-- the reply is sent, if there is one
+sends_if_any : (c : ℕ) (k : Parts) (n m : NetSeen) (slots : List Seen) (reply : Option (List ℕ × Bool)) → NetShows n m (map did (acts_of_answer c reply))
+    → Refines StandsFor Shows (SendsIfAny c reply) k k (outside n slots) (outside m slots)
+sends_if_any c k n m slots None shows = refines_acts k n m slots [] shows
+sends_if_any c k n m slots (Some reply) shows = refines_acts k n m slots (acts_of_reply c reply) shows
+
+-- a request is taken, done and answered, and what is emitted is delivered
+pub takes_request : (site : Site) (c : ℕ) (q : PlainRequest) (done : Done) (o : Outcome) (k l : Parts) (b d : Slots) (e : Kept) (n m : NetSeen) (before after : List Seen) (v : Outside)
+    → Leads (Takes c (asks q)) k.http b → Makes RackShows (Acts site q done) k.exposed.state e.state before after → done.outcome ≡ o → SendsAnswer c o k.moment b d n m
+    → Refines StandsFor Shows (DeliversEach done.emissions) (record k { http = d; exposed = e }) l (outside m after) v
+    → Refines StandsFor Shows (TakesNextMessage site c) k l (outside n before) v
+takes_request site c q done o k l b d e n m before after v leads made comes sends delivers =
     let one : Parts = record k { http = b } in
     let two : Parts = record k { http = b; exposed = e } in
     let three : Parts = record k { http = d; exposed = e } in
-    let reply = sends.reply in
-    let replies = subst (λ (x : Outcome). Leads (Replies c q x k.moment reply.0 reply.1) b d) (sym comes) sends.leads in
-    passing_moves (λ taken. OnHttp (λ now. Takes c taken)) (AnswersTaken site c) (asks q) k one three (outside n before) (outside n before) (outside m after)
+    let answers = subst (λ (x : Outcome). Leads (Answers c x k.moment sends.reply) b d) (sym comes) sends.leads in
+    passing_moves (λ taken. OnHttp (λ now. Takes c taken)) (AnswersTaken site c) (asks q) k one l (outside n before) (outside n before) v
     (refines_http (λ now. Takes c (asks q)) k b (outside n before) leads)
-    (passing_moves (Performs site q) (λ x. Passing (λ (r : List ℕ × Bool). OnHttp (λ now. Replies c q x.outcome now r.0 r.1)) (Sends c)) done
-    one two three (outside n before) (outside n after) (outside m after)
+    (passing_moves (Performs site q) (λ x. Then (AnswersMessage c x) (DeliversEach x.emissions)) done
+    one two l (outside n before) (outside n after) v
     (refines_thing (Acts site q done) one e n before after made)
-    (passing_moves (λ (r : List ℕ × Bool). OnHttp (λ now. Replies c q done.outcome now r.0 r.1)) (Sends c) reply two three three (outside n after) (outside n after) (outside m after)
-    (refines_http (λ now. Replies c q done.outcome now reply.0 reply.1) two d (outside n after) replies)
-    (refines_acts three n m after (acts_of_reply c reply) sends.shows)))
+    (then_moves (AnswersMessage c done) (DeliversEach done.emissions) two three l (outside n after) (outside m after) v
+    (passing_moves (λ reply. OnHttp (λ now. Answers c done.outcome now reply)) (SendsIfAny c) sends.reply two three three (outside n after) (outside n after) (outside m after)
+    (refines_http (λ now. Answers c done.outcome now sends.reply) two d (outside n after) answers)
+    (sends_if_any c three n m after sends.reply sends.shows))
+    delivers))
 
 -- reading it is out of memory
 pub takes_unread : (site : Site) (c : ℕ) (q : PlainRequest) (k : Parts) (b d : Slots) (n m : NetSeen) (slots : List Seen)
-    → Leads (Takes c (asks q)) k.http b → SendsReply c q outcome.Memory k.moment b d n m
+    → Leads (Takes c (asks q)) k.http b → SendsAnswer c outcome.Memory k.moment b d n m
     → Refines StandsFor Shows (TakesNextMessage site c) k (record k { http = d }) (outside n slots) (outside m slots)
 takes_unread site c q k b d n m slots leads sends =
-    takes_request site c q (only outcome.Memory) outcome.Memory k b d k.exposed n m slots slots leads
+    takes_request site c q (only outcome.Memory) outcome.Memory k (record k { http = d }) b d k.exposed n m slots slots (outside m slots) leads
     (record { seen = []; move = has_no_memory (refl, record { next = refl; saw = refl }); shows = rack_shows_none slots }) refl sends
+    (refines_nothing (record k { http = d }) (outside m slots))
+
+-- bytes came behind a request that waits, and the connection is closed
+pub takes_interruption : (site : Site) (c : ℕ) (k : Parts) (b : Slots) (n m : NetSeen) (slots : List Seen)
+    → Leads (Takes c interrupts) k.http b → NetShows n m (did (act.Closed c) ∷ [])
+    → Refines StandsFor Shows (TakesNextMessage site c) k (record k { http = b }) (outside n slots) (outside m slots)
+takes_interruption site c k b n m slots leads shows =
+    let one : Parts = record k { http = b } in
+    passing_moves (λ taken. OnHttp (λ now. Takes c taken)) (AnswersTaken site c) interrupts k one one (outside n slots) (outside n slots) (outside m slots)
+    (refines_http (λ now. Takes c interrupts) k b (outside n slots) leads)
+    (refines_act one n m slots (act.Closed c) shows)
 
 -- the 100 reply is sent
 pub takes_continue : (site : Site) (c : ℕ) (k : Parts) (b d : Slots) (n m : NetSeen) (slots : List Seen)
@@ -152,20 +172,20 @@ pub record Taking (c : ℕ) (first k : Parts) (w v : Outside) : Type 0 where
   pub onward : (e : Parts) (x : Outside) → Refines StandsFor Shows (TakesEveryMessage first.exposed.site c) k e v x
       → Refines StandsFor Shows (TakesEveryMessage first.exposed.site c) first e w x
   pub on : IsOn c k v.slots
-  pub others : OthersStay c first.http k.http
+  pub left : OthersKeep c first.http k.http
   pub site : k.exposed.site ≡ first.exposed.site
 
 pub taking_begins : (c : ℕ) (k : Parts) (w : Outside) → IsOn c k w.slots → Taking c k k w w
-taking_begins c k w on = record { onward = λ e x rest. rest; on = on; others = others_same c k.http; site = refl }
+taking_begins c k w on = record { onward = λ e x rest. rest; on = on; left = others_all c k.http k.http (leaves_same k.http); site = refl }
 
 pub taking_more : (c : ℕ) (first k l : Parts) (w v u : Outside) → Taking c first k w v → Refines StandsFor Shows (TakesNextMessage k.exposed.site c) k l v u
-    → IsOn c l u.slots → OthersStay c k.http l.http → l.exposed.site ≡ k.exposed.site → Taking c first l w u
-taking_more c first k l w v u t step on others same = record {
+    → IsOn c l u.slots → OthersKeep c k.http l.http → l.exposed.site ≡ k.exposed.site → Taking c first l w u
+taking_more c first k l w v u t step on left same = record {
   onward = λ e x rest. t.onward e x
       (refines_goes_on StandsFor Shows shows_in_order (TakesNextMessage first.exposed.site c) (λ (s : State). IsDry c s.http) k l e v u x
       (subst (λ (site : Site). Refines StandsFor Shows (TakesNextMessage site c) k l v u) t.site step) rest);
   on = on;
-  others = others_then c first.http k.http l.http t.others others;
+  left = others_then c first.http k.http l.http t.left left;
   site = same ∙ t.site;
 }
 
@@ -198,7 +218,7 @@ pub record Closing (first k : Parts) (n m : NetSeen) : Type 0 where
 pub closing_begins : (k : Parts) (n : NetSeen) → Closing k k n n
 closing_begins k n = record { onward = λ e l slots rest. rest; exposed = refl; coap = refl; moment = refl }
 
-pub closing_ready : (first k : Parts) (n m : NetSeen) → Closing first k n m → IsReady first → AllByRecursion (HasRoomFor longest_piece) k.http → IsReady k
+pub closing_ready : (first k : Parts) (n m : NetSeen) → Closing first k n m → IsReady first → ((c : ℕ) → HasRoom c k.http) → IsReady k
 closing_ready first k n m t ready room = record {
   pending = ap (λ (x : Kept). x.pending) t.exposed ∙ ready.pending;
   moment = omega (arith, ap (λ (x : Server). x.exchanges.moment) t.coap, t.moment, ready.moment);
@@ -224,24 +244,24 @@ closing_ends first k n m slots t none =
 
 -- ---- how many connections are open
 
-abbrev pub open_count : Slots → ℕ
+abbrev pub open_count : List (Option Held) → ℕ
 open_count [] = 0
 open_count (None ∷ b) = open_count b
 open_count (Some h ∷ b) = suc (open_count b)
 
-fewer : (h : Option Held) (b : Slots) → open_count b ≤ open_count (h ∷ b)
+fewer : (h : Option Held) (b : List (Option Held)) → open_count b ≤ open_count (h ∷ b)
 fewer None b = omega arith
 fewer (Some h) b = omega arith
 
-same_front : (h : Option Held) (b d : Slots) → open_count b < open_count d → open_count (h ∷ b) < open_count (h ∷ d)
+same_front : (h : Option Held) (b d : List (Option Held)) → open_count b < open_count d → open_count (h ∷ b) < open_count (h ∷ d)
 same_front None b d less = less
 same_front (Some h) b d less = omega (arith, less)
 
-pub closing_leaves_fewer : (c : ℕ) (b : Slots) → IsOpen c b → open_count (with_held c None b) < open_count b
+pub closing_leaves_fewer : (c : ℕ) (b : List (Option Held)) → IsSome (place_at c b) → open_count (with_place c None b) < open_count b
 closing_leaves_fewer c [] is_open = absurd (cc)
 closing_leaves_fewer zero (None ∷ b) is_open = absurd (cc)
 closing_leaves_fewer zero (Some h ∷ b) is_open = omega arith
-closing_leaves_fewer (suc c) (h ∷ b) is_open = same_front h (with_held c None b) b (closing_leaves_fewer c b is_open)
+closing_leaves_fewer (suc c) (h ∷ b) is_open = same_front h (with_place c None b) b (closing_leaves_fewer c b is_open)
 
 -- a number that isn't there
 pub none_left : (o : Option ℕ) → ((x : ℕ) → o ≡ Some x → ⊥) → o ≡ None

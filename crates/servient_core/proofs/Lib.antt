@@ -1,6 +1,9 @@
 pub mod TraceLaws
 pub mod PartLaws
+mod LoopLaws
 mod ConnectionLaws
+mod DeliverLaws
+mod EndLaws
 mod ActionPaths
 pub mod OutcomeLaws
 pub mod PathLaws

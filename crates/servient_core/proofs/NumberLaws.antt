@@ -11,11 +11,11 @@ use Rattle.thing_handler.specs.declared.handler.CallKind.TheVariants as call
 use Rattle.thing_handler.specs.declared.handler.Answer.TheVariants as answer
 use Rattle.thing_handler.specs.Turns.{RunTurn, HandlerCall, turns_in, AreNumberedFrom, turn_in}
 use Rattle.thing_handler.proofs.TurnLaws.{numbered_then}
-use Rattle.thing_site.specs.Site.{Placed, Site, events_of}
+use Rattle.thing_site.specs.Site.{Placed, Site}
 use Rattle.thing_core.specs.State.{State, Status, running, completed, Emission}
 use Rattle.thing_site.specs.Places.{Act, describes, reads_all, writes_many, reads, writes, invokes, queries, cancels, reads_event, waits}
 use Rattle.thing_site.specs.Refusals.{Input}
-use Rattle.thing_core.specs.Thing.{Done, Called, no_number, no_memory, gives, failure_of, ReadsValue, ReadsEach, WritesEach, IfDone, Emits, emissions_of_write, Stops, Calls, IsInvoked, IsQueried, Queries, IsCancelled, Cancels, PollsEvent, PollsEach, Polls, Performs, Acts, refuses, has_no_memory, performs, readable}
+use Rattle.thing_core.specs.Thing.{Done, Called, no_number, no_memory, gives, failure_of, ReadsValue, ReadsEach, WritesEach, IfDone, Emits, emissions_of_write, Stops, Calls, IsInvoked, IsQueried, Queries, IsCancelled, Cancels, PollsEvent, Performs, Acts, refuses, has_no_memory, performs, readable}
 use Rattle.thing_core.proofs.ReadLaws.{AfterValue}
 
 -- The turns are numbered on from those that the state has, and are counted.
@@ -183,18 +183,8 @@ acts_count site q done s calls t (refuses o refused answers) = counts_stays s t 
 acts_count site q done s calls t (has_no_memory answers) = counts_stays s t calls answers.1
 acts_count site q done s calls t (performs act inputs free asked given does) = performs_count act q inputs done s calls t does
 
-polled_counts : (p : Placed) (one : List Emission) (s : State) (calls : List HandlerCall) (t : State) → PollsEvent p one s calls t → Counts s calls t
+pub polled_counts : (p : Placed) (one : List Emission) (s : State) (calls : List HandlerCall) (t : State) → PollsEvent p one s calls t → Counts s calls t
 polled_counts p one s calls t r =
     let both = r.1 in
     counts_then s both.mid t both.first both.second calls (call_counts p.slot call.Poll r.0 s both.first both.mid both.one)
     (counts_quiet both.mid _ t both.second refl both.other.1) both.whole
-
-each_polled_counts : (ps : List Placed) (emissions : List Emission) (s : State) (calls : List HandlerCall) (t : State) → PollsEach ps emissions s calls t → Counts s calls t
-each_polled_counts [] emissions s calls t r = counts_stays s t calls r.1
-each_polled_counts (p ∷ ps) emissions s calls t r =
-    let both = r.3 in
-    counts_then s both.mid t both.first both.second calls (polled_counts p r.0 s both.first both.mid both.one)
-    (each_polled_counts ps r.1 both.mid both.second t both.other) both.whole
-
-pub polls_count : (site : Site) (emissions : List Emission) (s : State) (calls : List HandlerCall) (t : State) → Polls site emissions s calls t → Counts s calls t
-polls_count site emissions s calls t r = each_polled_counts (events_of site) emissions s calls t r

@@ -1,8 +1,7 @@
 -- Moves of one part of a servient, and how they are put together.
 use Rattle.std.proofs.Common.{◌≡◌, ℕ, zero, suc, arith, ◌<◌, ◌≤◌, max, List, [], ◌∷◌, map, length, refl, sym, ap, subst, ◌∙◌, inl, inr}
 use Rattle.std.specs.Prelude.{Option, Some, None, replicate}
-use Rattle.std.specs.List.{AllByRecursion}
-use Rattle.servient_base.specs.Moves.{Stays, Then, Passing, Makes, Refines}
+use Rattle.servient_base.specs.Moves.{Stays, Then, Passing, Each, Makes, Refines}
 use Rattle.servient_base.proofs.MovesLaws.{refines_then, refines_passing, refines_as, refines_stays}
 use Rattle.coap_msg.specs.declared.constants.TheConstants.{LONGEST_DATAGRAM}
 use Rattle.coap_msg.specs.declared.endpoint.Endpoint.{Endpoint}
@@ -13,24 +12,24 @@ use Rattle.thing_core.specs.State.{State as ThingState}
 use Rattle.thing_core.specs.Thing.{Move as ThingMove, Done, Acts}
 use Rattle.thing_site.specs.Fits.{Fits}
 use Rattle.thing_core.specs.Kept.{Kept}
+use Rattle.thing_core.specs.Performing.{MakesAct}
 use Rattle.thing_core.proofs.ThingLaws.{site_stays}
 use Rattle.thing_ops.specs.declared.outcome.Outcome.{Outcome}
-use Rattle.thing_ops.specs.Requests.{PlainRequest}
 use Rattle.coap_opts.specs.Reading.{PlainAsk}
 use Rattle.coap_bind.specs.declared.head.OpenAsk.{OpenAsk}
 use Rattle.coap_bind.specs.declared.server.Server.{Server}
 use Rattle.coap_bind.specs.Server.{Heard, ignored, answered_at_once, asked, Hears, Answers}
-use Rattle.http_bind.specs.Streams.{Connection, Streams}
-use Rattle.http_bind.specs.Slots.{Held, Slots, Leads, StandsFor as ConnectionsStandFor, HoldsIfOpen, HasRoomFor, HasRoom, OthersStay, held_at, with_held, longest_piece}
+use Rattle.http_bind.specs.Streams.{Connection, Streams, none_open}
+use Rattle.http_bind.specs.Slots.{Held, Slots, Leads, StandsFor as ConnectionsStandFor, HoldsIfOpen, HoldAll, HasRoomFor, HasRoom, OthersStay, place_at, with_place, left_in, left_at, longest_piece}
 use Rattle.servient_outside.specs.declared.net.Act.{Act}
 use Rattle.servient_outside.specs.declared.net.Act.TheVariants as act
 use Rattle.servient_outside.specs.declared.net.EventWithBytes.{EventWithBytes}
 use Rattle.servient_outside.specs.Network.{Happening, NetSeen, NetShows, did}
 use Rattle.servient_outside.proofs.NetLaws.{net_shows_none}
 use Rattle.servient_core.specs.Trace.{at_network, at_handler, happened_in, calls_in, Outside, outside, Shows}
-use Rattle.servient_core.specs.Machine.{State, Move, OnHttp, OnCoap, OnThing, Does, Performs, AnswersDatagram, HearsDatagram, Follows, Step, ClosesAllIdle}
+use Rattle.servient_core.specs.Machine.{State, Move, OnHttp, OnCoap, OnThing, Does, Performs, Delivers, DeliversEach, observed_target, AnswersAsk, AnswersDatagram, HearsDatagram, Follows, Step, EndsEvent}
 use Rattle.servient_core.specs.Serving.{StandsFor}
-use Rattle.servient_core.specs.Keeping.{IsPerformed}
+use Rattle.servient_core.specs.Keeping.{LeavesNoMore, OthersKeep}
 use Rattle.servient_core.specs.declared.parts.Parts.{Parts}
 use Rattle.servient_core.proofs.TraceLaws.{shows_in_order, shows_at_network}
 
@@ -153,73 +152,104 @@ heard_at_once site from bytes sent k c n m slots h short hears is shows =
     (subst (λ (x : Heard). Refines StandsFor Shows (AnswersDatagram site from x) (record k { coap = c }) (record k { coap = c }) (outside n slots) (outside m slots)) (sym is)
     (refines_act (record k { coap = c }) n m slots (act.Datagram from sent) shows))
 
--- what is asked is done and answered
-responds_asked : (site : Site) (from : Endpoint) (ask : PlainAsk) (request : OpenAsk) (sent : List ℕ) (k : Parts) (e : Kept) (c : Server) (done : Done) (n m : NetSeen) (before after : List Seen)
-    → Makes RackShows (Acts site ask.request done) k.exposed.state e.state before after → Answers request done.outcome None sent k.coap c
-    → NetShows n m (did (act.Datagram from sent) ∷ [])
-    → Refines StandsFor Shows (AnswersDatagram site from (asked ask request)) k (record k { exposed = e; coap = c }) (outside n before) (outside m after)
-responds_asked site from ask request sent k e c done n m before after made answers shows =
-    passing_moves (Performs site ask.request)
-    (λ d. Passing (λ bytes. OnCoap (λ now. Answers request d.outcome None bytes)) (λ bytes. Does (act.Datagram from bytes ∷ []))) done
-    k (record k { exposed = e }) (record k { exposed = e; coap = c }) (outside n before) (outside n after) (outside m after)
-    (refines_thing (Acts site ask.request done) k e n before after made)
-    (passing_moves (λ bytes. OnCoap (λ now. Answers request done.outcome None bytes)) (λ bytes. Does (act.Datagram from bytes ∷ [])) sent
-    (record k { exposed = e }) (record k { exposed = e; coap = c }) (record k { exposed = e; coap = c }) (outside n after) (outside n after) (outside m after)
-    (refines_coap (λ now. Answers request done.outcome None sent) (record k { exposed = e }) c (outside n after) answers)
-    (refines_act (record k { exposed = e; coap = c }) n m after (act.Datagram from sent) shows))
+-- what was asked is answered
+answers_ask : (site : Site) (from : Endpoint) (ask : PlainAsk) (request : OpenAsk) (sent : List ℕ) (k : Parts) (c : Server) (done : Done) (n m : NetSeen) (slots : List Seen)
+    → Answers request done.outcome (observed_target site k.exposed.state ask) sent k.coap c → NetShows n m (did (act.Datagram from sent) ∷ [])
+    → Refines StandsFor Shows (AnswersAsk site from ask request done) k (record k { coap = c }) (outside n slots) (outside m slots)
+answers_ask site from ask request sent k c done n m slots answers shows = λ s stands.
+    let a = passing_moves (λ bytes. OnCoap (λ now. Answers request done.outcome (observed_target site k.exposed.state ask) bytes)) (λ bytes. Does (act.Datagram from bytes ∷ [])) sent
+    k (record k { coap = c }) (record k { coap = c }) (outside n slots) (outside n slots) (outside m slots)
+    (refines_coap (λ now. Answers request done.outcome (observed_target site k.exposed.state ask) sent) k c (outside n slots) answers)
+    (refines_act (record k { coap = c }) n m slots (act.Datagram from sent) shows) s stands in (
+      a.0,
+      a.1,
+      record {
+        seen = a.2.seen;
+        move = subst (λ (x : ThingState). Passing (λ bytes. OnCoap (λ now. Answers request done.outcome (observed_target site x ask) bytes)) (λ bytes. Does (act.Datagram from bytes ∷ [])) s a.2.seen a.0)
+            (sym stands.thing) a.2.move;
+        shows = a.2.shows;
+      },
+    )
 
-pub heard_asked : (site : Site) (from : Endpoint) (bytes sent : List ℕ) (ask : PlainAsk) (request : OpenAsk) (o : Outcome) (k : Parts) (e : Kept) (b c : Server)
-    (n m : NetSeen) (before after : List Seen) (h : Heard) → length bytes ≤ LONGEST_DATAGRAM → Hears from bytes k.moment h k.coap b → h ≡ asked ask request
-    → k.exposed.site ≡ site → IsPerformed k.exposed e ask.request o before after → Answers request o None sent b c → NetShows n m (did (act.Datagram from sent) ∷ [])
-    → Refines StandsFor Shows (HearsDatagram site from bytes) k (record k { exposed = e; coap = c }) (outside n before) (outside m after)
-heard_asked site from bytes sent ask request o k e b c n m before after h short hears is same performed answers shows =
-    receives_heard site from bytes k (record k { exposed = e; coap = c }) b (outside n before) (outside m after) h short hears
-    (subst (λ (x : Heard). Refines StandsFor Shows (AnswersDatagram site from x) (record k { coap = b }) (record k { exposed = e; coap = c }) (outside n before) (outside m after)) (sym is)
-    (responds_asked site from ask request sent (record k { coap = b }) e c performed.done n m before after
-    (subst (λ (x : Site). Makes RackShows (Acts x ask.request performed.done) k.exposed.state e.state before after) same performed.made)
-    (subst (λ (x : Outcome). Answers request x None sent b c) (sym performed.outcome) answers) shows))
+-- what is asked is done and answered, and what is emitted is delivered
+responds_asked : (site : Site) (from : Endpoint) (ask : PlainAsk) (request : OpenAsk) (sent : List ℕ) (k l : Parts) (e : Kept) (c : Server) (done : Done) (n m : NetSeen) (before after : List Seen) (v : Outside)
+    → Makes RackShows (Acts site ask.request done) k.exposed.state e.state before after
+    → Answers request done.outcome (observed_target site e.state ask) sent k.coap c → NetShows n m (did (act.Datagram from sent) ∷ [])
+    → Refines StandsFor Shows (DeliversEach done.emissions) (record k { exposed = e; coap = c }) l (outside m after) v
+    → Refines StandsFor Shows (AnswersDatagram site from (asked ask request)) k l (outside n before) v
+responds_asked site from ask request sent k l e c done n m before after v made answers shows delivers =
+    passing_moves (Performs site ask.request) (λ d. Then (AnswersAsk site from ask request d) (DeliversEach d.emissions)) done
+    k (record k { exposed = e }) l (outside n before) (outside n after) v
+    (refines_thing (Acts site ask.request done) k e n before after made)
+    (then_moves (AnswersAsk site from ask request done) (DeliversEach done.emissions) (record k { exposed = e }) (record k { exposed = e; coap = c }) l (outside n after) (outside m after) v
+    (answers_ask site from ask request sent (record k { exposed = e }) c done n m after answers shows) delivers)
+
+pub heard_asked : (site : Site) (from : Endpoint) (bytes sent : List ℕ) (ask : PlainAsk) (request : OpenAsk) (o : Outcome) (k l : Parts) (e : Kept) (b c : Server)
+    (n m : NetSeen) (before after : List Seen) (v : Outside) (h : Heard) (made : MakesAct k.exposed e ask.request o before after) → length bytes ≤ LONGEST_DATAGRAM → Hears from bytes k.moment h k.coap b
+    → h ≡ asked ask request → k.exposed.site ≡ site → Answers request o (observed_target e.site e.state ask) sent b c → NetShows n m (did (act.Datagram from sent) ∷ [])
+    → Refines StandsFor Shows (Each Delivers e.pending) (record k { exposed = e; coap = c }) l (outside m after) v
+    → Refines StandsFor Shows (HearsDatagram site from bytes) k l (outside n before) v
+heard_asked site from bytes sent ask request o k l e b c n m before after v h made short hears is same answers shows delivers =
+    receives_heard site from bytes k l b (outside n before) v h short hears
+    (subst (λ (x : Heard). Refines StandsFor Shows (AnswersDatagram site from x) (record k { coap = b }) l (outside n before) v) (sym is)
+    (responds_asked site from ask request sent (record k { coap = b }) l e c made.done n m before after v
+    (subst (λ (x : Site). Makes RackShows (Acts x ask.request made.done) k.exposed.state e.state before after) same made.made)
+    (subst (λ (x : Site). Answers request made.done.outcome (observed_target x e.state ask) sent b c) (made.site ∙ same)
+    (subst (λ (x : Outcome). Answers request x (observed_target e.site e.state ask) sent b c) (sym made.outcome) answers))
+    shows
+    (subst (λ (targets : List ℕ). Refines StandsFor Shows (Each Delivers targets) (record k { exposed = e; coap = c }) l (outside m after) v) made.pending delivers)))
 
 -- ---- steps
 
 -- moves at the greater moment are the step on an event
 pub steps : (site : Site) (e : EventWithBytes) (k l m : Parts) (moment : ℕ) (w v u : Outside) → moment ≡ max k.moment e.event.moment
-    → Refines StandsFor Shows (Follows site e.event.what e.bytes) (record k { moment = moment }) l w v → Refines StandsFor Shows ClosesAllIdle l m v u
+    → Refines StandsFor Shows (Follows site e.event.what e.bytes) (record k { moment = moment }) l w v → Refines StandsFor Shows EndsEvent l m v u
     → Refines StandsFor Shows (Step site e) k m w u
-steps site e k l m moment w v u greater follows closes = λ s stands.
+steps site e k l m moment w v u greater follows ends = λ s stands.
     let moved : StandsFor (record k { moment = moment }) (record s { moment = max s.moment e.event.moment }) = record {
       moment = ap (λ (n : ℕ). max n e.event.moment) stands.moment ∙ sym greater;
       http = stands.http;
       coap = stands.coap;
       thing = stands.thing;
     } in
-    let a = then_moves (Follows site e.event.what e.bytes) ClosesAllIdle (record k { moment = moment }) l m w v u follows closes (record s { moment = max s.moment e.event.moment }) moved in
+    let a = then_moves (Follows site e.event.what e.bytes) EndsEvent (record k { moment = moment }) l m w v u follows ends (record s { moment = max s.moment e.event.moment }) moved in
     (a.0, a.1, record { seen = a.2.seen; move = a.2.move; shows = a.2.shows })
 
 -- ---- streams that are stood for
 
 stream_of : Option Held → Option Connection
 stream_of None = None
-stream_of (Some h) = Some (record { stream = h.rest; taken = 0; continued = h.continued; closes = h.closes; active = h.active })
+stream_of (Some h) = Some (record { stream = h.rest; taken = 0; continued = h.continued; owed = h.owed; active = h.active })
 
 streams_of : Slots → Streams
-streams_of b = map stream_of b
+streams_of b = record { places = map stream_of b.places; waits = b.waits }
 
 holds_stream : (h : Option Held) → HoldsIfOpen h (stream_of h)
 unfolding stream_of
 holds_stream None = tt
-holds_stream (Some h) = record { rest = refl; within = omega arith; continued = refl; closes = refl; active = refl }
+holds_stream (Some h) = record { rest = refl; behind = λ some. refl; within = omega arith; continued = refl; owed = refl; active = refl }
 
-stands_streams : (b : Slots) → ConnectionsStandFor b (streams_of b)
-unfolding streams_of
-stands_streams [] = tt
-stands_streams (h ∷ b) = (holds_stream h, stands_streams b)
+hold_streams : (hs : List (Option Held)) → HoldAll hs (map stream_of hs)
+hold_streams [] = tt
+hold_streams (h ∷ hs) = (holds_stream h, hold_streams hs)
 
 -- what the code keeps stands for some state
 pub stands_for_some : (kept : Parts) → (s : State) × StandsFor kept s
+unfolding streams_of
 stands_for_some kept = (
   record { moment = kept.moment; http = streams_of kept.http; coap = kept.coap; thing = kept.exposed.state },
-  record { moment = refl; http = stands_streams kept.http; coap = refl; thing = refl },
+  record { moment = refl; http = record { places = hold_streams kept.http.places; waits = refl }; coap = refl; thing = refl },
 )
+
+-- what stands for a state does so too where only what waits to be handed out is another
+pub refines_from : (P : Move) (k l m : Parts) (w v : Outside) → l.moment ≡ k.moment → l.http ≡ k.http → l.coap ≡ k.coap → l.exposed.state ≡ k.exposed.state
+    → Refines StandsFor Shows P l m w v → Refines StandsFor Shows P k m w v
+refines_from P k l m w v moment http coap state p = λ s stands. p s (record {
+  moment = stands.moment ∙ sym moment;
+  http = subst (λ (x : Slots). ConnectionsStandFor x s.http) (sym http) stands.http;
+  coap = stands.coap ∙ sym coap;
+  thing = stands.thing ∙ sym state;
+})
 
 -- a rack that fits before a move fits after it
 pub fits_after : (P : Move) (k l : Parts) (site : Site) (w v : Outside) → Refines StandsFor Shows P k l w v → Fits site w.slots → Fits site v.slots
@@ -228,48 +258,44 @@ fits_after P k l site w v p fits =
     let a = p from.0 from.1 in
     site_stays (turns_in (calls_in a.2.seen)) w.slots v.slots site a.2.shows.rack.turns fits
 
--- ---- room on connections
+-- ---- one connection and the others
+
+-- what holds of all others, and of the one that was changed, holds of each
+at_place : (P : Option Held → Type 0) (c x : ℕ) (h : Option Held) (hs : List (Option Held)) → P (place_at x hs) → (x ≡ c → P (place_at c (with_place c h hs)))
+    → P (place_at x (with_place c h hs))
+at_place P c x h [] one other = one
+at_place P zero zero h (g ∷ hs) one other = other refl
+at_place P zero (suc x) h (g ∷ hs) one other = one
+at_place P (suc c) zero h (g ∷ hs) one other = one
+at_place P (suc c) (suc x) h (g ∷ hs) one other = at_place P c x h hs one (λ e. other (ap suc e))
 
 -- each connection has room where one was changed that has
-pub room_with : (c : ℕ) (b : Slots) (x : Option Held) → AllByRecursion (HasRoomFor longest_piece) b → HasRoomFor longest_piece (held_at c (with_held c x b))
-    → AllByRecursion (HasRoomFor longest_piece) (with_held c x b)
-room_with c [] x all one = tt
-room_with zero (h ∷ b) x all one = (one, all.1)
-room_with (suc c) (h ∷ b) x all one = (all.0, room_with c b x all.1 one)
+pub room_after : (c : ℕ) (b d : Slots) → ((x : ℕ) → HasRoom x b) → OthersStay c b d → HasRoom c d → (x : ℕ) → HasRoom x d
+room_after c b d all stay room = λ x.
+    subst (λ (hs : List (Option Held)). HasRoomFor longest_piece (place_at x hs)) (sym stay.places)
+    (at_place (HasRoomFor longest_piece) c x stay.held b.places (all x)
+    (λ e. subst (λ (hs : List (Option Held)). HasRoomFor longest_piece (place_at c hs)) stay.places room))
 
-pub room_after : (c : ℕ) (b d : Slots) → AllByRecursion (HasRoomFor longest_piece) b → OthersStay c b d → HasRoom c d → AllByRecursion (HasRoomFor longest_piece) d
-room_after c b d all stay room =
-    subst (λ (e : Slots). AllByRecursion (HasRoomFor longest_piece) e) (sym stay.1)
-    (room_with c b stay.0 all (subst (λ (e : Slots). HasRoomFor longest_piece (held_at c e)) stay.1 room))
+-- no more is left of each where no more is left of the one that was changed
+pub others_left : (c : ℕ) (b d : Slots) → OthersStay c b d → left_at c d ≤ left_at c b → LeavesNoMore b d
+others_left c b d stay less = λ x.
+    subst (λ (hs : List (Option Held)). left_in (place_at x hs) ≤ left_at x b) (sym stay.places)
+    (at_place (λ y. left_in y ≤ left_at x b) c x stay.held b.places (omega arith)
+    (λ e. subst (λ (z : ℕ). left_in (place_at c (with_place c stay.held b.places)) ≤ left_at z b) (sym e)
+    (subst (λ (hs : List (Option Held)). left_in (place_at c hs) ≤ left_at c b) stay.places less)))
 
--- a connection of those that have room has room
-pub room_at : (c : ℕ) (b : Slots) → AllByRecursion (HasRoomFor longest_piece) b → HasRoom c b
-room_at c [] all = tt
-room_at zero (h ∷ b) all = all.0
-room_at (suc c) (h ∷ b) all = room_at c b all.1
-
--- the others stay over two changes of one
-with_twice : (c : ℕ) (b : Slots) (x y : Option Held) → with_held c y (with_held c x b) ≡ with_held c y b
-with_twice c [] x y = refl
-with_twice zero (h ∷ b) x y = refl
-with_twice (suc c) (h ∷ b) x y = ap (λ (e : Slots). h ∷ e) (with_twice c b x y)
-
-pub others_then : (c : ℕ) (b d e : Slots) → OthersStay c b d → OthersStay c d e → OthersStay c b e
-others_then c b d e one other = (other.0, other.1 ∙ ap (λ (x : Slots). with_held c other.0 x) one.1 ∙ with_twice c b one.0 other.0)
-
-pub others_same : (c : ℕ) (b : Slots) → OthersStay c b b
-others_same c [] = (None, refl)
-others_same zero (h ∷ b) = (h, refl)
-others_same (suc c) (h ∷ b) = let rest = others_same c b in (rest.0, ap (λ (e : Slots). h ∷ e) rest.1)
-
--- a rack that fits before a request fits after it
-pub performed_fits : (old new : Kept) (q : PlainRequest) (o : Outcome) (before after : List Seen) → IsPerformed old new q o before after → Fits old.site before → Fits new.site after
-performed_fits old new q o before after p fits =
-    subst (λ (x : Site). Fits x after) (sym p.site) (site_stays (turns_in p.made.seen) before after old.site p.made.shows.turns fits)
+pub others_keep : (c : ℕ) (b d : Slots) → OthersStay c b d → OthersKeep c b d
+others_keep c b d stay = λ x other.
+    subst (λ (hs : List (Option Held)). left_in (place_at x hs) ≤ left_at x b) (sym stay.places)
+    (at_place (λ y. left_in y ≤ left_at x b) c x stay.held b.places (omega arith) (λ e. absurd (other e)))
 
 -- where none is open each has room
-pub none_have_room : (n : ℕ) (b : Slots) → ConnectionsStandFor b (replicate n None) → AllByRecursion (HasRoomFor longest_piece) b
-none_have_room n [] stands = tt
-none_have_room zero (h ∷ b) stands = absurd stands
-none_have_room (suc n) (None ∷ b) stands = (tt, none_have_room n b stands.1)
-none_have_room (suc n) (Some h ∷ b) stands = absurd stands.0
+none_held : (n c : ℕ) (hs : List (Option Held)) → HoldAll hs (replicate n None) → HasRoomFor longest_piece (place_at c hs)
+none_held n c [] holds = tt
+none_held zero c (h ∷ hs) holds = absurd holds
+none_held (suc n) zero (None ∷ hs) holds = tt
+none_held (suc n) (suc c) (None ∷ hs) holds = none_held n c hs holds.1
+none_held (suc n) c (Some h ∷ hs) holds = absurd holds.0
+
+pub none_have_room : (b : Slots) → ConnectionsStandFor b none_open → (c : ℕ) → HasRoom c b
+none_have_room b stands = λ c. none_held 64 c b.places stands.places

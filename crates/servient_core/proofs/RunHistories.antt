@@ -1,7 +1,8 @@
 -- Each run has a history of requests.
+use Rattle.std.specs.Prelude.{Option, Some, Bool}
 use Rattle.std.proofs.Common.{None, ◌≡◌, ℕ, ◌≤◌, ◌++◌, List, [], ◌∷◌, map, refl, sym, ap, subst, ◌∙◌, arith, max, inl, inr, false, append_assoc}
 use Rattle.std.proofs.lemmas.List.{append-nil}
-use Rattle.servient_base.specs.Moves.{Becomes, Until, is_done, goes_on}
+use Rattle.servient_base.specs.Moves.{Becomes, Each, Until, is_done, goes_on}
 use Rattle.coap_msg.specs.declared.endpoint.Endpoint.{Endpoint}
 use Rattle.coap_msg.specs.Grammar.{CoapMessage}
 use Rattle.coap_msg.proofs.Messages.{at_most_one_message}
@@ -11,14 +12,18 @@ use Rattle.coap_exchange.specs.declared.met.Met.{Met}
 use Rattle.coap_exchange.specs.declared.met.Met.TheVariants.{Fresh, Repeat, Full}
 use Rattle.coap_bind.specs.declared.head.OpenAsk.{OpenAsk}
 use Rattle.coap_bind.specs.declared.server.Server.{Server}
-use Rattle.coap_bind.specs.Server.{Heard, ignored, answered_at_once, asked, arrival, is_request, with_watchers, IsMet, malformed, no_request, duplicate, full, Hears, settled, admitted, Answers}
+use Rattle.coap_bind.specs.Server.{Heard, ignored, answered_at_once, asked, arrival, is_request, with_watchers, IsMet, malformed, no_request, duplicate, full, Hears, settled, admitted, Answers, SendsNext}
 use Rattle.coap_opts.specs.Reading.{PlainAsk}
-use Rattle.coap_bind.specs.Laws.{AreArrivals, IsOpen, Did, nothing, heard_of, answered}
+use Rattle.coap_observe.specs.declared.notice.Notice.{Notice}
+use Rattle.coap_bind.specs.Laws.{AreArrivals, IsOpen, Did, nothing, heard_of, answered, emitted, sent}
+use Rattle.coap_bind.proofs.HistoryLaws.{sent_stays}
+use Rattle.coap_exchange.specs.Table.{Table}
 use Rattle.coap_bind.proofs.OpenLaws.{asks_are_open}
 use Rattle.coap_bind.proofs.MomentLaws.{replies_moment, hears_moment}
-use Rattle.http_bind.specs.Streams.{Streams, Taken, asks, wants_continue, is_faulty, IsDry, NoneIdle}
+use Rattle.http_bind.specs.Streams.{Streams, Taken, asks, wants_continue, is_faulty, interrupts, oldest_for, oldest_late, IsDry, NoneIdle}
 use Rattle.thing_ops.specs.declared.outcome.Outcome.{Outcome}
-use Rattle.thing_core.specs.State.{State as ThingState}
+use Rattle.thing_site.specs.Site.{Placed, events_of}
+use Rattle.thing_core.specs.State.{State as ThingState, Emission, last_of}
 use Rattle.servient_outside.specs.declared.net.What.{What}
 use Rattle.servient_outside.specs.declared.net.What.TheVariants as what
 use Rattle.servient_outside.specs.declared.net.EventWithBytes.{EventWithBytes}
@@ -26,7 +31,7 @@ use Rattle.servient_core.specs.declared.serving.Served.{Served}
 use Rattle.servient_core.specs.declared.serving.Served.TheVariants as served
 use Rattle.servient_core.specs.declared.capacity.TheConstants.{MOST_WATCHERS}
 use Rattle.servient_core.specs.Trace.{Sighting, at_handler}
-use Rattle.servient_core.specs.Machine.{Site, State, start, Move, OnCoap, AnswersDatagram, HearsDatagram, AnswersTaken, TakesNextMessage, ClosesIdle, Follows, Step, Run}
+use Rattle.servient_core.specs.Machine.{Site, State, start, Move, OnCoap, SendsIfAny, RepliesToWait, AnswersWait, AnswersLateWait, Delivers, DeliversEach, observed_target, AnswersDatagram, HearsDatagram, AnswersTaken, TakesNextMessage, ClosesIdle, PollsAndDelivers, SendsNotification, NothingIsDue, EndsEvent, Follows, Step, Run}
 use Rattle.servient_core.specs.Serving.{Ends}
 use Rattle.servient_core.specs.Runs.{AreRequestsOf, AreRequestsFrom, HasHistory, EachRunHasAHistory, ServingHasAHistory}
 
@@ -72,14 +77,54 @@ thing_stays : (k : ℕ) (history : List Arrival) (now : ℕ) (s t : State) (x : 
     → Holds k history now s → Holds k history now t
 thing_stays k history now s t x shown seen b = stays k history now s t (ap (λ (y : State). y.coap) b.next) (ap (λ (y : State). y.moment) b.next)
 
-answers_holds : (k : ℕ) (history : List Arrival) (now : ℕ) (request : OpenAsk) (o : Outcome) (bytes : List ℕ) (s t : State) (seen : List Sighting)
-    → IsOpen request s.coap → OnCoap (λ moment. Answers request o None bytes) s seen t → Holds k history now s → Holds k history now t
-answers_holds k history now request o bytes s t seen open_ask on h =
+answers_holds : (k : ℕ) (history : List Arrival) (now : ℕ) (request : OpenAsk) (o : Outcome) (target : Option ℕ) (bytes : List ℕ) (s t : State) (seen : List Sighting)
+    → IsOpen request s.coap → OnCoap (λ moment. Answers request o target bytes) s seen t → Holds k history now s → Holds k history now t
+answers_holds k history now request o target bytes s t seen open_ask on h =
     becomes k history now (record s { coap = on.0 }) t on.2.next (record {
-      did = (h.did.0, answered history s.coap on.0 request o None bytes h.did.1 open_ask on.1);
+      did = (h.did.0, answered history s.coap on.0 request o target bytes h.did.1 open_ask on.1);
       early = omega (arith, replies_moment _ request.request bytes (with_watchers on.1.watchers s.coap) on.0 on.1.replies, h.early);
       at = h.at;
     })
+
+-- a move for each of some things
+each_holds : {A : Type 0} (k : ℕ) (history : List Arrival) (now : ℕ) (P : A → Move)
+    → ((x : A) (s t : State) (seen : List Sighting) → P x s seen t → Holds k history now s → Holds k history now t)
+    → (xs : List A) (s t : State) (seen : List Sighting) → Each P xs s seen t → Holds k history now s → Holds k history now t
+each_holds k history now P each [] s t seen stays h = becomes k history now s t stays.next h
+each_holds k history now P each (x ∷ xs) s t seen both h =
+    each_holds k history now P each xs both.mid t both.second both.other (each x s both.mid both.first both.one h)
+
+until_holds : (k : ℕ) (history : List Arrival) (now : ℕ) (P : Move) (IsDone : State → Type 0)
+    → ((s t : State) (seen : List Sighting) → P s seen t → Holds k history now s → Holds k history now t)
+    → (s t : State) (seen : List Sighting) → Until P IsDone s seen t → Holds k history now s → Holds k history now t
+until_holds k history now P IsDone each s t seen (is_done s' seen' t' done stays) h = becomes k history now s t stays.next h
+until_holds k history now P IsDone each s t seen (goes_on s' mid t' seen' first second one more whole) h =
+    until_holds k history now P IsDone each mid t second more (each s mid first one h)
+
+-- ---- new values
+
+wait_reply_holds : (k : ℕ) (history : List Arrival) (now c : ℕ) (text : Option (List ℕ)) (s t : State) (seen : List Sighting) → RepliesToWait c text s seen t
+    → Holds k history now s → Holds k history now t
+wait_reply_holds k history now c text s t seen is h =
+    becomes k history now is.1.mid t is.1.other.next (http_stays k history now s is.1.mid is.1.one.0 is.1.first is.1.one.2 h)
+
+delivers_holds : (k : ℕ) (history : List Arrival) (now target : ℕ) (s t : State) (seen : List Sighting) → Delivers target s seen t → Holds k history now s → Holds k history now t
+delivers_holds k history now target s t seen both h =
+    let waited = until_holds k history now (AnswersWait target) (λ (x : State). oldest_for target x.http.waits ≡ None)
+    (λ x y calls move. wait_reply_holds k history now move.0 (last_of target x.thing.last) x y calls move.2) s both.mid both.first both.one h in
+    let on = both.other in
+    becomes k history now (record both.mid { coap = on.0 }) t on.2.next (record {
+      did = (waited.did.0, emitted history both.mid.coap on.0 target waited.did.1 on.1);
+      early = omega (arith, ap (λ (x : Server). x.exchanges.moment) on.1, waited.early);
+      at = waited.at;
+    })
+
+delivers_each_holds : (k : ℕ) (history : List Arrival) (now : ℕ) (emissions : List Emission) (s t : State) (seen : List Sighting) → DeliversEach emissions s seen t
+    → Holds k history now s → Holds k history now t
+delivers_each_holds k history now emissions s t seen each h =
+    each_holds k history now Delivers (λ x a b calls move. delivers_holds k history now x a b calls move) (map (λ e. e.target) emissions) s t seen each h
+
+-- ---- answers
 
 responds_holds : (k : ℕ) (history : List Arrival) (now : ℕ) (site : Site) (from : Endpoint) (heard : Heard) (s t : State) (seen : List Sighting) → AnswersDatagram site from heard s seen t
     → ((ask : PlainAsk) (request : OpenAsk) → heard ≡ asked ask request → IsOpen request s.coap) → Holds k history now s → Holds k history now t
@@ -87,23 +132,33 @@ responds_holds k history now site from ignored s t seen stays opens h = becomes 
 responds_holds k history now site from (answered_at_once bytes) s t seen does opens h = becomes k history now s t does.next h
 responds_holds k history now site from (asked ask request) s t seen is opens h =
     let one = is.1 in
-    let two = one.other.1 in
-    becomes k history now two.mid t two.other.next
-    (answers_holds k history now request is.0.outcome one.other.0 one.mid two.mid two.first
-    (subst (λ (x : Server). IsOpen request x) (sym (ap (λ (x : State). x.coap) one.one.3.next)) (opens ask request refl)) two.one
-    (thing_stays k history now s one.mid one.one.0 (map at_handler one.one.1) one.first one.one.3 h))
+    let two = one.other in
+    let three = two.one.1 in
+    delivers_each_holds k history now is.0.emissions two.mid t two.second two.other
+    (becomes k history now three.mid two.mid three.other.next
+    (answers_holds k history now request is.0.outcome (observed_target site one.mid.thing ask) two.one.0 one.mid three.mid three.first
+    (subst (λ (x : Server). IsOpen request x) (sym (ap (λ (x : State). x.coap) one.one.3.next)) (opens ask request refl)) three.one
+    (thing_stays k history now s one.mid one.one.0 (map at_handler one.one.1) one.first one.one.3 h)))
+
+if_any_holds : (k : ℕ) (history : List Arrival) (now c : ℕ) (reply : Option (List ℕ × Bool)) (s t : State) (seen : List Sighting) → SendsIfAny c reply s seen t
+    → Holds k history now s → Holds k history now t
+if_any_holds k history now c None s t seen stays h = becomes k history now s t stays.next h
+if_any_holds k history now c (Some reply) s t seen does h = becomes k history now s t does.next h
 
 handles_holds : (k : ℕ) (history : List Arrival) (now : ℕ) (site : Site) (c : ℕ) (taken : Taken) (s t : State) (seen : List Sighting) → AnswersTaken site c taken s seen t
     → Holds k history now s → Holds k history now t
 handles_holds k history now site c (asks q) s t seen is h =
     let one = is.1 in
-    let two = one.other.1 in
-    becomes k history now two.mid t two.other.next
-    (http_stays k history now one.mid two.mid two.one.0 two.first two.one.2 (thing_stays k history now s one.mid one.one.0 (map at_handler one.one.1) one.first one.one.3 h))
+    let two = one.other in
+    let three = two.one.1 in
+    delivers_each_holds k history now is.0.emissions two.mid t two.second two.other
+    (if_any_holds k history now c two.one.0 three.mid two.mid three.second three.other
+    (http_stays k history now one.mid three.mid three.one.0 three.first three.one.2 (thing_stays k history now s one.mid one.one.0 (map at_handler one.one.1) one.first one.one.3 h)))
 handles_holds k history now site c wants_continue s t seen is h =
     becomes k history now is.1.mid t is.1.other.next (http_stays k history now s is.1.mid is.1.one.0 is.1.first is.1.one.2 h)
 handles_holds k history now site c (is_faulty status) s t seen is h =
     becomes k history now is.1.mid t is.1.other.next (http_stays k history now s is.1.mid is.1.one.0 is.1.first is.1.one.2 h)
+handles_holds k history now site c interrupts s t seen does h = becomes k history now s t does.next h
 
 takes_holds : (k : ℕ) (history : List Arrival) (now : ℕ) (site : Site) (c : ℕ) (s t : State) (seen : List Sighting) → TakesNextMessage site c s seen t
     → Holds k history now s → Holds k history now t
@@ -114,12 +169,42 @@ closes_holds : (k : ℕ) (history : List Arrival) (now : ℕ) (s t : State) (see
 closes_holds k history now s t seen is h =
     becomes k history now is.1.mid t is.1.other.next (http_stays k history now s is.1.mid is.1.one.0 is.1.first is.1.one.2 h)
 
-until_holds : (k : ℕ) (history : List Arrival) (now : ℕ) (P : Move) (IsDone : State → Type 0)
-    → ((s t : State) (seen : List Sighting) → P s seen t → Holds k history now s → Holds k history now t)
-    → (s t : State) (seen : List Sighting) → Until P IsDone s seen t → Holds k history now s → Holds k history now t
-until_holds k history now P IsDone each s t seen (is_done s' seen' t' done stays) h = becomes k history now s t stays.next h
-until_holds k history now P IsDone each s t seen (goes_on s' mid t' seen' first second one more whole) h =
-    until_holds k history now P IsDone each mid t second more (each s mid first one h)
+-- ---- polls, and the end of each event
+
+polls_holds : (k : ℕ) (history : List Arrival) (now : ℕ) (p : Placed) (s t : State) (seen : List Sighting) → PollsAndDelivers p s seen t
+    → Holds k history now s → Holds k history now t
+polls_holds k history now p s t seen is h =
+    let both = is.1 in
+    delivers_each_holds k history now is.0 both.mid t both.second both.other
+    (thing_stays k history now s both.mid both.one.0 (map at_handler both.one.1) both.first both.one.3 h)
+
+-- the server was asked what is to be sent
+sends_holds : (k : ℕ) (history : List Arrival) (now : ℕ) (n : Option Notice) (s t : State) (seen : List Sighting) → OnCoap (λ moment. SendsNext moment n) s seen t
+    → Holds k history now s → Holds k history now t
+sends_holds k history now n s t seen on h =
+    becomes k history now (record s { coap = on.0 }) t on.2.next (record {
+      did = (h.did.0, sent history s.coap on.0 s.moment n h.did.1 on.1);
+      early = omega (
+        arith,
+        ap (λ (x : Table). x.moment) (ap (λ (x : Server). x.exchanges) on.1.after ∙ sent_stays n (with_watchers on.1.watchers s.coap)),
+        h.early,
+      );
+      at = h.at;
+    })
+
+notification_holds : (k : ℕ) (history : List Arrival) (now : ℕ) (s t : State) (seen : List Sighting) → SendsNotification s seen t → Holds k history now s → Holds k history now t
+notification_holds k history now s t seen is h =
+    becomes k history now is.1.mid t is.1.other.next (sends_holds k history now (Some is.0) s is.1.mid is.1.first is.1.one h)
+
+ends_holds : (k : ℕ) (history : List Arrival) (now : ℕ) (s t : State) (seen : List Sighting) → EndsEvent s seen t → Holds k history now s → Holds k history now t
+ends_holds k history now s t seen both h =
+    let told = both.one in
+    let rest = both.other in
+    until_holds k history now ClosesIdle (λ (x : State). NoneIdle x.moment x.http) (λ x y calls move. closes_holds k history now x y calls move) rest.mid t rest.second rest.other
+    (until_holds k history now AnswersLateWait (λ (x : State). oldest_late x.moment x.http.waits ≡ None)
+    (λ x y calls move. wait_reply_holds k history now move.0 None x y calls move.2) both.mid rest.mid rest.first rest.one
+    (sends_holds k history now None told.mid both.mid told.second told.other
+    (until_holds k history now SendsNotification NothingIsDue (λ x y calls move. notification_holds k history now x y calls move) s told.mid told.first told.one h)))
 
 -- ---- events
 
@@ -169,8 +254,12 @@ follows_goes_on k history now site (what.Bytes c size) bytes s t seen both h = r
 follows_goes_on k history now site (what.Ended c) bytes s t seen on h =
     record { new = []; requests = refl; holds = nothing_new k history now t (http_stays k history now s t on.0 seen on.2 h) }
 follows_goes_on k history now site (what.Datagram from size) bytes s t seen receives h = receives_goes_on k history now site from size bytes s t seen receives h
-follows_goes_on k history now site what.Tick bytes s t seen polls h =
-    record { new = []; requests = refl; holds = nothing_new k history now t (thing_stays k history now s t polls.1.0 (map at_handler polls.1.1) seen polls.1.3 h) }
+follows_goes_on k history now site what.Tick bytes s t seen each h = record {
+  new = [];
+  requests = refl;
+  holds = nothing_new k history now t
+      (each_holds k history now PollsAndDelivers (λ x a b calls move. polls_holds k history now x a b calls move) (events_of site) s t seen each h);
+}
 follows_goes_on k history now site what.Stop bytes s t seen ends h =
     record { new = []; requests = refl; holds = nothing_new k history now t (becomes k history now s t ends.next h) }
 
@@ -184,8 +273,7 @@ step_goes_on k history now site e s t seen step h =
     record {
       new = goes.new;
       requests = goes.requests;
-      holds = until_holds k (history ++ goes.new) later ClosesIdle (λ (x : State). NoneIdle x.moment x.http)
-          (λ x y calls move. closes_holds k (history ++ goes.new) later x y calls move) step.mid t step.second step.other goes.holds;
+      holds = ends_holds k (history ++ goes.new) later step.mid t step.second step.other goes.holds;
     }
 
 -- ---- runs

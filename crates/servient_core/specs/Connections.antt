@@ -1,13 +1,13 @@
 -- What the functions of connections say of one another.
-use Rattle.std.specs.Prelude.{◌≡◌, ◌≤◌, ◌<◌, ℕ, List, [], map, Bool, true, false}
+use Rattle.std.specs.Prelude.{◌≡◌, ◌≤◌, ◌<◌, ℕ, List, [], map, Bool, true, false, Option, Some, None}
 use Rattle.servient_base.specs.Moves.{Stays}
 use Rattle.thing_ops.specs.declared.outcome.Outcome.{Outcome}
-use Rattle.thing_ops.specs.Requests.{PlainRequest}
 use Rattle.thing_handler.specs.Handler.{Seen}
 use Rattle.thing_site.specs.Site.{Site}
 use Rattle.thing_site.specs.Fits.{Fits}
-use Rattle.http_bind.specs.Streams.{Replies, Continues, Refuses, IsDry}
+use Rattle.http_bind.specs.Streams.{Answers, Continues, Refuses, IsDry}
 use Rattle.http_bind.specs.Slots.{Slots, Leads}
+use Rattle.servient_outside.specs.declared.net.Act.{Act}
 use Rattle.servient_outside.specs.Network.{NetSeen, NetShows, did}
 use Rattle.servient_core.specs.Machine.{Move, TakesNextMessage, acts_of_reply}
 use Rattle.servient_core.specs.declared.parts.Parts.{Parts}
@@ -20,11 +20,16 @@ pub record IsOn (c : ℕ) (kept : Parts) (slots : List Seen) : Type 0 where
   pub moment : kept.coap.exchanges.moment ≤ kept.moment
   pub fits : Fits kept.exposed.site slots
 
--- the outcome of a request that was taken is replied
-pub record SendsReply (c : ℕ) (request : PlainRequest) (o : Outcome) (moment : ℕ) (b d : Slots) (n m : NetSeen) : Type 0 where
-  pub reply : List ℕ × Bool
-  pub leads : Leads (Replies c request o moment reply.0 reply.1) b d
-  pub shows : NetShows n m (map did (acts_of_reply c reply))
+-- what is done where there is a reply, and where a request waits
+abbrev pub acts_of_answer : ℕ → Option (List ℕ × Bool) → List Act
+acts_of_answer c None = []
+acts_of_answer c (Some reply) = acts_of_reply c reply
+
+-- the request that was taken last is answered by this outcome: its reply is sent, or it waits
+pub record SendsAnswer (c : ℕ) (o : Outcome) (moment : ℕ) (b d : Slots) (n m : NetSeen) : Type 0 where
+  pub reply : Option (List ℕ × Bool)
+  pub leads : Leads (Answers c o moment reply) b d
+  pub shows : NetShows n m (map did (acts_of_answer c reply))
 
 -- the 100 reply is sent
 pub record SendsContinue (c : ℕ) (b d : Slots) (n m : NetSeen) : Type 0 where

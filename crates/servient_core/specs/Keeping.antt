@@ -1,17 +1,18 @@
 -- What the functions of a servient's parts say of one another.
-use Rattle.std.specs.Prelude.{◌≡◌, List, []}
-use Rattle.servient_base.specs.Moves.{Makes, Refines}
+use Rattle.std.specs.Prelude.{◌≡◌, ◌≤◌, ℕ, List, [], ◌∷◌, map, Bool, true, false, Option}
+use Rattle.servient_base.specs.Moves.{Refines}
 use Rattle.thing_ops.specs.declared.outcome.Outcome.{Outcome}
 use Rattle.thing_ops.specs.Outcomes.{HasCode}
-use Rattle.thing_ops.specs.Requests.{PlainRequest}
 use Rattle.thing_handler.specs.Handler.{Seen}
-use Rattle.thing_handler.specs.Turns.{RackShows}
-use Rattle.thing_core.specs.State.{Emission}
-use Rattle.thing_core.specs.Thing.{Done, Acts, Polls}
-use Rattle.thing_core.specs.Kept.{Kept}
+use Rattle.thing_site.specs.Site.{Placed}
+use Rattle.thing_core.specs.declared.polling.Round.{Round}
+use Rattle.thing_core.specs.Rounds.{events_left}
 use Rattle.coap_bind.specs.Laws.{HasShortPlace}
-use Rattle.servient_core.specs.Trace.{Outside, Shows}
-use Rattle.servient_core.specs.Machine.{Move}
+use Rattle.http_bind.specs.Streams.{Wakes}
+use Rattle.http_bind.specs.Slots.{Slots, Leads, left_at}
+use Rattle.servient_outside.specs.Network.{NetSeen, NetShows, did}
+use Rattle.servient_core.specs.Trace.{Outside, outside, Shows}
+use Rattle.servient_core.specs.Machine.{Move, PollsAndDelivers, acts_of_reply}
 use Rattle.servient_core.specs.Serving.{StandsFor, IsReady}
 use Rattle.servient_core.specs.declared.parts.Parts.{Parts}
 
@@ -26,17 +27,35 @@ pub record DoesMove (move : Move) (old new : Parts) (before after : Outside) : T
 abbrev pub IsSendable : Outcome → Type 0
 IsSendable o = HasCode o × HasShortPlace o
 
--- A request to the Things had this outcome, and its emissions were discarded.
-pub record IsPerformed (old new : Kept) (q : PlainRequest) (o : Outcome) (before after : List Seen) : Type 0 where
-  pub done : Done
-  pub outcome : done.outcome ≡ o
-  pub made : Makes RackShows (Acts old.site q done) old.state new.state before after
-  pub pending : new.pending ≡ []
-  pub site : new.site ≡ old.site
+-- A connection has no more bytes left to take than before.
+abbrev pub LeavesNoMore : Slots → Slots → Type 0
+LeavesNoMore b d = (c : ℕ) → left_at c d ≤ left_at c b
 
--- All events were polled, and their emissions discarded.
-pub record ArePolled (old new : Kept) (before after : List Seen) : Type 0 where
-  pub emissions : List Emission
-  pub made : Makes RackShows (Polls old.site emissions) old.state new.state before after
-  pub pending : new.pending ≡ []
-  pub site : new.site ≡ old.site
+-- no other connection has
+abbrev pub OthersKeep : ℕ → Slots → Slots → Type 0
+OthersKeep c b d = (x : ℕ) → (x ≡ c → ⊥) → left_at x d ≤ left_at x b
+
+-- Code makes this move without a call of a handler, from every state that it stands for.
+abbrev pub DoesQuietly : Move → Parts → Parts → NetSeen → NetSeen → Type 0
+DoesQuietly move old new n m = (slots : List Seen) → Refines StandsFor Shows move old new (outside n slots) (outside m slots)
+
+-- What stays when new values are delivered: the moment, the Things, the exchanges; and no connection has more left to
+-- take.
+pub record OnlyDelivers (old new : Parts) : Type 0 where
+  pub moment : new.moment ≡ old.moment
+  pub site : new.exposed.site ≡ old.exposed.site
+  pub exchanges : new.coap.exchanges ≡ old.coap.exchanges
+  pub left : LeavesNoMore old.http new.http
+
+-- A connection that waits was replied to, with a value or with none.
+pub record SendsToWait (c : ℕ) (text : Option (List ℕ)) (moment : ℕ) (b d : Slots) (n m : NetSeen) : Type 0 where
+  pub reply : List ℕ × Bool
+  pub leads : Leads (Wakes c text moment reply.0 reply.1) b d
+  pub shows : NetShows n m (map did (acts_of_reply c reply))
+
+-- What follows on an ask for the next poll of a round: the first event that is left was polled, and what it emits was
+-- delivered; or none is left, and nothing was done.
+pub data PollsOne (later : Round) (old new : Parts) (before after : Outside) : Bool → Round → Type 0 where
+  polls : (round : Round) (p : Placed) → events_left round old.exposed.site ≡ p ∷ events_left later old.exposed.site
+      → Refines StandsFor Shows (PollsAndDelivers p) old new before after → PollsOne later old new before after true round
+  ends : (round : Round) → events_left round old.exposed.site ≡ [] → new ≡ old → after ≡ before → PollsOne later old new before after false round

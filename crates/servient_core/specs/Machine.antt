@@ -10,19 +10,25 @@
 
 -- ---- imports
 
-use Rattle.std.specs.Prelude.{ℕ, ◌<◌, ◌≤◌, ◌⊎◌, max, None, List, [], ◌∷◌, map, length, Bool, true, false, if◌then◌else◌}
+use Rattle.std.specs.Prelude.{◌≡◌, ℕ, ◌<◌, ◌≤◌, ◌⊎◌, max, Option, Some, None, unwrap_or, List, [], ◌∷◌, map, length, Bool, true, false, if◌then◌else◌}
 use Rattle.servient_base.specs.Moves.{Becomes, Stays, Then, Passing, Each, Until}
 use Rattle.coap_msg.specs.declared.constants.TheConstants.{LONGEST_DATAGRAM}
 use Rattle.coap_msg.specs.declared.endpoint.Endpoint.{Endpoint}
+use Rattle.coap_msg.specs.Grammar.{spelling}
 use Rattle.thing_ops.specs.Requests.{PlainRequest}
 use Rattle.thing_handler.specs.Turns.{HandlerCall}
-use Rattle.thing_site.specs.Site.{Site as Things}
-use Rattle.thing_core.specs.State.{State as ThingState, Emission, start as no_request_yet}
-use Rattle.thing_core.specs.Thing.{Move as ThingMove, Done, Acts, Polls}
+use Rattle.thing_site.specs.Site.{Placed, Site as Things, events_of}
+use Rattle.thing_core.specs.State.{State as ThingState, Emission, last_of, start as no_request_yet}
+use Rattle.thing_core.specs.Thing.{Move as ThingMove, Done, Acts, PollsEvent}
+use Rattle.thing_core.specs.Places.{target_of}
+use Rattle.coap_observe.specs.declared.notice.Notice.{Notice}
+use Rattle.coap_opts.specs.Reading.{PlainAsk}
+use Rattle.coap_bind.specs.declared.head.OpenAsk.{OpenAsk}
 use Rattle.coap_bind.specs.declared.server.Server.{Server}
 use Rattle.servient_core.specs.declared.capacity.TheConstants.{MOST_WATCHERS}
-use Rattle.coap_bind.specs.Server.{start as nothing_came, Heard, ignored, answered_at_once, asked, Hears, Answers}
-use Rattle.http_bind.specs.Streams.{Streams, none_open, Taken, asks, wants_continue, is_faulty, Opened, Ended, Lengthened, Takes, IsDry, Replies, Continues, Refuses, Closes, IsIdle, NoneIdle}
+use Rattle.coap_bind.specs.Server.{start as nothing_came, Heard, ignored, answered_at_once, asked, Hears, Answers, with_emitted, SendsNext}
+use Rattle.coap_bind.specs.Writing.{notification}
+use Rattle.http_bind.specs.Streams.{Streams, none_open, Taken, asks, wants_continue, is_faulty, interrupts, Opened, Ended, Lengthened, Takes, IsDry, Answers as AnswersRequest, Wakes, Continues, Refuses, Closes, oldest_for, oldest_late, IsIdle, NoneIdle}
 use Rattle.servient_outside.specs.declared.net.What.{What}
 use Rattle.servient_outside.specs.declared.net.What.TheVariants as what
 use Rattle.servient_outside.specs.declared.net.EventWithBytes.{EventWithBytes}
@@ -37,8 +43,9 @@ use Rattle.servient_core.specs.Trace.{Sighting, at_network, at_handler}
 abbrev pub Site : Type 0
 Site = Things
 
--- The machine's state: the greatest moment so far in milliseconds; the connections with their whole streams; the CoAP
--- server with its exchanges and the id of its next message; what the Things don't leave to their devices.
+-- The machine's state: the greatest moment so far in milliseconds; the connections with their whole streams and the
+-- requests that wait; the CoAP server with its exchanges, its watchers and the id of its next message; what the Things
+-- don't leave to their devices.
 pub record State : Type 0 where
   pub moment : ℕ
   pub http : Streams
@@ -72,21 +79,67 @@ OnThing move s seen t =
 abbrev pub Does : List Act → Move
 Does acts s = Becomes s (map (λ a. at_network (did a)) acts)
 
+-- ---- what is sent on a connection
+
+-- a reply is one act, and one that closes is followed by the close
+abbrev pub acts_of_reply : ℕ → List ℕ × Bool → List Act
+acts_of_reply c reply = act.Sent c reply.0 ∷ (if reply.1 then act.Closed c ∷ [] else [])
+
+abbrev pub Sends : ℕ → List ℕ × Bool → Move
+Sends c reply = Does (acts_of_reply c reply)
+
+-- a request that waits has no reply yet
+abbrev pub SendsIfAny : ℕ → Option (List ℕ × Bool) → Move
+SendsIfAny c None s seen t = Stays s seen t
+SendsIfAny c (Some reply) s seen t = Sends c reply s seen t
+
+-- ---- new values (RFC 7641 for CoAP; TD 1.1's long polls for HTTP)
+
+-- a connection that waits is replied to, with a value or with none
+abbrev pub RepliesToWait : ℕ → Option (List ℕ) → Move
+RepliesToWait c text = Passing (λ (reply : List ℕ × Bool). OnHttp (λ now. Wakes c text now reply.0 reply.1)) (Sends c)
+
+-- the oldest that waits for a target gets its last value
+abbrev pub AnswersWait : ℕ → Move
+AnswersWait target s seen t = (c : ℕ) × (oldest_for target s.http.waits ≡ Some c) × RepliesToWait c (last_of target s.thing.last) s seen t
+
+abbrev pub AnswersWaits : ℕ → Move
+AnswersWaits target = Until (AnswersWait target) (λ s. oldest_for target s.http.waits ≡ None)
+
+-- the watchers of a target are to be notified
+abbrev pub MarksWatchers : ℕ → Move
+MarksWatchers target = OnCoap (λ now before after. after ≡ with_emitted target before)
+
+-- A target has a new value: all that wait for it get it, the oldest first, and its watchers are to be notified.
+abbrev pub Delivers : ℕ → Move
+Delivers target = Then (AnswersWaits target) (MarksWatchers target)
+
+-- what was emitted is delivered, in order
+abbrev pub DeliversEach : List Emission → Move
+DeliversEach emissions = Each Delivers (map (λ e. e.target) emissions)
+
 -- ---- a request, whichever way it came
 
--- What is emitted goes nowhere yet: nobody watches or waits.
 abbrev pub Performs : Site → PlainRequest → Done → Move
 Performs site q done = OnThing (Acts site q done)
 
 -- ---- CoAP (RFC 7252): a datagram is heard, and where it asks for something it is answered, once
 
--- what follows on a datagram from this endpoint; nothing can be observed yet, so no answer has a target
+-- what a request that says Observe may observe: the target of its path, if it is the path of one
+abbrev pub observed_target : Site → ThingState → PlainAsk → Option ℕ
+observed_target site thing ask = elim ask.observe as (λ _. Option ℕ) [ None ↦ None | Some n ↦ target_of ask.request.path site thing.invocations ]
+
+-- what was asked is answered by this outcome
+abbrev pub AnswersAsk : Site → Endpoint → PlainAsk → OpenAsk → Done → Move
+AnswersAsk site from ask request done s =
+    Passing (λ bytes. OnCoap (λ now. Answers request done.outcome (observed_target site s.thing ask) bytes)) (λ bytes. Does (act.Datagram from bytes ∷ [])) s
+
+-- what follows on a datagram from this endpoint: a request is performed, answered, and its emissions are delivered
 abbrev pub AnswersDatagram : Site → Endpoint → Heard → Move
 AnswersDatagram site from ignored s seen t = Stays s seen t
 AnswersDatagram site from (answered_at_once bytes) s seen t = Does (act.Datagram from bytes ∷ []) s seen t
 AnswersDatagram site from (asked ask request) s seen t =
-    Passing (Performs site ask.request)
-    (λ done. Passing (λ bytes. OnCoap (λ now. Answers request done.outcome None bytes)) (λ bytes. Does (act.Datagram from bytes ∷ []))) s seen t
+    Passing (Performs site ask.request) (λ done. Then (AnswersAsk site from ask request done) (DeliversEach done.emissions)) s seen t
 
 -- a datagram is longer than one that is looked at and nothing is done, or it is heard
 abbrev pub HearsDatagram : Site → Endpoint → List ℕ → Move
@@ -96,22 +149,19 @@ HearsDatagram site from bytes s seen t =
 
 -- ---- HTTP (RFC 9112): the messages of a stream that weren't taken yet, one after another
 
--- a reply is one act, and one that closes is followed by the close
-abbrev pub acts_of_reply : ℕ → List ℕ × Bool → List Act
-acts_of_reply c reply = act.Sent c reply.0 ∷ (if reply.1 then act.Closed c ∷ [] else [])
-
-abbrev pub Sends : ℕ → List ℕ × Bool → Move
-Sends c reply = Does (acts_of_reply c reply)
+-- the request that was taken last is answered by this outcome: its reply is sent, or it waits
+abbrev pub AnswersMessage : ℕ → Done → Move
+AnswersMessage c done = Passing (λ reply. OnHttp (λ now. AnswersRequest c done.outcome now reply)) (SendsIfAny c)
 
 -- what follows on what was taken from a connection
 abbrev pub AnswersTaken : Site → ℕ → Taken → Move
 AnswersTaken site c (asks q) s seen t =
-    Passing (Performs site q)
-    (λ done. Passing (λ (reply : List ℕ × Bool). OnHttp (λ now. Replies c q done.outcome now reply.0 reply.1)) (Sends c)) s seen t
+    Passing (Performs site q) (λ done. Then (AnswersMessage c done) (DeliversEach done.emissions)) s seen t
 AnswersTaken site c wants_continue s seen t =
     Passing (λ bytes. OnHttp (λ now. Continues bytes)) (λ bytes. Sends c (bytes, false)) s seen t
 AnswersTaken site c (is_faulty status) s seen t =
     Passing (λ bytes. OnHttp (λ now. Refuses c status bytes)) (λ bytes. Sends c (bytes, true)) s seen t
+AnswersTaken site c interrupts s seen t = Does (act.Closed c ∷ []) s seen t
 
 -- something is taken from a connection, and answered
 abbrev pub TakesNextMessage : Site → ℕ → Move
@@ -133,6 +183,42 @@ ClosesIdle = Passing (λ c. OnHttp (λ now h k. IsIdle c now h × Closes c h k))
 abbrev pub ClosesAllIdle : Move
 ClosesAllIdle = Until ClosesIdle (λ s. NoneIdle s.moment s.http)
 
+-- ---- polls
+
+-- an event affordance is polled, and what it emits is delivered
+abbrev pub PollsAndDelivers : Placed → Move
+PollsAndDelivers p = Passing (λ emissions. OnThing (PollsEvent p emissions)) DeliversEach
+
+-- ---- the end of each event
+
+-- the bytes of a notification, which says the last value of its target
+abbrev pub notice_bytes : Notice → ThingState → List ℕ
+notice_bytes n thing = spelling (notification n (unwrap_or (last_of n.target thing.last) []))
+
+-- what is to be sent next to a watcher is sent
+abbrev pub SendsNotification : Move
+SendsNotification s =
+    Passing (λ n. OnCoap (λ now. SendsNext now (Some n))) (λ n. Does (act.Datagram n.to (notice_bytes n s.thing) ∷ [])) s
+
+-- nothing is to be sent
+abbrev pub NothingIsDue : State → Type 0
+NothingIsDue s = (c : Server) × SendsNext s.moment None s.coap c
+
+-- one after another, until nothing is to be sent; watchers that are given up are gone then
+abbrev pub SendsNotifications : Move
+SendsNotifications = Then (Until SendsNotification NothingIsDue) (OnCoap (λ now. SendsNext now None))
+
+-- the oldest that waited too long is told that nothing came
+abbrev pub AnswersLateWait : Move
+AnswersLateWait s seen t = (c : ℕ) × (oldest_late s.moment s.http.waits ≡ Some c) × RepliesToWait c None s seen t
+
+abbrev pub AnswersLateWaits : Move
+AnswersLateWaits = Until AnswersLateWait (λ s. oldest_late s.moment s.http.waits ≡ None)
+
+-- Notifications go out, then requests that waited too long are answered, and then idle connections are closed.
+abbrev pub EndsEvent : Move
+EndsEvent = Then SendsNotifications (Then AnswersLateWaits ClosesAllIdle)
+
 -- ---- events
 
 -- what follows when this comes, at the machine's moment
@@ -141,15 +227,15 @@ Follows site (what.Opened c) bytes s seen t = OnHttp (Opened c) s seen t
 Follows site (what.Bytes c size) bytes s seen t = HearsPiece site c bytes s seen t
 Follows site (what.Ended c) bytes s seen t = OnHttp (λ now. Ended c) s seen t
 Follows site (what.Datagram from size) bytes s seen t = HearsDatagram site from bytes s seen t
--- all events are polled, and what is emitted goes nowhere yet
-Follows site what.Tick bytes s seen t = (emissions : List Emission) × OnThing (Polls site emissions) s seen t
+-- all event affordances are polled, one after another
+Follows site what.Tick bytes s seen t = Each PollsAndDelivers (events_of site) s seen t
 -- the end of the run does nothing more
 Follows site what.Stop bytes s seen t = Stays s seen t
 
--- One event: the machine's moment becomes the greater of itself and the event's, then comes what follows, and then idle
--- connections are closed.
+-- One event: the machine's moment becomes the greater of itself and the event's, then comes what follows, and then what
+-- ends each event, also the last.
 abbrev pub Step : Site → EventWithBytes → Move
-Step site e s = Then (Follows site e.event.what e.bytes) ClosesAllIdle (record s { moment = max s.moment e.event.moment })
+Step site e s = Then (Follows site e.event.what e.bytes) EndsEvent (record s { moment = max s.moment e.event.moment })
 
 -- an event comes
 abbrev pub Comes : EventWithBytes → Move

@@ -1,6 +1,6 @@
 -- What an operation means doesn't depend on the binding by which it is asked for.
-use Rattle.std.specs.Prelude.{◌≡◌, ℕ, Bool, None, List, [], ◌∷◌}
-use Rattle.servient_base.specs.Moves.{Then, Passing}
+use Rattle.std.specs.Prelude.{◌≡◌, ℕ, List}
+use Rattle.servient_base.specs.Moves.{Then}
 use Rattle.coap_msg.specs.declared.endpoint.Endpoint.{Endpoint}
 use Rattle.thing_ops.specs.Requests.{PlainRequest}
 use Rattle.thing_handler.specs.declared.handler.Answer.{Answer}
@@ -8,11 +8,10 @@ use Rattle.thing_core.specs.Thing.{Done}
 use Rattle.thing_core.specs.Determined.{AreAnsweredBy, HadMemory}
 use Rattle.coap_opts.specs.Reading.{PlainAsk}
 use Rattle.coap_bind.specs.declared.head.OpenAsk.{OpenAsk}
-use Rattle.coap_bind.specs.Server.{asked, Answers}
-use Rattle.http_bind.specs.Streams.{asks, Replies}
-use Rattle.servient_outside.specs.declared.net.Act.TheVariants as act
+use Rattle.coap_bind.specs.Server.{asked}
+use Rattle.http_bind.specs.Streams.{asks}
 use Rattle.servient_core.specs.Trace.{Sighting, calls_in}
-use Rattle.servient_core.specs.Machine.{Site, State, Move, OnHttp, OnCoap, Does, Performs, AnswersDatagram, Sends, AnswersTaken}
+use Rattle.servient_core.specs.Machine.{Site, State, Move, Performs, AnswersAsk, AnswersDatagram, AnswersMessage, AnswersTaken, DeliversEach}
 
 -- A message that was read as a request: by CoAP from an endpoint, where it asks for this and has to be answered, or by
 -- HTTP on a connection.
@@ -31,15 +30,14 @@ Handled site (by_coap from ask request) = AnswersDatagram site from (asked ask r
 Handled site (by_http c q) = AnswersTaken site c (asks q)
 
 -- its outcome is written as its binding writes that, and sent
-abbrev pub Writes : Message → Done → Move
-Writes (by_coap from ask request) done =
-    Passing (λ bytes. OnCoap (λ now. Answers request done.outcome None bytes)) (λ bytes. Does (act.Datagram from bytes ∷ []))
-Writes (by_http c q) done =
-    Passing (λ (reply : List ℕ × Bool). OnHttp (λ now. Replies c q done.outcome now reply.0 reply.1)) (Sends c)
+abbrev pub Writes : Site → Message → Done → Move
+Writes site (by_coap from ask request) done = AnswersAsk site from ask request done
+Writes site (by_http c q) done = AnswersMessage c done
 
--- the request is performed, has this outcome, and that is written and sent
+-- the request is performed, has this outcome, that is written and sent, and what was emitted is delivered by both
+-- bindings
 abbrev pub ComesTo : Site → Message → Done → Move
-ComesTo site m done = Then (Performs site (request_of m) done) (Writes m done)
+ComesTo site m done = Then (Performs site (request_of m) done) (Then (Writes site m done) (DeliversEach done.emissions))
 
 -- All that the machine does with a message: its request has some outcome, and that is what is written.
 abbrev pub IsWritten : Site → Message → Type 0

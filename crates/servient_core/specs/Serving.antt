@@ -6,8 +6,7 @@ use Rattle.servient_outside.specs.declared.net.EventWithBytes.{EventWithBytes}
 use Rattle.servient_outside.specs.Network.{Happening, broke, next_event, break_count}
 use Rattle.thing_site.specs.declared.fault.ExposeFault.{ExposeFault}
 use Rattle.thing_site.specs.Exposing.{IsFirst}
-use Rattle.std.specs.List.{AllByRecursion}
-use Rattle.http_bind.specs.Slots.{StandsFor as ConnectionsStandFor, HasRoomFor, longest_piece}
+use Rattle.http_bind.specs.Slots.{StandsFor as ConnectionsStandFor, HasRoom}
 use Rattle.servient_core.specs.Trace.{Sighting, at_network}
 use Rattle.servient_core.specs.Machine.{Site, State, Run}
 use Rattle.servient_core.specs.declared.parts.Parts.{Parts}
@@ -36,7 +35,7 @@ pub record StandsFor (kept : Parts) (s : State) : Type 0 where
 pub record IsReady (kept : Parts) : Type 0 where
   pub pending : kept.exposed.pending ≡ []
   pub moment : kept.coap.exchanges.moment ≤ kept.moment
-  pub room : AllByRecursion (HasRoomFor longest_piece) kept.http
+  pub room : (c : ℕ) → HasRoom c kept.http
 
 -- the fault of exposing, or being out of memory
 abbrev pub IsOpenFault : List ExposeFault → OpenFault → Type 0

@@ -1,19 +1,17 @@
-//! What a servient does on its connections (RFC 9112): the messages of each stream are taken and
-//! answered, one after another.
+//! What a servient does on its connections (RFC 9112): the messages of each stream are taken and answered, one after
+//! another, and requests that wait are replied to.
 
-ghost use Rattle.std.specs.Prelude.{◌≡◌, ◌≤◌, ◌<◌, ◌++◌, List, map, length, true, false, IsSome};
-ghost use Rattle.thing_handler.specs.Handler.{Seen};
+ghost use Rattle.std.specs.Prelude.{◌≡◌, ◌≤◌, ◌<◌, ◌++◌, map, length, option_map, true, false, IfSome, IsSome};
 ghost use Rattle.servient_base.specs.Moves.{Refines};
 ghost use Rattle.thing_site.specs.Fits.{Fits};
-ghost use Rattle.thing_ops.specs.Requests.{PlainRequest};
 ghost use Rattle.http_bind.specs.Replying.{fault_word};
-ghost use Rattle.http_bind.specs.Slots.{left_at, longest_piece, IsOpen, IsAskedBy, OthersStay, HasRoom};
+ghost use Rattle.http_bind.specs.Slots.{left_at, longest_piece, longest_text, IsOwed, IsWaiting, HasRoom};
 ghost use Rattle.servient_core.specs.Trace.{Shows, outside};
 ghost use Rattle.servient_outside.specs.Network.{NetShows, did};
-ghost use Rattle.servient_core.specs.Machine.{HearsPiece, TakesEveryMessage, ClosesAllIdle, acts_of_reply};
+ghost use Rattle.servient_core.specs.Machine.{HearsPiece, TakesEveryMessage, acts_of_reply};
 ghost use Rattle.servient_core.specs.Serving.{StandsFor, IsReady};
-ghost use Rattle.servient_core.specs.Keeping.{DoesMove};
-ghost use Rattle.servient_core.specs.Connections.{IsOn, TakesOne, SendsReply, SendsContinue, SendsRefusal};
+ghost use Rattle.servient_core.specs.Keeping.{DoesMove, LeavesNoMore, OthersKeep, SendsToWait};
+ghost use Rattle.servient_core.specs.Connections.{IsOn, TakesOne, SendsAnswer, SendsContinue, SendsRefusal, acts_of_answer};
 
 use crate::Net;
 use crate::parts::{Parts, perform};
@@ -35,7 +33,7 @@ pub struct Rooms {
     /// The query and the body of a message.
     message: [u8; ROOM],
     /// The reply.
-    reply: ReplyRoom,
+    pub reply: ReplyRoom,
 }
 
 /// Room for a reply.
@@ -96,7 +94,7 @@ impl Parts {
             (outside (N.seen net.old) (R.slots rack.old)) (outside (N.seen net.new) (R.slots rack.new)) }
         ensures on { IsOn c self.new (R.slots rack.new) }
         ensures site { self.new.exposed.site ≡ self.old.exposed.site }
-        ensures others { OthersStay c self.old.http self.new.http }
+        ensures left { OthersKeep c self.old.http self.new.http }
         ensures room { HasRoom c self.new.http }
     {
         while self.take(net, rack, c, rooms) {}
@@ -115,7 +113,7 @@ impl Parts {
             (outside (N.seen net.old) (R.slots rack.old)) (outside (N.seen net.new) (R.slots rack.new)) }
         ensures on { IsOn c self.new (R.slots rack.new) }
         ensures site { self.new.exposed.site ≡ self.old.exposed.site }
-        ensures others { OthersStay c self.old.http self.new.http }
+        ensures left { OthersKeep c self.old.http self.new.http }
         ensures ends { result ≡ false → HasRoom c self.new.http }
         ensures less { result ≡ true → left_at c self.new.http < left_at c self.old.http }
     {
@@ -129,39 +127,32 @@ impl Parts {
                 rooms.reply.refuse(&mut self.http, net, c, status);
                 true
             }
+            HttpNext::Close => {
+                net.close(c);
+                true
+            }
             HttpNext::Memory => {
                 rooms
                     .reply
-                    .reply(&mut self.http, net, c, self.moment, &Outcome::Memory);
+                    .answer(&mut self.http, net, c, self.moment, &Outcome::Memory);
                 true
             }
             HttpNext::Ask(request) => {
                 let outcome = perform(&mut self.exposed, rack, &request);
                 rooms
                     .reply
-                    .reply(&mut self.http, net, c, self.moment, &outcome);
+                    .answer(&mut self.http, net, c, self.moment, &outcome);
+                self.deliver(net, &mut rooms.reply);
                 true
             }
-        }
-    }
-
-    /// Closes the connections that are idle, the lowest first.
-    pub fn close_idle<N: Net>(&mut self, net: &mut N)
-        requires { IsReady self.old }
-        ensures closed { (slots : List Seen) → Refines StandsFor Shows ClosesAllIdle self.old self.new (outside (N.seen net.old) slots) (outside (N.seen net.new) slots) }
-        ensures ready { IsReady self.new }
-        ensures exposed { self.new.exposed ≡ self.old.exposed }
-    {
-        while let Some(c) = self.http.idle(self.moment) {
-            self.http.ended(c);
-            net.close(c);
         }
     }
 }
 
 impl ReplyRoom {
-    /// Replies an outcome to the message that was taken last from a connection.
-    fn reply<N: Net>(
+    /// Answers the message that was taken last from a connection by this outcome: the reply is sent, or the request
+    /// waits.
+    fn answer<N: Net>(
         &mut self,
         http: &mut HttpBind,
         net: &mut N,
@@ -170,13 +161,32 @@ impl ReplyRoom {
         outcome: &Outcome,
     )
         requires connection { c < 64 }
-        requires open { IsOpen c http.old }
-        ensures replied { (request : PlainRequest) → IsAskedBy c request http.old
-            → SendsReply c request outcome.now moment http.old http.new (N.seen net.old) (N.seen net.new) }
-        ensures left { left_at c http.new ≤ left_at c http.old }
-        ensures others { OthersStay c http.old http.new }
+        requires owed { IsOwed c http.old }
+        ensures answered { SendsAnswer c outcome.now moment http.old http.new (N.seen net.old) (N.seen net.new) }
+        ensures left { LeavesNoMore http.old http.new }
     {
         let out = http.answered(c, outcome, moment, &mut self.head, &mut self.word);
+        if !out.waits {
+            send(net, c, &out);
+        }
+    }
+
+    /// Replies to a connection that waits, with a value or with none.
+    pub fn wake<N: Net>(
+        &mut self,
+        http: &mut HttpBind,
+        net: &mut N,
+        c: u32,
+        moment: u64,
+        text: Option<&[u8]>,
+    )
+        requires waiting { IsWaiting c http.old }
+        requires text { IfSome text (λ t. length t.now ≤ longest_text) }
+        ensures replied { SendsToWait c (option_map (λ t. t.now) text.entry) moment http.old http.new (N.seen net.old) (N.seen net.new) }
+        ensures left { LeavesNoMore http.old http.new }
+        ensures fewer { length http.new.waits < length http.old.waits }
+    {
+        let out = http.woken(c, text, moment, &mut self.head);
         send(net, c, &out);
     }
 
@@ -184,8 +194,7 @@ impl ReplyRoom {
     fn go_on<N: Net>(&mut self, http: &mut HttpBind, net: &mut N, c: u32)
         requires { c < 64 }
         ensures continued { SendsContinue c http.old http.new (N.seen net.old) (N.seen net.new) }
-        ensures left { left_at c http.new ≤ left_at c http.old }
-        ensures others { OthersStay c http.old http.new }
+        ensures left { LeavesNoMore http.old http.new }
     {
         let out = http.refused(c, 100, &mut self.head, &mut self.word);
         send(net, c, &out);
@@ -196,8 +205,8 @@ impl ReplyRoom {
         requires connection { c < 64 }
         requires status { IsSome (fault_word status) }
         ensures refused { SendsRefusal c status http.old http.new (N.seen net.old) (N.seen net.new) }
-        ensures left { left_at c http.new ≤ 0 }
-        ensures others { OthersStay c http.old http.new }
+        ensures closed { left_at c http.new ≤ 0 }
+        ensures left { LeavesNoMore http.old http.new }
     {
         let out = http.refused(c, status, &mut self.head, &mut self.word);
         send(net, c, &out);

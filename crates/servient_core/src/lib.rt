@@ -20,6 +20,8 @@
 
 mod capacity;
 mod connections;
+mod delivering;
+mod ending;
 mod laws;
 mod parts;
 mod servient;

@@ -4,16 +4,19 @@ ghost use Rattle.std.specs.Prelude.{◌≡◌, ◌≤◌, [], length};
 ghost use Rattle.std.specs.List.{All};
 ghost use Rattle.thing_site.specs.Fits.{Fits};
 ghost use Rattle.thing_ops.specs.Requests.{plain_request};
-ghost use Rattle.servient_core.specs.Machine.{Follows, HearsDatagram};
+ghost use Rattle.thing_core.specs.Performing.{MakesAct};
+ghost use Rattle.coap_opts.specs.PlainAsk.{plain_ask};
+ghost use Rattle.servient_core.specs.Machine.{Follows, HearsDatagram, observed_target};
 ghost use Rattle.servient_outside.specs.Network.{byte_count, IsEvent};
 ghost use Rattle.servient_core.specs.Serving.{IsReady};
-ghost use Rattle.servient_core.specs.Keeping.{IsSendable, DoesMove, IsPerformed, ArePolled};
+ghost use Rattle.servient_core.specs.Keeping.{IsSendable, DoesMove};
 ghost use Rattle.servient_core.specs.Trace.{outside};
 
-use crate::connections::Rooms;
+use crate::connections::{ReplyRoom, Rooms};
 use crate::{Event, Net, What};
 use coap_bind::{CoapBind, CoapNext};
 use coap_msg::{Endpoint, LONGEST_DATAGRAM, LONGEST_MESSAGE};
+use coap_opts::CoapAsk;
 use http_bind::HttpBind;
 use thing_core::Exposed;
 use thing_handler::Handlers;
@@ -26,9 +29,9 @@ pub struct Parts {
     pub moment: u64,
     /// The Things, and what they don't leave to their devices.
     pub exposed: Exposed,
-    /// The CoAP server with its exchanges.
+    /// The CoAP server with its exchanges and watchers.
     pub coap: CoapBind,
-    /// The connections of the HTTP server.
+    /// The connections of the HTTP server, with the requests that wait.
     pub http: HttpBind,
 }
 
@@ -53,8 +56,8 @@ impl Parts {
             What::Opened(c) => self.http.opened(c, self.moment),
             What::Bytes(c, _) => self.piece(net, rack, c, bytes, rooms),
             What::Ended(c) => self.http.ended(c),
-            What::Datagram(from, _) => self.datagram(net, rack, from, bytes),
-            What::Tick => poll(&mut self.exposed, rack),
+            What::Datagram(from, _) => self.datagram(net, rack, from, bytes, &mut rooms.reply),
+            What::Tick => self.poll_all(net, rack, &mut rooms.reply),
             What::Stop => {}
         }
     }
@@ -66,6 +69,7 @@ impl Parts {
         rack: &mut R,
         from: Endpoint,
         bytes: &[u8],
+        room: &mut ReplyRoom,
     )
         requires ready { IsReady self.old }
         requires fits { Fits self.old.exposed.site (R.slots rack.old) }
@@ -81,43 +85,33 @@ impl Parts {
             CoapNext::Send(size) => net.datagram(from, &out[..size]),
             CoapNext::Ask(ask, ticket) => {
                 let outcome = perform(&mut self.exposed, rack, &ask.request);
-                // No target: nothing can be observed yet.
-                let size = self.coap.answer(ticket, &outcome, None, &mut out);
+                let target = observed_by(&self.exposed, &ask);
+                let size = self.coap.answer(ticket, &outcome, target, &mut out);
                 net.datagram(from, &out[..size]);
+                self.deliver(net, room);
             }
         }
     }
 }
 
-/// Does what a request asks. Nobody watches or waits yet, so what it emits is discarded.
+/// Does what a request asks. What it emits waits to be delivered.
 pub fn perform<R: Handlers>(exposed: &mut Exposed, rack: &mut R, request: &Request<'_>) -> Outcome
     requires pending { exposed.old.pending ≡ [] }
     requires fits { Fits exposed.old.site (R.slots rack.old) }
-    ensures performed { IsPerformed exposed.old exposed.new (plain_request request.now) result (R.slots rack.old) (R.slots rack.new) }
+    ensures performed { MakesAct exposed.old exposed.new (plain_request request.now) result (R.slots rack.old) (R.slots rack.new) }
     ensures sendable { All (λ segment. length segment ≤ 255) request.now.path → IsSendable result }
 {
     // For the proof: the number that was read has 64 bits.
     let _next = exposed.next_invocation();
-    let outcome = exposed.perform(rack, request);
-    let_go(exposed);
-    outcome
+    exposed.perform(rack, request)
 }
 
-/// Polls all events. What they emit is discarded.
-pub fn poll<R: Handlers>(exposed: &mut Exposed, rack: &mut R)
-    requires pending { exposed.old.pending ≡ [] }
-    requires fits { Fits exposed.old.site (R.slots rack.old) }
-    ensures { ArePolled exposed.old exposed.new (R.slots rack.old) (R.slots rack.new) }
+/// What a request may observe: the target of its path, where it says Observe.
+fn observed_by(exposed: &Exposed, ask: &CoapAsk<'_>) -> Option<u32>
+    ensures { result ≡ observed_target exposed.now.site exposed.now.state (plain_ask ask.now) }
 {
-    exposed.tick(rack);
-    let_go(exposed);
-}
-
-/// Discards what was emitted.
-fn let_go(exposed: &mut Exposed)
-    ensures pending { exposed.new.pending ≡ [] }
-    ensures site { exposed.new.site ≡ exposed.old.site }
-    ensures state { exposed.new.state ≡ exposed.old.state }
-{
-    while let Some(_target) = exposed.emitted() {}
+    match ask.observe {
+        Some(_) => exposed.target_of(&ask.request.path),
+        None => None,
+    }
 }

@@ -89,13 +89,13 @@ impl Servient {
         ensures fits { IfOk result (λ s. Fits s.exposed.site (R.slots rack.now)) }
         ensures fault { IfErr result (λ fault. IsOpenFault (expose_faults (kinds_of (R.slots rack.now)) plan.now.slots things) fault) }
     {
+        let rooms = Rooms::new(alloc)?;
+        let http = HttpBind::new(alloc)?;
+        let coap = CoapBind::new(alloc, plan.exchanges, MOST_WATCHERS)?;
         let exposed = match Exposed::new(alloc, things, &plan.slots, rack) {
             Ok(exposed) => exposed,
             Err(fault) => return Err(OpenFault::Expose(fault)),
         };
-        let coap = CoapBind::new(alloc, plan.exchanges, MOST_WATCHERS)?;
-        let http = HttpBind::new(alloc)?;
-        let rooms = Rooms::new(alloc)?;
         Ok(Servient {
             parts: Parts {
                 moment: 0,
@@ -126,6 +126,6 @@ impl Servient {
     {
         self.parts.moment = self.parts.moment.max(event.moment);
         self.parts.follow(net, rack, event, bytes, &mut self.rooms);
-        self.parts.close_idle(net);
+        self.parts.end_event(net, &mut self.rooms.reply);
     }
 }

@@ -16,3 +16,4 @@ mod Handed
 mod CompleteLaws
 pub mod DeterminedLaws
 mod TickLaws
+mod RoundLaws

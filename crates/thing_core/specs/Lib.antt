@@ -11,3 +11,4 @@ pub mod Completeness
 pub mod Determined
 pub mod Ticks
 pub mod Ids
+pub mod Rounds

@@ -1,11 +1,12 @@
 //! The acts that requests ask for, each done with its calls of handlers.
 
-ghost use Rattle.std.specs.Prelude.{◌≡◌, length, map, option_map};
+ghost use Rattle.std.specs.Prelude.{◌≡◌, ◌≤◌, length, map, option_map, IfSome};
 ghost use Rattle.wot_json.specs.Json.{text_of as text_of_value};
 ghost use Rattle.thing_ops.specs.Requests.{plain_request};
 ghost use Rattle.thing_core.specs.State.{last_of};
 ghost use Rattle.thing_core.specs.Thing.{event_outcome, Performs};
 ghost use Rattle.thing_site.specs.Found.{found_act};
+ghost use Rattle.thing_site.specs.Refusals.{longest_value};
 ghost use Rattle.thing_core.specs.Performing.{affordances_of_act, AllStand, InputsFit, IsOrMemory, MakesDone, MayBeDone, OrMemory};
 
 use crate::admitting::Task;
@@ -82,7 +83,8 @@ fn last_emission(alloc: Global, last: &[Latest], target: u32) -> Outcome
 
 /// The text of the last emission of this target, among these.
 pub fn last_in(last: &[Latest], target: u32) -> Option<&[u8]>
-    ensures { option_map (λ t. t.now) result ≡ last_of target last.now }
+    ensures text { option_map (λ t. t.now) result ≡ last_of target last.now }
+    ensures length { IfSome result (λ t. length t.now ≤ longest_value) }
 {
     for latest in last {
         if latest.target() == target {

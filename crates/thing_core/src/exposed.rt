@@ -1,6 +1,6 @@
 //! Things as they are exposed, and what they keep in a run.
 
-ghost use Rattle.std.specs.Prelude.{◌≡◌, ◌≤◌, ◌<◌, [], ◌∷◌, length, map, option_map, MatchOption, IfErr, IfOk, OnOk};
+ghost use Rattle.std.specs.Prelude.{◌≡◌, ◌≤◌, ◌<◌, [], ◌∷◌, length, map, option_map, MatchOption, IfErr, IfOk, IfSome, OnOk};
 ghost use Rattle.std.specs.List.{AllByRecursion};
 ghost use Rattle.wot_terms.specs.Faults.{IsValid};
 ghost use Rattle.thing_site.specs.Site.{site_of, expose_faults};
@@ -9,13 +9,15 @@ ghost use Rattle.thing_core.specs.Places.{target_of as target_of_path};
 ghost use Rattle.thing_site.specs.Exposing.{kinds_of, IsFirst};
 ghost use Rattle.thing_site.specs.Fits.{Fits};
 ghost use Rattle.thing_core.specs.Performing.{MakesAct, MakesPolls};
+ghost use Rattle.thing_core.specs.Rounds.{PollsNext};
+ghost use Rattle.thing_site.specs.Refusals.{longest_value};
 ghost use Rattle.thing_ops.specs.Requests.{plain_request};
 
 use crate::acting::{act, last_in};
 use crate::admitting::admitted;
 use crate::emitters::silent_all;
 use crate::machine::Machine;
-use crate::polling::poll_all;
+use crate::polling::{Round, poll_all, poll_next};
 use crate::standing::place_of;
 use crate::{ExposeFault, Slots};
 use std::alloc::Global;
@@ -103,6 +105,18 @@ impl Exposed {
         poll_all(self.things.as_slice(), &mut self.machine, rack);
     }
 
+    /// Polls the handler of the next event of a round, in the order of Things and names. Whether one was left. It takes no
+    /// memory of its own, as `tick`.
+    pub fn poll_next<R: Handlers>(&mut self, rack: &mut R, round: &mut Round) -> bool
+        requires fits { Fits self.old.site (R.slots rack.old) }
+        requires pending { self.old.pending ≡ [] }
+        ensures { PollsNext result round.old round.new self.old self.new (R.slots rack.old) (R.slots rack.new) }
+    {
+        // For the proof: there is room for as many emissions as there are emitters.
+        let _room = self.machine.emitters();
+        poll_next(self.things.as_slice(), &mut self.machine, rack, round)
+    }
+
     /// The target of the own path of an observable property or an event: the slot of its affordance.
     pub fn target_of(&self, path: &Segments) -> Option<u32>
         ensures { result ≡ target_of_path path.now self.now.site self.now.state.invocations }
@@ -120,9 +134,10 @@ impl Exposed {
         self.machine.hand_out()
     }
 
-    /// The text of the last emission of this target.
+    /// The text of the last emission of this target, which has at most 1,024 bytes.
     pub fn last(&self, target: u32) -> Option<&[u8]>
-        ensures { option_map (λ t. t.now) result ≡ last_of target self.now.state.last }
+        ensures text { option_map (λ t. t.now) result ≡ last_of target self.now.state.last }
+        ensures length { IfSome result (λ t. length t.now ≤ longest_value) }
     {
         last_in(self.machine.last(), target)
     }

@@ -14,8 +14,9 @@
 //!
 //! Contracts see the site, which is constant (`Site` of `thing_site`), and the state of the Thing machine
 //! (`specs/State.antt`). The contract in a sentence: what `perform` answers, calls and leaves is a move of that
-//! machine (`Acts` of `specs/Thing.antt`), what `tick` calls and leaves is one of its polls (`Polls`), and the rack
-//! shows the calls of it. Memory is taken before the first call of a handler, and by `tick` never.
+//! machine (`Acts` of `specs/Thing.antt`), what `tick` calls and leaves is one of its polls (`Polls`), what `poll_next` does
+//! that of one event, and the rack shows the calls of it. Memory is taken before the first call of a handler, and by
+//! polls never.
 #![tactic(auto)]
 
 mod acting;
@@ -40,5 +41,6 @@ pub use laws::{
     a_rack_fits_on, a_rack_fits_on_after_polls, polls_are_the_same_in_turn,
     refused_values_reach_no_handler, requests_are_complete,
 };
+pub use polling::Round;
 pub use servient_base::NoMemory;
 pub use thing_site::{ExposeFault, Slots};

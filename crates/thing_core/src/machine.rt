@@ -4,7 +4,7 @@
 //! no vector, no room and no capacity.
 
 ghost use Rattle.std.specs.Prelude.{◌≡◌, ◌≤◌, ◌<◌, ◌+◌, length, map, option_map, not, position, remove, vec_len, vec_capacity, IfOk};
-ghost use Rattle.thing_core.specs.Rooms.{room_size};
+ghost use Rattle.thing_site.specs.Refusals.{longest_value};
 ghost use Rattle.thing_core.specs.State as spec;
 ghost use Rattle.thing_core.specs.Course.{FitsValue};
 ghost use Rattle.thing_core.specs.Ids.{IdsRise};
@@ -54,7 +54,7 @@ impl Model for Machine {
 
 impl Machine {
     ghost use Rattle.std.specs.Prelude.{◌≡◌, ◌≤◌, ◌<◌, ◌+◌, ◌-◌, ◌++◌, ◌∷◌, [], length, option_map, IfOk, OnOk, OnErr, MatchOption};
-    ghost use Rattle.thing_core.specs.Rooms.{room_size};
+    ghost use Rattle.thing_site.specs.Refusals.{longest_value};
     ghost use Rattle.thing_core.specs.State as spec;
     ghost use Rattle.thing_core.specs.Thing.{most_turns, with_id_used, with_invocations};
     ghost use Rattle.thing_core.specs.Course.{FitsValue};
@@ -141,7 +141,7 @@ impl Machine {
 
     /// The affordance in this slot emits this text.
     pub fn emit(&mut self, target: u32, text: &[u8])
-        requires length { length text.now ≤ room_size }
+        requires length { length text.now ≤ longest_value }
         requires room { 0 < self.old.room }
         ensures state { self.new.state ≡ record self.old.state { last = spec.last_after (record { target = target; text = text.now } ∷ []) self.old.state.last } }
         ensures pending { self.new.pending ≡ self.old.pending ++ target ∷ [] }
@@ -219,7 +219,7 @@ fn empty_rooms(alloc: Global) -> Result<Vec<Room>, NoMemory>
 
 /// Each of these whose affordance is in this slot emits this text.
 fn renew_all(last: &mut [Latest], target: u32, text: &[u8])
-    requires { length text.now ≤ room_size }
+    requires { length text.now ≤ longest_value }
     ensures { last.new ≡ map (spec.renewed (record { target = target; text = text.now })) last.old }
 {
     for latest in last {

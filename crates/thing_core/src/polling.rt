@@ -1,8 +1,10 @@
 //! Polls of events, and what they emit.
 
-ghost use Rattle.std.specs.Prelude.{◌≡◌, ◌≤◌, ◌<◌, ◌+◌, ◌∷◌, [], length};
+ghost use Rattle.std.specs.Prelude.{◌≡◌, ◌≤◌, ◌<◌, ◌+◌, ◌∷◌, [], length, drop, true, false, MatchOption};
 ghost use Rattle.std.specs.List.{filter};
-ghost use Rattle.thing_site.specs.Site.{events_of, of_kind, those_of};
+ghost use Rattle.wot_terms.specs.declared.kind.Kind.TheVariants as kind;
+ghost use Rattle.thing_site.specs.Site.{Placed, Site, events_of, of_kind};
+ghost use Rattle.thing_core.specs.Rounds.{events_left};
 ghost use Rattle.thing_core.specs.Performing.{AllStand, PollsSome};
 
 use crate::calling::{call, fired, taken_text};
@@ -11,45 +13,94 @@ use thing_handler::{CallKind, Handlers};
 use thing_site::{HeldThing, LONGEST_VALUE, Spot, is_kind};
 use wot_terms::Kind;
 
+/// Where a round of polls stands: which affordance comes next, and of which Thing. Contracts see the events that are
+/// left (`events_left` of specs/Rounds.antt).
+#[derive(Clone, Copy, Debug, PartialEq, Eq, Drop)]
+pub struct Round {
+    thing: usize,
+    affordance: usize,
+}
+
+impl Round {
+    /// The beginning of a round: all events are left.
+    pub fn new() -> Round
+        ensures { (site : Site) → events_left result site ≡ events_of site }
+    {
+        Round {
+            thing: 0,
+            affordance: 0,
+        }
+    }
+}
+
 /// Polls each event, in the order of Things and affordances.
 pub fn poll_all<R: Handlers>(things: &[HeldThing], machine: &mut Machine, rack: &mut R)
     requires slots { AllStand (length (R.slots rack.old)) (events_of things.now) }
     requires room { length (events_of things.now) ≤ machine.old.room }
     ensures { PollsSome (events_of things.now) machine.old machine.new (R.slots rack.old) (R.slots rack.new) }
 {
-    for thing in things {
-        poll_thing(thing, machine, rack);
+    let mut round = Round::new();
+    while poll_next(things, machine, rack, &mut round) {}
+}
+
+/// Polls the next event of a round. Whether one was left.
+pub fn poll_next<R: Handlers>(
+    things: &[HeldThing],
+    machine: &mut Machine,
+    rack: &mut R,
+    round: &mut Round,
+) -> bool
+    requires slots { AllStand (length (R.slots rack.old)) (events_left round.old things.now) }
+    requires room { length (events_left round.old things.now) ≤ machine.old.room }
+    ensures one { result ≡ true → (e : Placed) × (events_left round.old things.now ≡ e ∷ events_left round.new things.now)
+        × PollsSome (e ∷ []) machine.old machine.new (R.slots rack.old) (R.slots rack.new) }
+    ensures none { result ≡ false → events_left round.old things.now ≡ [] }
+    ensures machine { result ≡ false → machine.new ≡ machine.old }
+    ensures rack { result ≡ false → R.slots rack.new ≡ R.slots rack.old }
+    ensures room { length (events_left round.new things.now) ≤ machine.new.room }
+    ensures slots { length (R.slots rack.new) ≡ length (R.slots rack.old) }
+{
+    match next_event(things, round) {
+        Some(spot) => {
+            poll(spot, machine, rack);
+            true
+        }
+        None => false,
     }
 }
 
-/// Polls each event of a Thing.
-fn poll_thing<R: Handlers>(thing: &HeldThing, machine: &mut Machine, rack: &mut R)
-    requires slots { AllStand (length (R.slots rack.old)) (those_of Kind.Event thing.now) }
-    requires room { length (those_of Kind.Event thing.now) ≤ machine.old.room }
-    ensures polled { PollsSome (those_of Kind.Event thing.now) machine.old machine.new (R.slots rack.old) (R.slots rack.new) }
-    ensures room { machine.old.room ≤ machine.new.room + length (those_of Kind.Event thing.now) }
-    ensures slots { length (R.slots rack.new) ≡ length (R.slots rack.old) }
+/// The next event of a round, which then stands behind it.
+fn next_event<'a>(things: &'a [HeldThing], round: &mut Round) -> Option<Spot<'a>>
+    ensures { MatchOption result ((events_left round.old things.now ≡ []) × (events_left round.new things.now ≡ []))
+        (λ p. events_left round.old things.now ≡ p ∷ events_left round.new things.now) }
 {
-    for index in 0..thing.len() {
+    while round.thing < things.len() {
+        if let Some(spot) = event_from(&things[round.thing], &mut round.affordance) {
+            return Some(spot);
+        }
+        round.thing += 1;
+        round.affordance = 0;
+    }
+    None
+}
+
+/// The next event among the affordances of a Thing from this one on; the number is then that of the one behind it.
+fn event_from<'a>(thing: &'a HeldThing, number: &mut usize) -> Option<Spot<'a>>
+    ensures { MatchOption result (filter (of_kind kind.Event) (drop number.old thing.now.affordances) ≡ [])
+        (λ p. filter (of_kind kind.Event) (drop number.old thing.now.affordances)
+        ≡ p ∷ filter (of_kind kind.Event) (drop number.new thing.now.affordances)) }
+{
+    for index in *number..thing.len() {
         let spot = match thing.spot(index) {
             Some(spot) => spot,
-            None => return,
+            None => return None,
         };
-        poll_if_event(spot, machine, rack);
+        *number = index + 1;
+        if is_kind(Kind::Event, spot.affordance().kind) {
+            return Some(spot);
+        }
     }
-}
-
-/// Polls an affordance, where it is an event.
-fn poll_if_event<R: Handlers>(spot: Spot<'_>, machine: &mut Machine, rack: &mut R)
-    requires slots { AllStand (length (R.slots rack.old)) (filter (of_kind Kind.Event) (spot ∷ [])) }
-    requires room { length (filter (of_kind Kind.Event) (spot ∷ [])) ≤ machine.old.room }
-    ensures polled { PollsSome (filter (of_kind Kind.Event) (spot.entry ∷ [])) machine.old machine.new (R.slots rack.old) (R.slots rack.new) }
-    ensures room { machine.old.room ≤ machine.new.room + length (filter (of_kind Kind.Event) (spot.entry ∷ [])) }
-    ensures slots { length (R.slots rack.new) ≡ length (R.slots rack.old) }
-{
-    if is_kind(Kind::Event, spot.affordance().kind) {
-        poll(spot, machine, rack);
-    }
+    None
 }
 
 /// Polls an event: its value is emitted where it is taken.

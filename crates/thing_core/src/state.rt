@@ -2,7 +2,6 @@
 
 ghost use Rattle.std.specs.Prelude.{◌≡◌, ◌≤◌, ◌==◌, length, option_map, position, IfOk};
 ghost use Rattle.std.specs.Ordering.{nat_cmp};
-ghost use Rattle.thing_core.specs.Rooms.{room_size};
 ghost use Rattle.thing_core.specs.Course as course;
 ghost use Rattle.thing_core.specs.Ids.{IdsRise};
 
@@ -146,7 +145,8 @@ pub struct Latest {
 }
 
 impl Model for Latest {
-    ghost use Rattle.std.specs.Prelude.{Some, None, if◌then◌else◌};
+    ghost use Rattle.std.specs.Prelude.{◌≤◌, length, Some, None, if◌then◌else◌};
+    ghost use Rattle.thing_site.specs.Refusals.{longest_value};
     ghost use Rattle.thing_core.specs.State.{Latest as LatestSeen};
     ghost use Rattle.thing_core.specs.Course.{latest_code};
 
@@ -155,10 +155,13 @@ impl Model for Latest {
     ghost coded = { latest_code };
 
     ghost view = { λ l. record { target = l.target; text = if l.has_emitted then Some l.text else None } };
+
+    ghost invariant = { λ l. length l.text ≤ longest_value };
 }
 
 impl Latest {
-    ghost use Rattle.std.specs.Prelude.{None};
+    ghost use Rattle.std.specs.Prelude.{None, IfSome};
+    ghost use Rattle.thing_site.specs.Refusals.{longest_value};
     ghost use Rattle.thing_core.specs.State.{renewed};
 
     /// That of the affordance in this slot, which hasn't emitted yet.
@@ -181,7 +184,8 @@ impl Latest {
 
     /// The value's text, where it has emitted one.
     pub fn text(&self) -> Option<&[u8]>
-        ensures { option_map (λ t. t.now) result ≡ self.now.text }
+        ensures text { option_map (λ t. t.now) result ≡ self.now.text }
+        ensures length { IfSome result (λ t. length t.now ≤ longest_value) }
     {
         if self.has_emitted {
             Some(self.text.as_slice())
@@ -192,7 +196,7 @@ impl Latest {
 
     /// It emits this text, where the emission is of its affordance.
     pub fn renew(&mut self, target: u32, text: &[u8])
-        requires { length text.now ≤ room_size }
+        requires { length text.now ≤ longest_value }
         ensures { self.new ≡ renewed (record { target = target; text = text.now }) self.old }
     {
         if self.target == target {

@@ -5,10 +5,12 @@ use Rattle.coap_observe.specs.Places.{watchers_in}
 use Rattle.coap_observe.specs.Watching.{is_due, is_from, hopeless, GivesUp, nobody, endpoint}
 use Rattle.coap_observe.proofs.Changed.{fewer}
 use Rattle.coap_observe.proofs.Due.{hopeless_by}
+use Rattle.coap_observe.specs.Unsent.{unsent}
+use Rattle.coap_observe.proofs.UnsentLaws.{some_less}
 use Rattle.coap_observe.proofs.sending.give_up.Goals as goal
 
 pub loop-from-init : goal.loop-from-init
-loop-from-init c = record { gives_up = λ us rest. rest; capacity = refl }
+loop-from-init c = record { gives_up = λ us rest. rest; capacity = refl; less = omega arith }
 
 pub loop-from-smaller : goal.loop-from-smaller
 loop-from-smaller c =
@@ -24,6 +26,12 @@ loop-from-preserved c =
       gives_up = λ us rest. c.loop-from.invariant.gives_up us
           (endpoint c.in-Some.from (watchers_in c.loop-from.slots) us is (subst (λ (ws : List Watcher). GivesUp c.args.now ws us) c.remove_endpoint.ensures.watchers rest));
       capacity = c.remove_endpoint.ensures.capacity ∙ c.loop-from.invariant.capacity;
+      less = omega (
+        arith,
+        some_less c.args.now (λ (w : Watcher). not (is_from c.in-Some.from w)) (watchers_in c.loop-from.slots),
+        ap (λ (ws : List Watcher). unsent c.args.now ws) c.remove_endpoint.ensures.watchers,
+        c.loop-from.invariant.less,
+      );
     }
 
 pub returns-clause-gives_up : goal.returns-clause-gives_up
@@ -33,3 +41,6 @@ returns-clause-gives_up c =
 
 pub returns-clause-served : goal.returns-clause-served
 returns-clause-served c = sym c.given_up.ensures ∙ c.in_default.is
+
+pub returns-clause-less : goal.returns-clause-less
+returns-clause-less c = c.loop-from.invariant.less

@@ -1,14 +1,16 @@
 -- However it ends with those that are left, it ends so with all.
-use Rattle.std.proofs.Common.{◌≡◌, List, length}
+use Rattle.std.proofs.Common.{◌≡◌, ◌≤◌, List, length}
 use Rattle.coap_observe.specs.Watching.{GivesUp}
 use Rattle.coap_observe.specs.Places.{watchers_in}
 use Rattle.coap_observe.specs.declared.watcher.Watcher.{Watcher}
+use Rattle.coap_observe.specs.Unsent.{unsent}
 use Rattle.coap_observe.proofs.sending.give_up.Given as goal
 
 abbrev pub invariant-loop-from : goal.invariant-loop-from
 invariant-loop-from l = record {
   gives_up : (us : List Watcher) → GivesUp l.now (watchers_in l.slots) us → GivesUp l.now (watchers_in l.initial.slots) us;
   capacity : l.slots.capacity ≡ l.initial.slots.capacity;
+  less : unsent l.now (watchers_in l.slots) ≤ unsent l.now (watchers_in l.initial.slots);
 }
 
 abbrev pub decreases-loop-from : goal.decreases-loop-from

@@ -2,6 +2,7 @@
 use Rattle.std.proofs.Common.{ap}
 use Rattle.coap_observe.specs.Places.{Places}
 use Rattle.coap_observe.proofs.SendLaws.{served, sends_again}
+use Rattle.coap_observe.proofs.UnsentLaws.{again_less}
 use Rattle.coap_observe.proofs.sending.send.Goals as goal
 
 pub send_again-requires-clause-slot : goal.send_again-requires-clause-slot
@@ -16,3 +17,7 @@ returns-in-Some-clause-sends c =
 
 pub returns-in-Some-clause-capacity : goal.returns-in-Some-clause-capacity
 returns-in-Some-clause-capacity c = ap (λ (t : Places). t.capacity) c.send_again.ensures.changed
+
+pub returns-in-Some-clause-less : goal.returns-in-Some-clause-less
+returns-in-Some-clause-less c =
+    again_less c.args.now c.args.id c.args.slots.now c.send_again.new.self c.in-Some.slot c.in-Some.ensures c.send_again.ensures.changed c.send_again.ensures.waits

@@ -7,7 +7,7 @@ use Rattle.servient_core.proofs.parts.perform.Goals as goal
 
 pub returns-clause-sendable : goal.returns-clause-sendable
 returns-clause-sendable g c = λ short.
-    let act = c.perform-outcome.ensures in
+    let act = c.perform.ensures in
     subst (λ (o : Outcome). IsSendable o) act.outcome
-    (acts_sendable c.args.exposed.now.site (plain_request c.args.request.now) act.done c.args.exposed.now.state act.made.seen c.perform-outcome.new.self.state short
+    (acts_sendable c.args.exposed.now.site (plain_request c.args.request.now) act.done c.args.exposed.now.state act.made.seen c.perform.new.self.state short
     (omega (arith, c.next_invocation-next.ensures, c.next_invocation-next.type_inv)) act.made.move)

@@ -1,8 +1,8 @@
 -- The watcher keeps its target and its endpoint.
-use Rattle.std.proofs.Common.{◌≡◌, false, sym, subst, arith}
+use Rattle.std.proofs.Common.{◌≡◌, ◌∙◌, false, sym, ap, subst, arith}
 use Rattle.coap_observe.specs.declared.watcher.Watcher.{Watcher}
 use Rattle.coap_observe.specs.Places.{sent_once_more, IsSentOnceMore}
-use Rattle.coap_observe.specs.Watching.{is_given_up}
+use Rattle.coap_observe.specs.Watching.{is_given_up, is_due}
 use Rattle.coap_observe.proofs.CallUses.{kept_by, seen_by, holds_place, again_target, again_from}
 use Rattle.coap_observe.proofs.PlaceLaws.{slot_below}
 use Rattle.coap_observe.proofs.slots.WatcherSlots.send_again.Goals as goal
@@ -34,3 +34,10 @@ returns-clause-notice c = λ p at.
     subst (λ (w : Watcher). IsSentOnceMore c.args.id w c.send_again.result)
     (holds_place c.self.inside.capacity c.self.inside.watchers.items c.self.inside.order c.self.inside.targets c.self.inside.endpoints c.args.self.now c.args.slot
     c.index_mut.result.now p c.self.invariant c.self.view_is at c.index_mut.ensures.value) c.send_again.ensures.notice
+
+pub returns-clause-waits : goal.returns-clause-waits
+returns-clause-waits c = λ p at.
+    subst (λ (w : Watcher). is_due c.args.now (sent_once_more c.args.now c.args.id w) ≡ false)
+    (holds_place c.self.inside.capacity c.self.inside.watchers.items c.self.inside.order c.self.inside.targets c.self.inside.endpoints c.args.self.now c.args.slot
+    c.index_mut.result.now p c.self.invariant c.self.view_is at c.index_mut.ensures.value)
+    (sym (ap (λ (w : Watcher). is_due c.args.now w) c.send_again.ensures.state) ∙ c.send_again.ensures.waits)

@@ -1,7 +1,7 @@
 -- The watcher keeps its target and its endpoint.
-use Rattle.std.proofs.Common.{true, subst, refl, arith}
+use Rattle.std.proofs.Common.{◌≡◌, ◌∙◌, true, false, sym, ap, subst, refl, arith}
 use Rattle.coap_observe.specs.declared.watcher.Watcher.{Watcher}
-use Rattle.coap_observe.specs.Watching.{notified, next_sequence, IsNotice}
+use Rattle.coap_observe.specs.Watching.{notified, next_sequence, IsNotice, is_due}
 use Rattle.coap_observe.proofs.CallUses.{kept_by, seen_by, holds_place}
 use Rattle.coap_observe.proofs.PlaceLaws.{slot_below}
 use Rattle.coap_observe.proofs.slots.WatcherSlots.send_first.Goals as goal
@@ -26,3 +26,10 @@ returns-clause-notice c = λ p at.
     subst (λ (w : Watcher). IsNotice w c.args.id (next_sequence w.sequence) true c.send_first.result)
     (holds_place c.self.inside.capacity c.self.inside.watchers.items c.self.inside.order c.self.inside.targets c.self.inside.endpoints c.args.self.now c.args.slot
     c.index_mut.result.now p c.self.invariant c.self.view_is at c.index_mut.ensures.value) c.send_first.ensures.notice
+
+pub returns-clause-waits : goal.returns-clause-waits
+returns-clause-waits c = λ p at.
+    subst (λ (w : Watcher). is_due c.args.now (notified c.args.now c.args.id w) ≡ false)
+    (holds_place c.self.inside.capacity c.self.inside.watchers.items c.self.inside.order c.self.inside.targets c.self.inside.endpoints c.args.self.now c.args.slot
+    c.index_mut.result.now p c.self.invariant c.self.view_is at c.index_mut.ensures.value)
+    (sym (ap (λ (w : Watcher). is_due c.args.now w) c.send_first.ensures.state) ∙ c.send_first.ensures.waits)

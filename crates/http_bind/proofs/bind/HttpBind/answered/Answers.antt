@@ -1,13 +1,20 @@
-use Rattle.std.proofs.Common.{sym, ◌∙◌, ◌++◌, take, arith}
-use Rattle.http_bind.specs.Replying.{is_head}
-use Rattle.http_bind.proofs.Calls.{replies, written}
+use Rattle.http_bind.proofs.Calls.{answers_wait, others_waiting, answers_reply, isnt_wait, head_said, settles_left, settles_room, others_without}
 use Rattle.http_bind.proofs.bind.HttpBind.answered.Goals as goal
 
-pub returns-clause-leads : goal.returns-clause-leads
-returns-clause-leads c = λ q asked.
-    replies c.args.c q c.args.outcome.now c.args.now (take c.put_answer-length.result c.put_answer-length.new.out ++ c.body_of.result.now) c.answer-bodiless.result
-    c.args.self.now c.self.inside.slots.items c.index_mut.result.now c.answer-bodiless.new.self
-    (record { all = c.self.view_is; within = omega (arith, c.self.invariant); found = c.index_mut.ensures.value })
-    asked c.answer-bodiless.ensures
-    (λ k is same awaits. written (take c.put_answer-length.result c.put_answer-length.new.out) c.body_of.result.now c.payload-payload.result.now
-    c.answer-bodiless.result.1 c.answer-bodiless.result.0 (is_head q.verb) c.args.outcome.now c.put_answer-length.ensures.text c.body_of.ensures c.payload-payload.ensures (sym same ∙ awaits))
+pub returns-in-Wait-clause-leads : goal.returns-in-Wait-clause-leads
+returns-in-Wait-clause-leads c =
+    answers_wait c.args.c c.in-Wait.target c.args.now c.args.outcome.now c.args.self.now c.of_a_wait.result c.begin_wait.new.self c.in-Wait.is c.requires.owed c.begin_wait.ensures c.of_a_wait.ensures.waits
+
+pub returns-in-Wait-clause-others : goal.returns-in-Wait-clause-others
+returns-in-Wait-clause-others c = others_waiting c.args.c c.in-Wait.target c.args.now c.args.self.now c.begin_wait.new.self c.begin_wait.ensures
+
+pub returns-in_default : goal.returns-in_default
+returns-in_default c =
+    let r = c.reply.ensures in
+    record {
+      leads = answers_reply c.args.c c.args.now c.args.outcome.now c.args.self.now c.reply.result c.reply.new.self (isnt_wait c.args.outcome.now c.in_default.not-Wait) r;
+      head = head_said r.owed.closes c.reply.result.close c.args.outcome.now c.reply.result.head.now r.closes r.head;
+      left = settles_left c.args.c c.args.now c.args.self.now r.owed c.reply.new.self c.requires.owed r.settles;
+      room = settles_room c.args.c c.args.now c.args.self.now r.owed c.reply.new.self c.requires.owed r.settles;
+      others = others_without c.args.c c.args.self.now c.reply.new.self r.settles.held r.settles.after;
+    }

@@ -1,6 +1,7 @@
 use Rattle.std.proofs.Common.{◌++◌, ℕ, List, Bool, map, subst, refl}
 use Rattle.servient_outside.specs.Network.{NetShows, did}
 use Rattle.servient_core.specs.Machine.{acts_of_reply}
+use Rattle.servient_core.proofs.PartLaws.{others_left}
 use Rattle.servient_core.proofs.connections.ReplyRoom.go_on.Goals as goal
 
 pub returns-clause-continued : goal.returns-clause-continued
@@ -12,3 +13,6 @@ returns-clause-continued g c =
       leads = c.refused-out.ensures.continues refl;
       shows = subst (λ (t : Bool). NetShows (g.N.Net.seen c.args.net.now) (g.N.Net.seen c.send.new.net) (map did (acts_of_reply c.args.c (bytes, t)))) c.refused-out.ensures.close c.send.ensures;
     }
+
+pub returns-clause-left : goal.returns-clause-left
+returns-clause-left g c = others_left c.args.c c.args.http.now c.refused-out.new.self c.refused-out.ensures.others c.refused-out.ensures.left

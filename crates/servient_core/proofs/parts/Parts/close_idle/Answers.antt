@@ -9,7 +9,8 @@ loop-c-init g c = (closing_begins c.args.self.now (g.N.Net.seen c.args.net.now),
 
 pub loop-c-smaller : goal.loop-c-smaller
 loop-c-smaller g c =
-    subst (λ (b : Slots). open_count b < open_count c.loop-c.self.http) (sym c.ended.ensures.held) (closing_leaves_fewer c.in-Some.c c.loop-c.self.http (c.idle.ensures.open c.in-Some.c c.in-Some.is))
+    subst (λ (b : Slots). open_count b.places < open_count c.loop-c.self.http.places) (sym c.ended.ensures.held)
+    (closing_leaves_fewer c.in-Some.c c.loop-c.self.http.places (c.idle.ensures.open c.in-Some.c c.in-Some.is))
 
 pub loop-c-preserved : goal.loop-c-preserved
 loop-c-preserved g c = (

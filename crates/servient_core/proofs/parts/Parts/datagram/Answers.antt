@@ -1,10 +1,13 @@
-use Rattle.std.proofs.Common.{◌∷◌, [], List, ℕ, refl, subst, arith}
+use Rattle.std.proofs.Common.{◌∷◌, [], List, ℕ, refl, subst, arith, ◌∙◌}
+use Rattle.std.specs.Prelude.{Option}
 use Rattle.coap_opts.specs.PlainAsk.{plain_ask}
+use Rattle.coap_bind.specs.Server.{Answers}
 use Rattle.coap_bind.proofs.LengthLaws.{replies_fit}
 use Rattle.servient_outside.specs.declared.net.Act.TheVariants as act
 use Rattle.servient_outside.specs.Network.{NetShows, did}
 use Rattle.servient_core.specs.Trace.{outside}
 use Rattle.servient_core.proofs.PartLaws.{receives_long, heard_nothing, heard_at_once, heard_asked}
+use Rattle.servient_core.proofs.DeliverLaws.{ready_after}
 use Rattle.servient_core.proofs.PathLaws.{asked_short}
 use Rattle.servient_core.proofs.parts.Parts.datagram.Goals as goal
 
@@ -56,13 +59,20 @@ pub returns-in-Ask : goal.returns-in-Ask
 returns-in-Ask g c =
     let heard = c.in-Ask.ensures.ok in
     let replied = c.answer-size.ensures.ok in
+    let k = c.args.self.now in
+    let e = c.perform-outcome.new.exposed in
+    let performed = c.perform-outcome.ensures.performed in
+    let after = g.R.Handlers.slots c.perform-outcome.new.rack in
+    let m = g.N.Net.seen c.datagram-in-Ask.new.self in
     record {
-      refines = heard_asked c.args.self.now.exposed.site c.args.from c.args.bytes.now replied.bytes (plain_ask c.in-Ask.ask) c.in-Ask.ticket c.perform-outcome.result
-          c.args.self.now c.perform-outcome.new.exposed c.datagram.new.self c.answer-size.new.self
-          (g.N.Net.seen c.args.net.now) (g.N.Net.seen c.datagram-in-Ask.new.self) (g.R.Handlers.slots c.args.rack.now) (g.R.Handlers.slots c.perform-outcome.new.rack) heard.heard
-          (omega (arith, c.if-bytes-gt-LONGEST_DATAGRAM.false)) heard.hears heard.tells.0 refl c.perform-outcome.ensures.performed replied.answers
-          (subst (λ (sent : List ℕ). NetShows (g.N.Net.seen c.args.net.now) (g.N.Net.seen c.datagram-in-Ask.new.self) (did (act.Datagram c.args.from sent) ∷ []))
-          replied.written.front c.datagram-in-Ask.ensures);
-      ready = record { pending = c.perform-outcome.ensures.performed.pending; moment = omega (arith, c.answer-size.ensures.moment, c.in-Ask.ensures.moment); room = c.requires.ready.room };
-      site = c.perform-outcome.ensures.performed.site;
+      refines = heard_asked k.exposed.site c.args.from c.args.bytes.now replied.bytes (plain_ask c.in-Ask.ask) c.in-Ask.ticket c.perform-outcome.result
+          k c.deliver.new.self e c.datagram.new.self c.answer-size.new.self (g.N.Net.seen c.args.net.now) m (g.R.Handlers.slots c.args.rack.now) after
+          (outside (g.N.Net.seen c.deliver.new.net) after) heard.heard performed
+          (omega (arith, c.if-bytes-gt-LONGEST_DATAGRAM.false)) heard.hears heard.tells.0 refl
+          (subst (λ (target : Option ℕ). Answers c.in-Ask.ticket c.perform-outcome.result target replied.bytes c.datagram.new.self c.answer-size.new.self) c.observed_by-target.ensures replied.answers)
+          (subst (λ (sent : List ℕ). NetShows (g.N.Net.seen c.args.net.now) m (did (act.Datagram c.args.from sent) ∷ [])) replied.written.front c.datagram-in-Ask.ensures)
+          (c.deliver.ensures.delivered after);
+      ready = ready_after (record k { exposed = e; coap = c.answer-size.new.self }) c.deliver.new.self c.requires.ready.room
+          (omega (arith, c.answer-size.ensures.moment, c.in-Ask.ensures.moment)) c.deliver.ensures.only c.deliver.ensures.pending;
+      site = c.deliver.ensures.only.site ∙ performed.site;
     }

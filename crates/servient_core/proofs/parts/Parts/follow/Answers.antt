@@ -1,15 +1,11 @@
 use Rattle.std.proofs.Common.{refl, sym, subst}
 use Rattle.servient_base.specs.Moves.{Refines}
-use Rattle.servient_base.proofs.MovesLaws.{refines_as}
-use Rattle.thing_core.specs.Thing.{Polls}
 use Rattle.http_bind.specs.Streams.{Opened, Ended}
 use Rattle.servient_outside.specs.declared.net.What.{What}
-use Rattle.servient_outside.specs.declared.net.What.TheVariants as what
 use Rattle.servient_core.specs.Trace.{Shows, outside}
-use Rattle.servient_core.specs.Machine.{Follows, OnThing}
+use Rattle.servient_core.specs.Machine.{Follows}
 use Rattle.servient_core.specs.Serving.{StandsFor}
-use Rattle.servient_core.specs.declared.parts.Parts.{Parts}
-use Rattle.servient_core.proofs.PartLaws.{refines_http, refines_thing, refines_nothing, room_after}
+use Rattle.servient_core.proofs.PartLaws.{refines_http, refines_nothing, room_after}
 use Rattle.servient_core.proofs.parts.Parts.follow.Goals as goal
 
 pub returns-in-Opened : goal.returns-in-Opened
@@ -67,17 +63,12 @@ returns-in-Datagram g c =
 pub returns-in-Tick : goal.returns-in-Tick
 returns-in-Tick g c =
     let k = c.args.self.now in
-    let polled = c.poll.ensures in
-    let l : Parts = record k { exposed = c.poll.new.exposed } in
     let w = outside (g.N.Net.seen c.args.net.now) (g.R.Handlers.slots c.args.rack.now) in
-    let v = outside (g.N.Net.seen c.args.net.now) (g.R.Handlers.slots c.poll.new.rack) in
+    let v = outside (g.N.Net.seen c.poll_all.new.net) (g.R.Handlers.slots c.poll_all.new.rack) in
     record {
-      refines = subst (λ (x : What). Refines StandsFor Shows (Follows k.exposed.site x c.args.bytes.now) k l w v) (sym c.in-Tick.is)
-          (refines_as StandsFor Shows (OnThing (Polls k.exposed.site polled.emissions)) (Follows k.exposed.site what.Tick c.args.bytes.now) k l w v (λ s seen t p. (polled.emissions, p))
-          (refines_thing (Polls k.exposed.site polled.emissions) k c.poll.new.exposed (g.N.Net.seen c.args.net.now) (g.R.Handlers.slots c.args.rack.now)
-          (g.R.Handlers.slots c.poll.new.rack) polled.made));
-      ready = record { pending = polled.pending; moment = c.requires.ready.moment; room = c.requires.ready.room };
-      site = polled.site;
+      refines = subst (λ (x : What). Refines StandsFor Shows (Follows k.exposed.site x c.args.bytes.now) k c.poll_all.new.self w v) (sym c.in-Tick.is) c.poll_all.ensures.refines;
+      ready = c.poll_all.ensures.ready;
+      site = c.poll_all.ensures.site;
     }
 
 pub returns-in-Stop : goal.returns-in-Stop

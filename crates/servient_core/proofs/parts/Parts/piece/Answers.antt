@@ -1,7 +1,8 @@
 use Rattle.http_bind.specs.Streams.{Lengthened}
 use Rattle.servient_core.specs.Trace.{outside}
 use Rattle.servient_core.specs.Machine.{OnHttp, TakesEveryMessage}
-use Rattle.servient_core.proofs.PartLaws.{then_moves, refines_http, room_after, others_then}
+use Rattle.servient_core.proofs.PartLaws.{then_moves, refines_http, others_keep}
+use Rattle.servient_core.proofs.LoopLaws.{others_then, room_of_all}
 use Rattle.servient_core.proofs.parts.Parts.piece.Goals as goal
 
 pub returns : goal.returns
@@ -16,8 +17,11 @@ returns g c =
       ready = record {
         pending = all.on.pending;
         moment = all.on.moment;
-        room = room_after c.args.c k.http c.take_all.new.self.http c.requires.ready.room
-            (others_then c.args.c k.http c.bytes.new.self c.take_all.new.self.http c.bytes.ensures.others all.others) all.room;
+        room = room_of_all c.args.c k.http c.take_all.new.self.http c.requires.ready.room
+            (others_then c.args.c k.http c.bytes.new.self c.take_all.new.self.http (others_keep c.args.c k.http c.bytes.new.self c.bytes.ensures.others) all.left) all.room;
       };
       site = all.site;
     }
+
+pub bytes-requires-clause-room : goal.bytes-requires-clause-room
+bytes-requires-clause-room g c = c.requires.ready.room c.args.c

@@ -18,15 +18,15 @@ returns-clause-step g c =
     let slots = g.R.Handlers.slots c.follow.new.rack in
     let w = outside (g.N.Net.seen c.args.net.now) (g.R.Handlers.slots c.args.rack.now) in
     let v = outside (g.N.Net.seen c.follow.new.net) slots in
-    let u = outside (g.N.Net.seen c.close_idle.new.net) slots in
-    subst (λ (x : Parts). Refines StandsFor Shows (Step x.exposed.site e) x c.close_idle.new.self w u) c.self.view_is
-    (steps k.exposed.site e k c.follow.new.self c.close_idle.new.self c.max-self-inside.result w v u c.max-self-inside.ensures c.follow.ensures.refines (c.close_idle.ensures.closed slots))
+    let u = outside (g.N.Net.seen c.end_event.new.net) slots in
+    subst (λ (x : Parts). Refines StandsFor Shows (Step x.exposed.site e) x c.end_event.new.self w u) c.self.view_is
+    (steps k.exposed.site e k c.follow.new.self c.end_event.new.self c.max-self-inside.result w v u c.max-self-inside.ensures c.follow.ensures.refines (c.end_event.ensures.ends slots))
 
 pub returns-clause-fits : goal.returns-clause-fits
 returns-clause-fits g c =
     let k = c.self.inside.parts in
     let w = outside (g.N.Net.seen c.args.net.now) (g.R.Handlers.slots c.args.rack.now) in
     let v = outside (g.N.Net.seen c.follow.new.net) (g.R.Handlers.slots c.follow.new.rack) in
-    subst (λ (x : Site). Fits x v.slots) (sym (ap (λ (x : Kept). x.site) c.close_idle.ensures.exposed ∙ c.follow.ensures.site))
+    subst (λ (x : Site). Fits x v.slots) (sym (ap (λ (x : Kept). x.site) c.end_event.ensures.exposed ∙ c.follow.ensures.site))
     (fits_after (Follows k.exposed.site c.args.event.now.what c.args.bytes.now) (record k { moment = c.max-self-inside.result }) c.follow.new.self k.exposed.site w v
     c.follow.ensures.refines (subst (λ (x : Parts). Fits x.exposed.site w.slots) (sym c.self.view_is) c.requires.fits))

@@ -1,0 +1,11 @@
+//! What is owed to a request.
+
+/// What is owed to a request that was taken: a reply, without its payload where the request was HEAD (RFC 9110, section
+/// 9.3.2), and the last one of its connection where the request asks for that (RFC 9112, section 9.6).
+#[derive(Clone, Copy, Debug, Drop)]
+pub struct Owed {
+    /// The reply has no payload.
+    pub bodiless: bool,
+    /// The connection is closed after the reply.
+    pub closes: bool,
+}

@@ -1,0 +1,115 @@
+//! The requests that wait for the next emission of a target, in the order in which they began to wait.
+
+use std::alloc::Global;
+use std::marker::Model;
+use thing_ops::NoMemory;
+
+/// How many requests may wait: one of each connection.
+const CAPACITY: usize = 64;
+
+/// How long a request waits at most, in milliseconds.
+const LATE_AFTER: u64 = 60_000;
+
+/// A request that waits.
+#[derive(Clone, Copy, Debug, Drop)]
+pub struct Wait {
+    /// The connection that it came on.
+    pub connection: u32,
+    /// What it waits for an emission of.
+    pub target: u32,
+    /// When it began to wait, in milliseconds.
+    pub since: u64,
+}
+
+/// The requests that wait. Contracts see them, the oldest first.
+#[derive(Drop)]
+pub struct Waits {
+    list: Vec<Wait>,
+}
+
+impl Model for Waits {
+    ghost use Rattle.std.specs.Prelude.{◌≤◌, List, vec_capacity};
+    ghost use Rattle.http_bind.specs.declared.waits.Wait.{Wait as PlainWait};
+
+    ghost Value = { List PlainWait };
+
+    ghost view = { λ w. w.list.items };
+
+    ghost invariant = { λ w. 64 ≤ vec_capacity w.list };
+}
+
+impl Waits {
+    ghost use Rattle.std.specs.Prelude.{◌≡◌, ◌<◌, ◌++◌, ◌∷◌, [], length, IfOk};
+    ghost use Rattle.http_bind.specs.Streams.{other_waits, oldest_for, oldest_late};
+
+    /// None waits. All memory is taken here.
+    pub fn new(alloc: Global) -> Result<Waits, NoMemory>
+        ensures { IfOk result (λ w. w ≡ []) }
+    {
+        let list = Vec::with_capacity(alloc, CAPACITY)?;
+        Ok(Waits { list })
+    }
+
+    /// One more waits, behind all others.
+    pub fn push(&mut self, wait: Wait)
+        requires { length self.old < 64 }
+        ensures { self.new ≡ self.old ++ wait ∷ [] }
+    {
+        self.list.push(wait).unwrap();
+    }
+
+    /// A connection waits no longer, if it did.
+    pub fn remove(&mut self, c: u32)
+        ensures { self.new ≡ other_waits c self.old }
+    {
+        remove_of(&mut self.list, c);
+    }
+
+    /// The connection that waits longest for a target.
+    pub fn oldest_for(&self, target: u32) -> Option<u32>
+        ensures { result ≡ oldest_for target self.now }
+    {
+        first_of(self.list.as_slice(), target)
+    }
+
+    /// The connection that waits longest, if it is late.
+    pub fn oldest_late(&self, now: u64) -> Option<u32>
+        ensures { result ≡ oldest_late now self.now }
+    {
+        first_late(self.list.as_slice(), now)
+    }
+}
+
+ghost use Rattle.std.specs.Prelude.{◌≡◌, vec_capacity, length};
+ghost use Rattle.http_bind.specs.Streams.{other_waits as others_of, oldest_for as oldest_wait_for, oldest_late as oldest_late_wait};
+
+/// The waits of this connection are removed.
+fn remove_of(list: &mut Vec<Wait>, c: u32)
+    ensures items { list.new.items ≡ others_of c list.old.items }
+    ensures room { vec_capacity list.new ≡ vec_capacity list.old }
+{
+    list.retain(|wait| wait.connection != c);
+}
+
+/// The connection of the first wait of a target.
+fn first_of(list: &[Wait], target: u32) -> Option<u32>
+    ensures { result ≡ oldest_wait_for target list.now }
+{
+    match list.iter().find(|wait| wait.target == target) {
+        Some(wait) => Some(wait.connection),
+        None => None,
+    }
+}
+
+/// The connection of the first wait that is late.
+fn first_late(list: &[Wait], now: u64) -> Option<u32>
+    ensures { result ≡ oldest_late_wait now list.now }
+{
+    match list
+        .iter()
+        .find(|wait| now.saturating_sub(wait.since) >= LATE_AFTER)
+    {
+        Some(wait) => Some(wait.connection),
+        None => None,
+    }
+}

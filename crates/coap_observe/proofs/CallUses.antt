@@ -5,7 +5,7 @@ use Rattle.slot_lists.specs.Lists.{Lists, list_at, is_among, without, first_of}
 use Rattle.coap_observe.specs.declared.watcher.Watcher.{Watcher}
 use Rattle.coap_observe.specs.Buckets.{target_bucket, endpoint_bucket}
 use Rattle.std.proofs.lemmas.List.{length-map}
-use Rattle.coap_observe.specs.Kept.{watcher_at, place_at, target_bucket_at, endpoint_bucket_at, times_in, used_slots, free_slots, AreKept, places_in, pushed_at, without_at}
+use Rattle.coap_observe.specs.Kept.{watcher_at, changed_among, place_at, target_bucket_at, endpoint_bucket_at, times_in, used_slots, free_slots, AreKept, places_in, pushed_at, without_at}
 use Rattle.coap_observe.specs.Places.{Place, Places, IsAt, IsUsed, with_change, with_changes, without_slot, IsAdded, sent_once_more}
 use Rattle.coap_observe.specs.Watching.{where_so, is_of_target, marked, renewed, resent, replaced}
 use Rattle.coap_observe.proofs.KeptLaws.{free_place, moved_there, moved_away, kept_added, kept_removed, kept_replaced, kept_at, kept_changed, in_its_target, in_its_endpoint, taken_from_free, taken_from_used, taken_from_target}
@@ -54,9 +54,9 @@ again_from now id w = at w.is_marked
 
 -- ---- all watchers of a target
 
--- what was walked
+-- what the walk along a bucket makes of the watcher of a slot
 abbrev marked_in : Lists → ℕ → ℕ → Watcher → ℕ → Watcher
-marked_in t bucket target w s = cond (is_among s (list_at bucket t)) (where_so (is_of_target target) marked w) w
+marked_in t bucket target w s = changed_among (list_at bucket t) (where_so (is_of_target target) marked) s w
 
 marks_target : (t : Lists) (bucket target : ℕ) (w : Watcher) (s : ℕ) → (marked_in t bucket target w s).target ≡ w.target
 marks_target t bucket target w s = at (is_among s (list_at bucket t)) (is_of_target target w)
@@ -93,7 +93,7 @@ marks_all n ws o t e target s kept has = elim (eqb_tells (watcher_at ws s).targe
 ]
 
 pub kept_marked : (n : ℕ) (ws ws2 : List Watcher) (o t e : Lists) (bucket target : ℕ) → AreKept n ws o t e → length ws2 ≡ length ws
-    → ((s : ℕ) → watcher_at ws2 s ≡ cond (is_among s (list_at bucket t)) (where_so (is_of_target target) marked (watcher_at ws s)) (watcher_at ws s))
+    → ((s : ℕ) → watcher_at ws2 s ≡ marked_in t bucket target (watcher_at ws s) s)
     → AreKept n ws2 o t e
 kept_marked n ws ws2 o t e bucket target kept count each =
     kept_changed n ws ws2 o t e kept count
@@ -102,7 +102,7 @@ kept_marked n ws ws2 o t e bucket target kept count each =
 
 pub seen_marked : (n : ℕ) (ws ws2 : List Watcher) (o t e : Lists) (seen : Places) (bucket target : ℕ) → AreKept n ws o t e → places_in n ws o ≡ seen
     → bucket ≡ target_bucket n target
-    → ((s : ℕ) → watcher_at ws2 s ≡ cond (is_among s (list_at bucket t)) (where_so (is_of_target target) marked (watcher_at ws s)) (watcher_at ws s))
+    → ((s : ℕ) → watcher_at ws2 s ≡ marked_in t bucket target (watcher_at ws s) s)
     → places_in n ws2 o ≡ with_changes (where_so (is_of_target target) marked) seen
 seen_marked n ws ws2 o t e seen bucket target kept view is each =
     seen_all_changed n ws ws2 o (where_so (is_of_target target) marked)
@@ -215,7 +215,7 @@ gone_from_free n ws o t e o2 slot kept has order i =
 
 -- what the walk changed, of the vector's own list
 pub walked : (lent ws ws2 : List Watcher) (t : Lists) (bucket target : ℕ) → lent ≡ ws
-    → ((s : ℕ) → watcher_at ws2 s ≡ cond (is_among s (list_at bucket t)) (where_so (is_of_target target) marked (watcher_at lent s)) (watcher_at lent s))
-    → (s : ℕ) → watcher_at ws2 s ≡ cond (is_among s (list_at bucket t)) (where_so (is_of_target target) marked (watcher_at ws s)) (watcher_at ws s)
+    → ((s : ℕ) → watcher_at ws2 s ≡ marked_in t bucket target (watcher_at lent s) s)
+    → (s : ℕ) → watcher_at ws2 s ≡ marked_in t bucket target (watcher_at ws s) s
 walked lent ws ws2 t bucket target same each s =
-    each s ∙ ap (λ (l : List Watcher). cond (is_among s (list_at bucket t)) (where_so (is_of_target target) marked (watcher_at l s)) (watcher_at l s)) same
+    each s ∙ ap (λ (l : List Watcher). marked_in t bucket target (watcher_at l s) s) same

@@ -100,9 +100,6 @@ length-without slot (x ∷ xs) = elim (eqb_tells slot x) [
   | inr w ↦ rw w.0 (omega (arith, length-without slot xs))
 ]
 
-pub absent_without : (slot : ℕ) (xs : List ℕ) → is_among slot (without slot xs) ≡ false
-absent_without slot xs = uncounted_is_absent slot (without slot xs) (times_without_same slot xs)
-
 -- ---- one of some lists with a slot more, or fewer
 
 set_at : (lists : List (List ℕ)) (i j : ℕ) (new : List ℕ) → i ≡ j → i < length lists → get_or (set lists j new) i [] ≡ new

@@ -11,7 +11,7 @@ use Rattle.coap_observe.specs.declared.watcher.Wanted.TheVariants.{SentAs, Marke
 use Rattle.coap_observe.specs.declared.notice.Registered.TheVariants.{New, Replaced, Full}
 use Rattle.coap_observe.specs.Sending.{Sent}
 use Rattle.coap_observe.specs.Laws.{Goes, registers, acknowledges, Any}
-use Rattle.coap_observe.specs.Places.{Place, Places, none_placed, watchers_in, IsAt, with_change, with_changes, without_slot, IsAdded, Finds, is_wanted}
+use Rattle.coap_observe.specs.Places.{Place, Places, watchers_in, IsAt, with_change, with_changes, without_slot, IsAdded, Finds, is_wanted}
 use Rattle.coap_observe.specs.Watched.{NoneDueBefore, AreWatched}
 use Rattle.coap_observe.specs.Watching.{Watching, next_sequence, newcomer, replaced, marked, acknowledged, where_so, is_from, is_pair, is_named, is_sent_as, is_busy, is_of_target, is_due, is_free, Registers, without_pair, with_emission, with_acknowledgement, with_reset}
 use Rattle.coap_observe.proofs.CallLaws.{busy_goes, pair_goes}
@@ -41,14 +41,6 @@ watched_goes t u before after w goes due free = record {
 pub watched_anew : (t u : Watching) (before : ℕ) → AreWatched t.list before → Goes Any t u → AreWatched u.list 0
 watched_anew t u before w goes = watched_goes t u before 0 w goes (λ now h. absurd (omega arith)) (λ h. absurd (omega arith))
 
-pub watched_first : (p : Places) (n : ℕ) → p ≡ none_placed n → AreWatched (watchers_in p) 0
-watched_first p n is = subst (λ (q : Places). AreWatched (watchers_in q) 0) (sym is) (record {
-  pairs = λ from token. omega arith;
-  one = λ from. omega arith;
-  none_due = λ now h. refl;
-  none_free = λ h. refl;
-})
-
 -- what was sent to few is sent as one message to few
 sent_is_busy : (from : Endpoint) (id : ℕ) (w : Watcher) → is_sent_as from id w ≡ true → is_busy from w ≡ true
 sent_is_busy from id w e = at w.notification e
@@ -62,18 +54,16 @@ few_sent ws quiet from id w = omega (arith, count_weaker (is_sent_as from id) (i
 
 -- ---- registrations
 
-pub replaces : (from : Endpoint) (token : List ℕ) (target : ℕ) (p p2 : Places) (slot quiet number : ℕ) (d : Watcher) → AreWatched (watchers_in p) quiet
-    → Finds (is_pair from token) p (Some slot) → p2 ≡ with_change slot (replaced target) p → ((q : Place) → IsAt slot q p → d ≡ q.watcher) → number ≡ next_sequence d.sequence
+pub replaces : (from : Endpoint) (token : List ℕ) (target : ℕ) (p p2 : Places) (slot quiet number : ℕ) → AreWatched (watchers_in p) quiet
+    → Finds (is_pair from token) p (Some slot) → p2 ≡ with_change slot (replaced target) p → ((q : Place) → IsAt slot q p → number ≡ next_sequence q.watcher.sequence)
     → Registers from token target (seen p) (Replaced number) (seen p2)
-replaces from token target p p2 slot quiet number d w found is reads counted =
-    let q : Place = found.0 in
+replaces from token target p p2 slot quiet number w found is counted =
     let few : length (filter (is_pair from token) (watchers_in p)) ≤ 1 = w.pairs from token in
     let there : find (is_pair from token) (watchers_in p) ≡ Some found.0.watcher = found_unique (is_pair from token) p slot found.0 found.1 found.2 few in
-    let same_number : next_sequence found.0.watcher.sequence ≡ number = ap (λ (v : Watcher). next_sequence v.sequence) (sym (reads found.0 found.1)) ∙ sym counted in
     let list : watchers_in p2 ≡ map (where_so (is_pair from token) (replaced target)) (watchers_in p)
     = ap watchers_in is ∙ changed_unique (is_pair from token) (replaced target) p slot found.0 found.1 found.2 few in
     let room : p2.capacity ≡ p.capacity = ap (λ (z : Places). z.capacity) is in (
-      ap (option_map (λ (v : Watcher). next_sequence v.sequence)) there ∙ ap (λ n. Some n) same_number,
+      ap (option_map (λ (v : Watcher). next_sequence v.sequence)) there ∙ ap (λ n. Some n) (sym (counted found.0 found.1)),
       λ i. record { capacity = room i; list = list i },
     )
 

@@ -1,9 +1,10 @@
 -- Inside the crate: how the code keeps watchers. Each slot is free or has a watcher. A free one is in the list of the
--- free slots once, and in no other. One with a watcher is once in the list of all, in the order of registration, once in
--- the list of the bucket of its target, and once in the list of the bucket of its endpoint. The lists hold nothing else.
+-- free slots once, and in no other. One with a watcher is once in the list of all, in the order of registration, once
+-- in the list of the bucket of its target, and once in the list of the bucket of its endpoint. The lists hold nothing
+-- else.
 use Rattle.std.specs.Prelude.{◌≡◌, ◌+◌, ◌<◌, ◌==◌, ◌&&◌, ℕ, Bool, not, List, [], ◌∷◌, ◌++◌, length, map, find, slice_index_or, is_some, if◌then◌else◌, nat_lt}
 use Rattle.coap_msg.specs.declared.endpoint.Endpoint.{Endpoint}
-use Rattle.slot_lists.specs.Lists.{Lists, list_at, with_list, without}
+use Rattle.slot_lists.specs.Lists.{Lists, list_at, with_list, is_among, without}
 use Rattle.coap_observe.specs.declared.watcher.Watcher.{Watcher}
 use Rattle.coap_observe.specs.declared.slots.WatcherSlots.TheInside.{Inside}
 use Rattle.coap_observe.specs.Buckets.{target_bucket, endpoint_bucket}
@@ -36,6 +37,10 @@ times_in slot (other ∷ others) = (if slot == other then 1 else 0) + times_in s
 -- a number that is below another counts once, and else not at all
 abbrev pub once_below : ℕ → ℕ → ℕ
 once_below n limit = if nat_lt n limit then 1 else 0
+
+-- the watcher of a slot is changed, if the slot is in a list
+abbrev pub changed_among : List ℕ → (Watcher → Watcher) → ℕ → Watcher → Watcher
+changed_among slots change slot w = if is_among slot slots then change w else w
 
 -- each of these lists has the slots with its number, and no others
 abbrev pub AreDealt : (ℕ → ℕ) → List ℕ → List (List ℕ) → Type 0

@@ -22,6 +22,9 @@
 //! laws (`specs/Laws.antt`): at most one notification to an endpoint is unacknowledged, an endpoint that is given up
 //! has no watcher left, after a Reset nothing is sent to its watcher until that registers again, sequence numbers rise by
 //! one, and a notification that nothing answers is sent at most five times.
+//!
+//! Inside, watchers are in slots that are linked by their targets and by their endpoints (`slots.rt`), and `next_send`
+//! looks at them only from the moment on at which something may be to be sent (`watchers.rt`).
 #![tactic(auto)]
 
 mod buckets;

@@ -14,8 +14,8 @@ use std::marker::Model;
 
 /// Watchers in slots. Contracts see those that are there in order of registration, each with its slot (`Places` of
 /// specs/Places.antt). A slot is linked by its index: with a watcher it is in the list of all (`USED` of `order`), in
-/// that of its target's bucket and in that of its endpoint's; without one it is in the list of the free slots (`FREE` of
-/// `order`), and holds what it held last. So a call about one target or one endpoint looks at one bucket.
+/// that of its target's bucket and in that of its endpoint's; without one it is in the list of the free slots (`FREE`
+/// of `order`), and holds what it held last. So a call about one target or one endpoint looks at one bucket.
 #[derive(Drop)]
 pub struct WatcherSlots {
     capacity: u32,

@@ -1,9 +1,9 @@
 //! Walks along lists of slots: what is looked for among watchers, and what is changed in them.
 
-ghost use Rattle.std.specs.Prelude.{◌≡◌, ◌≤◌, ◌<◌, false, ℕ, find, length, if◌then◌else◌};
+ghost use Rattle.std.specs.Prelude.{◌≡◌, ◌≤◌, ◌<◌, false, ℕ, find, length};
 ghost use Rattle.std.specs.List.{list_any};
-ghost use Rattle.slot_lists.specs.Lists.{list_at, is_among};
-ghost use Rattle.coap_observe.specs.Kept.{watcher_at, is_busy_at, is_free_at};
+ghost use Rattle.slot_lists.specs.Lists.{list_at};
+ghost use Rattle.coap_observe.specs.Kept.{watcher_at, changed_among, is_busy_at, is_free_at};
 ghost use Rattle.coap_observe.specs.Places.{is_wanted};
 ghost use Rattle.coap_observe.specs.Watching.{where_so, marked, is_of_target, is_pair, is_due};
 
@@ -81,7 +81,8 @@ pub fn due_slot(order: &SlotLists, watchers: &[Watcher], now: u64) -> Option<u32
     None
 }
 
-/// The first slot in the order of registration whose watcher has a value to be sent and whose endpoint acknowledged all.
+/// The first slot in the order of registration whose watcher has a value to be sent and whose endpoint acknowledged
+/// all.
 pub fn free_slot(
     order: &SlotLists,
     endpoints: &SlotLists,
@@ -148,7 +149,7 @@ pub fn mark(lists: &SlotLists, list: u32, watchers: &mut [Watcher], target: u32)
     requires list { list < length lists.now.lists }
     requires watchers { lists.now.capacity ≤ length watchers.old }
     ensures length { length watchers.new ≡ length watchers.old }
-    ensures each { (slot : ℕ) → watcher_at watchers.new slot ≡ (if is_among slot (list_at list lists.now) then where_so (is_of_target target) marked (watcher_at watchers.old slot) else watcher_at watchers.old slot) }
+    ensures each { (slot : ℕ) → watcher_at watchers.new slot ≡ changed_among (list_at list lists.now) (where_so (is_of_target target) marked) slot (watcher_at watchers.old slot) }
 {
     let mut current = lists.first(list);
     while let Some(slot) = current {

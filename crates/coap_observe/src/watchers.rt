@@ -57,10 +57,8 @@ impl Watchers {
     {
         match self.slots.pair_slot(from, token) {
             Some(slot) => {
-                let sequence = self.slots.watcher(slot).sequence_after();
                 self.quiet_until = 0;
-                self.slots.replace(slot, target);
-                Registered::Replaced(sequence)
+                Registered::Replaced(register_again(&mut self.slots, slot, target))
             }
             None => {
                 if self.slots.add(from, token, target) {
@@ -151,4 +149,20 @@ impl Watchers {
             }
         }
     }
+}
+
+ghost use Rattle.std.specs.Prelude.{◌≡◌, ◌<◌, ◌^◌};
+ghost use Rattle.coap_observe.specs.Places.{Place, IsAt, IsUsed, with_change};
+ghost use Rattle.coap_observe.specs.Watching.{next_sequence, replaced};
+
+/// The watcher in a slot registers anew, for this target. The sequence number that the response says.
+fn register_again(slots: &mut WatcherSlots, slot: u32, target: u32) -> u32
+    requires { IsUsed slot slots.old }
+    ensures slots { slots.new ≡ with_change slot (replaced target) slots.old }
+    ensures number { (p : Place) → IsAt slot p slots.old → result ≡ next_sequence p.watcher.sequence }
+    ensures bound { result < 2 ^ 24 }
+{
+    let sequence = slots.watcher(slot).sequence_after();
+    slots.replace(slot, target);
+    sequence
 }

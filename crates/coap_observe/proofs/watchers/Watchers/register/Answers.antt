@@ -10,10 +10,10 @@ use Rattle.coap_observe.specs.declared.notice.Registered.TheVariants.{Replaced}
 
 pub invariant_of-self : goal.invariant_of-self
 invariant_of-self c =
-    watched_anew (seen c.self.inside.slots) (seen c.replace.new.self) c.self.inside.quiet_until c.self.invariant
-    (registers c.args.from c.args.token.now c.args.target (Replaced c.sequence_after-sequence.result) refl
-    (replaces c.args.from c.args.token.now c.args.target c.self.inside.slots c.replace.new.self c.in-Some.slot c.self.inside.quiet_until c.sequence_after-sequence.result c.watcher.result.now
-    c.self.invariant c.in-Some.ensures c.replace.ensures c.watcher.ensures c.sequence_after-sequence.ensures.ok))
+    watched_anew (seen c.self.inside.slots) (seen c.register_again.new.slots) c.self.inside.quiet_until c.self.invariant
+    (registers c.args.from c.args.token.now c.args.target (Replaced c.register_again.result) refl
+    (replaces c.args.from c.args.token.now c.args.target c.self.inside.slots c.register_again.new.slots c.in-Some.slot c.self.inside.quiet_until c.register_again.result
+    c.self.invariant c.in-Some.ensures c.register_again.ensures.slots c.register_again.ensures.number))
 
 pub invariant_of-self-in-None : goal.invariant_of-self-in-None
 invariant_of-self-in-None c =
@@ -21,9 +21,9 @@ invariant_of-self-in-None c =
 
 pub returns-in-Some-clause-ok : goal.returns-in-Some-clause-ok
 returns-in-Some-clause-ok c =
-    subst (λ (t : Watching). Registers c.args.from c.args.token.now c.args.target t (Replaced c.sequence_after-sequence.result) (seen c.replace.new.self)) c.self.view_is
-    (replaces c.args.from c.args.token.now c.args.target c.self.inside.slots c.replace.new.self c.in-Some.slot c.self.inside.quiet_until c.sequence_after-sequence.result c.watcher.result.now
-    c.self.invariant c.in-Some.ensures c.replace.ensures c.watcher.ensures c.sequence_after-sequence.ensures.ok)
+    subst (λ (t : Watching). Registers c.args.from c.args.token.now c.args.target t (Replaced c.register_again.result) (seen c.register_again.new.slots)) c.self.view_is
+    (replaces c.args.from c.args.token.now c.args.target c.self.inside.slots c.register_again.new.slots c.in-Some.slot c.self.inside.quiet_until c.register_again.result
+    c.self.invariant c.in-Some.ensures c.register_again.ensures.slots c.register_again.ensures.number)
 
 pub returns-after-add-clause-ok : goal.returns-after-add-clause-ok
 returns-after-add-clause-ok c =

@@ -32,7 +32,7 @@ pub struct MioNet<R: net::Net + Clock + Drop> {
     // The last moment that was read.
     moment: u64,
     sockets: Option<Sockets>,
-    // Since it listens.
+    // Since it listens, has dialled or has looked something up.
     timing: Option<Timing>,
     faults: u64,
     ghost moment_in_bounds: { moment ≤ 10 ^ 15 },
@@ -53,7 +53,7 @@ fn moment_since<R: Clock>(rt: &R, start: Option<Instant>) -> io::Result<u64>
     })
 }
 
-/// No sockets are listened on, or the clock failed.
+/// There are no sockets yet, or the clock failed.
 fn not_ready() -> io::Error {
     io::Error::from(ErrorKind::NotConnected)
 }
@@ -100,7 +100,7 @@ impl<R: net::Net + Clock + Drop> MioNet<R> {
         ensures { self.new.faults ≡ self.old.faults }
     {
         self.read_clock()?;
-        if self.timing.is_some() {
+        if self.is_listening() {
             return Err(io::Error::from(ErrorKind::AlreadyExists));
         }
         let http = resolve(&self.rt, place.http_host.as_str(), place.http_port)?;
@@ -115,6 +115,26 @@ impl<R: net::Net + Clock + Drop> MioNet<R> {
             tick: self.moment,
         });
         Ok(())
+    }
+
+    fn is_listening(&self) -> bool {
+        match &self.sockets {
+            Some(sockets) => sockets.is_listening(),
+            None => false,
+        }
+    }
+
+    /// Starts the times of ticks, where they haven't begun; without listening there is no idle time.
+    fn start_ticks(&mut self)
+        ensures { self.new.faults ≡ self.old.faults }
+    {
+        if self.timing.is_none() {
+            self.timing = Some(Timing {
+                idle: 0,
+                traffic: self.moment,
+                tick: self.moment,
+            });
+        }
     }
 
     /// What is due now.
@@ -206,9 +226,11 @@ impl<R: net::Net + Clock + Drop> MioNet<R> {
         self.read_clock()?;
         let address = resolve(&self.rt, host, port)?;
         let mut sockets = made(&self.rt, alloc, self.sockets.take())?;
-        let c = sockets.dial(&self.rt, address);
+        let dialled = sockets.dial(&self.rt, address);
         self.sockets = Some(sockets);
-        c
+        let c = dialled?;
+        self.start_ticks();
+        Ok(c)
     }
 
     /// The endpoint of a host, once a socket for datagrams is bound.
@@ -221,6 +243,7 @@ impl<R: net::Net + Clock + Drop> MioNet<R> {
         let bound = sockets.bind_any(&self.rt);
         self.sockets = Some(sockets);
         bound?;
+        self.start_ticks();
         Ok(endpoint_of(address))
     }
 }
@@ -250,7 +273,8 @@ impl<R: net::Net + Clock + Drop> Net for MioNet<R> {
         }
     }
 
-    /// Failed where it doesn't listen, and where the system doesn't say what is ready or what time it is.
+    /// Failed before it listens, dials or looks something up, and where the system doesn't say what is ready or what
+    /// time it is.
     fn next(&mut self, buffer: &mut [u8]) -> Next
         requires { length buffer.old ≡ 4096 }
         ensures answer { IsAnswer result }
@@ -268,7 +292,7 @@ impl<R: net::Net + Clock + Drop> Net for MioNet<R> {
         }
     }
 
-    /// It does nothing before it listens.
+    /// It does nothing where there are no sockets yet.
     fn send(&mut self, c: u32, head: &[u8], body: &[u8])
         ensures { NetShows (counted_only self.old.faults) (counted_only self.new.faults) (did (act.Sent c (head.now ++ body.now)) ∷ []) }
     {
@@ -277,7 +301,7 @@ impl<R: net::Net + Clock + Drop> Net for MioNet<R> {
         }
     }
 
-    /// It does nothing before it listens.
+    /// It does nothing where there are no sockets yet.
     fn close(&mut self, c: u32)
         ensures { NetShows (counted_only self.old.faults) (counted_only self.new.faults) (did (act.Closed c) ∷ []) }
     {
@@ -286,7 +310,7 @@ impl<R: net::Net + Clock + Drop> Net for MioNet<R> {
         }
     }
 
-    /// It does nothing before it listens.
+    /// It does nothing where there are no sockets yet.
     fn datagram(&mut self, to: Endpoint, bytes: &[u8])
         ensures { NetShows (counted_only self.old.faults) (counted_only self.new.faults) (did (act.Datagram to bytes.now) ∷ []) }
     {

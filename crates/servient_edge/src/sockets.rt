@@ -105,6 +105,10 @@ impl Sockets {
         Ok(())
     }
 
+    pub fn is_listening(&self) -> bool {
+        self.listener.is_some()
+    }
+
     /// Binds a socket for datagrams where there is none.
     pub fn bind_any<R: Net>(&mut self, rt: &R) -> io::Result<()> {
         if self.udp.is_none() {

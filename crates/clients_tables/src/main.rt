@@ -22,6 +22,7 @@ mod hearing;
 mod history;
 mod http_requests;
 mod judgements;
+mod network;
 mod resetting;
 mod tables;
 

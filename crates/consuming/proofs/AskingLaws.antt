@@ -1,36 +1,134 @@
 -- What is seen of the whole of an operation.
-use Rattle.std.proofs.Common.{◌≡◌, ℕ, List, [], ◌∷◌, ◌++◌, Option, Some, None, refl, subst, append-nil}
-use Rattle.wot_json.specs.Tree.{Json}
+use Rattle.std.proofs.Common.{◌≡◌, ◌≤◌, ◌<◌, ℕ, List, [], ◌∷◌, ◌++◌, Bool, true, false, Option, Some, None, refl, sym, ap, subst, ◌∙◌, inl, inr, arith, append-nil, append_assoc}
+use Rattle.std.specs.Prelude.{option_map}
+use Rattle.wot_forms.specs.declared.scheme.Scheme.{Scheme}
+use Rattle.wot_forms.specs.declared.scheme.Scheme.TheVariants as scheme
+use Rattle.wot_json.specs.Json.{text_of}
 use Rattle.wot_consumer.specs.declared.chosen.Chosen.{Chosen}
+use Rattle.wot_consumer.specs.Messages.{request_bytes}
+use Rattle.coap_msg.specs.declared.endpoint.Endpoint.{Endpoint}
+use Rattle.coap_client.specs.Asking.{Asking}
 use Rattle.servient_outside.specs.declared.net.Act.TheVariants as act
-use Rattle.servient_outside.specs.Network.{did, NetSeen, NetShows}
-use Rattle.servient_outside.proofs.NetLaws.{net_shows_none, net_shows_then}
+use Rattle.servient_outside.specs.declared.net.Dialled.TheVariants as dialled
+use Rattle.servient_outside.specs.declared.net.Found.TheVariants as found
+use Rattle.servient_outside.specs.declared.out.Put.{Put}
+use Rattle.servient_outside.specs.declared.out.Put.TheVariants as put
+use Rattle.servient_outside.specs.Network.{Happening, did, broke, looking, dialling, dials_as, finds_as, NetSeen, NetShows}
+use Rattle.servient_outside.specs.Out.{OutSeen}
+use Rattle.servient_outside.proofs.NetLaws.{net_shows_then}
 use Rattle.consuming.specs.declared.operation.Operation.{Operation}
 use Rattle.consuming.specs.declared.consumed.Consumed.{Consumed}
-use Rattle.consuming.specs.declared.consumed.Consumed.TheVariants.{Other}
+use Rattle.consuming.specs.declared.consumed.Consumed.TheVariants as ended
 use Rattle.consuming.specs.declared.consumed.Outcome.TheVariants as outcome
 use Rattle.consuming.specs.declared.waiting.Waiting.{Waiting}
-use Rattle.consuming.specs.Consuming.{Awaits, most_events, waiting_on, Asks, is_sent, IsRequest, Consumes, is_refused, is_asked, Shows}
+use Rattle.consuming.specs.declared.waiting.Waiting.TheVariants.{Http, Coap}
+use Rattle.consuming.specs.declared.coap_waiting.CoapWaiting.{CoapWaiting}
+use Rattle.consuming.specs.Deeds.{Deed, happens, happen, Sight, sight, ShowsDeeds, Shows, ShowsHappenings, put_of}
+use Rattle.consuming.specs.HttpWaiting.{waiting_on}
+use Rattle.consuming.specs.CoapWaiting.{Sends}
+use Rattle.consuming.specs.Waiting.{Awaits, most_events}
+use Rattle.consuming.specs.Consuming as whole
+use Rattle.consuming.specs.Consuming.{AsksByHttp, AsksByCoap, AsksPeer, AsksBy, AsksOrNot, IsFresh, Consumes, TakesInput, input_of}
+use Rattle.consuming.proofs.DeedLaws.{shows_none, shows_then, shows_net}
+
+-- ## Over HTTP
 
 -- it dialled and sent the request, and its reply was awaited
-pub asks_by_sending : (o : Operation) (chosen : Chosen) (host request : List ℕ) (c : ℕ) (w : Waiting) (r : Consumed) (n m k l : NetSeen) → host ≡ chosen.host → w ≡ waiting_on c → NetShows n m (did (act.Dialled host chosen.port (Some c)) ∷ []) → NetShows m k (did (act.Sent c (request ++ [])) ∷ []) → Shows (Awaits o r most_events w) k l → Shows (λ seen. Asks o chosen request seen r) n l
-asks_by_sending o chosen host request c w r n m k l at_host waits dials sends awaits = record {
-  seen = did (act.Dialled chosen.host chosen.port (Some c)) ∷ did (act.Sent c request) ∷ awaits.seen;
-  holds = is_sent c awaits.seen (subst (λ (x : Waiting). Awaits o r most_events x awaits.seen) waits awaits.holds) refl;
-  shows = net_shows_then n m l (did (act.Dialled chosen.host chosen.port (Some c)) ∷ []) (did (act.Sent c request) ∷ awaits.seen)
-      (subst (λ (x : List ℕ). NetShows n m (did (act.Dialled x chosen.port (Some c)) ∷ [])) at_host dials)
-      (net_shows_then m k l (did (act.Sent c request) ∷ []) awaits.seen
-      (subst (λ (x : List ℕ). NetShows m k (did (act.Sent c x) ∷ [])) (append-nil request) sends) awaits.shows);
+pub http_sent : (o : Operation) (c : Chosen) (host request : List ℕ) (k : ℕ) (w : Waiting) (r : Consumed) (n m l : NetSeen) (q : OutSeen) (b : Sight) → host ≡ c.host → w ≡ Http (waiting_on k) → NetShows n m (dials_as host c.port (dialled.Connected k))
+    → NetShows m l (did (act.Sent k (request ++ [])) ∷ []) → Shows (Awaits o c r most_events w) (sight l q) b (put_of r) → Shows (λ deeds. AsksByHttp o c request deeds r) (sight n q) b (put_of r)
+http_sent o c host request k w r n m l q b at_host waits dials sends awaits =
+    let first : List Happening = did (act.Dialled c.host c.port (Some k)) ∷ did (act.Sent k request) ∷ [] in
+    let shown : NetShows n l first = net_shows_then n m l (did (act.Dialled c.host c.port (Some k)) ∷ []) (did (act.Sent k request) ∷ [])
+    (subst (λ (x : List ℕ). NetShows n m (did (act.Dialled x c.port (Some k)) ∷ [])) at_host dials)
+    (subst (λ (x : List ℕ). NetShows m l (did (act.Sent k x) ∷ [])) (append-nil request) sends) in
+    record {
+      deeds = happen first ++ awaits.deeds;
+      holds = whole.is_sent k awaits.deeds (subst (λ (x : Waiting). Awaits o c r most_events x awaits.deeds) waits awaits.holds) refl;
+      shows = shows_then (sight n q) (sight l q) b (put_of r) (happen first) awaits.deeds (shows_net n l q first shown) awaits.shows;
+    }
+
+pub not_dialled : (o : Operation) (c : Chosen) (host request : List ℕ) (n m : NetSeen) (q : OutSeen) → host ≡ c.host → NetShows n m (dials_as host c.port dialled.Failed) → Shows (λ deeds. AsksByHttp o c request deeds ended.Failed) (sight n q) (sight m q) put.Done
+not_dialled o c host request n m q at_host dials =
+    let shown : NetShows n m (dials_as c.host c.port dialled.Failed) = subst (λ (x : List ℕ). NetShows n m (dials_as x c.port dialled.Failed)) at_host dials in
+    record { deeds = happen (dials_as c.host c.port dialled.Failed); holds = whole.not_dialled refl refl; shows = shows_net n m q (dials_as c.host c.port dialled.Failed) shown }
+
+pub dial_memory : (o : Operation) (c : Chosen) (host request : List ℕ) (n m : NetSeen) (q : OutSeen) → host ≡ c.host → NetShows n m (dials_as host c.port dialled.NoMemory) → Shows (λ deeds. AsksByHttp o c request deeds ended.NoMemory) (sight n q) (sight m q) put.Done
+dial_memory o c host request n m q at_host dials =
+    let shown : NetShows n m (dials_as c.host c.port dialled.NoMemory) = subst (λ (x : List ℕ). NetShows n m (dials_as x c.port dialled.NoMemory)) at_host dials in
+    record { deeds = happen (dials_as c.host c.port dialled.NoMemory); holds = whole.dial_memory refl refl; shows = shows_net n m q (dials_as c.host c.port dialled.NoMemory) shown }
+
+pub http_memory : (o : Operation) (c : Chosen) (request : List ℕ) (a : Sight) → Shows (λ deeds. AsksByHttp o c request deeds ended.NoMemory) a a put.Done
+http_memory o c request a = record { deeds = []; holds = whole.request_memory refl refl; shows = shows_none a }
+
+pub http_same : (o : Operation) (c : Chosen) (request bytes other : List ℕ) (r : Consumed) (a b : Sight) (p : Put) → bytes ≡ request → request ≡ other → Shows (λ deeds. AsksByHttp o c bytes deeds r) a b p → Shows (λ deeds. AsksByHttp o c other deeds r) a b p
+http_same o c request bytes other r a b p is same asks = record { deeds = asks.deeds; holds = subst (λ (x : List ℕ). AsksByHttp o c x asks.deeds r) (is ∙ same) asks.holds; shows = asks.shows }
+
+-- ## Over CoAP
+
+pub peer_asked : (o : Operation) (c : Chosen) (a b : Asking) (w v : CoapWaiting) (x : Waiting) (fits : Bool) (r : Consumed) (n m : NetSeen) (q : OutSeen) (d : Sight) → a ≡ b → fits ≡ true → x ≡ Coap v → ShowsHappenings (λ hs. Sends w a hs fits v) n m
+    → Shows (Awaits o c r most_events x) (sight m q) d (put_of r) → Shows (λ deeds. AsksPeer o c b w deeds r) (sight n q) d (put_of r)
+peer_asked o c a b w v x fits r n m q d same fit is sends awaits = record {
+  deeds = happen sends.happened ++ awaits.deeds;
+  holds = whole.is_asked sends.happened v awaits.deeds (subst (λ (t : Bool). Sends w b sends.happened t v) fit (subst (λ (y : Asking). Sends w y sends.happened fits v) same sends.holds))
+      (subst (λ (y : Waiting). Awaits o c r most_events y awaits.deeds) is awaits.holds) refl;
+  shows = shows_then (sight n q) (sight m q) d (put_of r) (happen sends.happened) awaits.deeds (shows_net n m q sends.happened sends.shows) awaits.shows;
 }
 
--- the request was made and asked
-pub consumes_by_asking : (o : Operation) (chosen : Chosen) (input : Option Json) (found : Option (List ℕ)) (request bytes : List ℕ) (r : Consumed) (n m : NetSeen) → IsRequest o chosen input found → found ≡ Some request → bytes ≡ request → Shows (λ seen. Asks o chosen bytes seen r) n m → Shows (λ seen. Consumes o chosen input seen r) n m
-consumes_by_asking o chosen input found request bytes r n m is there same asks = record {
-  seen = asks.seen;
-  holds = is_asked request (subst (IsRequest o chosen input) there is) (subst (λ (b : List ℕ). Asks o chosen b asks.seen r) same asks.holds);
+pub asked_too_long : (o : Operation) (c : Chosen) (a b : Asking) (w v : CoapWaiting) (fits : Bool) (n m : NetSeen) (q : OutSeen) → a ≡ b → fits ≡ false → ShowsHappenings (λ hs. Sends w a hs fits v) n m
+    → Shows (λ deeds. AsksPeer o c b w deeds (ended.Other outcome.Long)) (sight n q) (sight m q) put.Done
+asked_too_long o c a b w v fits n m q same fit sends = record {
+  deeds = happen sends.happened;
+  holds = whole.is_long sends.happened v (subst (λ (t : Bool). Sends w b sends.happened t v) fit (subst (λ (y : Asking). Sends w y sends.happened fits v) same sends.holds)) refl refl;
+  shows = shows_net n m q sends.happened sends.shows;
+}
+
+pub coap_found : (o : Operation) (c : Chosen) (a : Asking) (host : List ℕ) (peer : Endpoint) (w : CoapWaiting) (r : Consumed) (n m : NetSeen) (q : OutSeen) (b : Sight) → host ≡ c.host → IsFresh o peer w → NetShows n m (finds_as host c.port (found.At peer))
+    → Shows (λ deeds. AsksPeer o c a w deeds r) (sight m q) b (put_of r) → Shows (λ deeds. AsksByCoap o c a deeds r) (sight n q) b (put_of r)
+coap_found o c a host peer w r n m q b at_host fresh finds asks =
+    let shown : NetShows n m (finds_as c.host c.port (found.At peer)) = subst (λ (x : List ℕ). NetShows n m (finds_as x c.port (found.At peer))) at_host finds in
+    record {
+      deeds = happen (finds_as c.host c.port (found.At peer)) ++ asks.deeds;
+      holds = whole.is_found peer w asks.deeds fresh asks.holds refl;
+      shows = shows_then (sight n q) (sight m q) b (put_of r) (happen (finds_as c.host c.port (found.At peer))) asks.deeds (shows_net n m q (finds_as c.host c.port (found.At peer)) shown) asks.shows;
+    }
+
+pub not_found : (o : Operation) (c : Chosen) (a : Asking) (host : List ℕ) (n m : NetSeen) (q : OutSeen) → host ≡ c.host → NetShows n m (finds_as host c.port found.Failed) → Shows (λ deeds. AsksByCoap o c a deeds ended.Failed) (sight n q) (sight m q) put.Done
+not_found o c a host n m q at_host finds =
+    let shown : NetShows n m (finds_as c.host c.port found.Failed) = subst (λ (x : List ℕ). NetShows n m (finds_as x c.port found.Failed)) at_host finds in
+    record { deeds = happen (finds_as c.host c.port found.Failed); holds = whole.not_found refl refl; shows = shows_net n m q (finds_as c.host c.port found.Failed) shown }
+
+pub find_memory : (o : Operation) (c : Chosen) (a : Asking) (host : List ℕ) (n m : NetSeen) (q : OutSeen) → host ≡ c.host → NetShows n m (finds_as host c.port found.NoMemory) → Shows (λ deeds. AsksByCoap o c a deeds ended.NoMemory) (sight n q) (sight m q) put.Done
+find_memory o c a host n m q at_host finds =
+    let shown : NetShows n m (finds_as c.host c.port found.NoMemory) = subst (λ (x : List ℕ). NetShows n m (finds_as x c.port found.NoMemory)) at_host finds in
+    record { deeds = happen (finds_as c.host c.port found.NoMemory); holds = whole.find_memory refl refl; shows = shows_net n m q (finds_as c.host c.port found.NoMemory) shown }
+
+pub client_memory : (o : Operation) (c : Chosen) (a : Asking) (s : Sight) → Shows (λ deeds. AsksByCoap o c a deeds ended.NoMemory) s s put.Done
+client_memory o c a s = record { deeds = []; holds = whole.client_memory refl refl; shows = shows_none s }
+
+-- ## The whole
+
+pub asked_by_http : (o : Operation) (c : Chosen) (body : Option (List ℕ)) (request : List ℕ) (s : Scheme) (r : Consumed) (a b : Sight) (p : Put) → s ≡ scheme.Http → request ≡ request_bytes c body → Shows (λ deeds. AsksByHttp o c request deeds r) a b p
+    → Shows (λ deeds. AsksBy o c body s deeds r) a b p
+asked_by_http o c body request s r a b p is same asks = record {
+  deeds = asks.deeds;
+  holds = subst (λ (x : Scheme). AsksBy o c body x asks.deeds r) (sym is) (subst (λ (x : List ℕ). AsksByHttp o c x asks.deeds r) same asks.holds);
   shows = asks.shows;
 }
 
--- what is handed in is refused
-pub consumes_nothing : (o : Operation) (chosen : Chosen) (input : Option Json) (found : Option (List ℕ)) (n : NetSeen) → IsRequest o chosen input found → found ≡ None → Shows (λ seen. Consumes o chosen input seen (Other outcome.Input)) n n
-consumes_nothing o chosen input found n refused none = record { seen = []; holds = is_refused (subst (IsRequest o chosen input) none refused) refl refl; shows = net_shows_none n }
+pub asked_by_coap : (o : Operation) (c : Chosen) (body : Option (List ℕ)) (s : Scheme) (r : Consumed) (a b : Sight) (p : Put) → s ≡ scheme.Coap → Shows (λ deeds. AsksBy o c body scheme.Coap deeds r) a b p → Shows (λ deeds. AsksBy o c body s deeds r) a b p
+asked_by_coap o c body s r a b p is asks = record { deeds = asks.deeds; holds = subst (λ (x : Scheme). AsksBy o c body x asks.deeds r) (sym is) asks.holds; shows = asks.shows }
+
+pub asked_with : (o : Operation) (c : Chosen) (body bytes : Option (List ℕ)) (r : Consumed) (a b : Sight) (p : Put) → body ≡ bytes → Shows (λ deeds. AsksBy o c body c.scheme deeds r) a b p → Shows (λ deeds. AsksOrNot o c bytes deeds r) a b p
+asked_with o c body bytes r a b p same asks = record { deeds = asks.deeds; holds = whole.has_body (subst (λ (x : Option (List ℕ)). AsksBy o c x c.scheme asks.deeds r) same asks.holds); shows = asks.shows }
+
+pub no_body : (o : Operation) (c : Chosen) (body : Option (List ℕ)) (a : Sight) → Shows (λ deeds. AsksOrNot o c body deeds ended.NoMemory) a a put.Done
+no_body o c body a = record { deeds = []; holds = whole.body_memory refl refl; shows = shows_none a }
+
+pub consumed_by_asking : (o : Operation) (c : Chosen) (r : Consumed) (a b : Sight) (p : Put) → TakesInput o → Shows (λ deeds. AsksOrNot o c (option_map text_of (input_of o)) deeds r) a b p → Shows (λ deeds. Consumes o c deeds r) a b p
+consumed_by_asking o c r a b p takes asks = record { deeds = asks.deeds; holds = whole.is_done takes asks.holds; shows = asks.shows }
+
+pub consumed_nothing : (o : Operation) (c : Chosen) (a : Sight) → ¬ (TakesInput o) → Shows (λ deeds. Consumes o c deeds (ended.Other outcome.Input)) a a put.Done
+consumed_nothing o c a refused = record { deeds = []; holds = whole.is_refused refused refl refl; shows = shows_none a }
+
+pub consumed_no_memory : (o : Operation) (c : Chosen) (a : Sight) → Shows (λ deeds. Consumes o c deeds ended.NoMemory) a a put.Done
+consumed_no_memory o c a = record { deeds = []; holds = whole.input_memory refl refl; shows = shows_none a }

@@ -1,2 +1,5 @@
-pub mod AskingLaws
+pub mod DeedLaws
+pub mod HearingLaws
 pub mod AwaitingLaws
+pub mod AskingLaws
+pub mod ChoiceLaws

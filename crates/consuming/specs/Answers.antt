@@ -1,25 +1,46 @@
--- What the answer to an operation comes to, and the bytes of the connection on which it comes (TD 1.1, section 5.3.4.2;
--- RFC 9110, section 15). Each case may come to being out of memory.
-use Rattle.std.specs.Prelude.{◌≡◌, ◌⊎◌, ⊤, ℕ, List, [], ◌∷◌, Bool, true, false, nat_le, ◌&&◌, Option, Some, None, option_map}
+-- What the answer to an operation comes to, the bytes of the connection on which it comes, and what is printed of it
+-- (TD 1.1, section 5.3.4.2; RFC 9110, section 15; RFC 7252, section 5.9). Each case may come to being out of memory.
+use Rattle.std.specs.Prelude.{◌≡◌, ◌≢◌, ◌⊎◌, ◌==◌, ◌/◌, ⊤, ℕ, List, [], ◌∷◌, Bool, true, false, nat_le, ◌&&◌, Option, Some, None, option_map}
 use Rattle.wot_json.specs.Tree.{Json}
 use Rattle.wot_json.specs.Meaning.{json_of}
 use Rattle.wot_json.specs.Reading.{tree_of}
 use Rattle.http_wire.specs.declared.reply_scan.ReplyScan.{ReplyScan}
 use Rattle.http_wire.specs.declared.reply_scan.ReplyScan.TheVariants as scan
 use Rattle.http_wire.specs.ReplyFronts.{IsReply}
-use Rattle.wot_consumer.specs.Judgement.{AcceptsOutput}
+use Rattle.wot_terms.specs.Faults.{IsValid}
+use Rattle.wot_consumer.specs.Operations.{is_consumed}
+use Rattle.wot_consumer.specs.Judgement.{AcceptsOutput, HasAffordance}
 use Rattle.consuming.specs.declared.operation.Operation.{Operation}
 use Rattle.consuming.specs.declared.consumed.Consumed.{Consumed}
-use Rattle.consuming.specs.declared.consumed.Consumed.TheVariants.{Done, Other, NoMemory}
+use Rattle.consuming.specs.declared.consumed.Consumed.TheVariants as ended
 use Rattle.consuming.specs.declared.consumed.Outcome.TheVariants as outcome
+use Rattle.consuming.specs.declared.consumed.Status.{Status}
+use Rattle.consuming.specs.declared.consumed.Status.TheVariants as status
 use Rattle.consuming.specs.declared.judgement.Judged.{Judged}
 use Rattle.consuming.specs.declared.judgement.Judged.TheVariants as judged
+use Rattle.consuming.specs.declared.answers.Verdict.{Verdict}
+use Rattle.consuming.specs.declared.answers.Verdict.TheVariants as verdict
+use Rattle.consuming.specs.Deeds.{Deed, printed}
+
+-- ## What may be asked
+
+-- a description is valid and has the affordance of an operation that a consumer does
+pub record CanBeAsked (o : Operation) : Type 0 where
+  pub valid : IsValid (json_of o.tree.now)
+  pub consumed : is_consumed o.op ≡ true
+  pub affordance : HasAffordance (json_of o.tree.now) o.op o.name.now
 
 -- ## An answer
 
 -- the statuses of success
-abbrev pub is_success : ℕ → Bool
-is_success status = nat_le 200 status && nat_le status 299
+abbrev pub is_success : Status → Bool
+is_success (status.Http number) = nat_le 200 number && nat_le number 299
+is_success (status.Coap code) = code / 32 == 2
+
+-- 201 and 2.01: what comes with them describes what was made
+abbrev pub is_created : Status → Bool
+is_created (status.Http number) = number == 201
+is_created (status.Coap code) = code == 65
 
 -- What is read of a payload: of an empty one that there is no value, of any other the value of its JSON text. Nothing is
 -- read of what is no JSON text.
@@ -27,39 +48,45 @@ abbrev pub value_in : List ℕ → Option (Option Json)
 value_in [] = Some None
 value_in (byte ∷ bytes) = option_map (λ v. Some v) (tree_of (byte ∷ bytes))
 
--- The description takes the value that comes back. What comes with 201 describes what was made, and isn't judged by it.
-abbrev pub IsTaken : Operation → ℕ → Option Json → Type 0
-IsTaken o status value = (status ≡ 201) ⊎ AcceptsOutput (json_of o.tree.now) o.op o.name.now value
+-- The description takes the value that comes back. What describes what was made isn't judged by it.
+abbrev pub IsTaken : Operation → Status → Option Json → Type 0
+IsTaken o s value = (is_created s ≡ true) ⊎ AcceptsOutput (json_of o.tree.now) o.op o.name.now value
 
 -- how a payload is judged
-abbrev pub IsJudged : Operation → ℕ → List ℕ → Judged → Type 0
-IsJudged o status payload judged.Taken = (value : Option Json) × (value_in payload ≡ Some value) × IsTaken o status value
-IsJudged o status payload judged.NotTaken = (value : Option Json) × (value_in payload ≡ Some value) × ¬ (IsTaken o status value)
-IsJudged o status payload judged.Unread = value_in payload ≡ None
-IsJudged o status payload judged.NoMemory = ⊤
+abbrev pub IsJudged : Operation → Status → List ℕ → Judged → Type 0
+IsJudged o s payload judged.Taken = (value : Option Json) × (value_in payload ≡ Some value) × IsTaken o s value
+IsJudged o s payload judged.NotTaken = (value : Option Json) × (value_in payload ≡ Some value) × ¬ (IsTaken o s value)
+IsJudged o s payload judged.Unread = value_in payload ≡ None
+IsJudged o s payload judged.NoMemory = ⊤
 
 -- what an answer with this status and payload comes to; the first of what may be said of it
-pub data AnswersAs (o : Operation) (status : ℕ) (payload : List ℕ) (r : Consumed) : Type 0 where
-  no_success : is_success status ≡ false → r ≡ Other (outcome.Status status) → AnswersAs o status payload r
-  unread : is_success status ≡ true → IsJudged o status payload judged.Unread → r ≡ Other outcome.Malformed → AnswersAs o status payload r
-  not_taken : is_success status ≡ true → IsJudged o status payload judged.NotTaken → r ≡ Other outcome.Output → AnswersAs o status payload r
-  taken : is_success status ≡ true → IsJudged o status payload judged.Taken → r ≡ Done payload → AnswersAs o status payload r
-  answer_memory : r ≡ NoMemory → AnswersAs o status payload r
+pub data AnswersAs (o : Operation) (s : Status) (payload : List ℕ) (v : Verdict) : Type 0 where
+  no_success : is_success s ≡ false → v ≡ verdict.Outcome (outcome.Status s) → AnswersAs o s payload v
+  unread : is_success s ≡ true → IsJudged o s payload judged.Unread → v ≡ verdict.Outcome outcome.Malformed → AnswersAs o s payload v
+  not_taken : is_success s ≡ true → IsJudged o s payload judged.NotTaken → v ≡ verdict.Outcome outcome.Output → AnswersAs o s payload v
+  taken : is_success s ≡ true → IsJudged o s payload judged.Taken → v ≡ verdict.Payload payload → AnswersAs o s payload v
+  answer_memory : v ≡ verdict.NoMemory → AnswersAs o s payload v
+
+-- what is printed by a verdict, and how the operation ends by it; where the output fails, by that
+abbrev pub Closes : Verdict → List Deed → Consumed → Type 0
+Closes (verdict.Payload payload) deeds r = (deeds ≡ printed payload) × ((r ≡ ended.Done) ⊎ ((payload ≢ []) × (r ≡ ended.Unprinted)))
+Closes (verdict.Outcome outcome) deeds r = (deeds ≡ []) × (r ≡ ended.Other outcome)
+Closes verdict.NoMemory deeds r = (deeds ≡ []) × (r ≡ ended.NoMemory)
 
 -- ## The bytes of a connection
 
 -- what a reply that isn't whole comes to: nothing yet, unless the connection has ended
-abbrev pub short_of : Bool → Option Consumed
-short_of true = Some (Other outcome.Closed)
+abbrev pub short_of : Bool → Option Verdict
+short_of true = Some (verdict.Outcome outcome.Closed)
 short_of false = None
 
 -- what is scanned comes to this
-abbrev pub ScansAs : Operation → Bool → ReplyScan → Option Consumed → Type 0
+abbrev pub ScansAs : Operation → Bool → ReplyScan → Option Verdict → Type 0
 ScansAs o ended scan.Short r = r ≡ short_of ended
-ScansAs o ended (scan.Whole status body) r = (c : Consumed) × AnswersAs o status body c × (r ≡ Some c)
-ScansAs o ended scan.Fault r = r ≡ Some (Other outcome.Malformed)
-ScansAs o ended scan.TooLong r = r ≡ Some (Other outcome.Long)
+ScansAs o ended (scan.Whole number body) r = (v : Verdict) × AnswersAs o (status.Http number) body v × (r ≡ Some v)
+ScansAs o ended scan.Fault r = r ≡ Some (verdict.Outcome outcome.Malformed)
+ScansAs o ended scan.TooLong r = r ≡ Some (verdict.Outcome outcome.Long)
 
 -- the bytes of a connection that has ended or goes on come to this, or to nothing yet
-abbrev pub ReceivesAs : Operation → Bool → List ℕ → Option Consumed → Type 0
+abbrev pub ReceivesAs : Operation → Bool → List ℕ → Option Verdict → Type 0
 ReceivesAs o ended bytes r = (s : ReplyScan) × IsReply bytes ended s × ScansAs o ended s r

@@ -1,130 +1,91 @@
--- One operation on another Thing over HTTP (TD 1.1, section 5.3.4.2): what is done to the network, what is taken from it,
--- and how it ends. It dials once, sends one request, and awaits the reply for 60,000 ms.
-use Rattle.std.specs.Prelude.{◌≡◌, ℕ, suc, max, nat_eq, nat_le, List, [], ◌∷◌, ◌++◌, Bool, true, false, Option, Some, None, option_map, if◌then◌else◌}
+-- One operation on another Thing (TD 1.1, section 5.3.4.2), over HTTP or over CoAP: what is done, and how it ends. The
+-- form's host and port are dialled or looked up once. Over HTTP one request is sent. Over CoAP the client sends one, again
+-- where it has to, acknowledges what it is answered, and asks for no further values at the end of an observation.
+use Rattle.std.specs.Prelude.{◌≡◌, ℕ, List, [], ◌∷◌, ◌++◌, true, false, Option, Some, None, option_map}
 use Rattle.wot_json.specs.Tree.{Json}
 use Rattle.wot_json.specs.Json.{text_of}
 use Rattle.wot_json.specs.Meaning.{json_of}
-use Rattle.wot_terms.specs.Faults.{IsValid}
+use Rattle.wot_forms.specs.declared.scheme.Scheme.{Scheme}
+use Rattle.wot_forms.specs.declared.scheme.Scheme.TheVariants as scheme
 use Rattle.wot_consumer.specs.declared.chosen.Chosen.{Chosen}
-use Rattle.wot_consumer.specs.Operations.{is_consumed}
-use Rattle.wot_consumer.specs.Judgement.{AcceptsInput, HasAffordance}
+use Rattle.wot_consumer.specs.Judgement.{AcceptsInput}
 use Rattle.wot_consumer.specs.Messages.{request_bytes}
-use Rattle.servient_outside.specs.declared.net.What.{What}
-use Rattle.servient_outside.specs.declared.net.What.TheVariants as what
-use Rattle.servient_outside.specs.declared.net.EventWithBytes.{EventWithBytes}
+use Rattle.coap_msg.specs.declared.endpoint.Endpoint.{Endpoint}
+use Rattle.coap_client.specs.declared.state.State.{State}
+use Rattle.coap_client.specs.declared.fault.ClientFault.TheVariants as client_fault
+use Rattle.coap_client.specs.Asking.{Asking}
+use Rattle.coap_client.specs.Exchange.{at_moment, IsNew, Asks, IsRefused}
 use Rattle.servient_outside.specs.declared.net.Act.TheVariants as act
-use Rattle.servient_outside.specs.Network.{Happening, heard, did, broke, next_event, dialling, NetSeen, NetShows}
+use Rattle.servient_outside.specs.declared.net.Dialled.TheVariants as dialled
+use Rattle.servient_outside.specs.declared.net.Found.TheVariants as found
+use Rattle.servient_outside.specs.Network.{Happening, did, dials_as, finds_as}
 use Rattle.consuming.specs.declared.operation.Operation.{Operation}
 use Rattle.consuming.specs.declared.consumed.Consumed.{Consumed}
-use Rattle.consuming.specs.declared.consumed.Consumed.TheVariants.{Other, Silent, Failed, Spent, NoMemory}
+use Rattle.consuming.specs.declared.consumed.Consumed.TheVariants.{Other, Failed, NoMemory}
 use Rattle.consuming.specs.declared.consumed.Outcome.TheVariants as outcome
-use Rattle.consuming.specs.declared.waiting.Waiting.{Waiting}
-use Rattle.consuming.specs.Answers.{ReceivesAs}
+use Rattle.consuming.specs.declared.waiting.Waiting.TheVariants.{Http, Coap}
+use Rattle.consuming.specs.declared.coap_waiting.CoapWaiting.{CoapWaiting}
+use Rattle.consuming.specs.Deeds.{Deed, happens, happen}
+use Rattle.consuming.specs.Asking.{asking_for}
+use Rattle.consuming.specs.HttpWaiting.{waiting_on}
+use Rattle.consuming.specs.CoapWaiting.{Sends}
+use Rattle.consuming.specs.Waiting.{Awaits, most_events}
 
--- ## One event
+-- ## Over HTTP
 
--- how many milliseconds after the request, which is sent at moment 0, a reply is awaited
-abbrev pub deadline : ℕ
-deadline = 60000
+-- what is done where these bytes are to be sent, and how it ends
+pub data AsksByHttp (o : Operation) (c : Chosen) (request : List ℕ) (deeds : List Deed) (r : Consumed) : Type 0 where
+  not_dialled : deeds ≡ happen (dials_as c.host c.port dialled.Failed) → r ≡ Failed → AsksByHttp o c request deeds r
+  dial_memory : deeds ≡ happen (dials_as c.host c.port dialled.NoMemory) → r ≡ NoMemory → AsksByHttp o c request deeds r
+  request_memory : deeds ≡ [] → r ≡ NoMemory → AsksByHttp o c request deeds r
+  is_sent : (k : ℕ) (rest : List Deed) → Awaits o c r most_events (Http (waiting_on k)) rest
+      → deeds ≡ happen (dials_as c.host c.port (dialled.Connected k)) ++ happens (did (act.Sent k request)) ∷ rest → AsksByHttp o c request deeds r
 
--- the bytes among what came that came on this connection
-abbrev pub bytes_on : ℕ → What → List ℕ → List ℕ
-bytes_on c (what.Bytes d count) bytes = if nat_eq d c then bytes else []
-bytes_on c (what.Opened d) bytes = []
-bytes_on c (what.Ended d) bytes = []
-bytes_on c (what.Datagram from count) bytes = []
-bytes_on c what.Tick bytes = []
-bytes_on c what.Stop bytes = []
+-- ## Over CoAP
 
--- it has heard an event: the moment is the greatest so far, and what came on its connection is received
-abbrev pub after_event : Waiting → EventWithBytes → Waiting
-after_event w e =
-    record w {
-      moment = max w.moment e.event.moment;
-      received = w.received ++ bytes_on w.connection e.event.what e.bytes;
-    }
+-- nothing came yet, of the one or more values that are awaited, and the client did nothing yet
+pub record IsFresh (o : Operation) (peer : Endpoint) (w : CoapWaiting) : Type 0 where
+  pub new : IsNew 0 w.client
+  pub moment : w.moment ≡ 0
+  pub peer_is : w.peer ≡ peer
+  pub left : w.left ≡ o.count
 
--- what came is of this connection, or it is the end of all
-abbrev pub concerns : ℕ → What → Bool
-concerns c (what.Bytes d count) = nat_eq d c
-concerns c (what.Ended d) = nat_eq d c
-concerns c what.Stop = true
-concerns c (what.Opened d) = false
-concerns c (what.Datagram from count) = false
-concerns c what.Tick = false
+-- what is done where this is to be asked of a peer, and how it ends
+pub data AsksPeer (o : Operation) (c : Chosen) (a : Asking) (w : CoapWaiting) (deeds : List Deed) (r : Consumed) : Type 0 where
+  is_long : (first : List Happening) (v : CoapWaiting) → Sends w a first false v → deeds ≡ happen first → r ≡ Other outcome.Long → AsksPeer o c a w deeds r
+  is_asked : (first : List Happening) (v : CoapWaiting) (rest : List Deed) → Sends w a first true v → Awaits o c r most_events (Coap v) rest
+      → deeds ≡ happen first ++ rest → AsksPeer o c a w deeds r
 
--- what it comes to by what came, where this is received on connection c, or that it goes on
-pub data Brings (o : Operation) (c : ℕ) (received : List ℕ) (w : What) (r : Option Consumed) : Type 0 where
-  bytes_came : (count : ℕ) → w ≡ what.Bytes c count → ReceivesAs o false received r → Brings o c received w r
-  has_ended : w ≡ what.Ended c → ReceivesAs o true received r → Brings o c received w r
-  has_stopped : w ≡ what.Stop → r ≡ Some (Other outcome.Stopped) → Brings o c received w r
-  is_of_another : concerns c w ≡ false → r ≡ None → Brings o c received w r
-  event_memory : r ≡ Some NoMemory → Brings o c received w r
-
--- where what came didn't end it, the deadline does once it is reached
-abbrev pub by_deadline : ℕ → Option Consumed → Option Consumed
-by_deadline moment (Some c) = Some c
-by_deadline moment None = if nat_le deadline moment then Some Silent else None
-
--- what an event comes to, after which it waits like this, or that it goes on
-abbrev pub ComesToAfter : Operation → Waiting → EventWithBytes → Option Consumed → Type 0
-ComesToAfter o w e r =
-    (first : Option Consumed) × Brings o w.connection w.received e.event.what first × (r ≡ by_deadline w.moment first)
-
-abbrev pub ComesTo : Operation → Waiting → EventWithBytes → Option Consumed → Type 0
-ComesTo o w e r = ComesToAfter o (after_event w e) e r
-
--- ## All events
-
--- what happens, and how it ends, where at most n further events are taken
-pub data Awaits (o : Operation) (r : Consumed) : ℕ → Waiting → List Happening → Type 0 where
-  is_spent : (w : Waiting) (seen : List Happening) → seen ≡ [] → r ≡ Spent → Awaits o r 0 w seen
-  is_broken : (n : ℕ) (w : Waiting) (seen : List Happening) → seen ≡ broke next_event ∷ [] → r ≡ Failed → Awaits o r (suc n) w seen
-  comes_to : (n : ℕ) (w : Waiting) (seen : List Happening) (e : EventWithBytes) → ComesTo o w e (Some r) →
-      seen ≡ heard e ∷ [] → Awaits o r (suc n) w seen
-  goes_on : (n : ℕ) (w : Waiting) (seen : List Happening) (e : EventWithBytes) (rest : List Happening) → ComesTo o w e None →
-      Awaits o r n (after_event w e) rest → seen ≡ heard e ∷ rest → Awaits o r (suc n) w seen
+-- what is done where this is to be asked, and how it ends
+pub data AsksByCoap (o : Operation) (c : Chosen) (a : Asking) (deeds : List Deed) (r : Consumed) : Type 0 where
+  not_found : deeds ≡ happen (finds_as c.host c.port found.Failed) → r ≡ Failed → AsksByCoap o c a deeds r
+  find_memory : deeds ≡ happen (finds_as c.host c.port found.NoMemory) → r ≡ NoMemory → AsksByCoap o c a deeds r
+  client_memory : deeds ≡ [] → r ≡ NoMemory → AsksByCoap o c a deeds r
+  is_found : (peer : Endpoint) (w : CoapWaiting) (rest : List Deed) → IsFresh o peer w → AsksPeer o c a w rest r
+      → deeds ≡ happen (finds_as c.host c.port (found.At peer)) ++ rest → AsksByCoap o c a deeds r
 
 -- ## The whole
 
--- how many events are taken at most
-abbrev pub most_events : ℕ
-most_events = 100000
+-- what is done by a form of this scheme, with this body where there is one, and how it ends
+abbrev pub AsksBy : Operation → Chosen → Option (List ℕ) → Scheme → List Deed → Consumed → Type 0
+AsksBy o c body scheme.Http deeds r = AsksByHttp o c (request_bytes c body) deeds r
+AsksBy o c body scheme.Coap deeds r = AsksByCoap o c (asking_for c body) deeds r
 
--- nothing came yet
-abbrev pub waiting_on : ℕ → Waiting
-waiting_on c = record { connection = c; moment = 0; received = [] }
+-- the same, unless the body is out of memory
+pub data AsksOrNot (o : Operation) (c : Chosen) (body : Option (List ℕ)) (deeds : List Deed) (r : Consumed) : Type 0 where
+  body_memory : deeds ≡ [] → r ≡ NoMemory → AsksOrNot o c body deeds r
+  has_body : AsksBy o c body c.scheme deeds r → AsksOrNot o c body deeds r
 
--- a description is valid and has the affordance of an operation that a consumer does
-pub record CanBeAsked (o : Operation) : Type 0 where
-  pub valid : IsValid (json_of o.tree.now)
-  pub consumed : is_consumed o.op ≡ true
-  pub affordance : HasAffordance (json_of o.tree.now) o.op o.name.now
-
--- what happens where these bytes are to be sent, and how it ends
-pub data Asks (o : Operation) (chosen : Chosen) (request : List ℕ) (seen : List Happening) (r : Consumed) : Type 0 where
-  not_dialled : seen ≡ did (act.Dialled chosen.host chosen.port None) ∷ broke dialling ∷ [] → r ≡ Failed → Asks o chosen request seen r
-  dial_memory : seen ≡ did (act.Dialled chosen.host chosen.port None) ∷ [] → r ≡ NoMemory → Asks o chosen request seen r
-  is_sent : (c : ℕ) (rest : List Happening) → Awaits o r most_events (waiting_on c) rest →
-      seen ≡ did (act.Dialled chosen.host chosen.port (Some c)) ∷ did (act.Sent c request) ∷ rest → Asks o chosen request seen r
+-- the value that is handed in
+abbrev pub input_of : Operation → Option Json
+input_of o = option_map (λ v. json_of v.now) o.input
 
 -- what is handed in is accepted
-abbrev pub TakesInput : Operation → Option Json → Type 0
-TakesInput o input = AcceptsInput (json_of o.tree.now) o.op o.name.now input
+abbrev pub TakesInput : Operation → Type 0
+TakesInput o = AcceptsInput (json_of o.tree.now) o.op o.name.now (input_of o)
 
--- the bytes of the request, or none where what is handed in isn't accepted
-abbrev pub IsRequest : Operation → Chosen → Option Json → Option (List ℕ) → Type 0
-IsRequest o chosen input None = ¬ (TakesInput o input)
-IsRequest o chosen input (Some request) = TakesInput o input × (request ≡ request_bytes chosen (option_map text_of input))
-
--- One operation by what was chosen for it, with this value handed in, or none: what happens and how it ends.
-pub data Consumes (o : Operation) (chosen : Chosen) (input : Option Json) (seen : List Happening) (r : Consumed) : Type 0 where
-  is_refused : IsRequest o chosen input None → seen ≡ [] → r ≡ Other outcome.Input → Consumes o chosen input seen r
-  request_memory : seen ≡ [] → r ≡ NoMemory → Consumes o chosen input seen r
-  is_asked : (request : List ℕ) → IsRequest o chosen input (Some request) → Asks o chosen request seen r → Consumes o chosen input seen r
-
--- from one time to another the network shows what happens, and of that this holds
-pub record Shows (P : List Happening → Type 0) (before now : NetSeen) : Type 0 where
-  pub seen : List Happening
-  pub holds : P seen
-  pub shows : NetShows before now seen
+-- One operation by what was chosen for it: what is done, and how it ends.
+pub data Consumes (o : Operation) (c : Chosen) (deeds : List Deed) (r : Consumed) : Type 0 where
+  is_refused : ¬ (TakesInput o) → deeds ≡ [] → r ≡ Other outcome.Input → Consumes o c deeds r
+  input_memory : deeds ≡ [] → r ≡ NoMemory → Consumes o c deeds r
+  is_done : TakesInput o → AsksOrNot o c (option_map text_of (input_of o)) deeds r → Consumes o c deeds r

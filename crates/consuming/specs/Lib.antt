@@ -1,2 +1,7 @@
+pub mod Deeds
 pub mod Answers
+pub mod Asking
+pub mod HttpWaiting
+pub mod CoapWaiting
+pub mod Waiting
 pub mod Consuming

@@ -1,108 +1,150 @@
-//! The whole of an operation: what is handed in is judged, the request is sent, and its reply is awaited.
+//! The whole of an operation: what is handed in is judged, the request is sent, and what comes of it is awaited.
 
-ghost use Rattle.std.specs.Prelude.{◌≡◌, IfOk, IfSome, IsNone, OnOk, option_map, true, ℕ, List};
-ghost use Rattle.wot_json.specs.Meaning.{json_of};
+ghost use Rattle.std.specs.Prelude.{◌≡◌, option_map};
 ghost use Rattle.wot_json.specs.Json.{text_of as text_of_value};
 ghost use Rattle.wot_consumer.specs.Messages.{request_bytes};
-ghost use Rattle.consuming.specs.Consuming.{CanBeAsked, TakesInput, IsRequest, Awaits, waiting_on, Asks, Consumes, Shows};
+ghost use Rattle.consuming.specs.Deeds.{put_of, sight, Shows};
+ghost use Rattle.consuming.specs.Answers.{CanBeAsked};
+ghost use Rattle.consuming.specs.Asking.{IsChoice};
+ghost use Rattle.consuming.specs.Consuming.{input_of, AsksBy, AsksByHttp, AsksOrNot, Consumes};
+ghost use Rattle.consuming.specs.Waiting.{Awaits, IsReady};
 
-use crate::waiting::Waiting;
-use crate::{Consumed, Operation, Outcome};
-use servient_base::NoMemory;
-use servient_outside::{Dialled, Net, Next};
+use crate::coap_asking::ask_by_coap;
+use crate::http_waiting::HttpWaiting;
+use crate::waiting::{Came, Waiting};
+use crate::{Consumed, Operation, Outcome, Task};
+use servient_outside::{Dialled, Net, Next, Out};
 use std::alloc::Global;
-use wot_consumer::{Chosen, http_request, judge_input};
-use wot_json::{Bytes, Tree, text_of};
+use wot_consumer::{Chosen, Scheme, http_request, judge_input};
+use wot_json::text_of;
 
 /// Room for the bytes of one event.
 const BUFFER_BYTES: usize = 4096;
 
 /// How many events are taken at most.
-const MOST_EVENTS: u64 = 100_000;
+pub const MOST_EVENTS: u64 = 100_000;
 
-/// Does one operation over HTTP by the form that was chosen for it, with this value handed in, or none. The value is
-/// judged first: where the description refuses it, nothing is sent. The reply is awaited for 60,000 ms. Where it is out
-/// of memory, the request may have been sent.
-pub fn consume_by_http<N: Net>(
+/// Does one operation by the form that was chosen for it, and prints each payload that it brings with a line feed after
+/// it, as it comes, where it isn't empty. The value that is handed in is judged first: where the description refuses it,
+/// nothing is sent. Where it is out of memory, the request may have been sent.
+pub fn consume<N: Net, O: Out>(
     alloc: Global,
     operation: &Operation<'_>,
     chosen: &Chosen,
-    input: Option<&Tree>,
     net: &mut N,
+    out: &mut O,
 ) -> Consumed
-    requires { CanBeAsked operation.now }
-    ensures { Shows (λ seen. Consumes operation.now chosen.now (option_map (λ v. json_of v.now) input.entry) seen result)
-        (N.seen net.old) (N.seen net.new) }
+    requires asked { CanBeAsked operation.now }
+    requires choice { IsChoice operation.now chosen.now }
+    ensures { Shows (λ deeds. Consumes operation.now chosen.now deeds result)
+        (sight (N.seen net.old) (O.seen out.old)) (sight (N.seen net.new) (O.seen out.new)) (put_of result) }
 {
-    match request_for(alloc, operation, chosen, input) {
-        Ok(Some(request)) => ask(alloc, operation, chosen, request.as_slice(), net),
-        Ok(None) => Consumed::Other(Outcome::Input),
+    let task = Task {
+        alloc,
+        operation: *operation,
+        chosen,
+    };
+    match judge_input(
+        alloc,
+        operation.tree,
+        operation.op,
+        operation.name,
+        operation.input,
+    ) {
+        Ok(true) => ask(&task, net, out),
+        Ok(false) => Consumed::Other(Outcome::Input),
         Err(_) => Consumed::NoMemory,
     }
 }
 
-/// The bytes of the request, where what is handed in is accepted.
-fn request_for(
-    alloc: Global,
-    operation: &Operation<'_>,
-    chosen: &Chosen,
-    input: Option<&Tree>,
-) -> Result<Option<Bytes>, NoMemory>
-    requires { CanBeAsked operation.now }
-    ensures { IfOk result (IsRequest operation.now chosen.now (option_map (λ v. json_of v.now) input.entry)) }
+/// Asks with the text of the value that is handed in, or with none.
+fn ask<N: Net, O: Out>(task: &Task<'_>, net: &mut N, out: &mut O) -> Consumed
+    requires asked { CanBeAsked task.now.operation }
+    requires choice { IsChoice task.now.operation task.now.chosen.now }
+    ensures { Shows (λ deeds. AsksOrNot task.now.operation task.now.chosen.now
+        (option_map text_of_value (input_of task.now.operation)) deeds result)
+        (sight (N.seen net.old) (O.seen out.old)) (sight (N.seen net.new) (O.seen out.new)) (put_of result) }
 {
-    if !judge_input(alloc, operation.tree, operation.op, operation.name, input)? {
-        return Ok(None);
+    match task.operation.input {
+        None => ask_with(task, None, net, out),
+        Some(value) => match text_of(task.alloc, value) {
+            Ok(body) => ask_with(task, Some(body.as_slice()), net, out),
+            Err(_) => Consumed::NoMemory,
+        },
     }
-    Ok(Some(request_with(alloc, chosen, input)?))
 }
 
-/// The bytes of the request with the text of this value, or with none.
-fn request_with(alloc: Global, chosen: &Chosen, input: Option<&Tree>) -> Result<Bytes, NoMemory>
-    ensures { IfOk result (λ bytes. bytes ≡ request_bytes chosen.now
-        (option_map text_of_value (option_map (λ v. json_of v.now) input.entry))) }
+/// Asks with this body, or with none.
+fn ask_with<N: Net, O: Out>(
+    task: &Task<'_>,
+    body: Option<&[u8]>,
+    net: &mut N,
+    out: &mut O,
+) -> Consumed
+    requires asked { CanBeAsked task.now.operation }
+    requires choice { IsChoice task.now.operation task.now.chosen.now }
+    ensures { Shows (λ deeds. AsksBy task.now.operation task.now.chosen.now
+        (option_map (λ b. b.now) body.entry) task.now.chosen.now.scheme deeds result)
+        (sight (N.seen net.old) (O.seen out.old)) (sight (N.seen net.new) (O.seen out.new)) (put_of result) }
 {
-    match input {
-        None => http_request(alloc, chosen, None),
-        Some(value) => {
-            let body = text_of(alloc, value)?;
-            http_request(alloc, chosen, Some(body.as_slice()))
-        }
+    match task.chosen.scheme {
+        Scheme::Http => ask_by_http(task, body, net, out),
+        Scheme::Coap => ask_by_coap(task, body, net, out),
+    }
+}
+
+/// Asks over HTTP.
+fn ask_by_http<N: Net, O: Out>(
+    task: &Task<'_>,
+    body: Option<&[u8]>,
+    net: &mut N,
+    out: &mut O,
+) -> Consumed
+    requires { CanBeAsked task.now.operation }
+    ensures { Shows (λ deeds. AsksByHttp task.now.operation task.now.chosen.now
+        (request_bytes task.now.chosen.now (option_map (λ b. b.now) body.entry)) deeds result)
+        (sight (N.seen net.old) (O.seen out.old)) (sight (N.seen net.new) (O.seen out.new)) (put_of result) }
+{
+    match http_request(task.alloc, task.chosen, body) {
+        Ok(request) => send_by_http(task, request.as_slice(), net, out),
+        Err(_) => Consumed::NoMemory,
     }
 }
 
 /// Dials, sends a request, and awaits its reply.
-fn ask<N: Net>(
-    alloc: Global,
-    operation: &Operation<'_>,
-    chosen: &Chosen,
+fn send_by_http<N: Net, O: Out>(
+    task: &Task<'_>,
     request: &[u8],
     net: &mut N,
+    out: &mut O,
 ) -> Consumed
-    requires { CanBeAsked operation.now }
-    ensures { Shows (λ seen. Asks operation.now chosen.now request.now seen result) (N.seen net.old) (N.seen net.new) }
+    requires { CanBeAsked task.now.operation }
+    ensures { Shows (λ deeds. AsksByHttp task.now.operation task.now.chosen.now request.now deeds result)
+        (sight (N.seen net.old) (O.seen out.old)) (sight (N.seen net.new) (O.seen out.new)) (put_of result) }
 {
-    match net.dial(alloc, chosen.host.as_str(), chosen.port) {
+    match net.dial(task.alloc, task.chosen.host.as_str(), task.chosen.port) {
         Dialled::Connected(connection) => {
             net.send(connection, request, &[]);
-            let mut waiting = Waiting::new(alloc, connection);
-            await_reply(alloc, operation, &mut waiting, net, MOST_EVENTS)
+            let mut waiting = Waiting::Http(HttpWaiting::new(task.alloc, connection));
+            await_end(task, &mut waiting, MOST_EVENTS, net, out)
         }
         Dialled::Failed => Consumed::Failed,
         Dialled::NoMemory => Consumed::NoMemory,
     }
 }
 
-/// Takes events until the reply is there, or something else ends it, and at most this many.
-fn await_reply<N: Net>(
-    alloc: Global,
-    operation: &Operation<'_>,
+/// Takes events until one ends the operation, and at most this many.
+pub fn await_end<N: Net, O: Out>(
+    task: &Task<'_>,
     waiting: &mut Waiting,
-    net: &mut N,
     most: u64,
+    net: &mut N,
+    out: &mut O,
 ) -> Consumed
-    requires { CanBeAsked operation.now }
-    ensures { Shows (Awaits operation.now result most waiting.old) (N.seen net.old) (N.seen net.new) }
+    requires asked { CanBeAsked task.now.operation }
+    requires ready { IsReady task.now.chosen.now waiting.old }
+    ensures { Shows (Awaits task.now.operation task.now.chosen.now result most waiting.old)
+        (sight (N.seen net.old) (O.seen out.old)) (sight (N.seen net.new) (O.seen out.new)) (put_of result) }
 {
     let mut buffer = [0u8; BUFFER_BYTES];
     for count in 0..most {
@@ -110,7 +152,11 @@ fn await_reply<N: Net>(
             Next::Failed => return Consumed::Failed,
             Next::Got(event) => {
                 let size = event.what.byte_count();
-                match waiting.hear(alloc, operation, &event, &buffer[..size]) {
+                let came = Came {
+                    event,
+                    bytes: &buffer[..size],
+                };
+                match waiting.hear(task, &came, net, out) {
                     Some(consumed) => return consumed,
                     None => {}
                 }

@@ -1,18 +1,18 @@
 //! How an operation ends.
 
-use wot_json::Bytes;
-
 /// How an operation ended.
-#[derive(Debug, Drop)]
+#[derive(Clone, Copy, Debug, PartialEq, Eq)]
 pub enum Consumed {
-    /// It was done. This is the payload of the answer, which is to be printed where it isn't empty.
-    Done(Bytes),
-    /// It came to something else, and nothing of an answer is printed.
+    /// It was done. Each payload that it brought was printed, where it isn't empty.
+    Done,
+    /// It came to something else, and nothing of that was printed.
     Other(Outcome),
     /// The deadline passed without an answer.
     Silent,
     /// The network failed.
     Failed,
+    /// The output failed.
+    Unprinted,
     /// 100,000 events were taken, and none ended it.
     Spent,
     /// Out of memory.
@@ -28,12 +28,23 @@ pub enum Outcome {
     Output,
     /// The answer isn't HTTP, or its payload no JSON.
     Malformed,
-    /// The answer has more than 65,536 bytes.
+    /// The request has more than 1,152 bytes over CoAP, and nothing was sent; or the answer more than 65,536 over HTTP.
     Long,
     /// The connection ended before the answer was whole.
     Closed,
+    /// The request was reset (RFC 7252, section 4.2).
+    Reset,
     /// The run ended before the answer was whole.
     Stopped,
-    /// The answer has this status, which isn't one of success (RFC 9110, section 15.3).
-    Status(u16),
+    /// The answer has this status, which isn't one of success.
+    Status(Status),
+}
+
+/// The status of an answer.
+#[derive(Clone, Copy, Debug, PartialEq, Eq)]
+pub enum Status {
+    /// The status code of an HTTP response (RFC 9110, section 15).
+    Http(u16),
+    /// The code of a CoAP response, its class in the upper three bits (RFC 7252, section 5.9).
+    Coap(u8),
 }

@@ -2,17 +2,19 @@
 
 ghost use Rattle.std.specs.Prelude.{◌≡◌, ◌≢◌, ◌↔◌, IfOk, IfErr, IsTrue, option_map, Some, None};
 ghost use Rattle.wot_json.specs.Meaning.{json_of};
-ghost use Rattle.consuming.specs.Answers.{value_in, IsTaken, IsJudged};
-ghost use Rattle.consuming.specs.Consuming.{CanBeAsked};
+ghost use Rattle.consuming.specs.Answers.{value_in, is_created as is_created_status, CanBeAsked, IsTaken, IsJudged};
 
-use crate::Operation;
+use crate::{Status, Task};
 use servient_base::NoMemory;
 use std::alloc::Global;
 use wot_consumer::judge_output;
 use wot_json::{ReadFault, Tree, read};
 
-/// The status of an answer that says what was made (RFC 9110, section 15.3.2).
+/// The status of an HTTP answer that says what was made (RFC 9110, section 15.3.2).
 const CREATED: u16 = 201;
+
+/// The code of a CoAP answer that says what was made, 2.01 (RFC 7252, section 5.9.1.1).
+const CREATED_CODE: u8 = 65;
 
 /// How a payload is judged.
 #[derive(Clone, Copy, Debug, PartialEq, Eq)]
@@ -28,17 +30,12 @@ pub enum Judged {
 }
 
 /// How the payload of an answer with this status is judged.
-pub fn judge_payload(
-    alloc: Global,
-    operation: &Operation<'_>,
-    status: u16,
-    payload: &[u8],
-) -> Judged
-    requires { CanBeAsked operation.now }
-    ensures { IsJudged operation.now status payload.now result }
+pub fn judge_payload(task: &Task<'_>, status: Status, payload: &[u8]) -> Judged
+    requires { CanBeAsked task.now.operation }
+    ensures { IsJudged task.now.operation status payload.now result }
 {
-    match value_of(alloc, payload) {
-        Ok(value) => match is_taken(alloc, operation, status, value.as_ref()) {
+    match value_of(task.alloc, payload) {
+        Ok(value) => match is_taken(task, status, value.as_ref()) {
             Ok(true) => Judged::Taken,
             Ok(false) => Judged::NotTaken,
             Err(_) => Judged::NoMemory,
@@ -64,18 +61,30 @@ fn value_of(alloc: Global, payload: &[u8]) -> Result<Option<Tree>, ReadFault>
     }
 }
 
-/// The description takes the value that comes back, or it isn't judged.
-fn is_taken(
-    alloc: Global,
-    operation: &Operation<'_>,
-    status: u16,
-    value: Option<&Tree>,
-) -> Result<bool, NoMemory>
-    requires { CanBeAsked operation.now }
-    ensures { IfOk result (λ b. IsTrue b ↔ IsTaken operation.now status (option_map (λ v. json_of v.now) value.entry)) }
+/// The answer says what was made.
+fn is_created(status: Status) -> bool
+    ensures { result ≡ is_created_status status }
 {
-    if status == CREATED {
+    match status {
+        Status::Http(status) => status == CREATED,
+        Status::Coap(code) => code == CREATED_CODE,
+    }
+}
+
+/// The description takes the value that comes back, or it isn't judged.
+fn is_taken(task: &Task<'_>, status: Status, value: Option<&Tree>) -> Result<bool, NoMemory>
+    requires { CanBeAsked task.now.operation }
+    ensures { IfOk result (λ b. IsTrue b ↔ IsTaken task.now.operation status (option_map (λ v. json_of v.now) value.entry)) }
+{
+    if is_created(status) {
         return Ok(true);
     }
-    judge_output(alloc, operation.tree, operation.op, operation.name, value)
+    let operation = task.operation;
+    judge_output(
+        task.alloc,
+        operation.tree,
+        operation.op,
+        operation.name,
+        value,
+    )
 }

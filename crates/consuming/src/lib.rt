@@ -1,14 +1,14 @@
-//! Consuming a Thing: one operation by the form that was chosen for it, over HTTP.
+//! Consuming a Thing: one operation by the form that was chosen for it, over HTTP or over CoAP.
 //!
-//! `consume_by_http` is the relation `Consumes` of `specs/Consuming.antt`: which acts are done to the network, which
-//! events are taken from it, and how it ends. What an answer comes to is `specs/Answers.antt`. It makes no other act
-//! than to dial once and to send one request. Observing is none of HTTP's operations.
+//! `consume` is the relation `Consumes` of `specs/Consuming.antt`: which acts are done to the network, which events are
+//! taken from it, what is printed, and how it ends. What an answer comes to is `specs/Answers.antt`; what each event does
+//! is `specs/HttpWaiting.antt` and `specs/CoapWaiting.antt`.
 //!
 //! ```text
-//! let operation = Operation { tree: &tree, op: Op::ReadProperty, name: "status" };
-//! let chosen = choose(alloc, &tree, operation.op, operation.name, Some(Scheme::Http))?;
-//! match consume_by_http(alloc, &operation, &chosen, None, &mut net) {
-//!     Consumed::Done(payload) => print(&payload),
+//! let operation = Operation { tree: &tree, op: Op::ReadProperty, name: "status", input: None, count: 1 };
+//! let chosen = choose(alloc, &tree, operation.op, operation.name, None)?;
+//! match consume(alloc, &operation, &chosen, &mut net, &mut out) {
+//!     Consumed::Done => 0,
 //!     ended => report(ended),
 //! }
 //! ```
@@ -16,11 +16,17 @@
 
 mod answers;
 mod asking;
+mod coap_asking;
+mod coap_waiting;
 mod consumed;
+mod http_waiting;
 mod judgement;
 mod operation;
+mod printing;
+mod task;
 mod waiting;
 
-pub use asking::consume_by_http;
-pub use consumed::{Consumed, Outcome};
+pub use asking::consume;
+pub use consumed::{Consumed, Outcome, Status};
 pub use operation::Operation;
+pub(crate) use task::Task;

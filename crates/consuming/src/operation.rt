@@ -11,4 +11,8 @@ pub struct Operation<'a> {
     pub op: Op,
     /// The name of the property or the action; any text where all properties are read.
     pub name: &'a str,
+    /// The value that is handed in, where there is one.
+    pub input: Option<&'a Tree>,
+    /// How many values are waited for, where a property is observed; 0 counts as 1.
+    pub count: u32,
 }

@@ -1,6 +1,7 @@
 //! A stored run over sockets. The program starts itself as a child that serves a plan, writes and reads a property of
 //! the shipped rack over TCP and UDP, and prints what came, and how the child ended once no traffic came for five
-//! seconds. Then a child checks a Thing Description without a `title`, which ends with a status that isn't 0.
+//! seconds. Meanwhile further children consume the Thing: one writes the property over CoAP, and two read it, over CoAP
+//! and over HTTP. Then a child checks a Thing Description without a `title`, which ends with a status that isn't 0.
 //!
 //! With words of its own it is the servient; without any it is the run.
 #![tactic(auto)]
@@ -87,6 +88,7 @@ fn speak(rt: &HostRuntime) -> io::Result<bool> {
     let read = exchange(rt, TcpStream::connect(rt, ("127.0.0.1", http))?, READ)?;
     let mut answer = [0u8; 2048];
     let size = ask(rt, coap, &mut answer)?;
+    consume(rt, http, coap)?;
     let output = child.wait_with_output(rt.alloc())?;
     print(
         rt,
@@ -142,6 +144,36 @@ fn servient(rt: &HostRuntime, words: &[&str]) -> io::Result<Command> {
 /// Starts the program as a servient that ends after five seconds without traffic.
 fn start(rt: &HostRuntime) -> io::Result<Child> {
     servient(rt, &["serve", "level.plan.json", "--idle", "5"])?.spawn(rt)
+}
+
+/// The description of the Thing at these ports, as a consumer has it.
+fn description(rt: &HostRuntime, http: u16, coap: u16) -> io::Result<String> {
+    Ok(format!(in rt.alloc();
+        "{{\"@context\":\"https://www.w3.org/2022/wot/td/v1.1\",\"title\":\"Lamp\",\"security\":\"none\",\"securityDefinitions\":{{\"none\":{{\"scheme\":\"nosec\"}}}},\"properties\":{{\"level\":{{\"type\":\"integer\",\"forms\":[{{\"href\":\"coap://127.0.0.1:{coap}/lamp/properties/level\"}},{{\"href\":\"http://127.0.0.1:{http}/lamp/properties/level\"}}]}}}}}}"
+    )?)
+}
+
+/// Has the Thing at these ports consumed, and prints what comes of that.
+fn consume(rt: &HostRuntime, http: u16, coap: u16) -> io::Result<()> {
+    fs::write(rt, "level.td.json", description(rt, http, coap)?.as_str())?;
+    fs::write(rt, "seven.json", "7")?;
+    consumer(
+        rt,
+        "writeproperty",
+        &["--scheme", "coap", "--input", "seven.json"],
+    )?;
+    consumer(rt, "readproperty", &["--scheme", "coap"])?;
+    consumer(rt, "readproperty", &["--scheme", "http"])
+}
+
+/// Starts the program as a consumer that does an operation with these options, and prints how it ends.
+fn consumer(rt: &HostRuntime, operation: &str, options: &[&str]) -> io::Result<()> {
+    let mut command = servient(rt, &["consume", "level.td.json", operation, "level"])?;
+    for word in options {
+        command.arg(*word)?;
+    }
+    let output = command.output(rt)?;
+    print_end(rt, &output)
 }
 
 /// Has a description without a title checked, and prints how that ends.

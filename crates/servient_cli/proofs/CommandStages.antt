@@ -1,5 +1,5 @@
 -- The whole call: what its words lead to, and how it ends where nothing is wrong.
-use Rattle.std.proofs.Common.{true, false, ◌≡◌, ◌≤◌, ◌⊎◌, ℕ, List, [], ◌∷◌, length, Result, Ok, Err, Option, Some, refl, sym, ap, ◌∙◌, subst, inl, inr}
+use Rattle.std.proofs.Common.{true, false, ◌≡◌, ◌≤◌, ◌⊎◌, ℕ, List, [], ◌∷◌, length, Result, Ok, Err, Option, Some, None, refl, sym, ap, ◌∙◌, subst, inl, inr}
 use Rattle.std.proofs.lemmas.Option.{same_Some}
 use Rattle.wot_json.specs.Tree.{Json}
 use Rattle.wot_json.specs.Meaning.{json_of}
@@ -19,16 +19,19 @@ use Rattle.servient_cli.specs.declared.ending.Ending.{Ending}
 use Rattle.servient_cli.specs.declared.ending.Ended.{Ended}
 use Rattle.command_words.specs.declared.fault.WordsFault.{WordsFault}
 use Rattle.command_words.specs.declared.fault.WordsFault.TheVariants.{Usage, NoMemory}
-use Rattle.servient_cli.specs.Words.{TakesWords, EndsAs}
+use Rattle.command_words.specs.Parts.{Reads}
+use Rattle.command_words.specs.declared.command.Consumption.{Consumption}
+use Rattle.servient_cli.specs.Words.{EndsAs}
+use Rattle.servient_cli.specs.Consuming.{ConsumesThing}
 use Rattle.servient_cli.specs.Lines.{memory_line, usage_line}
-use Rattle.servient_cli.specs.Ending.{ComesOut, EndsBy}
-use Rattle.servient_cli.proofs.StageLaws.{line_alone, shows_wrote}
+use Rattle.servient_cli.specs.Ending.{EndsBy, final_status, final_text, status_of, text_of}
+use Rattle.servient_cli.proofs.StageLaws.{ends_so, line_alone, shows_wrote}
 use Rattle.servient_cli.specs.Reading.{ReadsFile, ReadsTree, longest_json}
 use Rattle.servient_cli.specs.Replaying.{plan_name, ReadsInputs, run_events, RunsOn}
 use Rattle.servient_cli.specs.Checking.{Checks, IsFaultlessDescription, Judges}
 use Rattle.servient_cli.specs.Deriving.{ReadsPlanned, Derives, derived_of, Prints, DerivesAndPrints}
 use Rattle.servient_outside.specs.Out.{OutSeen}
-use Rattle.servient_cli.specs.Command.{IsFaultless, HasFaultlessFiles, IsReported, Ends, NothingFailed, IsWell, Does, Commands, is_built, is_serving, is_no_command, is_command, words_memory}
+use Rattle.servient_cli.specs.Command.{IsFaultless, HasFaultlessFiles, IsReported, Ends, NothingFailed, IsWell, Does, Commands, EndsAndReports, consumption_in, is_consuming, is_networked, is_serving, is_no_command, is_command, words_memory}
 use Rattle.servient_cli.proofs.FaultlessStages.{GoesOn, EndsWell, by_memory, same_status, HasTrouble, what_trouble, rose_some, then_well, read_well, tree_well, judge_well, derive_well, print_well, planned_well, with_events, inputs_well, run_on_well}
 use Rattle.servient_cli.proofs.ServedStages.{IsServed, serving_well}
 use Rattle.servient_cli.proofs.StormStages.{storm_well}
@@ -74,9 +77,8 @@ does_well held files kinds (Storm seed events) seen o is_held fine quiet stage =
 command_well : (held : Option (List HeldFile)) (kinds : List Kind) (words : List (List ℕ)) (seen : List Deed) (o : Outcome (Unit {0})) → IsFaultless words held kinds → ¬ (HasTrouble seen) → Commands held kinds words seen o
     → EndsWell o ⊎ ((is_serving (meaning_of words) ≡ true) × (o ≡ ends 8))
 command_well held kinds words seen o fine quiet (is_no_command none end) =
-    let bad : is_built fine.command ≡ false = rw fine.meaning at none in
-    let no : true ≡ false = sym fine.built ∙ bad in cc
-command_well held kinds words seen o fine quiet (is_command command meaning built does) =
+    let no : None ≡ Some fine.command = sym none ∙ fine.meaning in absurd cc
+command_well held kinds words seen o fine quiet (is_command command meaning does) =
     let same : command ≡ fine.command = same_Some command fine.command (sym meaning ∙ fine.meaning) in
     elim (does_well held fine.files kinds fine.command seen o fine.told fine.faultless quiet (subst (λ (x : Command). Does held kinds x seen o) same does)) [
       | inl well ↦ inl well
@@ -84,35 +86,80 @@ command_well held kinds words seen o fine quiet (is_command command meaning buil
     ]
 command_well held kinds words seen o fine quiet (words_memory out) = inl (inr out.1)
 
--- the whole call, from how its command came out and what was reported of it
-pub call_ends : (words : List (List ℕ)) (before now : Around) (out out_now : OutSeen) (status result : ℕ) (text : List ℕ) → ComesOut (Commands before.files.held (kinds_of before.outside.slots) words) before now (ends status) text
-    → IsReported status text out out_now result → Ends words before now out out_now result
-call_ends words before now out out_now status result text comes reported = record {
-  seen = comes.seen;
-  status = status;
-  command = comes.stage;
-  shows = comes.shows;
-  reported = subst (λ (t : List ℕ). IsReported status t out out_now result) (sym comes.text_is) reported;
+-- how stages came out, and what was reported of it
+pub stages_reported : (P : List Deed → Outcome (Unit {0}) → Type 0) (before now : Around) (out out_now : OutSeen) (r : Result Ending Ended) (result : ℕ) → EndsBy P before now r → IsReported (final_status r) (final_text r) out out_now result → EndsAndReports P before now out out_now result
+stages_reported P before now out out_now r result ended reported =
+    let comes = ends_so P before now r ended in
+    record {
+      seen = comes.seen;
+      status = final_status r;
+      stage = comes.stage;
+      shows = comes.shows;
+      reported = subst (λ (t : List ℕ). IsReported (final_status r) t out out_now result) (sym comes.text_is) reported;
+    }
+
+-- the whole call, from what was done with its command
+pub command_ends : (words : List (List ℕ)) (before now : Around) (out out_now : OutSeen) (command : Command) (result : ℕ) → meaning_of words ≡ Some command → EndsAndReports (Does before.files.held (kinds_of before.outside.slots) command) before now out out_now result → Ends words before now out out_now result
+command_ends words before now out out_now command result meaning e = record { seen = e.seen; status = e.status; stage = is_command command meaning e.stage; shows = e.shows; reported = e.reported }
+
+-- of a command but `consume`
+pub built_ends : (words : List (List ℕ)) (before now : Around) (out out_now : OutSeen) (command : Command) (r : Result Ending Ended) (result : ℕ) → meaning_of words ≡ Some command → EndsBy (Does before.files.held (kinds_of before.outside.slots) command) before now r → IsReported (final_status r) (final_text r) out out_now result
+    → Ends words before now out out_now result
+built_ends words before now out out_now command r result meaning ended reported =
+    command_ends words before now out out_now command result meaning (stages_reported (Does before.files.held (kinds_of before.outside.slots) command) before now out out_now r result ended reported)
+
+-- of `consume`
+is_consume : (command : Command) (k : Consumption) → consumption_in command ≡ Some k → command ≡ Consume k
+is_consume (Replay script plan events) k is = absurd cc
+is_consume (Serve plan events idle) k is = absurd cc
+is_consume (Check description) k is = absurd cc
+is_consume (Derive plan) k is = absurd cc
+is_consume (Storm seed events) k is = absurd cc
+is_consume (Consume consumption) k is = ap (λ (x : Consumption). Consume x) (same_Some consumption k is)
+
+pub consume_ends : (words : List (List ℕ)) (before now : Around) (out out_now : OutSeen) (command : Command) (k : Consumption) (result : ℕ) → meaning_of words ≡ Some command → consumption_in command ≡ Some k → EndsAndReports (ConsumesThing before.files.held k) before now out out_now result
+    → Ends words before now out out_now result
+consume_ends words before now out out_now command k result meaning is e =
+    command_ends words before now out out_now (Consume k) result (meaning ∙ ap (λ (c : Command). Some c) (is_consume command k is)) e
+
+pub consume_is : (words : List (List ℕ)) (command : Command) (k : Consumption) → meaning_of words ≡ Some command → consumption_in command ≡ Some k → is_networked (meaning_of words) ≡ true
+consume_is words command k meaning is = ap is_networked (meaning ∙ ap (λ (c : Command). Some c) (is_consume command k is))
+
+other_is : (command : Command) → consumption_in command ≡ None → is_consuming (Some command) ≡ false
+other_is (Replay script plan events) is = refl
+other_is (Serve plan events idle) is = refl
+other_is (Check description) is = refl
+other_is (Derive plan) is = refl
+other_is (Storm seed events) is = refl
+other_is (Consume consumption) is = absurd cc
+
+pub other_is_not : (words : List (List ℕ)) (command : Command) → meaning_of words ≡ Some command → consumption_in command ≡ None → is_consuming (meaning_of words) ≡ false
+other_is_not words command meaning is = ap is_consuming meaning ∙ other_is command is
+
+-- of words that are refused
+pub refusal_ends : (words : List (List ℕ)) (a : Around) (out out_now : OutSeen) (fault : WordsFault) (e : Ended) (result : ℕ) → Reads {A = Command} (meaning_of words) (Err fault) → EndsAs fault e → IsReported (status_of e) (text_of e) out out_now result → Ends words a a out out_now result
+refusal_ends words a out out_now Usage e result refused ends_as reported = record {
+  seen = did_write usage_line ∷ [];
+  status = 2;
+  stage = is_no_command refused (refl, refl);
+  shows = shows_wrote a usage_line;
+  reported = subst (λ (t : List ℕ). IsReported 2 t out out_now result) (sym (line_alone usage_line)) (subst (λ (x : Ended). IsReported (status_of x) (text_of x) out out_now result) ends_as reported);
+}
+refusal_ends words a out out_now NoMemory e result refused ends_as reported = record {
+  seen = did_write memory_line ∷ [];
+  status = 9;
+  stage = words_memory (refl, refl);
+  shows = shows_wrote a memory_line;
+  reported = subst (λ (t : List ℕ). IsReported 9 t out out_now result) (sym (line_alone memory_line)) (subst (λ (x : Ended). IsReported (status_of x) (text_of x) out out_now result) ends_as reported);
 }
 
--- what words lead to: a command that is built
-pub command_comes : (held : Option (List HeldFile)) (kinds : List Kind) (words : List (List ℕ)) (before now : Around) (command : Command) (r : Result Ending Ended) → meaning_of words ≡ Some command → is_built command ≡ true → EndsBy (Does held kinds command) before now r → EndsBy (Commands held kinds words) before now r
-command_comes held kinds words before now command (Ok ending) meaning built p = record { seen = p.seen; stage = is_command command meaning built p.stage; shows = p.shows; text_is = p.text_is }
-command_comes held kinds words before now command (Err e) meaning built p = record { seen = p.seen; stage = is_command command meaning built p.stage; shows = p.shows; text_is = p.text_is }
-
--- or none, or it was out of memory for them
-pub no_command_comes : (held : Option (List HeldFile)) (kinds : List Kind) (words : List (List ℕ)) (a : Around) (fault : WordsFault) (e : Ended) → TakesWords words (Err fault) → EndsAs fault e → EndsBy (Commands held kinds words) a a (Err e)
-no_command_comes held kinds words a Usage e none is =
-    subst (λ (x : Ended). EndsBy (Commands held kinds words) a a (Err x)) (sym is)
-    (record { seen = did_write usage_line ∷ []; stage = is_no_command none (refl, refl); shows = shows_wrote a usage_line; text_is = line_alone usage_line })
-no_command_comes held kinds words a NoMemory e none is =
-    subst (λ (x : Ended). EndsBy (Commands held kinds words) a a (Err x)) (sym is)
-    (record { seen = did_write memory_line ∷ []; stage = words_memory (refl, refl); shows = shows_wrote a memory_line; text_is = line_alone memory_line })
+pub refusal_is : (words : List (List ℕ)) (fault : WordsFault) → Reads {A = Command} (meaning_of words) (Err fault) → fault ≡ Usage → meaning_of words ≡ None
+refusal_is words fault refused is = subst (λ (x : WordsFault). Reads {A = Command} (meaning_of words) (Err x)) is refused
 
 -- where nothing is wrong and nothing failed, the whole call ends well
 pub ends_well : (words : List (List ℕ)) (before now : Around) (out out_now : OutSeen) (result : ℕ) → Ends words before now out out_now result → IsFaultless words before.files.held (kinds_of before.outside.slots) → NothingFailed before now out out_now → IsWell words result
 ends_well words before now out out_now result e fine kept = elim e.reported [
-  | inl done ↦ elim (command_well before.files.held (kinds_of before.outside.slots) words e.seen (ends e.status) fine (λ trouble. quiet (what_trouble e.seen trouble)) e.command) [
+  | inl done ↦ elim (command_well before.files.held (kinds_of before.outside.slots) words e.seen (ends e.status) fine (λ trouble. quiet (what_trouble e.seen trouble)) e.stage) [
     | inl (inl well) ↦ inl (done.0 ∙ same_status e.status 0 well)
     | inl (inr nine) ↦ inr (inl (done.0 ∙ same_status e.status 9 nine))
     | inr spent ↦ inr (inr (spent.0, done.0 ∙ same_status e.status 8 spent.1))

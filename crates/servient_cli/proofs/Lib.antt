@@ -7,6 +7,7 @@ mod StageLaws
 mod FaultlessStages
 mod ServedStages
 mod CommandStages
+mod ConsumingStages
 mod UsageStages
 mod RunLaws
 mod ModelStages

@@ -209,7 +209,7 @@ no_calls [] = refl
 no_calls (h ∷ happened) = no_calls happened
 
 -- while no handler is called
-shows_network : (n m : NetSeen) (slots : List Seen) (happened : List Happening) → NetShows n m happened → Shows (outside n slots) (outside m slots) (map (λ h. at_network h) happened)
+pub shows_network : (n m : NetSeen) (slots : List Seen) (happened : List Happening) → NetShows n m happened → Shows (outside n slots) (outside m slots) (map (λ h. at_network h) happened)
 shows_network n m slots happened shows = record {
   net = subst (λ (all : List Happening). NetShows n m all) (sym (happened_alone happened)) shows;
   rack = subst (λ (calls : List HandlerCall). RackShows slots slots calls) (sym (no_calls happened)) (rack_shows_none slots);

@@ -175,12 +175,12 @@ command_not held kinds (Storm seed n) seen o is stage = storm_not kinds seed n s
 
 words_not : (held : Option (List HeldFile)) (kinds : List Kind) (words : List (List ℕ)) (seen : List Deed) (o : Outcome (Unit {0})) → is_storm (meaning_of words) ≡ true → Commands held kinds words seen o → NotSpent o
 words_not held kinds words seen o storm (is_no_command none end) = ends_other o 2 end.1 (omega arith)
-words_not held kinds words seen o storm (is_command command meaning built stage) = command_not held kinds command seen o (ap is_storm (sym meaning) ∙ storm) stage
+words_not held kinds words seen o storm (is_command command meaning stage) = command_not held kinds command seen o (ap is_storm (sym meaning) ∙ storm) stage
 words_not held kinds words seen o storm (words_memory end) = ends_other o 9 end.1 (omega arith)
 
 -- the whole call doesn't
 pub never_spent : (words : List (List ℕ)) (before now : Around) (out out_now : OutSeen) (result : ℕ) → Ends words before now out out_now result → is_storm (meaning_of words) ≡ true → result ≢ 8
 never_spent words before now out out_now result e storm = λ eight. elim e.reported [
-  | inl done ↦ words_not before.files.held (kinds_of before.outside.slots) words e.seen (ends e.status) storm e.command (ap (λ (n : ℕ). ends n) (sym done.0 ∙ eight))
+  | inl done ↦ words_not before.files.held (kinds_of before.outside.slots) words e.seen (ends e.status) storm e.stage (ap (λ (n : ℕ). ends n) (sym done.0 ∙ eight))
   | inr failed ↦ absurd (omega (arith, failed.0, eight))
 ]

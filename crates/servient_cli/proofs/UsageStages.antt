@@ -1,5 +1,4 @@
--- No stage of a command that is built ends with status 2, so that this status is left to words
--- that are no such command.
+-- No stage of a command ends with status 2, so that this status is left to words that are no command.
 use Rattle.std.proofs.Common.{◌≡◌, ◌*◌, ◌⊎◌, ◌∙◌, ℕ, true, false, List, [], ◌∷◌, Option, Some, None, ap, arith, inl, inr, sym}
 use Rattle.command_words.specs.declared.command.Command.{Command}
 use Rattle.command_words.specs.declared.command.Command.TheVariants.{Replay, Serve, Derive, Check, Consume, Storm}
@@ -23,13 +22,21 @@ use Rattle.servient_cli.specs.Reading.{ReadsFile, is_read, is_absent, is_unreada
 use Rattle.servient_cli.specs.Replaying.{Plans, TakesBuiltIn, is_built_in, built_in_memory, plan_name, ReadsEvents, ReadsInputs, HasRead, has_read, RunsOn, ReadsScript, is_script, is_no_script, script_memory, RunsScript, is_whole, is_spent, run_memory}
 use Rattle.servient_cli.specs.declared.storming.TheConstants.{STORM_EXCHANGES}
 use Rattle.servient_cli.specs.Storming.{RunsStorm, is_counted, storm_memory, Storms, StormsOn, with_few_exchanges}
+use Rattle.command_words.specs.declared.command.Consumption.{Consumption}
+use Rattle.command_words.specs.Operations.{form_operation}
+use Rattle.wot_terms.specs.declared.op.Op.{Op}
+use Rattle.wot_forms.specs.declared.scheme.Scheme.{Scheme}
+use Rattle.wot_consumer.specs.declared.chosen.Chosen.{Chosen}
+use Rattle.consuming.specs.declared.consumed.Consumed.{Consumed}
+use Rattle.consuming.specs.declared.consumed.Consumed.TheVariants as consumed
+use Rattle.servient_cli.specs.Consuming.{TakesDescription, is_taken, has_fault, description_memory, DescriptionIn, ReadsDescription, ReadsValue, HasInput, has_input, has_no_input, ReadsInput, Chooses, is_chosen, has_no_affordance, has_no_form, choose_memory, status_after, Operates, has_ended, line_memory, OperatesOn, ConsumesBy, ConsumesThing}
 use Rattle.servient_cli.specs.Opening.{Exposes, is_exposed, is_misfit, expose_memory, Opens}
 use Rattle.servient_cli.specs.Listening.{Listens, is_listening, cannot_listen, place_memory, listen_memory, ServesEvents, has_served, ServesPlanned}
 use Rattle.servient_cli.specs.Checking.{Checks, Judges, is_valid, is_refused, judge_memory}
 use Rattle.servient_cli.specs.Deriving.{IsPlanned, is_planned, ReadsPlanned, Prints, is_printed, print_memory, DerivesAndPrints, ReadsPlan, is_plan, is_no_plan, plan_memory, AddsModel, is_added, is_not_added, add_memory, TakesModel, TakesModels, Derives, is_derived, derive_memory}
 use Rattle.servient_cli.specs.Deriving as plans
 use Rattle.servient_outside.specs.Out.{OutSeen}
-use Rattle.servient_cli.specs.Command.{Commands, Does, Ends, IsNoCommand, is_built, is_command, is_no_command, words_memory}
+use Rattle.servient_cli.specs.Command.{Commands, Does, Ends, IsNoCommand, is_command, is_no_command, words_memory}
 
 abbrev status_of : {A : Type 0} → Outcome A → ℕ
 status_of (goes_on value) = 0
@@ -170,6 +177,50 @@ storm_not kinds seed n seen o stage =
     then_not TakesBuiltIn (λ p. StormsOn kinds seed n (with_few_exchanges p)) seen o (plans_not None None)
     (λ p s r st. then_not (Opens (plan_name None) kinds (with_few_exchanges p)) (RunsStorm seed n STORM_EXCHANGES) s r (open_not (plan_name None) kinds (with_few_exchanges p)) (storm_run_not seed n STORM_EXCHANGES) st) stage
 
+described_not : (tree : Tree) (seen : List Deed) (o : Outcome Tree) → TakesDescription tree seen o → NotUsage o
+described_not tree seen o (is_taken a b is) = goes_by o tree is
+described_not tree seen o (has_fault number pointer a e) = by_status o 5 e.1 (omega arith)
+described_not tree seen o (description_memory e) = by_status o 9 e.1 (omega arith)
+
+description_not : (held : Option (List HeldFile)) (name : List ℕ) (seen : List Deed) (o : Outcome Tree) → ReadsDescription held name seen o → NotUsage o
+description_not held name seen o stage =
+    then_not (ReadsFile held longest_json name) (DescriptionIn name) seen o (file_not held longest_json name)
+    (λ content s r p. then_not (ReadsTree name content) TakesDescription s r (tree_not name content) described_not p) stage
+
+has_input_not : (tree : Tree) (seen : List Deed) (o : Outcome (Option Tree)) → HasInput tree seen o → NotUsage o
+has_input_not tree seen o (has_input a is) = goes_by o (Some tree) is
+
+input_not : (held : Option (List HeldFile)) (name : Option (List ℕ)) (seen : List Deed) (o : Outcome (Option Tree)) → ReadsInput held name seen o → NotUsage o
+input_not held None seen o (has_no_input a is) = goes_by o None is
+input_not held (Some name) seen o stage =
+    then_not (ReadsValue held name) HasInput seen o
+    (λ s r p. then_not (ReadsFile held longest_json name) (ReadsTree name) s r (file_not held longest_json name) (tree_not name) p) has_input_not stage
+
+choose_not : (tree : Tree) (op : Op) (name : List ℕ) (only : Option Scheme) (seen : List Deed) (o : Outcome Chosen) → Chooses tree op name only seen o → NotUsage o
+choose_not tree op name only seen o (is_chosen c a b is) = goes_by o c is
+choose_not tree op name only seen o (has_no_affordance a e) = by_status o 12 e.1 (omega arith)
+choose_not tree op name only seen o (has_no_form a e) = by_status o 12 e.1 (omega arith)
+choose_not tree op name only seen o (choose_memory e) = by_status o 9 e.1 (omega arith)
+
+status_not : (r : Consumed) → ¬ (status_after r ≡ 2)
+status_not consumed.Done = λ two. absurd (omega (arith, two))
+status_not (consumed.Other x) = λ two. absurd (omega (arith, two))
+status_not consumed.Silent = λ two. absurd (omega (arith, two))
+status_not consumed.Failed = λ two. absurd (omega (arith, two))
+status_not consumed.Unprinted = λ two. absurd (omega (arith, two))
+status_not consumed.Spent = λ two. absurd (omega (arith, two))
+status_not consumed.NoMemory = λ two. absurd (omega (arith, two))
+
+operate_not : (k : Consumption) (tree : Tree) (input : Option Tree) (c : Chosen) (seen : List Deed) (o : Outcome (Unit {0})) → Operates k tree input c seen o → NotUsage o
+operate_not k tree input c seen o (has_ended x r deeds a b e) = by_status o (status_after r) e.1 (status_not r)
+operate_not k tree input c seen o (line_memory x r deeds a b e) = by_status o 9 e.1 (omega arith)
+
+consume_not : (held : Option (List HeldFile)) (k : Consumption) (seen : List Deed) (o : Outcome (Unit {0})) → ConsumesThing held k seen o → NotUsage o
+consume_not held k seen o stage =
+    then_not (ReadsDescription held k.description) (ConsumesBy held k) seen o (description_not held k.description)
+    (λ tree s r p. then_not (ReadsInput held k.input) (OperatesOn k tree) s r (input_not held k.input)
+    (λ input s2 r2 p2. then_not (Chooses tree (form_operation k.operation) k.name k.scheme) (Operates k tree input) s2 r2 (choose_not tree (form_operation k.operation) k.name k.scheme) (operate_not k tree input) p2) p) stage
+
 does_not_end_so : (held : Option (List HeldFile)) (kinds : List Kind) (command : Command) (seen : List Deed) (o : Outcome (Unit {0})) → Does held kinds command seen o → NotUsage o
 does_not_end_so held kinds (Replay script plan events) seen o stage =
     then_not (ReadsInputs held plan script) (RunsOn (plan_name plan) kinds events) seen o (inputs_not held plan script) (run_on_not (plan_name plan) kinds events) stage
@@ -181,16 +232,16 @@ does_not_end_so held kinds (Derive plan) seen o stage =
     (λ p s r st. then_not (Derives p) Prints s r (derive_not p) print_not st) stage
 does_not_end_so held kinds (Serve plan events idle) seen o stage =
     then_not (ReadsPlanned held plan) (ServesPlanned plan kinds events idle) seen o (planned_not held plan) (serving_not plan kinds events idle) stage
-does_not_end_so held kinds (Consume consumption) seen o stage = absurd stage
+does_not_end_so held kinds (Consume consumption) seen o stage = consume_not held consumption seen o stage
 does_not_end_so held kinds (Storm seed events) seen o stage = storm_not kinds seed events seen o stage
 
 -- the words lead to status 2 exactly where they are no command, unless it is out of memory for them
 two_is_no_command : (held : Option (List HeldFile)) (kinds : List Kind) (words : List (List ℕ)) (seen : List Deed) (status : ℕ) → Commands held kinds words seen (ends status)
     → (status ≡ 2 → IsNoCommand words) × (IsNoCommand words → (status ≡ 2) ⊎ (status ≡ 9))
 two_is_no_command held kinds words seen status (is_no_command none e) = (λ two. none, λ n. inl (ap status_of e.1))
-two_is_no_command held kinds words seen status (is_command command meaning built stage) = (
+two_is_no_command held kinds words seen status (is_command command meaning stage) = (
   (λ two. absurd (does_not_end_so held kinds command seen (ends status) stage two)),
-  (λ none. let bad : is_built command ≡ false = rw meaning at none in let no : true ≡ false = sym built ∙ bad in cc),
+  (λ none. let no : None ≡ Some command = sym none ∙ meaning in absurd cc),
 )
 two_is_no_command held kinds words seen status (words_memory e) =
     ((λ two. let bad : 9 ≡ 2 = sym (ap status_of e.1) ∙ two in absurd (omega (arith, bad))), λ n. inr (ap status_of e.1))
@@ -199,7 +250,7 @@ two_is_no_command held kinds words seen status (words_memory e) =
 pub usage_is_exact : (words : List (List ℕ)) (before now : Around) (out out_now : OutSeen) (result : ℕ) → Ends words before now out out_now result
     → (result ≡ 2 → IsNoCommand words) × (IsNoCommand words → (result ≡ 2) ⊎ (result ≡ 7) ⊎ (result ≡ 9))
 usage_is_exact words before now out out_now result e =
-    let exact = two_is_no_command before.files.held (kinds_of before.outside.slots) words e.seen e.status e.command in
+    let exact = two_is_no_command before.files.held (kinds_of before.outside.slots) words e.seen e.status e.stage in
     elim e.reported [
       | inl done ↦ (
         (λ two. exact.0 (sym done.0 ∙ two)),

@@ -1,14 +1,14 @@
 -- The commands, and what the program reports of them.
 --
--- What the words mean is the grammar's, `meaning_of` of `command_words`. Five of its commands are built so far, all but
--- `consume`.
+-- What the words mean is the grammar's, `meaning_of` of `command_words`.
 -- `replay SCRIPT [PLAN]` reads the plan and its models, if a plan is named, and the script, runs its events, and prints
 -- the acts and the turns. `serve PLAN` reads a plan and its models, listens at the plan's place, and serves what comes
 -- there. `check TD` reads a Thing Description and says whether it is valid, or its first fault. `derive PLAN` reads a
 -- plan and its models, and prints the descriptions of its Things, or the first fault. `storm SEED N` runs events that
--- are drawn from a seed on the built-in Thing, and counts what came of them. Each is a row of stages, in a file of its
+-- are drawn from a seed on the built-in Thing, and counts what came of them. `consume TD OPERATION NAME` reads a
+-- description, and does an operation on the Thing that it describes. Each is a row of stages, in a file of its
 -- own. A further command adds its file and a row.
-use Rattle.std.specs.Prelude.{◌≡◌, ◌≤◌, ◌⊎◌, ℕ, Bool, true, false, List, [], ◌++◌, Option, Some, None, Ok, IfSome, length}
+use Rattle.std.specs.Prelude.{◌≡◌, ◌≤◌, ◌⊎◌, ℕ, Bool, true, false, List, [], ◌++◌, Option, Some, None, Ok, length}
 use Rattle.servient_base.specs.Count.{Rose}
 use Rattle.wot_json.specs.Tree.{Json}
 use Rattle.wot_terms.specs.declared.kind.Kind.{Kind}
@@ -16,6 +16,7 @@ use Rattle.thing_site.specs.Site.{expose_faults}
 use Rattle.thing_site.specs.Exposing.{kinds_of}
 use Rattle.command_words.specs.Grammar.{meaning_of}
 use Rattle.command_words.specs.declared.command.Command.{Command}
+use Rattle.command_words.specs.declared.command.Consumption.{Consumption}
 use Rattle.command_words.specs.declared.command.Command.TheVariants.{Replay, Serve, Check, Derive, Consume, Storm}
 use Rattle.servient_outside.specs.declared.files.HeldFile.{HeldFile}
 use Rattle.servient_outside.specs.Told.{Continues}
@@ -28,19 +29,11 @@ use Rattle.servient_cli.specs.Reading.{ReadsFile, longest_script, longest_json}
 use Rattle.servient_cli.specs.Replaying.{Replays, IsFaultlessScript, built_in}
 use Rattle.servient_cli.specs.Storming.{Storms}
 use Rattle.servient_cli.specs.Listening.{ServesPlan}
+use Rattle.servient_cli.specs.Consuming.{ConsumesThing}
 use Rattle.servient_cli.specs.Checking.{Checks, IsFaultlessDescription}
 use Rattle.servient_cli.specs.Deriving.{ReadsPlanned, DerivesAndPrints, IsFaultlessPlan, derived_of}
 
 -- ---- the table of commands
-
--- the commands that are built so far
-abbrev pub is_built : Command → Bool
-is_built (Replay script plan events) = true
-is_built (Serve plan events idle) = true
-is_built (Check description) = true
-is_built (Derive plan) = true
-is_built (Storm seed events) = true
-is_built (Consume consumption) = false
 
 -- What each of them does, where the files hold this, so far as that is recorded, and the rack has
 -- handlers of these kinds.
@@ -50,7 +43,7 @@ Does held kinds (Serve plan events idle) = ServesPlan held kinds plan events idl
 Does held kinds (Check description) = AndThen (ReadsFile held longest_json description) (Checks description)
 Does held kinds (Derive plan) = AndThen (ReadsPlanned held plan) DerivesAndPrints
 Does held kinds (Storm seed events) = Storms kinds seed events
-Does held kinds (Consume consumption) = λ seen o. ⊥
+Does held kinds (Consume consumption) = ConsumesThing held consumption
 
 -- the words mean that a plan is served
 abbrev pub is_serving : Option Command → Bool
@@ -62,14 +55,34 @@ abbrev pub is_storm : Option Command → Bool
 is_storm (Some (Storm seed events)) = true
 is_storm command = false
 
--- the words are outside the grammar, or mean a command that isn't built yet, which is `consume` alone
+-- what is to be consumed, where the words mean that
+abbrev pub consumption_in : Command → Option Consumption
+consumption_in (Replay script plan events) = None
+consumption_in (Serve plan events idle) = None
+consumption_in (Check description) = None
+consumption_in (Derive plan) = None
+consumption_in (Storm seed events) = None
+consumption_in (Consume consumption) = Some consumption
+
+-- the words mean that another Thing is consumed
+abbrev pub is_consuming : Option Command → Bool
+is_consuming (Some (Consume consumption)) = true
+is_consuming command = false
+
+-- the words mean a command that uses the network
+abbrev pub is_networked : Option Command → Bool
+is_networked (Some (Serve plan events idle)) = true
+is_networked (Some (Consume consumption)) = true
+is_networked command = false
+
+-- the words are outside the grammar
 abbrev pub IsNoCommand : List (List ℕ) → Type 0
-IsNoCommand words = IfSome (meaning_of words) (λ command. is_built command ≡ false)
+IsNoCommand words = meaning_of words ≡ None
 
 -- What the words of the command line lead to.
 pub data Commands (held : Option (List HeldFile)) (kinds : List Kind) (words : List (List ℕ)) (seen : List Deed) (o : Outcome (Unit {0})) : Type 0 where
   is_no_command : IsNoCommand words → EndsWith [] 2 usage_line seen o → Commands held kinds words seen o
-  is_command : (command : Command) → meaning_of words ≡ Some command → is_built command ≡ true → Does held kinds command seen o → Commands held kinds words seen o
+  is_command : (command : Command) → meaning_of words ≡ Some command → Does held kinds command seen o → Commands held kinds words seen o
   words_memory : RunsOut [] seen o → Commands held kinds words seen o
 
 -- ---- the whole call
@@ -82,14 +95,19 @@ IsReported status text out out_now result =
     ⊎ (result ≡ 7) × Rose out.faults out_now.faults
     × (prefix : List ℕ) × (rest : List ℕ) × (text ≡ prefix ++ rest) × Continues out.written out_now.written prefix
 
--- What the top call did: the command of its words ended with a status, the files, the network and the handlers show
--- what it did, and the output shows what it wrote.
-pub record Ends (words : List (List ℕ)) (before now : Around) (out out_now : OutSeen) (result : ℕ) : Type 0 where
+-- Stages came out with a status, the files, the network and the handlers show what was done, and the output shows what
+-- was written.
+pub record EndsAndReports (P : List Deed → Outcome (Unit {0}) → Type 0) (before now : Around) (out out_now : OutSeen) (result : ℕ) : Type 0 where
   pub seen : List Deed
   pub status : ℕ
-  pub command : Commands before.files.held (kinds_of before.outside.slots) words seen (ends status)
+  pub stage : P seen (ends status)
   pub shows : ShowsDeeds before now seen
   pub reported : IsReported status (text_in seen) out out_now result
+
+-- What the top call did: the command of its words.
+abbrev pub Ends : List (List ℕ) → Around → Around → OutSeen → OutSeen → ℕ → Type 0
+Ends words before now out out_now result =
+    EndsAndReports (Commands before.files.held (kinds_of before.outside.slots) words) before now out out_now result
 
 -- Nothing is wrong with a file: the files hold it, it is not too long, and nothing is wrong with what it holds.
 pub record HoldsFaultless (files : List HeldFile) (limit : ℕ) (name : List ℕ) (Good : List ℕ → Type 0) : Type 0 where
@@ -144,12 +162,11 @@ HasFaultlessFiles files kinds (Derive plan) = IsFaultlessDerivation files plan
 HasFaultlessFiles files kinds (Storm seed events) = IsFaultlessStorm kinds
 HasFaultlessFiles files kinds (Consume consumption) = ⊥
 
--- Nothing is wrong with the words, the files and the rack: the words mean a command that is built, and
--- nothing is wrong with it.
+-- Nothing is wrong with the words, the files and the rack: the words mean a command, and nothing is wrong with it. How
+-- `consume` ends is the other Thing's business too, so nothing is said of it here.
 pub record IsFaultless (words : List (List ℕ)) (held : Option (List HeldFile)) (kinds : List Kind) : Type 0 where
   pub command : Command
   pub meaning : meaning_of words ≡ Some command
-  pub built : is_built command ≡ true
   pub files : List HeldFile
   pub told : held ≡ Some files
   pub faultless : HasFaultlessFiles files kinds command

@@ -4,7 +4,7 @@ use Rattle.std.specs.declared.alloc.AllocError.{AllocError}
 use Rattle.servient_cli.specs.declared.ending.Ending.{Ending}
 use Rattle.servient_cli.specs.declared.ending.Ended.{Ended}
 use Rattle.servient_cli.specs.declared.ending.Ended.TheVariants as ended
-use Rattle.servient_cli.specs.Lines.{usage_line, network_line, spent_line, memory_line}
+use Rattle.servient_cli.specs.Lines.{usage_line, network_line, spent_line, silent_line, memory_line}
 use Rattle.servient_cli.specs.Stages.{Deed, Outcome, goes_on, ends, text_in, Around, ShowsDeeds}
 
 -- A stage came out so, and the outside shows what it did. One that goes on has written nothing; one that
@@ -20,14 +20,18 @@ abbrev pub status_of : Ended → ℕ
 status_of (ended.With ending) = ending.status
 status_of ended.Usage = 2
 status_of ended.Network = 6
+status_of ended.Output = 7
 status_of ended.Spent = 8
+status_of ended.Silent = 11
 status_of ended.NoMemory = 9
 
 abbrev pub text_of : Ended → List ℕ
 text_of (ended.With ending) = ending.text
 text_of ended.Usage = usage_line
 text_of ended.Network = network_line
+text_of ended.Output = []
 text_of ended.Spent = spent_line
+text_of ended.Silent = silent_line
 text_of ended.NoMemory = memory_line
 
 -- a stage that may go on came out so

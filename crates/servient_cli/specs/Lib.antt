@@ -13,6 +13,7 @@ pub mod Storming
 pub mod Listening
 pub mod Checking
 pub mod Deriving
+pub mod Ending
+pub mod Consuming
 pub mod Command
 pub mod Words
-pub mod Ending

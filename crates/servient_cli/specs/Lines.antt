@@ -17,6 +17,15 @@ network_line = codes "servient: net\n"
 abbrev pub spent_line : List ℕ
 spent_line = codes "servient: spent\n"
 
+abbrev pub silent_line : List ℕ
+silent_line = codes "servient: silent\n"
+
+abbrev pub no_affordance_line : List ℕ
+no_affordance_line = codes "servient: no affordance\n"
+
+abbrev pub no_form_line : List ℕ
+no_form_line = codes "servient: no form\n"
+
 abbrev pub memory_line : List ℕ
 memory_line = codes "servient: memory\n"
 

@@ -1,12 +1,12 @@
 //! What each command does, from the names of its files on.
 
-ghost use Rattle.std.specs.Prelude.{◌≡◌, Some, true, false};
+ghost use Rattle.std.specs.Prelude.{◌≡◌, None, Some, false};
 ghost use Rattle.servient_core.specs.Trace.{Outside, outside};
 ghost use Rattle.thing_site.specs.Exposing.{kinds_of};
 ghost use Rattle.servient_cli.specs.Stages.{AndThen, around};
 ghost use Rattle.servient_cli.specs.Reading.{ReadsFile, longest_json};
 ghost use Rattle.servient_cli.specs.Checking.{Checks};
-ghost use Rattle.servient_cli.specs.Command.{Does, is_built, is_serving};
+ghost use Rattle.servient_cli.specs.Command.{consumption_in, is_networked, Does};
 ghost use Rattle.servient_cli.specs.Ending.{EndsBy};
 
 use crate::checking::check_file;
@@ -21,7 +21,7 @@ use servient_outside::{Files, Net};
 use std::alloc::Global;
 use thing_handler::Handlers;
 
-/// Does a command that is built.
+/// Does a command but `consume`, which writes as it goes.
 pub fn run_command<F: Files, N: Net, R: Handlers>(
     alloc: Global,
     command: &Command,
@@ -29,11 +29,11 @@ pub fn run_command<F: Files, N: Net, R: Handlers>(
     net: &mut N,
     rack: &mut R,
 ) -> Result<Ending, Ended>
-    requires { is_built command.now ≡ true }
+    requires { consumption_in command.now ≡ None }
     ensures ends { EndsBy (Does (F.seen files.old).held (kinds_of (R.slots rack.old)) command.now)
         (around (F.seen files.old) (outside (N.seen net.old) (R.slots rack.old)))
         (around (F.seen files.new) (outside (N.seen net.new) (R.slots rack.new))) result }
-    ensures net { is_serving (Some command.now) ≡ false → net.new ≡ net.old }
+    ensures net { is_networked (Some command.now) ≡ false → net.new ≡ net.old }
 {
     match command {
         Command::Replay {

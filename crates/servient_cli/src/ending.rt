@@ -1,11 +1,13 @@
 //! How a command ends: with a status and a text, or out of memory.
 
-ghost use Rattle.std.specs.Prelude.{◌≡◌, ◌++◌, codes, decimal, IfOk, OnOk, MatchResult};
+ghost use Rattle.std.specs.Prelude.{◌≡◌, ◌++◌, ◌/◌, ◌%◌, codes, decimal, IfOk, OnOk, MatchResult};
 ghost use Rattle.wot_json.specs.Json.{json_string};
-ghost use Rattle.servient_cli.specs.Lines.{file_line, input_line, invalid_line, valid_line};
+ghost use Rattle.servient_cli.specs.Consuming.{line_after, outcome_text, status_text};
+ghost use Rattle.servient_cli.specs.Lines.{file_line, input_line, invalid_line, no_affordance_line, no_form_line, valid_line};
 
 use crate::print::put_number;
 use command_words::WordsFault;
+use consuming::{Consumed, Outcome, Status};
 use std::alloc::Global;
 use wot_json::{Bytes, NoMemory, quoted};
 
@@ -21,18 +23,22 @@ pub struct Ending {
     pub text: Bytes,
 }
 
-/// Why a stage of a command gives no value. The lines of the last four are fixed, so that nothing is allocated where
+/// Why a stage of a command gives no value. The lines of the others are fixed, so that nothing is allocated where
 /// they are written.
 #[derive(Drop)]
 pub enum Ended {
     /// The command ends so.
     With(Ending),
-    /// The words are no command that is built.
+    /// The words are no command.
     Usage,
     /// The network failed.
     Network,
+    /// The output failed before the end.
+    Output,
     /// The budget of events was taken.
     Spent,
+    /// Nothing answered in time.
+    Silent,
     /// Out of memory.
     NoMemory,
 }
@@ -149,6 +155,32 @@ impl Ending {
         Ok(Ending { status: 5, text })
     }
 
+    /// A description has no affordance of the name that has the operation.
+    pub fn no_affordance(alloc: Global) -> Result<Ending, NoMemory>
+        ensures { IfOk result (λ e. (e.status ≡ 12) × (e.text ≡ no_affordance_line)) }
+    {
+        let text = Bytes::copy_of(alloc, b"servient: no affordance\n")?;
+        Ok(Ending { status: 12, text })
+    }
+
+    /// None of the forms qualifies.
+    pub fn no_form(alloc: Global) -> Result<Ending, NoMemory>
+        ensures { IfOk result (λ e. (e.status ≡ 12) × (e.text ≡ no_form_line)) }
+    {
+        let text = Bytes::copy_of(alloc, b"servient: no form\n")?;
+        Ok(Ending { status: 12, text })
+    }
+
+    /// An operation came to this, and wasn't done.
+    pub fn outcome(alloc: Global, outcome: Outcome) -> Result<Ending, NoMemory>
+        ensures { IfOk result (λ e. (e.status ≡ 10) × (e.text ≡ line_after (Consumed.Other outcome))) }
+    {
+        let mut text = Bytes::copy_of(alloc, b"outcome ")?;
+        put_outcome(&mut text, outcome)?;
+        text.extend(b"\n")?;
+        Ok(Ending { status: 10, text })
+    }
+
     /// A line of a file, counted from 1, is outside the grammar.
     pub fn bad_line(alloc: Global, name: &str, line: u32) -> Result<Ending, NoMemory>
         ensures { IfOk result (λ e.
@@ -170,4 +202,31 @@ fn input_text(alloc: Global, name: &str) -> Result<Bytes, NoMemory>
     text.extend(quoted(alloc, name)?.as_slice())?;
     text.extend(b" ")?;
     Ok(text)
+}
+
+/// Puts an outcome at the end.
+fn put_outcome(text: &mut Bytes, outcome: Outcome) -> Result<(), NoMemory>
+    ensures { OnOk result (text.new ≡ text.old ++ outcome_text outcome) }
+{
+    match outcome {
+        Outcome::Input => text.extend(b"input"),
+        Outcome::Output => text.extend(b"output"),
+        Outcome::Malformed => text.extend(b"malformed"),
+        Outcome::Long => text.extend(b"long"),
+        Outcome::Closed => text.extend(b"closed"),
+        Outcome::Reset => text.extend(b"reset"),
+        Outcome::Stopped => text.extend(b"stopped"),
+        Outcome::Status(Status::Http(number)) => put_number(text, number),
+        Outcome::Status(Status::Coap(code)) => put_code(text, code),
+    }
+}
+
+/// Puts a code at the end: its class, and its detail as two digits.
+fn put_code(text: &mut Bytes, code: u8) -> Result<(), NoMemory>
+    ensures { OnOk result (text.new ≡ text.old ++ status_text (Status.Coap code)) }
+{
+    put_number(text, code / 32)?;
+    text.extend(b".")?;
+    put_number(text, code % 32 / 10)?;
+    put_number(text, code % 32 % 10)
 }

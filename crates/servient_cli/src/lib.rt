@@ -1,8 +1,8 @@
 //! The commands: words, scripts, the print, and the top call.
 //!
 //! `servient_main` is what the program does. Its contract, `Ends` of `specs/Command.antt`, says for each
-//! exit status why it came and what was written. The whole output is one call of `Out::put`, so at status 7 what was
-//! written is a prefix of the text that the other status would have had.
+//! exit status why it came and what was written. The whole output is one call of `Out::put`, but that `consume`
+//! writes each payload as it comes; so at status 7 what was written is a prefix of a text.
 //!
 //! ```
 //! use servient_cli::servient_main;
@@ -17,10 +17,11 @@
 #![tactic(auto)]
 
 mod checking;
-mod command;
 mod commands;
+mod consumption;
 mod counting;
 mod derivation;
+mod described;
 mod ending;
 mod fault_lines;
 mod laws;

@@ -1,16 +1,20 @@
 //! The top call: from the words of the command line to the exit status.
 
-ghost use Rattle.std.specs.Prelude.{◌≡◌, ◌≢◌, ◌⊎◌, true, false};
+ghost use Rattle.std.specs.Prelude.{◌≡◌, ◌≢◌, ◌≤◌, ◌⊎◌, true, false, List, option_map};
 ghost use Rattle.thing_site.specs.Exposing.{kinds_of};
 ghost use Rattle.servient_cli.specs.Stages.{around};
 ghost use Rattle.command_words.specs.Grammar.{meaning_of};
 ghost use Rattle.servient_core.specs.Trace.{outside};
-ghost use Rattle.servient_cli.specs.Command.{Commands, Ends, IsFaultless, IsNoCommand, IsReported, IsWell, NothingFailed, is_serving, is_storm};
-ghost use Rattle.servient_cli.specs.Ending.{EndsBy, final_status as status_in, final_text as text_in};
+ghost use Rattle.thing_handler.specs.Handler.{Seen};
+ghost use Rattle.servient_cli.specs.Consuming.{ConsumesThing};
+ghost use Rattle.servient_cli.specs.Command.{consumption_in as in_command, is_consuming, is_networked, is_storm};
+ghost use Rattle.servient_cli.specs.Command.{Ends, EndsAndReports, IsFaultless, IsNoCommand, IsReported, IsWell, NothingFailed};
+ghost use Rattle.servient_cli.specs.Ending.{final_status as status_in, final_text as text_in};
 
-use crate::command::command_of;
 use crate::commands::run_command;
+use crate::consumption::consume_thing;
 use crate::ending::{Ended, Ending, SPENT_LINE};
+use command_words::{Command, Consumption};
 use servient_outside::{Files, Net, Out, Put};
 use std::alloc::Global;
 use thing_handler::Handlers;
@@ -21,6 +25,9 @@ const USAGE_LINE: &[u8] = b"usage: servient replay|serve|derive|check|consume|st
 
 /// The line where the network failed.
 const NETWORK_LINE: &[u8] = b"servient: net\n";
+
+/// The line where nothing answered in time.
+const SILENT_LINE: &[u8] = b"servient: silent\n";
 
 /// The line for being out of memory.
 const MEMORY_LINE: &[u8] = b"servient: memory\n";
@@ -49,38 +56,58 @@ pub fn servient_main<F: Files, N: Net, R: Handlers, O: Out>(
         (O.seen out.old)
         (O.seen out.new)
         → IsWell words.now result }
-    // Status 2 says that the words are no command that is built, and nothing else does, unless the output failed or
-    // it was out of memory, which may come before anything is read: reading the words takes memory too.
+    // Status 2 says that the words are no command, and nothing else does, unless the output failed or it was out of memory, which may come before anything is read: reading the words takes memory too.
     ensures usage { (result ≡ 2 → IsNoCommand words.now) × (IsNoCommand words.now → (result ≡ 2) ⊎ (result ≡ 7) ⊎ (result ≡ 9)) }
     // A storm has no more events than its budget: the last of them is the Stop.
     ensures storm { is_storm (meaning_of words.now) ≡ true → result ≢ 8 }
-    // Where no plan is served, nothing is done to the network.
-    ensures net { is_serving (meaning_of words.now) ≡ false → net.new ≡ net.old }
+    // Where no plan is served and nothing is consumed, nothing is done to the network.
+    ensures net { is_networked (meaning_of words.now) ≡ false → net.new ≡ net.old }
+    // Where another Thing is consumed, no handler is called.
+    ensures rack { is_consuming (meaning_of words.now) ≡ true → rack.new ≡ rack.old }
 {
-    let ended = do_words(alloc, words, files, net, rack);
-    report(out, &ended)
+    match Command::read(alloc, words) {
+        Ok(command) => match consumption_in(&command) {
+            Some(consumption) => consume_and_report(alloc, consumption, files, net, out),
+            None => report(out, &run_command(alloc, &command, files, net, rack)),
+        },
+        Err(fault) => report(out, &Err(Ended::from(fault))),
+    }
 }
 
-/// Does what the words say.
-fn do_words<F: Files, N: Net, R: Handlers>(
+/// What is to be consumed, where a command is that.
+fn consumption_in(command: &Command) -> Option<&Consumption>
+    ensures { option_map (λ k. k.now) result ≡ in_command command.now }
+{
+    match command {
+        Command::Consume(consumption) => Some(consumption),
+        Command::Replay { .. }
+        | Command::Serve { .. }
+        | Command::Check { .. }
+        | Command::Derive { .. }
+        | Command::Storm { .. } => None,
+    }
+}
+
+/// Consumes a Thing, and reports how that ended.
+fn consume_and_report<F: Files, N: Net, O: Out>(
     alloc: Global,
-    words: &[Text],
+    consumption: &Consumption,
     files: &mut F,
     net: &mut N,
-    rack: &mut R,
-) -> Result<Ending, Ended>
-    ensures ends { EndsBy (Commands (F.seen files.old).held (kinds_of (R.slots rack.old)) words.now)
-        (around (F.seen files.old) (outside (N.seen net.old) (R.slots rack.old)))
-        (around (F.seen files.new) (outside (N.seen net.new) (R.slots rack.new))) result }
-    ensures net { is_serving (meaning_of words.now) ≡ false → net.new ≡ net.old }
+    out: &mut O,
+) -> u8
+    ensures { (slots : List Seen) → EndsAndReports (ConsumesThing (F.seen files.old).held consumption.now)
+        (around (F.seen files.old) (outside (N.seen net.old) slots)) (around (F.seen files.new) (outside (N.seen net.new) slots))
+        (O.seen out.old) (O.seen out.new) result }
 {
-    let command = command_of(alloc, words)?;
-    run_command(alloc, &command, files, net, rack)
+    let ended = consume_thing(alloc, consumption, files, net, out);
+    report(out, &ended)
 }
 
 /// Writes the text with which a command ended, and gives its status, or 7 where the output failed.
 pub fn report<O: Out>(out: &mut O, ended: &Result<Ending, Ended>) -> u8
-    ensures { IsReported (status_in ended.now) (text_in ended.now) (O.seen out.old) (O.seen out.new) result }
+    ensures reported { IsReported (status_in ended.now) (text_in ended.now) (O.seen out.old) (O.seen out.new) result }
+    ensures faults { (O.seen out.old).faults ≤ (O.seen out.new).faults }
 {
     match out.put(final_text(ended)) {
         Put::Done => final_status(ended),
@@ -97,7 +124,9 @@ fn final_status(ended: &Result<Ending, Ended>) -> u8
         Err(Ended::With(ending)) => ending.status,
         Err(Ended::Usage) => 2,
         Err(Ended::Network) => 6,
+        Err(Ended::Output) => 7,
         Err(Ended::Spent) => 8,
+        Err(Ended::Silent) => 11,
         Err(Ended::NoMemory) => 9,
     }
 }
@@ -111,7 +140,9 @@ fn final_text(ended: &Result<Ending, Ended>) -> &[u8]
         Err(Ended::With(ending)) => ending.text.as_slice(),
         Err(Ended::Usage) => USAGE_LINE,
         Err(Ended::Network) => NETWORK_LINE,
+        Err(Ended::Output) => &[],
         Err(Ended::Spent) => SPENT_LINE,
+        Err(Ended::Silent) => SILENT_LINE,
         Err(Ended::NoMemory) => MEMORY_LINE,
     }
 }

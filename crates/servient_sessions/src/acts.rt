@@ -33,7 +33,8 @@ fn put_act(text: &mut String, act: &Act) -> Result<(), AllocError> {
             put_message(text, bytes.as_slice())
         }
         Act::Listened(place) => put_place(text, place),
-        Act::Dialled(..) | Act::Looked(..) => write!(text, "> {act:?}"),
+        Act::Dialled(host, port, _) => write!(text, "> dial {}:{port}", host.as_str()),
+        Act::Looked(host, port, _) => write!(text, "> look {}:{port}", host.as_str()),
     }
 }
 

@@ -8,6 +8,7 @@
 //! ! read|put|net N       the Nth read, output or call of the network fails
 //! ! net memory           the network is out of memory
 //! + EVENT                an event of the network, in words; then what is printed is written in words too
+//! * N EVENT              the same N times
 //! @ KIND ANSWERS         a device of this kind in the next slot, with these answers, `; ` between them
 //! % N                    the rack has N slots
 //! cut once|twice TEXT    the case is run for each way to cut these bytes, as `cuts.rt` says
@@ -129,6 +130,15 @@ impl Case {
         self.events.push_str("\n")
     }
 
+    /// An event of the network, n times.
+    fn happen_often(&mut self, what: &str) -> Result<(), AllocError> {
+        let (times, line) = what.split_once(' ').unwrap_or(("0", what));
+        for _time in 0..number(Some(times)) {
+            self.happen(line)?;
+        }
+        Ok(())
+    }
+
     /// A device.
     fn fit(&mut self, what: &str) -> Result<(), AllocError> {
         let device = device_of(self.alloc, what)?;
@@ -145,6 +155,7 @@ impl Case {
             Some(("repeat", what)) => self.repeat(what),
             Some(("!", what)) => self.fail(what),
             Some(("+", event)) => self.happen(event),
+            Some(("*", what)) => self.happen_often(what),
             Some(("@", what)) => self.fit(what),
             Some(("%", slots)) => {
                 self.slots = slots.parse::<usize>().unwrap_or(0);

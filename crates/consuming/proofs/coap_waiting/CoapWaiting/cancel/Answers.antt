@@ -1,0 +1,9 @@
+use Rattle.std.proofs.Common.{refl}
+use Rattle.consuming.proofs.HearingLaws.{cancel_said, cancel_left_out}
+use Rattle.consuming.proofs.coap_waiting.CoapWaiting.cancel.Goals as goal
+
+pub returns-in-Ok-clause-cancels : goal.returns-in-Ok-clause-cancels
+returns-in-Ok-clause-cancels g c = cancel_said _ _ _ _ _ _ _ (g.N.Net.seen c.args.net.now) (g.N.Net.seen c.datagram.new.self) c.in-Ok.ensures.ok refl c.datagram.ensures
+
+pub returns-in-Err-clause-cancels : goal.returns-in-Err-clause-cancels
+returns-in-Err-clause-cancels g c = cancel_left_out _ _ _ (g.N.Net.seen c.args.net.now) c.in-Err.ensures.fault

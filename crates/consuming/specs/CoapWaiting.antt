@@ -1,0 +1,136 @@
+-- A response over CoAP is awaited, or the values of a property that is observed (RFC 7252, section 5.2; RFC 7641, section
+-- 3): what each event does. What the client does with a datagram, and what falls due, are its own steps (`Delivers`,
+-- `ComesDue`, `Asks` of `coap_client`).
+use Rattle.std.specs.Prelude.{◌≡◌, ◌-◌, ℕ, max, nat_lt, List, [], ◌∷◌, ◌++◌, take, Bool, true, false, Option, Some, None}
+use Rattle.coap_msg.specs.declared.endpoint.Endpoint.{Endpoint}
+use Rattle.coap_client.specs.declared.state.State.{State}
+use Rattle.coap_client.specs.declared.fault.ClientFault.{ClientFault}
+use Rattle.coap_client.specs.declared.fault.ClientFault.TheVariants as client_fault
+use Rattle.coap_client.specs.Asking.{Asking}
+use Rattle.coap_client.specs.declared.news.News.{News}
+use Rattle.coap_client.specs.declared.news.News.TheVariants as news
+use Rattle.coap_client.specs.declared.news.Delivered.{Delivered}
+use Rattle.coap_client.specs.declared.due.Due.{Due}
+use Rattle.coap_client.specs.declared.due.Due.TheVariants as due
+use Rattle.coap_client.specs.Exchange.{at_moment, Asks, IsRefused, Delivers, ComesDue}
+use Rattle.servient_outside.specs.declared.net.What.{What}
+use Rattle.servient_outside.specs.declared.net.What.TheVariants as what
+use Rattle.servient_outside.specs.declared.net.EventWithBytes.{EventWithBytes}
+use Rattle.servient_outside.specs.declared.net.Act.TheVariants as act
+use Rattle.servient_outside.specs.Network.{Happening, did}
+use Rattle.wot_consumer.specs.declared.chosen.Chosen.{Chosen}
+use Rattle.consuming.specs.declared.operation.Operation.{Operation}
+use Rattle.consuming.specs.declared.consumed.Consumed.{Consumed}
+use Rattle.consuming.specs.declared.consumed.Consumed.TheVariants.{Done, Other, Silent, Failed, Unprinted, Spent, NoMemory}
+use Rattle.consuming.specs.declared.consumed.Outcome.TheVariants as outcome
+use Rattle.consuming.specs.declared.consumed.Status.TheVariants as status
+use Rattle.consuming.specs.declared.answers.Verdict.{Verdict}
+use Rattle.consuming.specs.declared.answers.Verdict.TheVariants as verdict
+use Rattle.consuming.specs.declared.coap_waiting.CoapWaiting.{CoapWaiting}
+use Rattle.consuming.specs.Deeds.{Deed, happen}
+use Rattle.consuming.specs.Answers.{AnswersAs, Closes}
+use Rattle.consuming.specs.Asking.{cancelling}
+
+-- the client at the moment of what is awaited
+abbrev pub client_now : CoapWaiting → State
+client_now w = at_moment w.moment w.client
+
+-- ## The request
+
+-- The first request is sent, where it fits into a message: what happens, and how it waits afterwards.
+pub data Sends (w : CoapWaiting) (a : Asking) (happened : List Happening) (fits : Bool) (v : CoapWaiting) : Type 0 where
+  is_sent : (n : ℕ) (old new : List ℕ) (s : State) → Asks (client_now w) w.peer a n old new s → happened ≡ did (act.Datagram w.peer (take n new)) ∷ []
+      → fits ≡ true → v ≡ record w { client = s } → Sends w a happened fits v
+  is_too_long : IsRefused (client_now w) w.peer a client_fault.NoRoom → happened ≡ [] → fits ≡ false → Sends w a happened fits v
+
+-- ## A datagram
+
+-- the reply to a datagram goes back to where that came from: the first n bytes of a room
+abbrev pub replied : Endpoint → Option ℕ → List ℕ → List Happening
+replied from None room = []
+replied from (Some n) room = did (act.Datagram from (take n room)) ∷ []
+
+-- what happens where a datagram is delivered to the client, the news, and how it waits afterwards
+pub data DeliversNews (w : CoapWaiting) (from : Endpoint) (bytes : List ℕ) (happened : List Happening) (n : News) (v : CoapWaiting) : Type 0 where
+  delivers : (told : Delivered) (old new : List ℕ) (s : State) → Delivers (client_now w) from bytes told old new s → n ≡ told.news
+      → happened ≡ replied from told.reply new → v ≡ record w { client = s } → DeliversNews w from bytes happened n v
+
+-- What news come to, or that they come to nothing. A value that is observed is judged as an answer of 2.05 is. One that
+-- is older than another that came isn't looked at.
+abbrev pub VerdictOn : Operation → News → Option Verdict → Type 0
+VerdictOn o news.Nothing r = r ≡ None
+VerdictOn o news.Old r = r ≡ None
+VerdictOn o news.Reset r = r ≡ Some (verdict.Outcome outcome.Reset)
+VerdictOn o (news.Answered code payload) r = (v : Verdict) × AnswersAs o (status.Coap code) payload.now v × (r ≡ Some v)
+VerdictOn o (news.Value payload) r = (v : Verdict) × AnswersAs o (status.Coap 69) payload.now v × (r ≡ Some v)
+
+-- the news are a value of what is observed
+abbrev pub is_value : News → Bool
+is_value news.Nothing = false
+is_value news.Old = false
+is_value news.Reset = false
+is_value (news.Answered code payload) = false
+is_value (news.Value payload) = true
+
+-- Observing ends: a request says so, where it fits into a message. Its answer isn't awaited.
+pub data Cancels (c : Chosen) (w : CoapWaiting) (happened : List Happening) : Type 0 where
+  is_said : (n : ℕ) (old new : List ℕ) (s : State) → Asks (client_now w) w.peer (cancelling c) n old new s
+      → happened ≡ did (act.Datagram w.peer (take n new)) ∷ [] → Cancels c w happened
+  does_not_fit : (f : ClientFault) → IsRefused (client_now w) w.peer (cancelling c) f → happened ≡ [] → Cancels c w happened
+
+-- further values are awaited after one by which the operation would end so, of this many that were still to come
+abbrev pub awaits_more : ℕ → Consumed → Bool
+awaits_more left Done = nat_lt 1 left
+awaits_more left (Other outcome) = false
+awaits_more left Silent = false
+awaits_more left Failed = false
+awaits_more left Unprinted = false
+awaits_more left Spent = false
+awaits_more left NoMemory = false
+
+-- What follows a value of what is observed by which the operation would end so: further values are awaited, or it was the
+-- last, or the operation ends by it.
+pub data AfterValue (c : Chosen) (w : CoapWaiting) (by_it : Consumed) (happened : List Happening) (r : Option Consumed) (v : CoapWaiting) : Type 0 where
+  goes_on_observing : awaits_more w.left by_it ≡ true → happened ≡ [] → r ≡ None → v ≡ record w { left = w.left - 1 } → AfterValue c w by_it happened r v
+  is_last : awaits_more w.left by_it ≡ false → Cancels c w happened → r ≡ Some by_it → AfterValue c w by_it happened r v
+
+-- what is done by news, and how it ends by them, or how it waits afterwards
+pub data Follows (o : Operation) (c : Chosen) (w : CoapWaiting) (n : News) (deeds : List Deed) (r : Option Consumed) (v : CoapWaiting) : Type 0 where
+  says_nothing : VerdictOn o n None → deeds ≡ [] → r ≡ None → v ≡ w → Follows o c w n deeds r v
+  is_answer : (said : Verdict) (by_it : Consumed) → VerdictOn o n (Some said) → is_value n ≡ false → Closes said deeds by_it → r ≡ Some by_it → Follows o c w n deeds r v
+  has_value : (said : Verdict) (by_it : Consumed) (first : List Deed) (more : List Happening) → VerdictOn o n (Some said) → is_value n ≡ true → Closes said first by_it
+      → AfterValue c w by_it more r v → deeds ≡ first ++ happen more → Follows o c w n deeds r v
+
+-- ## An event
+
+-- what came is neither a datagram nor the end of all
+abbrev pub is_passed_over : What → Bool
+is_passed_over (what.Opened d) = true
+is_passed_over (what.Bytes d count) = true
+is_passed_over (what.Ended d) = true
+is_passed_over what.Tick = true
+is_passed_over (what.Datagram from count) = false
+is_passed_over what.Stop = false
+
+-- what is done by what came
+pub data Meets (o : Operation) (c : Chosen) (w : CoapWaiting) (e : EventWithBytes) (deeds : List Deed) (r : Option Consumed) (v : CoapWaiting) : Type 0 where
+  is_datagram : (from : Endpoint) (count : ℕ) (first : List Happening) (n : News) (u : CoapWaiting) (more : List Deed) → e.event.what ≡ what.Datagram from count
+      → DeliversNews w from e.bytes first n u → Follows o c u n more r v → deeds ≡ happen first ++ more → Meets o c w e deeds r v
+  is_stop : e.event.what ≡ what.Stop → deeds ≡ [] → r ≡ Some (Other outcome.Stopped) → Meets o c w e deeds r v
+  is_another : is_passed_over e.event.what ≡ true → deeds ≡ [] → r ≡ None → v ≡ w → Meets o c w e deeds r v
+
+-- what falls due: the request is sent again, or it has been awaited for too long
+pub data FallsDue (w : CoapWaiting) (happened : List Happening) (r : Option Consumed) (v : CoapWaiting) : Type 0 where
+  is_quiet : (old new : List ℕ) (s : State) → ComesDue (client_now w) due.Nothing old new s → happened ≡ [] → r ≡ None → v ≡ record w { client = s } → FallsDue w happened r v
+  goes_again : (n : ℕ) (old new : List ℕ) (s : State) → ComesDue (client_now w) (due.Send n) old new s → happened ≡ did (act.Datagram w.peer (take n new)) ∷ [] → r ≡ None
+      → v ≡ record w { client = s } → FallsDue w happened r v
+  is_over : (old new : List ℕ) (s : State) → ComesDue (client_now w) due.TimedOut old new s → happened ≡ [] → r ≡ Some Silent → FallsDue w happened r v
+
+-- What is done by an event: first by what came, and then, where that ended nothing, by what falls due once.
+pub data MeetsAndGoesOn (o : Operation) (c : Chosen) (w : CoapWaiting) (e : EventWithBytes) (deeds : List Deed) (r : Option Consumed) (v : CoapWaiting) : Type 0 where
+  ends_by_it : (by_it : Consumed) → Meets o c w e deeds (Some by_it) v → r ≡ Some by_it → MeetsAndGoesOn o c w e deeds r v
+  then_due : (first : List Deed) (u : CoapWaiting) (more : List Happening) → Meets o c w e first None u → FallsDue u more r v → deeds ≡ first ++ happen more → MeetsAndGoesOn o c w e deeds r v
+
+-- the moment is the greatest so far
+abbrev pub HearsByCoap : Operation → Chosen → CoapWaiting → EventWithBytes → List Deed → Option Consumed → CoapWaiting → Type 0
+HearsByCoap o c w e deeds r v = MeetsAndGoesOn o c (record w { moment = max w.moment e.event.moment }) e deeds r v

@@ -1,0 +1,45 @@
+-- A request was sent, and what comes of it is awaited: what each event does, and all of them.
+use Rattle.std.specs.Prelude.{◌≡◌, ◌≤◌, ⊤, ℕ, suc, List, [], ◌∷◌, ◌++◌, Option, Some, None}
+use Rattle.servient_outside.specs.declared.net.EventWithBytes.{EventWithBytes}
+use Rattle.servient_outside.specs.Network.{heard, broke, next_event}
+use Rattle.wot_forms.specs.declared.scheme.Scheme.TheVariants as scheme
+use Rattle.wot_consumer.specs.declared.chosen.Chosen.{Chosen}
+use Rattle.wot_consumer.specs.Places.{AreSendable}
+use Rattle.consuming.specs.declared.operation.Operation.{Operation}
+use Rattle.consuming.specs.declared.consumed.Consumed.{Consumed}
+use Rattle.consuming.specs.declared.consumed.Consumed.TheVariants.{Failed, Spent}
+use Rattle.consuming.specs.declared.waiting.Came.{Came}
+use Rattle.consuming.specs.declared.waiting.Waiting.{Waiting}
+use Rattle.consuming.specs.declared.waiting.Waiting.TheVariants.{Http, Coap}
+use Rattle.consuming.specs.declared.http_waiting.HttpWaiting.{HttpWaiting}
+use Rattle.consuming.specs.declared.coap_waiting.CoapWaiting.{CoapWaiting}
+use Rattle.consuming.specs.Deeds.{Deed, happens}
+use Rattle.consuming.specs.HttpWaiting.{HearsByHttp, after_event}
+use Rattle.consuming.specs.CoapWaiting.{HearsByCoap}
+
+-- an event that came, with its bytes
+abbrev pub event_of : Came → EventWithBytes
+event_of came = record { event = came.event; bytes = came.bytes.now }
+
+-- what holds of what is awaited before each event: the client's moment isn't later, and what was chosen can be sent
+abbrev pub IsReady : Chosen → Waiting → Type 0
+IsReady c (Http w) = ⊤
+IsReady c (Coap w) = (w.client.moment ≤ w.moment) × AreSendable scheme.Coap c.path
+
+-- what is done by an event, and how the operation ends by it, or that it goes on, and what is awaited then
+pub data Hears (o : Operation) (c : Chosen) (w : Waiting) (e : EventWithBytes) (deeds : List Deed) (r : Option Consumed) (v : Waiting) : Type 0 where
+  by_http : (x : HttpWaiting) → w ≡ Http x → HearsByHttp o x e deeds r → (r ≡ None → v ≡ Http (after_event x e)) → Hears o c w e deeds r v
+  by_coap : (x y : CoapWaiting) → w ≡ Coap x → HearsByCoap o c x e deeds r y → v ≡ Coap y → Hears o c w e deeds r v
+
+-- what is done, and how it ends, where at most n further events are taken
+pub data Awaits (o : Operation) (c : Chosen) (r : Consumed) : ℕ → Waiting → List Deed → Type 0 where
+  is_spent : (w : Waiting) (deeds : List Deed) → deeds ≡ [] → r ≡ Spent → Awaits o c r 0 w deeds
+  is_broken : (n : ℕ) (w : Waiting) (deeds : List Deed) → deeds ≡ happens (broke next_event) ∷ [] → r ≡ Failed → Awaits o c r (suc n) w deeds
+  comes_to : (n : ℕ) (w v : Waiting) (deeds : List Deed) (e : EventWithBytes) (by_it : List Deed) → Hears o c w e by_it (Some r) v
+      → deeds ≡ happens (heard e) ∷ by_it → Awaits o c r (suc n) w deeds
+  goes_on : (n : ℕ) (w v : Waiting) (deeds : List Deed) (e : EventWithBytes) (by_it rest : List Deed) → Hears o c w e by_it None v
+      → Awaits o c r n v rest → deeds ≡ happens (heard e) ∷ by_it ++ rest → Awaits o c r (suc n) w deeds
+
+-- how many events are taken at most
+abbrev pub most_events : ℕ
+most_events = 100000

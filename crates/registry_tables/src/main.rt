@@ -3,11 +3,15 @@
 //!
 //! ```text
 //! dates   MILLISECONDS => the text of the date and time that lies so many after the start of 1970
+//! asked   JSON => the time to live that a description asks for or the fault, and what is kept of it
+//! shown   EPOCH CREATED MODIFIED TTL JSON => a description as it is given out, and as a patch is applied to it
 //! ```
 //!
 //! The program prints each row with what does come of it, and each other line as it is: so it prints its files, if all
 //! is right.
 #![tactic(auto)]
+
+mod registrations;
 
 use std::alloc::{AllocError, Global};
 use std::{env, fs, io};
@@ -21,15 +25,25 @@ fn put_date(text: &mut String, alloc: Global, given: &str) -> Result<(), AllocEr
     }
 }
 
+/// Writes what comes of a row of this table.
+fn put_row(text: &mut String, alloc: Global, table: &str, given: &str) -> Result<(), AllocError> {
+    match table {
+        "dates" => put_date(text, alloc, given),
+        "asked" => registrations::put_asked(text, alloc, given),
+        "shown" => registrations::put_shown(text, alloc, given),
+        _ => text.push_str("no such table"),
+    }
+}
+
 /// The rows of a file, each with what comes of it.
-fn page(alloc: Global, lines: &str) -> Result<String, AllocError> {
+fn page(alloc: Global, table: &str, lines: &str) -> Result<String, AllocError> {
     let mut text = String::new(alloc);
     for line in lines.lines() {
         match line.split_once(" => ") {
             Some((given, _wanted)) => {
                 text.push_str(given)?;
                 text.push_str(" => ")?;
-                put_date(&mut text, alloc, given)?;
+                put_row(&mut text, alloc, table, given)?;
             }
             None => text.push_str(line)?,
         }
@@ -41,7 +55,7 @@ fn page(alloc: Global, lines: &str) -> Result<String, AllocError> {
 /// Prints a file with what comes of it.
 fn print(rt: &HostRuntime, table: &str) -> io::Result<()> {
     let lines = fs::read_to_string(rt, table)?;
-    rt.print(page(rt.alloc(), lines.as_str())?)
+    rt.print(page(rt.alloc(), table, lines.as_str())?)
 }
 
 fn main(rt: HostRuntime) -> io::Result<()> {

@@ -1,13 +1,14 @@
 -- What is under an id, by what the map says.
 use Rattle.std.proofs.Common.{◌≡◌, ℕ, List, refl, sym, ap, subst, rules, ◌∙◌, true, false}
-use Rattle.std.specs.Prelude.{Option, Some, None, Result, Ok, Err, IfOk, IfErr, option_map, is_some, IsSome}
+use Rattle.std.specs.Prelude.{String, string_bytes, Option, Some, None, Result, Ok, Err, IfOk, IfErr, OnOk, option_map, is_some, IsSome}
+use Rattle.std.specs.declared.alloc.Global.{Global}
 use Rattle.wot_json.specs.Tree.{Json}
 use Rattle.wot_json.specs.Meaning.{json_of}
 use Rattle.wot_json.specs.Lookup.{member_named}
 use Rattle.wot_json.specs.declared.tree.Tree.{Tree}
 use Rattle.wot_directory.specs.Contents.{Contents, Entries}
 use Rattle.wot_directory.specs.Kept.{kept_entries}
-use Rattle.wot_directory.specs.Directory.{local_id, IsUsed, IsPatched, HasMergeFault, HasPatchFault, HoldsUnder}
+use Rattle.wot_directory.specs.Directory.{local_id, IsUsed, IsPatched, HasMergeFault, HasPatchFault, HoldsUnder, IsReplacement, MayReplace, HasReplacementFault, HasReplaceFault}
 use Rattle.wot_directory.specs.declared.fault.DirFault.{DirFault}
 use Rattle.wot_directory.specs.declared.fault.DirFault.TheVariants.{NotFound, Invalid, IdDiffers, HasId, Full, NoMemory}
 use Rattle.wot_directory.proofs.Entries.{Kept, found_in, kept_found, none_kept, some_kept}
@@ -49,6 +50,28 @@ fault_under Full id d kept patch found fault = absurd fault
 pub refused_under : (r : Result Tree DirFault) (id : List ℕ) (d : Contents) (kept patch : Json) → member_named id d.entries ≡ Some kept → IfErr r (λ e. HasMergeFault e kept patch) → IfErr r (λ e. HasPatchFault e id patch d)
 refused_under (Ok t) id d kept patch found fault = search rules
 refused_under (Err e) id d kept patch found fault = fault_under e id d kept patch found fault
+
+-- the map has nothing at a key, so there is none under its bytes
+pub absent_by : (id : List ℕ) (key : String Global) (es : Kept) (d : Contents) → string_bytes key ≡ id → kept_entries es ≡ d.entries → found_in (string_bytes key) es ≡ None → member_named id d.entries ≡ None
+absent_by id key es d key_is is absent = found_under id es d None is (sym (subst (λ (x : List ℕ). found_in x es ≡ None) key_is absent))
+
+-- ---- replacements
+
+pub replacement_under : {T E : Type 0} (r : Result T E) (id : List ℕ) (d : Contents) (kept description : Json) → member_named id d.entries ≡ Some kept → OnOk r (IsReplacement kept description) → OnOk r (MayReplace id description d)
+replacement_under (Ok t) id d kept description found ok = (kept, found, ok)
+replacement_under (Err e) id d kept description found ok = search rules
+
+replacement_fault_under : (e : DirFault) (id : List ℕ) (d : Contents) (kept description : Json) → member_named id d.entries ≡ Some kept → HasReplacementFault e kept description → HasReplaceFault e id description d
+replacement_fault_under (Invalid f) id d kept description found fault = (kept, found, fault)
+replacement_fault_under IdDiffers id d kept description found fault = (kept, found, fault)
+replacement_fault_under NoMemory id d kept description found fault = tt
+replacement_fault_under NotFound id d kept description found fault = absurd fault
+replacement_fault_under HasId id d kept description found fault = absurd fault
+replacement_fault_under Full id d kept description found fault = absurd fault
+
+pub replacement_refused_under : {T : Type 0} (r : Result T DirFault) (id : List ℕ) (d : Contents) (kept description : Json) → member_named id d.entries ≡ Some kept → IfErr r (λ e. HasReplacementFault e kept description) → IfErr r (λ e. HasReplaceFault e id description d)
+replacement_refused_under (Ok t) id d kept description found fault = search rules
+replacement_refused_under (Err e) id d kept description found fault = replacement_fault_under e id d kept description found fault
 
 -- ---- numbers
 

@@ -4,3 +4,4 @@ pub mod Puts
 pub mod Lists
 pub mod Finds
 pub mod EntryLaws
+pub mod Copies

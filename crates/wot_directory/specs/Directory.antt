@@ -105,6 +105,10 @@ IsNextNumber d number = IsLeastUnused d.next d.entries number ⊎ (AreAllUsed d.
 abbrev pub number_after : ℕ → ℕ
 number_after number = if number == last_number then 1 else number + 1
 
+-- the directory whose search for the next id begins after this number
+abbrev pub counted_on : ℕ → Contents → Contents
+counted_on number d = record d { next = number_after number }
+
 -- why no description is created: the first of these that holds
 abbrev pub HasCreateFault : DirFault → Json → Contents → Type 0
 HasCreateFault HasId description d = IsSome (id_of description)
@@ -162,6 +166,40 @@ HasPatchFault Full id patch d = ⊥
 -- It was patched.
 abbrev pub Patches : List ℕ → Json → Contents → Contents → Type 0
 Patches id patch d after = (description : Json) × HoldsUnder id d (λ kept. IsPatched kept patch description) × (after ≡ with_entry id description d)
+
+-- ---- replacement: a description in place of another, judged as what a patch makes of it
+
+-- A description that may take the place of another: it is valid, and has the same `id`, or none where there was none.
+pub record IsReplacement (kept description : Json) : Type 0 where
+  pub valid : IsValid description
+  pub same_id : id_of description ≡ id_of kept
+
+-- why it may not: the first of these that holds
+abbrev pub HasReplacementFault : DirFault → Json → Json → Type 0
+HasReplacementFault (Invalid fault) kept description = IsFirstFault fault description
+HasReplacementFault IdDiffers kept description = IsValid description × (id_of description ≢ id_of kept)
+HasReplacementFault NoMemory kept description = Unit {0}
+HasReplacementFault NotFound kept description = ⊥
+HasReplacementFault HasId kept description = ⊥
+HasReplacementFault Full kept description = ⊥
+
+-- a description that may take the place of the one under this id
+abbrev pub MayReplace : List ℕ → Json → Contents → Type 0
+MayReplace id description d = HoldsUnder id d (λ kept. IsReplacement kept description)
+
+-- why it may not: the first of these that holds
+abbrev pub HasReplaceFault : DirFault → List ℕ → Json → Contents → Type 0
+HasReplaceFault NotFound id description d = member_named id d.entries ≡ None
+HasReplaceFault (Invalid fault) id description d = HoldsUnder id d (λ kept. HasReplacementFault (Invalid fault) kept description)
+HasReplaceFault IdDiffers id description d = HoldsUnder id d (λ kept. HasReplacementFault IdDiffers kept description)
+HasReplaceFault NoMemory id description d = Unit {0}
+HasReplaceFault HasId id description d = ⊥
+HasReplaceFault Full id description d = ⊥
+
+-- It took that place.
+pub record Replaces (id : List ℕ) (description : Json) (d after : Contents) : Type 0 where
+  pub may : MayReplace id description d
+  pub after_is : after ≡ with_entry id description d
 
 -- ---- `remove`
 

@@ -1,13 +1,14 @@
 //! The directory: descriptions put, created, changed, removed and listed.
 
-ghost use Rattle.std.specs.Prelude.{◌≡◌, ◌≤◌, Some, None, is_none, option_map, MatchOption, IfOk, IfErr, OnOk, OnErr};
-ghost use Rattle.wot_json.specs.Meaning.{json_of};
+ghost use Rattle.std.specs.Prelude.{◌≡◌, ◌≤◌, ◌++◌, ◌∷◌, [], Some, None, is_none, option_map, take, drop, MatchOption, IfOk, IfErr, OnOk, OnErr};
+ghost use Rattle.wot_json.specs.Meaning.{json_of, json_members};
 ghost use Rattle.wot_json.specs.Lookup.{member_named};
 ghost use Rattle.wot_json.specs.Tree.{AreOrdered};
 ghost use Rattle.wot_terms.specs.Faults.{IsValid};
 ghost use Rattle.wot_directory.specs.Directory.{empty_directory, HasRoom, with_entry, IsInvalid, HasPutFault, MayPut, Puts};
 ghost use Rattle.wot_directory.specs.Directory.{HasCreateFault, MayCreate, Creates, IsNextNumber, IsLeastUnused, AreAllUsed};
 ghost use Rattle.wot_directory.specs.Directory.{HoldsUnder, HasMergeFault, IsPatched, HasPatchFault, Patches, HasRemoveFault, Removes, listed, list_text};
+ghost use Rattle.wot_directory.specs.Directory.{MayReplace, IsReplacement, HasReplaceFault, HasReplacementFault, counted_on};
 ghost use Rattle.wot_directory.specs.Kept.{kept_entries};
 
 use crate::fault::DirFault;
@@ -130,7 +131,7 @@ impl Directory {
     }
 
     /// Judges whether a description may be put under an id, and whether that would be a new one.
-    fn may_put(&self, id: &str, tree: &Tree) -> Result<bool, DirFault>
+    pub fn may_put(&self, id: &str, tree: &Tree) -> Result<bool, DirFault>
         ensures ok { IfOk result (λ is_new. MayPut id.now (json_of tree.now) self.now
             × (is_new ≡ is_none (member_named id.now self.now.entries))) }
         ensures fault { IfErr result (λ e. HasPutFault e id.now (json_of tree.now) self.now) }
@@ -149,7 +150,7 @@ impl Directory {
     }
 
     /// Judges whether a description may be created.
-    fn may_create(&self, tree: &Tree) -> Result<(), DirFault>
+    pub fn may_create(&self, tree: &Tree) -> Result<(), DirFault>
         ensures ok { OnOk result (MayCreate (json_of tree.now) self.now) }
         ensures fault { IfErr result (λ e. HasCreateFault e (json_of tree.now) self.now) }
     {
@@ -164,7 +165,7 @@ impl Directory {
     }
 
     /// The number of the next id.
-    fn next_number(&self) -> Result<u64, NoMemory>
+    pub fn next_number(&self) -> Result<u64, NoMemory>
         ensures { IfOk result (λ number. IsNextNumber self.now number) }
     {
         match first_unused(self.alloc, &self.entries, self.next)? {
@@ -187,17 +188,54 @@ impl Directory {
         }
     }
 
-    /// Puts a description under an id for which there is room.
-    fn keep(&mut self, id: &str, tree: Tree) -> Result<(), AllocError>
-        requires { HasRoom id.now self.old.entries }
-        ensures ok { OnOk result (self.new ≡ with_entry id.now (json_of tree) self.old) }
-        ensures unchanged { OnErr result (self.new ≡ self.old) }
+    /// Judges whether a description may take the place of that under an id, as what a patch makes of it is judged.
+    pub fn may_replace(&self, id: &str, tree: &Tree) -> Result<(), DirFault>
+        ensures ok { OnOk result (MayReplace id.now (json_of tree.now) self.now) }
+        ensures fault { IfErr result (λ e. HasReplaceFault e id.now (json_of tree.now) self.now) }
     {
-        let key = String::from_str(self.alloc, id)?;
+        match self.entries.get(id) {
+            Some(kept) => judge_replacement(self.alloc, kept, tree),
+            None => Err(DirFault::NotFound),
+        }
+    }
+
+    /// Puts a description, of which no more is judged, under an id for which there is room. Where one is there already
+    /// that takes no memory.
+    pub fn keep_under(&mut self, id: Text, tree: Tree) -> Result<(), NoMemory>
+        requires { HasRoom id self.old.entries }
+        ensures ok { OnOk result (self.new ≡ with_entry id (json_of tree) self.old) }
+        ensures unchanged { OnErr result (self.new ≡ self.old) }
+        ensures absent { OnErr result (member_named id self.old.entries ≡ None) }
+    {
+        let key = id.into_string();
         match self.entries.insert(key, tree) {
             Ok(_) => Ok(()),
             Err(_) => Err(AllocError),
         }
+    }
+
+    /// Lets the search for the next id begin after this number.
+    pub fn count_on(&mut self, number: u64)
+        ensures { self.new ≡ counted_on number self.old }
+    {
+        self.next = number_after(number);
+    }
+
+    /// Copies of the ids and the descriptions in the byte order of the ids, after the first `offset`, at most `limit`.
+    pub fn copies(&self, offset: u32, limit: u32) -> Result<Vec<(Text, Tree)>, NoMemory>
+        ensures { IfOk result (λ copies. json_members copies.items ≡ take limit (drop offset self.now.entries)) }
+    {
+        copied_entries(self.alloc, &self.entries, offset, limit)
+    }
+
+    /// Puts a description under an id for which there is room.
+    fn keep(&mut self, id: &str, tree: Tree) -> Result<(), NoMemory>
+        requires { HasRoom id.now self.old.entries }
+        ensures ok { OnOk result (self.new ≡ with_entry id.now (json_of tree) self.old) }
+        ensures unchanged { OnErr result (self.new ≡ self.old) }
+    {
+        let key = Text::copy_of(self.alloc, id)?;
+        self.keep_under(key, tree)
     }
 }
 
@@ -211,6 +249,18 @@ fn judge(alloc: Global, tree: &Tree) -> Result<(), DirFault>
         Err(CheckFault::Td(fault)) => Err(DirFault::Invalid(fault)),
         Err(CheckFault::NoMemory) => Err(DirFault::NoMemory),
     }
+}
+
+/// Judges whether a description may take the place of another.
+fn judge_replacement(alloc: Global, kept: &Tree, tree: &Tree) -> Result<(), DirFault>
+    ensures ok { OnOk result (IsReplacement (json_of kept.now) (json_of tree.now)) }
+    ensures fault { IfErr result (λ e. HasReplacementFault e (json_of kept.now) (json_of tree.now)) }
+{
+    judge(alloc, tree)?;
+    if !have_same_id(tree, kept) {
+        return Err(DirFault::IdDiffers);
+    }
+    Ok(())
 }
 
 /// What a patch makes of a description.
@@ -268,4 +318,44 @@ fn listed_trees(
         }
     }
     Ok(trees)
+}
+
+/// Copies of the ids and the descriptions in their order, after the first `offset`, at most `limit`.
+fn copied_entries(
+    alloc: Global,
+    entries: &BTreeMap<String, Tree>,
+    offset: u32,
+    limit: u32,
+) -> Result<Vec<(Text, Tree)>, NoMemory>
+    ensures { IfOk result (λ copies. json_members copies.items ≡ take limit (drop offset (kept_entries entries.now.entries))) }
+{
+    let mut copies = Vec::new(alloc);
+    let mut skip = offset;
+    let mut left = limit;
+    for (id, tree) in entries.iter() {
+        if skip > 0 {
+            skip -= 1;
+        } else if left > 0 {
+            push_copy(alloc, id.as_str(), tree, &mut copies)?;
+            left -= 1;
+        } else {
+            return Ok(copies);
+        }
+    }
+    Ok(copies)
+}
+
+/// Puts copies of an id and its description at the end.
+fn push_copy(
+    alloc: Global,
+    id: &str,
+    tree: &Tree,
+    into: &mut Vec<(Text, Tree)>,
+) -> Result<(), NoMemory>
+    ensures { OnOk result (json_members into.new.items ≡ json_members into.old.items ++ (id.now, json_of tree.now) ∷ []) }
+{
+    let id = Text::copy_of(alloc, id)?;
+    let copied = copy(alloc, tree)?;
+    into.push((id, copied))?;
+    Ok(())
 }

@@ -54,7 +54,7 @@ pub(crate) fn have_same_id(left: &Tree, right: &Tree) -> bool
 }
 
 /// The id of this number: `local:` and the number in decimal.
-pub(crate) fn local_id(alloc: Global, number: u64) -> Result<Text, NoMemory>
+pub fn local_id(alloc: Global, number: u64) -> Result<Text, NoMemory>
     ensures { IfOk result (λ t. t ≡ spec.local_id number) }
 {
     let id = format!(in alloc; "local:{number}")?;

@@ -12,6 +12,9 @@
 //! assert!(matches!(directory.remove("urn:fan"), Err(DirFault::NotFound)));
 //! ```
 //!
+//! `may_put`, `may_create` and `may_replace` judge and change nothing, and `keep_under` and `count_on` do what was judged: so
+//! a crate that keeps more of each entry can take the memory for that in between.
+//!
 //! The contract in a sentence: each call does what its step says, or gives the first fault that
 //! holds and changes nothing.
 #![tactic(auto)]
@@ -23,5 +26,6 @@ mod laws;
 
 pub use directory::Directory;
 pub use fault::DirFault;
+pub use ids::local_id;
 pub use laws::put_is_got_back;
 pub use servient_base::NoMemory;

@@ -2,3 +2,4 @@ mod Days
 mod Digits
 mod Start
 mod Moments
+mod Members

@@ -1,12 +1,10 @@
 //! The registration information of a description (WoT Discovery): what is asked for by it, and what is said in it.
 
-ghost use Rattle.std.specs.Prelude.{◌≡◌, ◌≤◌, ◌+◌, ◌*◌, ◌++◌, ◌∷◌, [], None, Some, option_map, IfOk, IfErr, OnOk, OnErr, pos, codes};
-ghost use Rattle.std.specs.Str.{bytes_eq};
-ghost use Rattle.wot_json.specs.Tree.{integer, string, AreOrdered, members_of, object};
+ghost use Rattle.std.specs.Prelude.{◌≡◌, ◌≤◌, ◌+◌, ◌*◌, ◌++◌, ◌∷◌, [], None, Some, option_map, IfOk, IfErr, OnOk, pos, codes};
+ghost use Rattle.wot_json.specs.Tree.{integer, string, AreOrdered};
 ghost use Rattle.wot_json.specs.Meaning.{json_of};
-ghost use Rattle.wot_json.specs.Merge.{without_member, members_under};
+ghost use Rattle.wot_json.specs.Merge.{without_member};
 ghost use Rattle.wot_registry.specs.Dates.{last_millisecond};
-ghost use Rattle.wot_registry.specs.Times.{last_moment};
 ghost use Rattle.wot_registry.specs.Registration.{ttl_in, shown, with_ttl, registered_as, said_of};
 ghost use Rattle.wot_registry.specs.Registration as spec;
 ghost use Rattle.wot_registry.specs.Dates as dates;

@@ -1,8 +1,8 @@
 -- What is done on one connection, put together.
-use Rattle.std.proofs.Common.{◌≡◌, ℕ, zero, suc, ◌<◌, ◌≤◌, List, [], ◌∷◌, map, Bool, true, false, refl, sym, ap, subst, ◌∙◌, arith}
+use Rattle.std.proofs.Common.{inl, inr, ◌≡◌, ℕ, zero, suc, ◌<◌, ◌≤◌, List, [], ◌∷◌, map, Bool, true, false, refl, sym, ap, subst, ◌∙◌, arith}
 use Rattle.std.specs.Prelude.{Option, Some, None, ◌==◌, IsSome}
 use Rattle.std.proofs.lemmas.Bool.{eqb-true}
-use Rattle.servient_base.specs.Moves.{Then, is_done, Makes, Refines}
+use Rattle.servient_base.specs.Moves.{Then, is_done, Refines}
 use Rattle.servient_base.proofs.MovesLaws.{refines_goes_on, refines_is_done}
 use Rattle.thing_ops.specs.declared.outcome.Outcome.{Outcome}
 use Rattle.thing_ops.specs.declared.outcome.Outcome.TheVariants as outcome
@@ -11,8 +11,12 @@ use Rattle.thing_handler.specs.Handler.{Seen}
 use Rattle.thing_handler.specs.Turns.{HandlerCall, RackShows}
 use Rattle.thing_handler.proofs.RackLaws.{rack_shows_none}
 use Rattle.thing_site.specs.Site.{Site}
-use Rattle.thing_core.specs.Thing.{Done, only, Acts, has_no_memory}
+use Rattle.thing_core.specs.Thing.{Done, only, has_no_memory}
 use Rattle.thing_core.specs.Kept.{Kept}
+use Rattle.thing_ops.specs.Routes.{route_of}
+use Rattle.wot_directory.specs.Contents.{Contents}
+use Rattle.directory_requests.specs.Asked.{is_of_directory}
+use Rattle.directory_requests.specs.Requests.{is_out_of_memory}
 use Rattle.http_bind.specs.Replying.{fault_word}
 use Rattle.http_bind.specs.Streams.{Streams, asks, wants_continue, is_faulty, interrupts, Takes, IsDry, Answers, Continues, Refuses, Ended, Closes, IsIdle, NoneIdle}
 use Rattle.http_bind.specs.Slots.{Held, Slots, Leads, StandsFor as ConnectionsStandFor, place_at, with_place, HasRoom}
@@ -23,13 +27,13 @@ use Rattle.servient_outside.specs.declared.net.Act.TheVariants as act
 use Rattle.servient_outside.specs.Network.{Happening, NetSeen, NetShows, did}
 use Rattle.servient_outside.proofs.NetLaws.{net_shows_then}
 use Rattle.servient_core.specs.Trace.{at_network, happened_in, calls_in, Outside, outside, Shows}
-use Rattle.servient_core.specs.Machine.{State, OnHttp, Does, Performs, DeliversEach, acts_of_reply, Sends, SendsIfAny, AnswersMessage, AnswersTaken, TakesNextMessage, TakesEveryMessage, ClosesIdle, ClosesAllIdle}
+use Rattle.servient_core.specs.Machine.{State, OnHttp, Does, PerformsByHttp, DeliversEach, acts_of_reply, Sends, SendsIfAny, AnswersMessage, AnswersTaken, TakesNextMessage, TakesEveryMessage, ClosesIdle, ClosesAllIdle}
 use Rattle.servient_core.specs.Serving.{StandsFor, IsReady}
 use Rattle.servient_core.specs.Keeping.{OthersKeep}
 use Rattle.servient_core.specs.Connections.{IsOn, SendsAnswer, SendsContinue, SendsRefusal, StaysDry, acts_of_answer}
 use Rattle.servient_core.specs.declared.parts.Parts.{Parts}
 use Rattle.servient_core.proofs.TraceLaws.{shows_in_order}
-use Rattle.servient_core.proofs.PartLaws.{refines_http, refines_thing, refines_act, refines_nothing, passing_moves, then_moves}
+use Rattle.servient_core.proofs.PartLaws.{refines_http, refines_act, refines_nothing, passing_moves, then_moves}
 use Rattle.servient_core.proofs.LoopLaws.{leaves_same, others_all, others_then}
 
 -- ---- acts
@@ -78,33 +82,50 @@ sends_if_any c k n m slots None shows = refines_acts k n m slots [] shows
 sends_if_any c k n m slots (Some reply) shows = refines_acts k n m slots (acts_of_reply c reply) shows
 
 -- a request is taken, done and answered, and what is emitted is delivered
-pub takes_request : (site : Site) (c : ℕ) (q : PlainRequest) (done : Done) (o : Outcome) (k l : Parts) (b d : Slots) (e : Kept) (n m : NetSeen) (before after : List Seen) (v : Outside)
-    → Leads (Takes c (asks q)) k.http b → Makes RackShows (Acts site q done) k.exposed.state e.state before after → done.outcome ≡ o → SendsAnswer c o k.moment b d n m
-    → Refines StandsFor Shows (DeliversEach done.emissions) (record k { http = d; exposed = e }) l (outside m after) v
+pub takes_request : (site : Site) (c : ℕ) (q : PlainRequest) (done : Done) (o : Outcome) (k l : Parts) (b d : Slots) (e : Kept) (f : Contents) (n m : NetSeen) (before after : List Seen) (v : Outside)
+    → Leads (Takes c (asks q)) k.http b
+    → Refines StandsFor Shows (PerformsByHttp site q done) (record k { http = b }) (record k { http = b; exposed = e; directory = f }) (outside n before) (outside n after)
+    → done.outcome ≡ o → SendsAnswer c o k.moment b d n m
+    → Refines StandsFor Shows (DeliversEach done.emissions) (record k { http = d; exposed = e; directory = f }) l (outside m after) v
     → Refines StandsFor Shows (TakesNextMessage site c) k l (outside n before) v
-takes_request site c q done o k l b d e n m before after v leads made comes sends delivers =
+takes_request site c q done o k l b d e f n m before after v leads performs comes sends delivers =
     let one : Parts = record k { http = b } in
-    let two : Parts = record k { http = b; exposed = e } in
-    let three : Parts = record k { http = d; exposed = e } in
+    let two : Parts = record k { http = b; exposed = e; directory = f } in
+    let three : Parts = record k { http = d; exposed = e; directory = f } in
     let answers = subst (λ (x : Outcome). Leads (Answers c x k.moment sends.reply) b d) (sym comes) sends.leads in
     passing_moves (λ taken. OnHttp (λ now. Takes c taken)) (AnswersTaken site c) (asks q) k one l (outside n before) (outside n before) v
     (refines_http (λ now. Takes c (asks q)) k b (outside n before) leads)
-    (passing_moves (Performs site q) (λ x. Then (AnswersMessage c x) (DeliversEach x.emissions)) done
+    (passing_moves (PerformsByHttp site q) (λ x. Then (AnswersMessage c x) (DeliversEach x.emissions)) done
     one two l (outside n before) (outside n after) v
-    (refines_thing (Acts site q done) one e n before after made)
+    performs
     (then_moves (AnswersMessage c done) (DeliversEach done.emissions) two three l (outside n after) (outside m after) v
     (passing_moves (λ reply. OnHttp (λ now. Answers c done.outcome now reply)) (SendsIfAny c) sends.reply two three three (outside n after) (outside n after) (outside m after)
     (refines_http (λ now. Answers c done.outcome now sends.reply) two d (outside n after) answers)
     (sends_if_any c three n m after sends.reply sends.shows))
     delivers))
 
--- reading it is out of memory
+-- reading it is out of memory: nothing is done, neither by the directory nor by the Things
+unread : (site : Site) (q : PlainRequest) (k : Parts) (w : Outside) → Refines StandsFor Shows (PerformsByHttp site q (only outcome.Memory)) k k w w
+unread site q k w = either (is_of_directory (route_of q.path)) refl
+  where
+    either : (b : Bool) → is_of_directory (route_of q.path) ≡ b → Refines StandsFor Shows (PerformsByHttp site q (only outcome.Memory)) k k w w
+    either true is = λ s stands. (
+      s,
+      stands,
+      record { seen = []; move = inl (is, (s.directory, is_out_of_memory refl refl, refl, record { next = refl; saw = refl })); shows = shows_in_order.none w },
+    )
+    either false isnt = λ s stands. (
+      s,
+      stands,
+      record { seen = []; move = inr (isnt, (s.thing, [], has_no_memory (refl, record { next = refl; saw = refl }), record { next = refl; saw = refl })); shows = shows_in_order.none w },
+    )
+
 pub takes_unread : (site : Site) (c : ℕ) (q : PlainRequest) (k : Parts) (b d : Slots) (n m : NetSeen) (slots : List Seen)
     → Leads (Takes c (asks q)) k.http b → SendsAnswer c outcome.Memory k.moment b d n m
     → Refines StandsFor Shows (TakesNextMessage site c) k (record k { http = d }) (outside n slots) (outside m slots)
 takes_unread site c q k b d n m slots leads sends =
-    takes_request site c q (only outcome.Memory) outcome.Memory k (record k { http = d }) b d k.exposed n m slots slots (outside m slots) leads
-    (record { seen = []; move = has_no_memory (refl, record { next = refl; saw = refl }); shows = rack_shows_none slots }) refl sends
+    takes_request site c q (only outcome.Memory) outcome.Memory k (record k { http = d }) b d k.exposed k.directory n m slots slots (outside m slots) leads
+    (unread site q (record k { http = b }) (outside n slots)) refl sends
     (refines_nothing (record k { http = d }) (outside m slots))
 
 -- bytes came behind a request that waits, and the connection is closed
@@ -161,7 +182,7 @@ pub takes_nothing : (c : ℕ) (k : Parts) (d : Slots) (w : Outside) → Leads (S
 takes_nothing c k d w leads = λ s stands.
     let to = leads s.http stands.http in (
       s,
-      record { moment = stands.moment; http = subst (λ (x : Streams). ConnectionsStandFor d x) to.2.0 to.1; coap = stands.coap; thing = stands.thing },
+      record { moment = stands.moment; http = subst (λ (x : Streams). ConnectionsStandFor d x) to.2.0 to.1; coap = stands.coap; thing = stands.thing; directory = stands.directory },
       record { seen = []; move = (subst (λ (x : Streams). IsDry c x) to.2.0 to.2.1, record { next = refl; saw = refl }); shows = shows_in_order.none w },
     )
 

@@ -151,7 +151,7 @@ delivering_more target first k l e n m o d first_is state site delivered same on
   done = d.done ++ target ∷ [];
   made = λ slots.
       refines_each_more StandsFor Shows shows_in_order Delivers d.done target first k l (outside n slots) (outside m slots) (outside o slots) (d.made slots)
-      (refines_from (Delivers target) k (record k { exposed = e }) l (outside m slots) (outside o slots) refl refl refl state (delivered slots));
+      (refines_from (Delivers target) k (record k { exposed = e }) l (outside m slots) (outside o slots) refl refl refl state refl (delivered slots));
   pending = append_assoc d.done (target ∷ []) l.exposed.pending
       ∙ ap (λ (x : Kept). d.done ++ target ∷ x.pending) same
       ∙ ap (λ (ts : List ℕ). d.done ++ ts) (sym first_is)
@@ -170,7 +170,7 @@ pub delivering_ends : (first k : Parts) (e : Kept) (n m : NetSeen) → Deliverin
 delivering_ends first k e n m d none state = λ slots s stands.
     let all : d.done ≡ first.exposed.pending = sym (append-nil d.done) ∙ ap (λ (ts : List ℕ). d.done ++ ts) (sym none) ∙ d.pending in
     let a = subst (λ (ts : List ℕ). Refines StandsFor Shows (Each Delivers ts) first k (outside n slots) (outside m slots)) all (d.made slots) s stands in
-    (a.0, record { moment = a.1.moment; http = a.1.http; coap = a.1.coap; thing = a.1.thing ∙ sym state }, a.2)
+    (a.0, record { moment = a.1.moment; http = a.1.http; coap = a.1.coap; thing = a.1.thing ∙ sym state; directory = a.1.directory }, a.2)
 
 pub ready_after : (old new : Parts) → ((c : ℕ) → HasRoom c old.http) → old.coap.exchanges.moment ≤ old.moment → OnlyDelivers old new → new.exposed.pending ≡ []
     → IsReady new

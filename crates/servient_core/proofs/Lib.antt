@@ -1,16 +1,16 @@
 pub mod TraceLaws
 pub mod PartLaws
-mod LoopLaws
-mod ConnectionLaws
-mod DeliverLaws
-mod EndLaws
-mod ActionPaths
+pub mod LoopLaws
+pub mod ConnectionLaws
+pub mod DeliverLaws
+pub mod EndLaws
+pub mod ActionPaths
 pub mod OutcomeLaws
 pub mod PathLaws
 pub mod NumberLaws
 pub mod MachineLaws
-mod PromiseLaws
-mod ServingLaws
-mod MeaningLaws
-mod RunHistories
-mod MissLaws
+pub mod PromiseLaws
+pub mod ServingLaws
+pub mod MeaningLaws
+pub mod RunHistories
+pub mod MissLaws

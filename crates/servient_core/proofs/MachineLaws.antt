@@ -9,7 +9,8 @@ use Rattle.thing_handler.specs.Turns.{HandlerCall, RunTurn, AreNumberedFrom, tur
 use Rattle.thing_handler.proofs.TurnLaws.{numbered_then}
 use Rattle.thing_site.specs.Site.{Placed, events_of}
 use Rattle.thing_core.specs.State.{State as ThingState, Emission, last_of}
-use Rattle.thing_core.specs.Thing.{Move as ThingMove, Acts, PollsEvent}
+use Rattle.thing_ops.specs.Requests.{PlainRequest}
+use Rattle.thing_core.specs.Thing.{Move as ThingMove, Done, Acts, PollsEvent}
 use Rattle.coap_bind.specs.declared.server.Server.{Server}
 use Rattle.coap_bind.specs.Server.{Heard, ignored, answered_at_once, asked, Hears, Answers, with_emitted, SendsNext}
 use Rattle.servient_outside.specs.declared.net.Act.{Act}
@@ -22,7 +23,7 @@ use Rattle.servient_outside.proofs.NetLaws.{break_count-append}
 use Rattle.servient_core.specs.declared.serving.Served.{Served}
 use Rattle.servient_core.specs.declared.serving.Served.TheVariants as served
 use Rattle.servient_core.specs.Trace.{Sighting, at_network, at_handler, happened_in, calls_in, happening_in}
-use Rattle.servient_core.specs.Machine.{Site, State, Move, OnHttp, OnCoap, OnThing, Does, AnswersDatagram, HearsDatagram, acts_of_reply, SendsIfAny, RepliesToWait, AnswersWait, AnswersLateWait, AnswersLateWaits, Delivers, DeliversEach, observed_target, AnswersTaken, TakesNextMessage, ClosesIdle, ClosesAllIdle, PollsAndDelivers, SendsNotification, NothingIsDue, SendsNotifications, EndsEvent, notice_bytes, Follows, Step, Run}
+use Rattle.servient_core.specs.Machine.{Site, State, Move, OnHttp, OnCoap, OnThing, Does, PerformsByHttp, AnswersDatagram, HearsDatagram, acts_of_reply, SendsIfAny, RepliesToWait, AnswersWait, AnswersLateWait, AnswersLateWaits, Delivers, DeliversEach, observed_target, AnswersTaken, TakesNextMessage, ClosesIdle, ClosesAllIdle, PollsAndDelivers, SendsNotification, NothingIsDue, SendsNotifications, EndsEvent, notice_bytes, Follows, Step, Run}
 use Rattle.http_bind.specs.Streams.{Streams, Taken, asks, wants_continue, is_faulty, interrupts, Opened, Ended, Lengthened, Takes, IsDry, Answers as AnswersRequest, Wakes, Continues, Refuses, Closes, oldest_for, oldest_late, IsIdle, NoneIdle}
 use Rattle.servient_core.specs.Serving.{Serves, BreaksAtEnd}
 use Rattle.servient_core.proofs.PartLaws.{nothing_happened, the_calls}
@@ -153,13 +154,21 @@ if_any_keeps : (c : ℕ) (reply : Option (List ℕ × Bool)) (s : State) (seen :
 if_any_keeps c None s seen t stays = stays_keeps s t seen stays.next stays.saw
 if_any_keeps c (Some reply) s seen t does = does_keeps (acts_of_reply c reply) s seen t does
 
+-- a request by HTTP
+by_http_keeps : (site : Site) (q : PlainRequest) (done : Done) (s : State) (seen : List Sighting) (t : State) → PerformsByHttp site q done s seen t → Keeps [] s seen t
+by_http_keeps site q done s seen t (inl directory) =
+    let on = directory.1 in
+    becomes_keeps [] s (record s { directory = on.0 }) t [] seen on.3.next on.3.saw (record { hears = refl; unbroken = refl; count = omega arith; numbered = tt })
+by_http_keeps site q done s seen t (inr things) =
+    thing_keeps (Acts site q done) s seen t (λ x calls y m. acts_count site q done x calls y m) things.1
+
 handles_keeps : (site : Site) (c : ℕ) (taken : Taken) (s : State) (seen : List Sighting) (t : State) → AnswersTaken site c taken s seen t → Keeps [] s seen t
 handles_keeps site c (asks q) s seen t is =
     let one = is.1 in
     let two = one.other in
     let three = two.one.1 in
     then_keeps [] [] s one.mid t one.first one.second seen
-    (thing_keeps (Acts site q is.0) s one.first one.mid (λ x calls y m. acts_count site q is.0 x calls y m) one.one)
+    (by_http_keeps site q is.0 s one.first one.mid one.one)
     (then_keeps [] [] one.mid two.mid t two.first two.second one.second
     (then_keeps [] [] one.mid three.mid two.mid three.first three.second two.first
     (http_keeps (λ now. AnswersRequest c is.0.outcome now two.one.0) one.mid three.first three.mid three.one)

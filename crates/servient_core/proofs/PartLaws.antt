@@ -15,6 +15,9 @@ use Rattle.thing_core.specs.Kept.{Kept}
 use Rattle.thing_core.specs.Performing.{MakesAct}
 use Rattle.thing_core.proofs.ThingLaws.{site_stays}
 use Rattle.thing_ops.specs.declared.outcome.Outcome.{Outcome}
+use Rattle.thing_ops.specs.Requests.{PlainRequest}
+use Rattle.wot_directory.specs.Contents.{Contents}
+use Rattle.directory_requests.specs.Requests.{DirectoryActs}
 use Rattle.coap_opts.specs.Reading.{PlainAsk}
 use Rattle.coap_bind.specs.declared.head.OpenAsk.{OpenAsk}
 use Rattle.coap_bind.specs.declared.server.Server.{Server}
@@ -27,9 +30,9 @@ use Rattle.servient_outside.specs.declared.net.EventWithBytes.{EventWithBytes}
 use Rattle.servient_outside.specs.Network.{Happening, NetSeen, NetShows, did}
 use Rattle.servient_outside.proofs.NetLaws.{net_shows_none}
 use Rattle.servient_core.specs.Trace.{at_network, at_handler, happened_in, calls_in, Outside, outside, Shows}
-use Rattle.servient_core.specs.Machine.{State, Move, OnHttp, OnCoap, OnThing, Does, Performs, Delivers, DeliversEach, observed_target, AnswersAsk, AnswersDatagram, HearsDatagram, Follows, Step, EndsEvent}
+use Rattle.servient_core.specs.Machine.{State, Move, OnHttp, OnCoap, OnThing, Does, Performs, PerformsOnDirectory, PerformsByHttp, Delivers, DeliversEach, observed_target, AnswersAsk, AnswersDatagram, HearsDatagram, Follows, Step, EndsEvent}
 use Rattle.servient_core.specs.Serving.{StandsFor}
-use Rattle.servient_core.specs.Keeping.{LeavesNoMore, OthersKeep}
+use Rattle.servient_core.specs.Keeping.{LeavesNoMore, OthersKeep, MakesByHttp}
 use Rattle.servient_core.specs.declared.parts.Parts.{Parts}
 use Rattle.servient_core.proofs.TraceLaws.{shows_in_order, shows_at_network}
 
@@ -67,7 +70,7 @@ pub refines_coap : (Change : ℕ → Server → Server → Type 0) (k : Parts) (
     → Refines StandsFor Shows (OnCoap Change) k (record k { coap = c }) w w
 refines_coap Change k c w change = λ s stands. (
   record s { coap = c },
-  record { moment = stands.moment; http = stands.http; coap = refl; thing = stands.thing },
+  record { moment = stands.moment; http = stands.http; coap = refl; thing = stands.thing; directory = stands.directory },
   record {
     seen = [];
     move = (
@@ -85,7 +88,7 @@ pub refines_http : (Change : ℕ → Streams → Streams → Type 0) (k : Parts)
 refines_http Change k h w leads = λ s stands.
     let to = leads s.http stands.http in (
       record s { http = to.0 },
-      record { moment = stands.moment; http = to.1; coap = stands.coap; thing = stands.thing },
+      record { moment = stands.moment; http = to.1; coap = stands.coap; thing = stands.thing; directory = stands.directory },
       record {
         seen = [];
         move = (to.0, subst (λ (n : ℕ). Change n s.http to.0) (sym stands.moment) to.2, record { next = refl; saw = refl });
@@ -99,13 +102,42 @@ pub refines_thing : (M : ThingMove) (k : Parts) (e : Kept) (net : NetSeen) (befo
     → Refines StandsFor Shows (OnThing M) k (record k { exposed = e }) (outside net before) (outside net after)
 refines_thing M k e net before after made = λ s stands. (
   record s { thing = e.state },
-  record { moment = stands.moment; http = stands.http; coap = stands.coap; thing = refl },
+  record { moment = stands.moment; http = stands.http; coap = stands.coap; thing = refl; directory = stands.directory },
   record {
     seen = map at_handler made.seen;
     move = (e.state, made.seen, subst (λ (x : ThingState). M x made.seen e.state) (sym stands.thing) made.move, record { next = refl; saw = refl });
     shows = shows_calls net before after made.seen made.shows;
   },
 )
+
+-- the directory is asked
+refines_directory : (q : PlainRequest) (done : Done) (k : Parts) (d : Contents) (w : Outside) → DirectoryActs q done.outcome k.directory d → done.emissions ≡ []
+    → Refines StandsFor Shows (PerformsOnDirectory q done) k (record k { directory = d }) w w
+refines_directory q done k d w acts quiet = λ s stands. (
+  record s { directory = d },
+  record { moment = stands.moment; http = stands.http; coap = stands.coap; thing = stands.thing; directory = refl },
+  record {
+    seen = [];
+    move = (d, subst (λ (x : Contents). DirectoryActs q done.outcome x d) (sym stands.directory) acts, quiet, record { next = refl; saw = refl });
+    shows = shows_in_order.none w;
+  },
+)
+
+-- a request by HTTP is performed, by the directory or by the Things
+pub refines_by_http : (site : Site) (q : PlainRequest) (o : Outcome) (k : Parts) (e : Kept) (d : Contents) (net : NetSeen) (before after : List Seen)
+    (made : MakesByHttp k.exposed e k.directory d q o before after) → k.exposed.site ≡ site
+    → Refines StandsFor Shows (PerformsByHttp site q made.done) k (record k { exposed = e; directory = d }) (outside net before) (outside net after)
+refines_by_http site q o k e d net before after made at_site = elim made.move as (λ _. Refines StandsFor Shows (PerformsByHttp site q made.done) k (record k { exposed = e; directory = d }) (outside net before) (outside net after)) [
+  | inl (is, acts, quiet, same, still) ↦ subst (λ (x : Kept). Refines StandsFor Shows (PerformsByHttp site q made.done) k (record k { exposed = x; directory = d }) (outside net before) (outside net after)) (sym same)
+      (subst (λ (x : List Seen). Refines StandsFor Shows (PerformsByHttp site q made.done) k (record k { directory = d }) (outside net before) (outside net x)) (sym still)
+      (refines_as StandsFor Shows (PerformsOnDirectory q made.done) (PerformsByHttp site q made.done) k (record k { directory = d }) (outside net before) (outside net before)
+      (λ s seen t move. inl (is, move)) (refines_directory q made.done k d (outside net before) acts quiet)))
+  | inr (isnt, makes, same) ↦ subst (λ (x : Contents). Refines StandsFor Shows (PerformsByHttp site q made.done) k (record k { exposed = e; directory = x }) (outside net before) (outside net after)) (sym same)
+      (refines_as StandsFor Shows (Performs site q made.done) (PerformsByHttp site q made.done) k (record k { exposed = e }) (outside net before) (outside net after)
+      (λ s seen t move. inr (isnt, move))
+      (refines_thing (Acts site q made.done) k e net before after
+      (subst (λ (x : Site). Makes RackShows (Acts x q made.done) k.exposed.state e.state before after) at_site makes)))
+]
 
 -- ---- moves together, of this machine
 
@@ -211,6 +243,7 @@ steps site e k l m moment w v u greater follows ends = λ s stands.
       http = stands.http;
       coap = stands.coap;
       thing = stands.thing;
+      directory = stands.directory;
     } in
     let a = then_moves (Follows site e.event.what e.bytes) EndsEvent (record k { moment = moment }) l m w v u follows ends (record s { moment = max s.moment e.event.moment }) moved in
     (a.0, a.1, record { seen = a.2.seen; move = a.2.move; shows = a.2.shows })
@@ -237,18 +270,19 @@ hold_streams (h ∷ hs) = (holds_stream h, hold_streams hs)
 pub stands_for_some : (kept : Parts) → (s : State) × StandsFor kept s
 unfolding streams_of
 stands_for_some kept = (
-  record { moment = kept.moment; http = streams_of kept.http; coap = kept.coap; thing = kept.exposed.state },
-  record { moment = refl; http = record { places = hold_streams kept.http.places; waits = refl }; coap = refl; thing = refl },
+  record { moment = kept.moment; http = streams_of kept.http; coap = kept.coap; thing = kept.exposed.state; directory = kept.directory },
+  record { moment = refl; http = record { places = hold_streams kept.http.places; waits = refl }; coap = refl; thing = refl; directory = refl },
 )
 
 -- what stands for a state does so too where only what waits to be handed out is another
-pub refines_from : (P : Move) (k l m : Parts) (w v : Outside) → l.moment ≡ k.moment → l.http ≡ k.http → l.coap ≡ k.coap → l.exposed.state ≡ k.exposed.state
+pub refines_from : (P : Move) (k l m : Parts) (w v : Outside) → l.moment ≡ k.moment → l.http ≡ k.http → l.coap ≡ k.coap → l.exposed.state ≡ k.exposed.state → l.directory ≡ k.directory
     → Refines StandsFor Shows P l m w v → Refines StandsFor Shows P k m w v
-refines_from P k l m w v moment http coap state p = λ s stands. p s (record {
+refines_from P k l m w v moment http coap state directory p = λ s stands. p s (record {
   moment = stands.moment ∙ sym moment;
   http = subst (λ (x : Slots). ConnectionsStandFor x s.http) (sym http) stands.http;
   coap = stands.coap ∙ sym coap;
   thing = stands.thing ∙ sym state;
+  directory = stands.directory ∙ sym directory;
 })
 
 -- a rack that fits before a move fits after it

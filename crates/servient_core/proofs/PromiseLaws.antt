@@ -21,28 +21,30 @@ use Rattle.servient_core.specs.Trace.{Sighting, at_network, calls_in}
 use Rattle.servient_core.specs.Machine.{Site, State, AnswersDatagram}
 use Rattle.servient_core.specs.Promises.{ActsOnNothing, DuplicatesActOnNothing, FullTableActsOnNothing}
 
-pub acts_as : (s u t : State) (shown seen : List Sighting) → Becomes u shown seen t → u.thing ≡ s.thing → calls_in shown ≡ [] → ActsOnNothing s seen t
-acts_as s u t shown seen b same none = record { calls = ap calls_in b.saw ∙ none; thing = ap (λ (x : State). x.thing) b.next ∙ same }
+pub acts_as : (s u t : State) (shown seen : List Sighting) → Becomes u shown seen t → u.thing ≡ s.thing → u.directory ≡ s.directory → calls_in shown ≡ []
+    → ActsOnNothing s seen t
+acts_as s u t shown seen b same kept none =
+    record { calls = ap calls_in b.saw ∙ none; thing = ap (λ (x : State). x.thing) b.next ∙ same; directory = ap (λ (x : State). x.directory) b.next ∙ kept }
 
 -- what asks for nothing acts on nothing
-unasked_acts : (site : Site) (from : Endpoint) (h : Heard) (s m t : State) (first seen second : List Sighting) → m.thing ≡ s.thing → first ≡ [] → seen ≡ first ++ second
-    → ((ask : PlainAsk) (request : OpenAsk) → ¬ (h ≡ asked ask request)) → AnswersDatagram site from h m second t → ActsOnNothing s seen t
-unasked_acts site from ignored s m t first seen second same none whole never stays =
+unasked_acts : (site : Site) (from : Endpoint) (h : Heard) (s m t : State) (first seen second : List Sighting) → m.thing ≡ s.thing → m.directory ≡ s.directory → first ≡ []
+    → seen ≡ first ++ second → ((ask : PlainAsk) (request : OpenAsk) → ¬ (h ≡ asked ask request)) → AnswersDatagram site from h m second t → ActsOnNothing s seen t
+unasked_acts site from ignored s m t first seen second same kept none whole never stays =
     let all : seen ≡ second = whole ∙ ap (λ (x : List Sighting). x ++ second) none in
-    record { calls = ap calls_in (all ∙ stays.saw); thing = ap (λ (x : State). x.thing) stays.next ∙ same }
-unasked_acts site from (answered_at_once bytes) s m t first seen second same none whole never does =
+    record { calls = ap calls_in (all ∙ stays.saw); thing = ap (λ (x : State). x.thing) stays.next ∙ same; directory = ap (λ (x : State). x.directory) stays.next ∙ kept }
+unasked_acts site from (answered_at_once bytes) s m t first seen second same kept none whole never does =
     let all : seen ≡ second = whole ∙ ap (λ (x : List Sighting). x ++ second) none in
-    record { calls = ap calls_in (all ∙ does.saw); thing = ap (λ (x : State). x.thing) does.next ∙ same }
-unasked_acts site from (asked ask request) s m t first seen second same none whole never is = absurd (never ask request refl)
+    record { calls = ap calls_in (all ∙ does.saw); thing = ap (λ (x : State). x.thing) does.next ∙ same; directory = ap (λ (x : State). x.directory) does.next ∙ kept }
+unasked_acts site from (asked ask request) s m t first seen second same kept none whole never is = absurd (never ask request refl)
 
 pub duplicates_act_on_nothing : DuplicatesActOnNothing
 duplicates_act_on_nothing site from bytes s seen t m capacity history earlier (inl long) past later spells has again =
-    record { calls = ap calls_in long.1.saw; thing = ap (λ (x : State). x.thing) long.1.next }
+    record { calls = ap calls_in long.1.saw; thing = ap (λ (x : State). x.thing) long.1.next; directory = ap (λ (x : State). x.directory) long.1.next }
 duplicates_act_on_nothing site from bytes s seen t m capacity history earlier (inr heard) past later spells has again =
     let h = heard.1.0 in
     let both = heard.1.1 in
     let on = both.one in
-    unasked_acts site from h s both.mid t both.first seen both.second (ap (λ (x : State). x.thing) on.2.next) on.2.saw both.whole
+    unasked_acts site from h s both.mid t both.first seen both.second (ap (λ (x : State). x.thing) on.2.next) (ap (λ (x : State). x.directory) on.2.next) on.2.saw both.whole
     (λ ask request is. duplicates_ask_nothing capacity history s.coap on.0 from bytes s.moment m earlier past later spells has again ask request
     (subst (λ (x : Heard). Hears from bytes s.moment x s.coap on.0) is on.1))
     both.other
@@ -94,7 +96,7 @@ full_table_acts_on_nothing site from bytes s seen t m (inr heard) short spells o
     let on = both.one in
     let away = turned_away from bytes s.moment h s.coap on.0 m spells over.request over.no_duplicate over.capacity on.1 in
     let once = answered_once site from h away.reply s both.mid t both.first seen both.second away.at_once on.2.saw both.whole both.other in (
-      record { calls = ap calls_in once.0; thing = ap (λ (x : State). x.thing) (once.1 ∙ on.2.next) },
+      record { calls = ap calls_in once.0; thing = ap (λ (x : State). x.thing) (once.1 ∙ on.2.next); directory = ap (λ (x : State). x.directory) (once.1 ∙ on.2.next) },
       ap (λ (x : State). x.coap.exchanges) (once.1 ∙ on.2.next) ∙ away.exchanges,
       away.reply,
       once.0,

@@ -22,6 +22,8 @@ use Rattle.coap_bind.proofs.OpenLaws.{asks_are_open}
 use Rattle.coap_bind.proofs.MomentLaws.{replies_moment, hears_moment}
 use Rattle.http_bind.specs.Streams.{Streams, Taken, asks, wants_continue, is_faulty, interrupts, oldest_for, oldest_late, IsDry, NoneIdle}
 use Rattle.thing_ops.specs.declared.outcome.Outcome.{Outcome}
+use Rattle.thing_ops.specs.Requests.{PlainRequest}
+use Rattle.thing_core.specs.Thing.{Done}
 use Rattle.thing_site.specs.Site.{Placed, events_of}
 use Rattle.thing_core.specs.State.{State as ThingState, Emission, last_of}
 use Rattle.servient_outside.specs.declared.net.What.{What}
@@ -31,7 +33,7 @@ use Rattle.servient_core.specs.declared.serving.Served.{Served}
 use Rattle.servient_core.specs.declared.serving.Served.TheVariants as served
 use Rattle.servient_core.specs.declared.capacity.TheConstants.{MOST_WATCHERS}
 use Rattle.servient_core.specs.Trace.{Sighting, at_handler}
-use Rattle.servient_core.specs.Machine.{Site, State, start, Move, OnCoap, SendsIfAny, RepliesToWait, AnswersWait, AnswersLateWait, Delivers, DeliversEach, observed_target, AnswersDatagram, HearsDatagram, AnswersTaken, TakesNextMessage, ClosesIdle, PollsAndDelivers, SendsNotification, NothingIsDue, EndsEvent, Follows, Step, Run}
+use Rattle.servient_core.specs.Machine.{Site, State, start, Move, OnCoap, SendsIfAny, RepliesToWait, AnswersWait, AnswersLateWait, Delivers, DeliversEach, observed_target, PerformsByHttp, AnswersDatagram, HearsDatagram, AnswersTaken, TakesNextMessage, ClosesIdle, PollsAndDelivers, SendsNotification, NothingIsDue, EndsEvent, Follows, Step, Run}
 use Rattle.servient_core.specs.Serving.{Ends}
 use Rattle.servient_core.specs.Runs.{AreRequestsOf, AreRequestsFrom, HasHistory, EachRunHasAHistory, ServingHasAHistory}
 
@@ -145,6 +147,13 @@ if_any_holds : (k : ℕ) (history : List Arrival) (now c : ℕ) (reply : Option 
 if_any_holds k history now c None s t seen stays h = becomes k history now s t stays.next h
 if_any_holds k history now c (Some reply) s t seen does h = becomes k history now s t does.next h
 
+by_http_holds : (k : ℕ) (history : List Arrival) (now : ℕ) (site : Site) (q : PlainRequest) (done : Done) (s t : State) (seen : List Sighting) → PerformsByHttp site q done s seen t
+    → Holds k history now s → Holds k history now t
+by_http_holds k history now site q done s t seen (inl directory) h =
+    let next = directory.1.3.next in
+    stays k history now s t (ap (λ (x : State). x.coap) next) (ap (λ (x : State). x.moment) next) h
+by_http_holds k history now site q done s t seen (inr things) h = thing_stays k history now s t things.1.0 (map at_handler things.1.1) seen things.1.3 h
+
 handles_holds : (k : ℕ) (history : List Arrival) (now : ℕ) (site : Site) (c : ℕ) (taken : Taken) (s t : State) (seen : List Sighting) → AnswersTaken site c taken s seen t
     → Holds k history now s → Holds k history now t
 handles_holds k history now site c (asks q) s t seen is h =
@@ -153,7 +162,7 @@ handles_holds k history now site c (asks q) s t seen is h =
     let three = two.one.1 in
     delivers_each_holds k history now is.0.emissions two.mid t two.second two.other
     (if_any_holds k history now c two.one.0 three.mid two.mid three.second three.other
-    (http_stays k history now one.mid three.mid three.one.0 three.first three.one.2 (thing_stays k history now s one.mid one.one.0 (map at_handler one.one.1) one.first one.one.3 h)))
+    (http_stays k history now one.mid three.mid three.one.0 three.first three.one.2 (by_http_holds k history now site q is.0 s one.mid one.first one.one h)))
 handles_holds k history now site c wants_continue s t seen is h =
     becomes k history now is.1.mid t is.1.other.next (http_stays k history now s is.1.mid is.1.one.0 is.1.first is.1.one.2 h)
 handles_holds k history now site c (is_faulty status) s t seen is h =

@@ -1,10 +1,19 @@
 -- What the functions of a servient's parts say of one another.
-use Rattle.std.specs.Prelude.{◌≡◌, ◌≤◌, ℕ, List, [], ◌∷◌, map, Bool, true, false, Option}
-use Rattle.servient_base.specs.Moves.{Refines}
+use Rattle.std.specs.Prelude.{◌≡◌, ◌⊎◌, ◌≤◌, ℕ, List, [], ◌∷◌, map, Bool, true, false, Option}
+use Rattle.servient_base.specs.Moves.{Makes, Refines}
 use Rattle.thing_ops.specs.declared.outcome.Outcome.{Outcome}
 use Rattle.thing_ops.specs.Outcomes.{HasCode}
+use Rattle.thing_ops.specs.Requests.{PlainRequest}
+use Rattle.thing_ops.specs.Routes.{route_of}
 use Rattle.thing_handler.specs.Handler.{Seen}
+use Rattle.thing_handler.specs.Turns.{RackShows}
 use Rattle.thing_site.specs.Site.{Placed}
+use Rattle.thing_site.specs.Fits.{Fits}
+use Rattle.thing_core.specs.Kept.{Kept}
+use Rattle.thing_core.specs.Thing.{Done, Acts}
+use Rattle.wot_directory.specs.Contents.{Contents}
+use Rattle.directory_requests.specs.Asked.{is_of_directory}
+use Rattle.directory_requests.specs.Requests.{DirectoryActs}
 use Rattle.thing_core.specs.declared.polling.Round.{Round}
 use Rattle.thing_core.specs.Rounds.{events_left}
 use Rattle.coap_bind.specs.Laws.{HasShortPlace}
@@ -21,6 +30,19 @@ pub record DoesMove (move : Move) (old new : Parts) (before after : Outside) : T
   pub refines : Refines StandsFor Shows move old new before after
   pub ready : IsReady new
   pub site : new.exposed.site ≡ old.exposed.site
+
+-- What a request by HTTP did: to the directory, of which no handler knows and which emits nothing, or to the Things; what
+-- they emit waits to be handed out.
+pub record MakesByHttp (old new : Kept) (d t : Contents) (q : PlainRequest) (o : Outcome) (before after : List Seen) : Type 0 where
+  pub done : Done
+  pub outcome : done.outcome ≡ o
+  pub pending : new.pending ≡ map (λ e. e.target) done.emissions
+  pub site : new.site ≡ old.site
+  pub fits : Fits old.site before → Fits new.site after
+  pub move :
+      ((is_of_directory (route_of q.path) ≡ true)
+      × DirectoryActs q done.outcome d t × (done.emissions ≡ []) × (new ≡ old) × (after ≡ before))
+      ⊎ ((is_of_directory (route_of q.path) ≡ false) × Makes RackShows (Acts old.site q done) old.state new.state before after × (t ≡ d))
 
 -- An outcome can be sent by CoAP: it has a code, and its place is short. The place of an invocation is: its action's
 -- segments have at most 255 bytes each, because they came by CoAP, and then comes its id.

@@ -16,11 +16,16 @@ use Rattle.coap_msg.specs.declared.constants.TheConstants.{LONGEST_DATAGRAM}
 use Rattle.coap_msg.specs.declared.endpoint.Endpoint.{Endpoint}
 use Rattle.coap_msg.specs.Grammar.{spelling}
 use Rattle.thing_ops.specs.Requests.{PlainRequest}
+use Rattle.thing_ops.specs.Routes.{route_of}
 use Rattle.thing_handler.specs.Turns.{HandlerCall}
 use Rattle.thing_site.specs.Site.{Placed, Site as Things, events_of}
 use Rattle.thing_core.specs.State.{State as ThingState, Emission, last_of, start as no_request_yet}
 use Rattle.thing_core.specs.Thing.{Move as ThingMove, Done, Acts, PollsEvent}
 use Rattle.thing_core.specs.Places.{target_of}
+use Rattle.wot_directory.specs.Contents.{Contents}
+use Rattle.wot_directory.specs.Directory.{empty_directory}
+use Rattle.directory_requests.specs.Asked.{is_of_directory}
+use Rattle.directory_requests.specs.Requests.{DirectoryActs}
 use Rattle.coap_observe.specs.declared.notice.Notice.{Notice}
 use Rattle.coap_opts.specs.Reading.{PlainAsk}
 use Rattle.coap_bind.specs.declared.head.OpenAsk.{OpenAsk}
@@ -45,16 +50,17 @@ Site = Things
 
 -- The machine's state: the greatest moment so far in milliseconds; the connections with their whole streams and the
 -- requests that wait; the CoAP server with its exchanges, its watchers and the id of its next message; what the Things
--- don't leave to their devices.
+-- don't leave to their devices; the directory's descriptions.
 pub record State : Type 0 where
   pub moment : ℕ
   pub http : Streams
   pub coap : Server
   pub thing : ThingState
+  pub directory : Contents
 
 -- before the first event, where n exchanges may live; nobody watches
 abbrev pub start : Site → ℕ → State
-start site exchanges = record { moment = 0; http = none_open; coap = nothing_came exchanges MOST_WATCHERS; thing = no_request_yet site }
+start site exchanges = record { moment = 0; http = none_open; coap = nothing_came exchanges MOST_WATCHERS; thing = no_request_yet site; directory = empty_directory }
 
 abbrev pub Move : Type 1
 Move = State → List Sighting → State → Type 0
@@ -123,6 +129,17 @@ DeliversEach emissions = Each Delivers (map (λ e. e.target) emissions)
 abbrev pub Performs : Site → PlainRequest → Done → Move
 Performs site q done = OnThing (Acts site q done)
 
+-- one to the directory (WoT Discovery, "Things API", in outline), which calls no handler and emits nothing
+abbrev pub PerformsOnDirectory : PlainRequest → Done → Move
+PerformsOnDirectory q done s seen t =
+    (d : Contents) × DirectoryActs q done.outcome s.directory d × (done.emissions ≡ []) × Becomes (record s { directory = d }) [] seen t
+
+-- The directory is reached by HTTP alone: by its paths, which lead to no Thing.
+abbrev pub PerformsByHttp : Site → PlainRequest → Done → Move
+PerformsByHttp site q done s seen t =
+    ((is_of_directory (route_of q.path) ≡ true) × PerformsOnDirectory q done s seen t)
+    ⊎ ((is_of_directory (route_of q.path) ≡ false) × Performs site q done s seen t)
+
 -- ---- CoAP (RFC 7252): a datagram is heard, and where it asks for something it is answered, once
 
 -- what a request that says Observe may observe: the target of its path, if it is the path of one
@@ -156,7 +173,7 @@ AnswersMessage c done = Passing (λ reply. OnHttp (λ now. AnswersRequest c done
 -- what follows on what was taken from a connection
 abbrev pub AnswersTaken : Site → ℕ → Taken → Move
 AnswersTaken site c (asks q) s seen t =
-    Passing (Performs site q) (λ done. Then (AnswersMessage c done) (DeliversEach done.emissions)) s seen t
+    Passing (PerformsByHttp site q) (λ done. Then (AnswersMessage c done) (DeliversEach done.emissions)) s seen t
 AnswersTaken site c wants_continue s seen t =
     Passing (λ bytes. OnHttp (λ now. Continues bytes)) (λ bytes. Sends c (bytes, false)) s seen t
 AnswersTaken site c (is_faulty status) s seen t =

@@ -12,10 +12,11 @@ use Rattle.servient_outside.specs.Network.{did}
 use Rattle.servient_core.specs.Trace.{Sighting, at_network, calls_in}
 use Rattle.servient_core.specs.Machine.{Site, State, HearsDatagram}
 
--- no handler was called, and nothing of the Things changed
+-- no handler was called, and nothing of the Things and of the directory changed
 pub record ActsOnNothing (s : State) (seen : List Sighting) (t : State) : Type 0 where
   pub calls : calls_in seen ≡ []
   pub thing : t.thing ≡ s.thing
+  pub directory : t.directory ≡ s.directory
 
 -- A datagram with a duplicate of a request that was admitted and lives acts on nothing (RFC 7252, section 4.5).
 abbrev pub DuplicatesActOnNothing : Type 0

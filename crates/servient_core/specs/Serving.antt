@@ -29,6 +29,7 @@ pub record StandsFor (kept : Parts) (s : State) : Type 0 where
   pub http : ConnectionsStandFor kept.http s.http
   pub coap : s.coap ≡ kept.coap
   pub thing : s.thing ≡ kept.exposed.state
+  pub directory : s.directory ≡ kept.directory
 
 -- Between two events: no emission waits to be handed out, the exchanges are at no later moment, and each connection has
 -- room for another piece. It is an invariant of `Servient`, so that `step` and `serve` ask only that the rack fits.

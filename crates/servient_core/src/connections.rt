@@ -14,7 +14,8 @@ ghost use Rattle.servient_core.specs.Keeping.{DoesMove, LeavesNoMore, OthersKeep
 ghost use Rattle.servient_core.specs.Connections.{IsOn, TakesOne, SendsAnswer, SendsContinue, SendsRefusal, acts_of_answer};
 
 use crate::Net;
-use crate::parts::{Parts, perform};
+use crate::parts::Parts;
+use crate::performing::perform_by_http;
 use http_bind::{HttpBind, HttpNext, HttpOut, NoMemory, ROOM};
 use std::alloc::Global;
 use thing_handler::Handlers;
@@ -138,7 +139,12 @@ impl Parts {
                 true
             }
             HttpNext::Ask(request) => {
-                let outcome = perform(&mut self.exposed, rack, &request);
+                let outcome = perform_by_http(
+                    &mut self.exposed,
+                    &mut self.directory,
+                    rack,
+                    &request,
+                );
                 rooms
                     .reply
                     .answer(&mut self.http, net, c, self.moment, &outcome);

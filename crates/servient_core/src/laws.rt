@@ -1,6 +1,10 @@
 //! What follows from the machine, for every network and rack: contracts of functions that no code needs to call.
 
 ghost use Rattle.std.specs.Prelude.{◌≡◌, ◌↔◌, ℕ, List};
+ghost use Rattle.coap_msg.specs.declared.endpoint.Endpoint.{Endpoint};
+ghost use Rattle.coap_opts.specs.Reading.{PlainAsk};
+ghost use Rattle.coap_bind.specs.declared.head.OpenAsk.{OpenAsk};
+ghost use Rattle.thing_ops.specs.Requests.{PlainRequest};
 ghost use Rattle.thing_handler.specs.Turns.{AreNumberedFrom, turns_in};
 ghost use Rattle.servient_outside.specs.Network.{break_count};
 ghost use Rattle.servient_core.specs.declared.serving.Served.{Served};
@@ -9,7 +13,7 @@ ghost use Rattle.servient_core.specs.Trace.{Sighting, happened_in, calls_in};
 ghost use Rattle.servient_core.specs.Machine.{Site, State};
 ghost use Rattle.servient_core.specs.Serving.{Serves, BreaksAtEnd, StandsFor};
 ghost use Rattle.servient_core.specs.Promises.{DuplicatesActOnNothing, FullTableActsOnNothing};
-ghost use Rattle.servient_core.specs.Meaning.{Message, IsWritten, HaveOneMeaning};
+ghost use Rattle.servient_core.specs.Meaning.{Message, IsWritten, HaveOneMeaning, AsksDirectoryAlone, FindsNoDirectory};
 ghost use Rattle.servient_core.specs.Runs.{EachRunHasAHistory, ServingHasAHistory, MissesAreCounted};
 ghost use Rattle.servient_core.specs.declared.parts.Parts.{Parts};
 
@@ -43,12 +47,19 @@ pub fn full_table_acts_on_nothing()
     ensures { FullTableActsOnNothing }
 {}
 
-/// By either binding an operation has one meaning: two messages that are read as the same request, where the Things are
-/// in the same state, the handlers give the same answers and nothing is out of memory, have the same calls, outcome and
+/// By either binding an operation has one meaning: two messages that are read as the same request, which isn't one to the
+/// directory, where the Things are in the same state, the handlers give the same answers and nothing is out of memory, have the same calls, outcome and
 /// emissions, and what is written is that outcome.
 pub fn one_meaning()
     ensures written { (site : Site) → (m : Message) → IsWritten site m }
     ensures same { (site : Site) → (m n : Message) → HaveOneMeaning site m n }
+{}
+
+/// The directory is reached by HTTP alone, and by its requests no handler is: what comes by HTTP changes the directory
+/// and nothing of the Things, and what comes by CoAP finds nothing at its paths.
+pub fn directory_is_apart()
+    ensures http { (site : Site) → (c : ℕ) → (q : PlainRequest) → AsksDirectoryAlone site c q }
+    ensures coap { (site : Site) → (from : Endpoint) → (ask : PlainAsk) → (request : OpenAsk) → FindsNoDirectory site from ask request }
 {}
 
 /// Each state of a run from the beginning has a history, which are the requests in the events of that run; so

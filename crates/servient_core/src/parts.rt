@@ -1,26 +1,22 @@
 //! The parts of a servient, one for each layer, and the moves that they make.
 
-ghost use Rattle.std.specs.Prelude.{◌≡◌, ◌≤◌, [], length};
-ghost use Rattle.std.specs.List.{All};
+ghost use Rattle.std.specs.Prelude.{◌≡◌, length};
 ghost use Rattle.thing_site.specs.Fits.{Fits};
-ghost use Rattle.thing_ops.specs.Requests.{plain_request};
-ghost use Rattle.thing_core.specs.Performing.{MakesAct};
-ghost use Rattle.coap_opts.specs.PlainAsk.{plain_ask};
-ghost use Rattle.servient_core.specs.Machine.{Follows, HearsDatagram, observed_target};
+ghost use Rattle.servient_core.specs.Machine.{Follows, HearsDatagram};
 ghost use Rattle.servient_outside.specs.Network.{byte_count, IsEvent};
 ghost use Rattle.servient_core.specs.Serving.{IsReady};
-ghost use Rattle.servient_core.specs.Keeping.{IsSendable, DoesMove};
+ghost use Rattle.servient_core.specs.Keeping.{DoesMove};
 ghost use Rattle.servient_core.specs.Trace.{outside};
 
 use crate::connections::{ReplyRoom, Rooms};
+use crate::performing::{observed_by, perform};
 use crate::{Event, Net, What};
 use coap_bind::{CoapBind, CoapNext};
 use coap_msg::{Endpoint, LONGEST_DATAGRAM, LONGEST_MESSAGE};
-use coap_opts::CoapAsk;
+use directory_requests::DirectoryServer;
 use http_bind::HttpBind;
 use thing_core::Exposed;
 use thing_handler::Handlers;
-use thing_ops::{Outcome, Request};
 
 /// What a servient keeps in a run. `specs/Serving.antt` says which states of the machine it stands for.
 #[derive(Drop)]
@@ -29,6 +25,8 @@ pub struct Parts {
     pub moment: u64,
     /// The Things, and what they don't leave to their devices.
     pub exposed: Exposed,
+    /// The directory.
+    pub directory: DirectoryServer,
     /// The CoAP server with its exchanges and watchers.
     pub coap: CoapBind,
     /// The connections of the HTTP server, with the requests that wait.
@@ -91,27 +89,5 @@ impl Parts {
                 self.deliver(net, room);
             }
         }
-    }
-}
-
-/// Does what a request asks. What it emits waits to be delivered.
-pub fn perform<R: Handlers>(exposed: &mut Exposed, rack: &mut R, request: &Request<'_>) -> Outcome
-    requires pending { exposed.old.pending ≡ [] }
-    requires fits { Fits exposed.old.site (R.slots rack.old) }
-    ensures performed { MakesAct exposed.old exposed.new (plain_request request.now) result (R.slots rack.old) (R.slots rack.new) }
-    ensures sendable { All (λ segment. length segment ≤ 255) request.now.path → IsSendable result }
-{
-    // For the proof: the number that was read has 64 bits.
-    let _next = exposed.next_invocation();
-    exposed.perform(rack, request)
-}
-
-/// What a request may observe: the target of its path, where it says Observe.
-fn observed_by(exposed: &Exposed, ask: &CoapAsk<'_>) -> Option<u32>
-    ensures { result ≡ observed_target exposed.now.site exposed.now.state (plain_ask ask.now) }
-{
-    match ask.observe {
-        Some(_) => exposed.target_of(&ask.request.path),
-        None => None,
     }
 }

@@ -17,6 +17,7 @@ use crate::connections::Rooms;
 use crate::parts::Parts;
 use crate::{Event, Net, Plan};
 use coap_bind::CoapBind;
+use directory_requests::DirectoryServer;
 use http_bind::HttpBind;
 use std::alloc::{AllocError, Global};
 use std::marker::Model;
@@ -37,12 +38,13 @@ pub struct Servient {
 impl Model for Servient {
     ghost use Rattle.std.specs.Coded.{codes};
     ghost use Rattle.thing_core.specs.Kept.{kept_code};
+    ghost use Rattle.wot_directory.specs.Contents.{contents_code};
     ghost use Rattle.servient_core.specs.declared.parts.Parts.{Parts};
     ghost use Rattle.servient_core.specs.Serving.{IsReady};
 
     ghost Value = { Parts };
 
-    ghost coded = { Prim.hlevel (codes, kept_code) };
+    ghost coded = { Prim.hlevel (codes, kept_code, contents_code) };
 
     ghost view = { λ s. s.parts };
 
@@ -100,6 +102,7 @@ impl Servient {
             parts: Parts {
                 moment: 0,
                 exposed,
+                directory: DirectoryServer::new(alloc),
                 coap,
                 http,
             },

@@ -38,13 +38,13 @@ fn put_act(text: &mut String, act: &Act) -> Result<(), AllocError> {
     }
 }
 
-/// Writes acts, each in a line of its own.
+/// Writes acts but the first ones, each in a line of its own.
 ///
 /// # Errors
 ///
 /// Out of memory alone.
-pub fn put_acts(text: &mut String, acts: &[Act]) -> Result<(), AllocError> {
-    for act in acts {
+pub fn put_acts(text: &mut String, acts: &[Act], hidden: usize) -> Result<(), AllocError> {
+    for act in acts.iter().skip(hidden) {
         put_act(text, act)?;
         text.push_str("\n")?;
     }

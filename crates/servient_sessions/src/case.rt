@@ -11,6 +11,7 @@
 //! * N EVENT              the same N times
 //! @ KIND ANSWERS         a device of this kind in the next slot, with these answers, `; ` between them
 //! % N                    the rack has N slots
+//! ^ N                    of what is done to the network the first N acts aren't printed
 //! cut once|twice TEXT    the case is run for each way to cut these bytes, as `cuts.rt` says
 //! $ WORDS                the command; what it prints, what it did to the network and its status follow
 //! ```
@@ -35,6 +36,8 @@ pub struct Case {
     pub events: String,
     pub devices: Vec<Device>,
     pub slots: usize,
+    /// How many acts aren't printed.
+    pub hidden: usize,
     /// The network is out of memory.
     pub is_crowded: bool,
     /// What is printed is written in words.
@@ -54,6 +57,7 @@ impl Case {
             events: String::new(alloc),
             devices: Vec::new(alloc),
             slots: SHIPPED_SLOTS,
+            hidden: 0,
             is_crowded: false,
             is_in_words: false,
             file: None,
@@ -159,6 +163,10 @@ impl Case {
             Some(("@", what)) => self.fit(what),
             Some(("%", slots)) => {
                 self.slots = slots.parse::<usize>().unwrap_or(0);
+                Ok(())
+            }
+            Some(("^", hidden)) => {
+                self.hidden = hidden.parse::<usize>().unwrap_or(0);
                 Ok(())
             }
             _ => self.put(line),

@@ -132,7 +132,7 @@ fn status_of(
     }
     let mut net = network_of(alloc, case)?;
     let status = run(alloc, command, &mut files, &mut net, out)?;
-    put_acts(acts, net.acts())?;
+    put_acts(acts, net.acts(), case.hidden)?;
     Ok(status)
 }
 

@@ -12,8 +12,8 @@ pub mod RefusalLaws
 pub mod SlotLaws
 pub mod LastLaws
 pub mod PerformLaws
-mod Handed
-mod CompleteLaws
+pub mod Handed
+pub mod CompleteLaws
 pub mod DeterminedLaws
 mod TickLaws
 mod RoundLaws

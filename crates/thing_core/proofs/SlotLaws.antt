@@ -33,9 +33,13 @@ fits_stand : (slots : List Seen) (ps : List Placed) → AllByRecursion (FitsSlot
 fits_stand slots [] all = tt
 fits_stand slots (p ∷ ps) all = (slice_get_within slots p.slot all.0.0 all.0.1, fits_stand slots ps all.1)
 
--- all affordances of a site
+-- this holds of all affordances of a site
+abbrev pub SiteHas : (Placed → Type 0) → Site → Type 0
+SiteHas P site = AllByRecursion (λ t. AllByRecursion P t.affordances) site
+
+-- they have slots of a rack of n
 abbrev pub SiteStands : ℕ → Site → Type 0
-SiteStands count site = AllByRecursion (λ t. AllStand count t.affordances) site
+SiteStands count site = SiteHas (λ p. p.slot < count) site
 
 pub site_stands : (slots : List Seen) (site : Site) → Fits site slots → SiteStands (length slots) site
 site_stands slots [] all = tt
@@ -52,162 +56,166 @@ all_events_stand count (t ∷ site) all =
 
 -- ---- what is found
 
-thing_stands : (count : ℕ) (segment : List ℕ) (site : Site) (thing : ExposedThing) → SiteStands count site → thing_named segment site ≡ Some thing → AllStand count thing.affordances
-thing_stands count segment [] thing all e = absurd cc
-thing_stands count segment (t ∷ site) thing all e = by_test (thing_stands count segment site thing all.1) (bytes_eq segment t.segment) e
+thing_stands : (P : Placed → Type 0) (segment : List ℕ) (site : Site) (thing : ExposedThing) → SiteHas P site → thing_named segment site ≡ Some thing → AllByRecursion P thing.affordances
+thing_stands P segment [] thing all e = absurd cc
+thing_stands P segment (t ∷ site) thing all e = by_test (thing_stands P segment site thing all.1) (bytes_eq segment t.segment) e
   where
-    by_test : (thing_named segment site ≡ Some thing → AllStand count thing.affordances) → (b : Bool) → cond b (Some t) (thing_named segment site) ≡ Some thing → AllStand count thing.affordances
-    by_test further true is = subst (λ (x : ExposedThing). AllStand count x.affordances) (same_Some t thing is) all.0
+    by_test : (thing_named segment site ≡ Some thing → AllByRecursion P thing.affordances) → (b : Bool) → cond b (Some t) (thing_named segment site) ≡ Some thing → AllByRecursion P thing.affordances
+    by_test further true is = subst (λ (x : ExposedThing). AllByRecursion P x.affordances) (same_Some t thing is) all.0
     by_test further false is = further is
 
-in_site_stands : (count : ℕ) (path : List (List ℕ)) (site : Site) (thing : ExposedThing) → SiteStands count site → thing_in path site ≡ Some thing → AllStand count thing.affordances
-in_site_stands count path site thing all e =
+in_site_stands : (P : Placed → Type 0) (path : List (List ℕ)) (site : Site) (thing : ExposedThing) → SiteHas P site → thing_in path site ≡ Some thing → AllByRecursion P thing.affordances
+in_site_stands P path site thing all e =
     let of_segment = came_of (λ (segment : List ℕ). thing_named segment site) (slice_get path 0) thing e in
-    thing_stands count of_segment.0 site thing all of_segment.2
+    thing_stands P of_segment.0 site thing all of_segment.2
 
-in_thing_stands : (count : ℕ) (k : Kind) (path : List (List ℕ)) (site : Site) (p : Placed) → SiteStands count site → affordance_in k path site ≡ Some p → p.slot < count
-in_thing_stands count k path site p all e =
+in_thing_stands : (P : Placed → Type 0) (k : Kind) (path : List (List ℕ)) (site : Site) (p : Placed) → SiteHas P site → affordance_in k path site ≡ Some p → P p
+in_thing_stands P k path site p all e =
     let of_thing = came_of (λ (thing : ExposedThing). option_and_then (λ (name : List ℕ). affordance_named k name thing.affordances) (slice_get path 2)) (thing_in path site) p e in
     let of_name = came_of (λ (name : List ℕ). affordance_named k name of_thing.0.affordances) (slice_get path 2) p of_thing.2 in
-    named_has (λ (x : Placed). x.slot < count) k of_name.0 of_thing.0.affordances p (in_site_stands count path site of_thing.0 all of_thing.1) of_name.2
+    named_has P k of_name.0 of_thing.0.affordances p (in_site_stands P path site of_thing.0 all of_thing.1) of_name.2
 
 -- ---- places and acts
 
--- what a place is about has slots
-abbrev HasSlots : ℕ → Place → Type 0
-HasSlots count (description thing) = AllStand count thing.affordances
-HasSlots count (all_properties thing) = AllStand count thing.affordances
-HasSlots count (property p) = p.slot < count
-HasSlots count (observed p) = p.slot < count
-HasSlots count (action p) = p.slot < count
-HasSlots count (invocation p id) = p.slot < count
-HasSlots count (event p) = p.slot < count
-HasSlots count (subscribed p) = p.slot < count
+-- what holds of all affordances of a site holds of what a place is about
+abbrev HasAll : (Placed → Type 0) → Place → Type 0
+HasAll P (description thing) = AllByRecursion P thing.affordances
+HasAll P (all_properties thing) = AllByRecursion P thing.affordances
+HasAll P (property p) = P p
+HasAll P (observed p) = P p
+HasAll P (action p) = P p
+HasAll P (invocation p id) = P p
+HasAll P (event p) = P p
+HasAll P (subscribed p) = P p
 
 -- the same, and an invocation that it is about is one of these
-abbrev PlaceStands : ℕ → State → Place → Type 0
-PlaceStands count s (description thing) = AllStand count thing.affordances
-PlaceStands count s (all_properties thing) = AllStand count thing.affordances
-PlaceStands count s (property p) = p.slot < count
-PlaceStands count s (observed p) = p.slot < count
-PlaceStands count s (action p) = p.slot < count
-PlaceStands count s (invocation p id) = (p.slot < count) × IsSome (invocation_named p.slot id s.invocations)
-PlaceStands count s (event p) = p.slot < count
-PlaceStands count s (subscribed p) = p.slot < count
+abbrev PlaceStands : (Placed → Type 0) → State → Place → Type 0
+PlaceStands P s (description thing) = AllByRecursion P thing.affordances
+PlaceStands P s (all_properties thing) = AllByRecursion P thing.affordances
+PlaceStands P s (property p) = P p
+PlaceStands P s (observed p) = P p
+PlaceStands P s (action p) = P p
+PlaceStands P s (invocation p id) = (P p) × IsSome (invocation_named p.slot id s.invocations)
+PlaceStands P s (event p) = P p
+PlaceStands P s (subscribed p) = P p
 
-root_stands : (count : ℕ) (site : Site) (thing : ExposedThing) → SiteStands count site → slice_get site 0 ≡ Some thing → AllStand count thing.affordances
-root_stands count [] thing all e = absurd cc
-root_stands count (t ∷ site) thing all e = subst (λ (x : ExposedThing). AllStand count x.affordances) (same_Some t thing e) all.0
+root_stands : (P : Placed → Type 0) (site : Site) (thing : ExposedThing) → SiteHas P site → slice_get site 0 ≡ Some thing → AllByRecursion P thing.affordances
+root_stands P [] thing all e = absurd cc
+root_stands P (t ∷ site) thing all e = subst (λ (x : ExposedThing). AllByRecursion P x.affordances) (same_Some t thing e) all.0
 
-observable_has : (count : ℕ) (p : Placed) (place : Place) → p.slot < count → where_observable p ≡ Some place → HasSlots count place
-observable_has count p place below e = by_test p.affordance.observable e
+observable_has : (P : Placed → Type 0) (p : Placed) (place : Place) → P p → where_observable p ≡ Some place → HasAll P place
+observable_has P p place below e = by_test p.affordance.observable e
   where
-    by_test : (b : Bool) → cond b (Some (observed p)) None ≡ Some place → HasSlots count place
-    by_test true is = subst (λ (x : Place). HasSlots count x) (same_Some (observed p) place is) below
+    by_test : (b : Bool) → cond b (Some (observed p)) None ≡ Some place → HasAll P place
+    by_test true is = subst (λ (x : Place). HasAll P x) (same_Some (observed p) place is) below
     by_test false is = absurd cc
 
-place_has : (count : ℕ) (form : RouteKind) (path : List (List ℕ)) (site : Site) (place : Place) → SiteStands count site → place_at form path site ≡ Some place → HasSlots count place
-place_has count route.Root path site place all e =
-    let of = made_of description (slice_get site 0) place e in subst (λ (x : Place). HasSlots count x) of.2 (root_stands count site of.0 all of.1)
-place_has count route.Thing path site place all e =
-    let of = made_of description (thing_in path site) place e in subst (λ (x : Place). HasSlots count x) of.2 (in_site_stands count path site of.0 all of.1)
-place_has count route.All path site place all e =
-    let of = made_of all_properties (thing_in path site) place e in subst (λ (x : Place). HasSlots count x) of.2 (in_site_stands count path site of.0 all of.1)
-place_has count route.Property path site place all e =
-    let of = made_of property (affordance_in kind.Property path site) place e in subst (λ (x : Place). HasSlots count x) of.2 (in_thing_stands count kind.Property path site of.0 all of.1)
-place_has count route.Observe path site place all e =
-    let of = came_of where_observable (affordance_in kind.Property path site) place e in observable_has count of.0 place (in_thing_stands count kind.Property path site of.0 all of.1) of.2
-place_has count route.Subscribe path site place all e =
-    let of = made_of subscribed (affordance_in kind.Event path site) place e in subst (λ (x : Place). HasSlots count x) of.2 (in_thing_stands count kind.Event path site of.0 all of.1)
-place_has count route.Action path site place all e =
-    let of = made_of action (affordance_in kind.Action path site) place e in subst (λ (x : Place). HasSlots count x) of.2 (in_thing_stands count kind.Action path site of.0 all of.1)
-place_has count (route.Invocation id) path site place all e =
+place_has : (P : Placed → Type 0) (form : RouteKind) (path : List (List ℕ)) (site : Site) (place : Place) → SiteHas P site → place_at form path site ≡ Some place → HasAll P place
+place_has P route.Root path site place all e =
+    let of = made_of description (slice_get site 0) place e in subst (λ (x : Place). HasAll P x) of.2 (root_stands P site of.0 all of.1)
+place_has P route.Thing path site place all e =
+    let of = made_of description (thing_in path site) place e in subst (λ (x : Place). HasAll P x) of.2 (in_site_stands P path site of.0 all of.1)
+place_has P route.All path site place all e =
+    let of = made_of all_properties (thing_in path site) place e in subst (λ (x : Place). HasAll P x) of.2 (in_site_stands P path site of.0 all of.1)
+place_has P route.Property path site place all e =
+    let of = made_of property (affordance_in kind.Property path site) place e in subst (λ (x : Place). HasAll P x) of.2 (in_thing_stands P kind.Property path site of.0 all of.1)
+place_has P route.Observe path site place all e =
+    let of = came_of where_observable (affordance_in kind.Property path site) place e in observable_has P of.0 place (in_thing_stands P kind.Property path site of.0 all of.1) of.2
+place_has P route.Subscribe path site place all e =
+    let of = made_of subscribed (affordance_in kind.Event path site) place e in subst (λ (x : Place). HasAll P x) of.2 (in_thing_stands P kind.Event path site of.0 all of.1)
+place_has P route.Action path site place all e =
+    let of = made_of action (affordance_in kind.Action path site) place e in subst (λ (x : Place). HasAll P x) of.2 (in_thing_stands P kind.Action path site of.0 all of.1)
+place_has P (route.Invocation id) path site place all e =
     let of = made_of (λ (p : Placed). invocation p id) (affordance_in kind.Action path site) place e in
-    subst (λ (x : Place). HasSlots count x) of.2 (in_thing_stands count kind.Action path site of.0 all of.1)
-place_has count route.Event path site place all e =
-    let of = made_of event (affordance_in kind.Event path site) place e in subst (λ (x : Place). HasSlots count x) of.2 (in_thing_stands count kind.Event path site of.0 all of.1)
-place_has count route.Things path site place all e = absurd cc
-place_has count route.Entry path site place all e = absurd cc
-place_has count route.Nowhere path site place all e = absurd cc
+    subst (λ (x : Place). HasAll P x) of.2 (in_thing_stands P kind.Action path site of.0 all of.1)
+place_has P route.Event path site place all e =
+    let of = made_of event (affordance_in kind.Event path site) place e in subst (λ (x : Place). HasAll P x) of.2 (in_thing_stands P kind.Event path site of.0 all of.1)
+place_has P route.Things path site place all e = absurd cc
+place_has P route.Entry path site place all e = absurd cc
+place_has P route.Nowhere path site place all e = absurd cc
 
-is_there : (count : ℕ) (s : State) (place found : Place) → PlaceStands count s place → Some place ≡ Some found → PlaceStands count s found
-is_there count s place found stands e = subst (λ (x : Place). PlaceStands count s x) (same_Some place found e) stands
+is_there : (P : Placed → Type 0) (s : State) (place found : Place) → PlaceStands P s place → Some place ≡ Some found → PlaceStands P s found
+is_there P s place found stands e = subst (λ (x : Place). PlaceStands P s x) (same_Some place found e) stands
 
 -- a place that is there
-place_stands : (count : ℕ) (s : State) (place found : Place) → HasSlots count place → where_stands s.invocations place ≡ Some found → PlaceStands count s found
-place_stands count s (invocation p id) found below e =
+place_stands : (P : Placed → Type 0) (s : State) (place found : Place) → HasAll P place → where_stands s.invocations place ≡ Some found → PlaceStands P s found
+place_stands P s (invocation p id) found below e =
     let of_invocation = made_of (λ (i : Invocation). invocation p id) (invocation_named p.slot id s.invocations) found e in
-    subst (λ (x : Place). PlaceStands count s x) of_invocation.2 (below, subst (λ (o : Option Invocation). IsSome o) (sym of_invocation.1) refl)
-place_stands count s (description t) found below e = is_there count s (description t) found below e
-place_stands count s (all_properties t) found below e = is_there count s (all_properties t) found below e
-place_stands count s (property p) found below e = is_there count s (property p) found below e
-place_stands count s (observed p) found below e = is_there count s (observed p) found below e
-place_stands count s (action p) found below e = is_there count s (action p) found below e
-place_stands count s (event p) found below e = is_there count s (event p) found below e
-place_stands count s (subscribed p) found below e = is_there count s (subscribed p) found below e
+    subst (λ (x : Place). PlaceStands P s x) of_invocation.2 (below, subst (λ (o : Option Invocation). IsSome o) (sym of_invocation.1) refl)
+place_stands P s (description t) found below e = is_there P s (description t) found below e
+place_stands P s (all_properties t) found below e = is_there P s (all_properties t) found below e
+place_stands P s (property p) found below e = is_there P s (property p) found below e
+place_stands P s (observed p) found below e = is_there P s (observed p) found below e
+place_stands P s (action p) found below e = is_there P s (action p) found below e
+place_stands P s (event p) found below e = is_there P s (event p) found below e
+place_stands P s (subscribed p) found below e = is_there P s (subscribed p) found below e
 
--- what an act asks of slots and of the state, but for room for a further invocation
-abbrev ActStands : ℕ → State → Act → Type 0
-ActStands count s (queries p id) = AllStand count (p ∷ []) × IsSome (invocation_named p.slot id s.invocations)
-ActStands count s (cancels p id) = AllStand count (p ∷ []) × IsSome (invocation_named p.slot id s.invocations)
-ActStands count s act = AllStand count (affordances_of_act act)
+-- what holds of the affordances of an act, and what it asks of the state, but for room for a further invocation
+abbrev ActStands : (Placed → Type 0) → State → Act → Type 0
+ActStands P s (queries p id) = AllByRecursion P (p ∷ []) × IsSome (invocation_named p.slot id s.invocations)
+ActStands P s (cancels p id) = AllByRecursion P (p ∷ []) × IsSome (invocation_named p.slot id s.invocations)
+ActStands P s act = AllByRecursion P (affordances_of_act act)
 
-of_stands : (count : ℕ) (s : State) (place : Place) (v : Verb) → PlaceStands count s place → ActStands count s (act_of place v)
-of_stands count s (description t) v stands = tt
-of_stands count s (all_properties t) verb.Get stands = stands
-of_stands count s (all_properties t) verb.Head stands = stands
-of_stands count s (all_properties t) verb.Put stands = stands
-of_stands count s (all_properties t) verb.Post stands = stands
-of_stands count s (all_properties t) verb.Patch stands = stands
-of_stands count s (all_properties t) verb.Delete stands = stands
-of_stands count s (all_properties t) verb.Other stands = stands
-of_stands count s (property p) verb.Get stands = (stands, tt)
-of_stands count s (property p) verb.Head stands = (stands, tt)
-of_stands count s (property p) verb.Put stands = (stands, tt)
-of_stands count s (property p) verb.Post stands = (stands, tt)
-of_stands count s (property p) verb.Patch stands = (stands, tt)
-of_stands count s (property p) verb.Delete stands = (stands, tt)
-of_stands count s (property p) verb.Other stands = (stands, tt)
-of_stands count s (observed p) v stands = tt
-of_stands count s (action p) v stands = (stands, tt)
-of_stands count s (invocation p id) verb.Get stands = ((stands.0, tt), stands.1)
-of_stands count s (invocation p id) verb.Head stands = ((stands.0, tt), stands.1)
-of_stands count s (invocation p id) verb.Put stands = ((stands.0, tt), stands.1)
-of_stands count s (invocation p id) verb.Post stands = ((stands.0, tt), stands.1)
-of_stands count s (invocation p id) verb.Patch stands = ((stands.0, tt), stands.1)
-of_stands count s (invocation p id) verb.Delete stands = ((stands.0, tt), stands.1)
-of_stands count s (invocation p id) verb.Other stands = ((stands.0, tt), stands.1)
-of_stands count s (event p) v stands = tt
-of_stands count s (subscribed p) v stands = tt
+of_stands : (P : Placed → Type 0) (s : State) (place : Place) (v : Verb) → PlaceStands P s place → ActStands P s (act_of place v)
+of_stands P s (description t) v stands = tt
+of_stands P s (all_properties t) verb.Get stands = stands
+of_stands P s (all_properties t) verb.Head stands = stands
+of_stands P s (all_properties t) verb.Put stands = stands
+of_stands P s (all_properties t) verb.Post stands = stands
+of_stands P s (all_properties t) verb.Patch stands = stands
+of_stands P s (all_properties t) verb.Delete stands = stands
+of_stands P s (all_properties t) verb.Other stands = stands
+of_stands P s (property p) verb.Get stands = (stands, tt)
+of_stands P s (property p) verb.Head stands = (stands, tt)
+of_stands P s (property p) verb.Put stands = (stands, tt)
+of_stands P s (property p) verb.Post stands = (stands, tt)
+of_stands P s (property p) verb.Patch stands = (stands, tt)
+of_stands P s (property p) verb.Delete stands = (stands, tt)
+of_stands P s (property p) verb.Other stands = (stands, tt)
+of_stands P s (observed p) v stands = tt
+of_stands P s (action p) v stands = (stands, tt)
+of_stands P s (invocation p id) verb.Get stands = ((stands.0, tt), stands.1)
+of_stands P s (invocation p id) verb.Head stands = ((stands.0, tt), stands.1)
+of_stands P s (invocation p id) verb.Put stands = ((stands.0, tt), stands.1)
+of_stands P s (invocation p id) verb.Post stands = ((stands.0, tt), stands.1)
+of_stands P s (invocation p id) verb.Patch stands = ((stands.0, tt), stands.1)
+of_stands P s (invocation p id) verb.Delete stands = ((stands.0, tt), stands.1)
+of_stands P s (invocation p id) verb.Other stands = ((stands.0, tt), stands.1)
+of_stands P s (event p) v stands = tt
+of_stands P s (subscribed p) v stands = tt
 
-act_stands : (count : ℕ) (s : State) (form : RouteKind) (place : Place) (v : Verb) (act : Act) → PlaceStands count s place → act_at form place v ≡ Some act → ActStands count s act
-act_stands count s form place v act stands e = by_test (is_listed v (verbs_of form (flags_of place))) e
+act_stands : (P : Placed → Type 0) (s : State) (form : RouteKind) (place : Place) (v : Verb) (act : Act) → PlaceStands P s place → act_at form place v ≡ Some act → ActStands P s act
+act_stands P s form place v act stands e = by_test (is_listed v (verbs_of form (flags_of place))) e
   where
-    by_test : (b : Bool) → cond b (Some (act_of place v)) None ≡ Some act → ActStands count s act
-    by_test true is = subst (λ (x : Act). ActStands count s x) (same_Some (act_of place v) act is) (of_stands count s place v stands)
+    by_test : (b : Bool) → cond b (Some (act_of place v)) None ≡ Some act → ActStands P s act
+    by_test true is = subst (λ (x : Act). ActStands P s x) (same_Some (act_of place v) act is) (of_stands P s place v stands)
     by_test false is = absurd cc
 
-asked_stands : (count : ℕ) (a : Asked) (act : Act) → SiteStands count a.site → act_asked a ≡ Some act → ActStands count a.state act
-asked_stands count a act all e =
+asked_stands : (P : Placed → Type 0) (a : Asked) (act : Act) → SiteHas P a.site → act_asked a ≡ Some act → ActStands P a.state act
+asked_stands P a act all e =
     let of = came_of (λ (place : Place). act_at (route_of a.request.path) place a.request.verb) (place_asked a) act e in
     let there = came_of (where_stands a.state.invocations) (place_at (route_of a.request.path) a.request.path a.site) of.0 of.1 in
-    act_stands count a.state (route_of a.request.path) of.0 a.request.verb act
-    (place_stands count a.state there.0 of.0 (place_has count (route_of a.request.path) a.request.path a.site there.0 all there.1) there.2) of.2
+    act_stands P a.state (route_of a.request.path) of.0 a.request.verb act
+    (place_stands P a.state there.0 of.0 (place_has P (route_of a.request.path) a.request.path a.site there.0 all there.1) there.2) of.2
 
-slots_of : (count : ℕ) (s : State) (act : Act) → ActStands count s act → AllStand count (affordances_of_act act)
-slots_of count s (queries p id) stands = stands.0
-slots_of count s (cancels p id) stands = stands.0
-slots_of count s act stands = stands
+slots_of : (P : Placed → Type 0) (s : State) (act : Act) → ActStands P s act → AllByRecursion P (affordances_of_act act)
+slots_of P s (queries p id) stands = stands.0
+slots_of P s (cancels p id) stands = stands.0
+slots_of P s act stands = stands
+
+-- what holds of all affordances of a site holds of those of what is asked for
+pub asked_have : (P : Placed → Type 0) (a : Asked) (act : Act) → SiteHas P a.site → act_asked a ≡ Some act → AllByRecursion P (affordances_of_act act)
+asked_have P a act all e = slots_of P a.state act (asked_stands P a act all e)
 
 pub slots_stand : (count : ℕ) (a : Asked) (act : Act) → SiteStands count a.site → act_asked a ≡ Some act → AllStand count (affordances_of_act act)
-slots_stand count a act all e = slots_of count a.state act (asked_stands count a act all e)
+slots_stand count a act all e = asked_have (λ p. p.slot < count) a act all e
 
 -- ---- the state
 
 at_most : (s : State) → ¬ (most_invocations ≤ running_count s.invocations) → running_count s.invocations < most_invocations
 at_most s full = omega (arith, full)
 
-done_by_act : (count : ℕ) (s : State) (act : Act) → ActStands count s act → ¬ (HasNoInvocationLeft s act) → MayBeDone act s
+done_by_act : (count : ℕ) (s : State) (act : Act) → ActStands (λ p. p.slot < count) s act → ¬ (HasNoInvocationLeft s act) → MayBeDone act s
 done_by_act count s (invokes p) stands free = at_most s free
 done_by_act count s (queries p id) stands free = stands.1
 done_by_act count s (cancels p id) stands free = stands.1
@@ -215,7 +223,7 @@ done_by_act count s act stands free = tt
 
 pub may_be_done : (count : ℕ) (a : Asked) (act : Act) → SiteStands count a.site → act_asked a ≡ Some act → NoneStands refusals a → MayBeDone act a.state
 may_be_done count a act all e none =
-    done_by_act count a.state act (asked_stands count a act all e)
+    done_by_act count a.state act (asked_stands (λ p. p.slot < count) a act all e)
     (λ full. none.1.1.1.1.1.1.1.0 (subst (λ (x : Option Act). Holding (HasNoInvocationLeft a.state) x) (sym e) full))
 
 -- ---- inputs

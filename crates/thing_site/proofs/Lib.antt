@@ -1,8 +1,7 @@
 pub mod Fitting
 pub mod Judging
 pub mod PlaceLaws
-mod VerbLaws
-mod InputLaws
+pub mod VerbLaws
 mod RisingLaws
 mod Halving
 mod IndexLaws

@@ -1,5 +1,5 @@
 -- What judging a request promises, as far as no state counts.
-use Rattle.std.specs.Prelude.{◌≡◌, ◌⊎◌, List, Option, Some, None, refl}
+use Rattle.std.specs.Prelude.{◌≡◌, ◌⊎◌, true, false, List, Option, Some, None, refl}
 use Rattle.std.specs.Coded.{Coded, code_by, coded×}
 use Rattle.wot_json.specs.Tree.{Json}
 use Rattle.wot_json.specs.JsonCodes.{json_code}
@@ -9,7 +9,23 @@ use Rattle.thing_ops.specs.Requests.{PlainRequest}
 use Rattle.thing_site.specs.Site.{Placed}
 use Rattle.thing_site.specs.SiteCodes.{placed_code}
 use Rattle.thing_site.specs.Places.{Act}
-use Rattle.thing_site.specs.Refusals.{Input, inputs_of, refusals_by_request, StandsByRequest, IsAnswer, IsFirst, IsNone}
+use Rattle.thing_site.specs.declared.formats.AnswerFormat.{AnswerFormat}
+use Rattle.thing_site.specs.declared.formats.BodyFormat.{BodyFormat}
+use Rattle.thing_site.specs.Refusals.{Input, inputs_of, is_acceptable, HasOtherFormat, refusals_by_request, StandsByRequest, IsAnswer, IsFirst, IsNone}
+
+-- ---- formats
+
+-- a request's formats are those that are asked for
+abbrev pub AreFormatsTaken : AnswerFormat → BodyFormat → PlainRequest → Type 0
+AreFormatsTaken answer body q = (is_acceptable answer q.accept ≡ true) × (¬ (HasOtherFormat body q))
+
+-- they aren't: the answer's, or else the body's
+abbrev pub AreFormatsRefused : AnswerFormat → BodyFormat → PlainRequest → Outcome → Type 0
+AreFormatsRefused answer body q o =
+    ((is_acceptable answer q.accept ≡ false) × (o ≡ outcome.NotAcceptable))
+    ⊎ ((is_acceptable answer q.accept ≡ true) × HasOtherFormat body q × (o ≡ outcome.Format))
+
+-- ---- what is handed in
 
 -- a body isn't as it should be, or it is out of memory
 abbrev pub HasNoInputs : Option (List Input) → Outcome → Type 0

@@ -11,6 +11,10 @@ use Rattle.thing_ops.specs.declared.request.Format.TheVariants as format
 use Rattle.thing_ops.specs.declared.outcome.Outcome.{Outcome}
 use Rattle.thing_ops.specs.declared.outcome.Outcome.TheVariants as outcome
 use Rattle.thing_ops.specs.Requests.{PlainRequest}
+use Rattle.thing_site.specs.declared.formats.AnswerFormat.{AnswerFormat}
+use Rattle.thing_site.specs.declared.formats.AnswerFormat.TheVariants as sent
+use Rattle.thing_site.specs.declared.formats.BodyFormat.{BodyFormat}
+use Rattle.thing_site.specs.declared.formats.BodyFormat.TheVariants as taken
 use Rattle.thing_site.specs.Site.{Placed, ExposedThing, affordance_named}
 use Rattle.thing_site.specs.Places.{Act, describes, reads_all, writes_many, reads, writes, invokes, queries, cancels, reads_event, waits}
 
@@ -71,30 +75,53 @@ inputs_of (waits p) body = no_inputs body
 -- ---- what an act asks of a request
 
 -- what its answer can be sent as: a description as either format, a value as JSON; other acts send no such thing
-abbrev pub is_acceptable : Act → Accept → Bool
-is_acceptable (describes thing) accept = accept.json || accept.td
-is_acceptable (reads_all thing) accept = accept.json
-is_acceptable (reads p) accept = accept.json
-is_acceptable (invokes p) accept = accept.json
-is_acceptable (queries p id) accept = accept.json
-is_acceptable (reads_event p) accept = accept.json
-is_acceptable (waits p) accept = accept.json
-is_acceptable (writes_many thing) accept = true
-is_acceptable (writes p) accept = true
-is_acceptable (cancels p id) accept = true
+abbrev pub answer_format : Act → AnswerFormat
+answer_format (describes thing) = sent.Description
+answer_format (reads_all thing) = sent.Json
+answer_format (reads p) = sent.Json
+answer_format (invokes p) = sent.Json
+answer_format (queries p id) = sent.Json
+answer_format (reads_event p) = sent.Json
+answer_format (waits p) = sent.Json
+answer_format (writes_many thing) = sent.Any
+answer_format (writes p) = sent.Any
+answer_format (cancels p id) = sent.Any
 
--- the formats in which a body is taken: JSON, which is also what a body is that names none; for a description that of
--- descriptions too
-abbrev pub is_description : Act → Bool
-is_description (describes thing) = true
-is_description act = false
+-- what its body is taken as: for a description also as descriptions are
+abbrev pub body_format : Act → BodyFormat
+body_format (describes thing) = taken.Description
+body_format act = taken.Json
 
-abbrev pub is_taken_format : Act → Format → Bool
-is_taken_format act format.Absent = true
-is_taken_format act format.Json = true
-is_taken_format act format.Td = is_description act
-is_taken_format act format.Patch = false
-is_taken_format act format.Other = false
+-- a sender takes what an answer can be sent as
+abbrev pub is_acceptable : AnswerFormat → Accept → Bool
+is_acceptable sent.Any accept = true
+is_acceptable sent.Json accept = accept.json
+is_acceptable sent.Description accept = accept.json || accept.td
+
+-- a body in this format is taken: JSON, which is also what a body is that names none, and the body's own
+abbrev pub is_taken_format : BodyFormat → Format → Bool
+is_taken_format b format.Absent = true
+is_taken_format b format.Json = true
+is_taken_format taken.Description format.Td = true
+is_taken_format taken.Patch format.Patch = true
+is_taken_format b f = false
+
+abbrev pub IsEmptyBody : List ℕ → Type 0
+IsEmptyBody bytes = bytes ≡ []
+
+abbrev pub HasOtherFormat : BodyFormat → PlainRequest → Type 0
+HasOtherFormat b q = (¬ (IsEmptyBody q.body)) × (is_taken_format b q.format ≡ false)
+
+-- What an act asks of a request, be it of a Thing or of what else there is (the directory): what its answer can be sent
+-- as, what its body is taken as, and what a body hands in to handlers; None: the body isn't as it should be.
+pub record Demands : Type 0 where
+  pub answer : AnswerFormat
+  pub body : BodyFormat
+  pub inputs : List ℕ → Option (List Input)
+
+-- the table of the acts of Things
+abbrev pub demands_of : Act → Demands
+demands_of act = record { answer = answer_format act; body = body_format act; inputs = inputs_of act }
 
 -- some input is so
 abbrev pub SomeInput : (Input → Type 0) → List Input → Type 0
@@ -128,23 +155,24 @@ abbrev pub Holding : {A : Type 0} → (A → Type 0) → Option A → Type 0
 Holding P None = ⊥
 Holding P (Some a) = P a
 
-abbrev pub IsEmptyBody : List ℕ → Type 0
-IsEmptyBody body = body ≡ []
-
--- when each of them holds of an act that is asked for, in every state
-abbrev pub StandsByRequest : Refusal → Act → PlainRequest → Type 0
+-- when each of them holds of what is asked for, in every state
+abbrev pub StandsBy : Refusal → Demands → PlainRequest → Type 0
 -- the sender takes no format that the answer has
-StandsByRequest answer_not_acceptable act q = is_acceptable act q.accept ≡ false
+StandsBy answer_not_acceptable d q = is_acceptable d.answer q.accept ≡ false
 -- it has a body in a format that isn't taken there
-StandsByRequest format_not_taken act q = (¬ (IsEmptyBody q.body)) × (is_taken_format act q.format ≡ false)
+StandsBy format_not_taken d q = HasOtherFormat d.body q
 -- its body is missing, unwanted, can't be read, or isn't an object of properties that may be written
-StandsByRequest body_not_as_wanted act q = inputs_of act q.body ≡ None
+StandsBy body_not_as_wanted d q = d.inputs q.body ≡ None
 -- a value is longer than is taken
-StandsByRequest value_too_large act q = Holding (SomeInput IsLong) (inputs_of act q.body)
+StandsBy value_too_large d q = Holding (SomeInput IsLong) (d.inputs q.body)
 -- a schema refuses a value
-StandsByRequest refused_by_schema act q = Holding (SomeInput IsRefusedBySchema) (inputs_of act q.body)
+StandsBy refused_by_schema d q = Holding (SomeInput IsRefusedBySchema) (d.inputs q.body)
 -- the others aren't judged by the request alone
-StandsByRequest r act q = ⊥
+StandsBy r d q = ⊥
+
+-- the same of an act of Things
+abbrev pub StandsByRequest : Refusal → Act → PlainRequest → Type 0
+StandsByRequest r act q = StandsBy r (demands_of act) q
 
 -- what those against an act are answered with
 abbrev pub IsAnswer : Refusal → Outcome → Type 0

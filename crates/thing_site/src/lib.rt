@@ -24,6 +24,7 @@
 #![tactic(auto)]
 
 mod fault;
+mod formats;
 mod held;
 mod indexed;
 mod input;
@@ -35,11 +36,12 @@ mod slots;
 mod wanted;
 
 pub use fault::ExposeFault;
+pub use formats::{AnswerFormat, BodyFormat, judge_formats};
 pub use held::HeldThing;
 pub use indexed::IndexedThings;
 pub use input::Input;
 pub use place::{Act, Place, act_at, place_at, target_at};
-pub use refusing::{LONGEST_VALUE, is_accepted, judge};
+pub use refusing::{LONGEST_VALUE, is_accepted, judge, value_in};
 pub use servient_base::NoMemory;
 pub use site::{Spot, is_emitter, is_kind};
 pub use slots::Slots;

@@ -9,9 +9,10 @@ ghost use Rattle.thing_site.specs.Refusals as refusal;
 ghost use Rattle.thing_site.specs.Found.{found_act};
 ghost use Rattle.thing_site.specs.HandedIn.{HasNoInputs, IsRefusedByRequest, IsUnrefused};
 
+use crate::formats::{AnswerFormat, BodyFormat, judge_formats};
 use crate::{Act, HeldThing, Input, NoMemory, Spot};
 use std::alloc::Global;
-use thing_ops::{Accept, Format, Outcome, Request};
+use thing_ops::{Outcome, Request};
 use wot_json::{Members, ReadFault, Tree, read};
 use wot_schema::Schema;
 use wot_terms::Kind;
@@ -30,12 +31,7 @@ pub fn judge<'a>(
     ensures ok { IfOk result (λ inputs. IsUnrefused (found_act act.now) (plain_request request.now) inputs.items) }
     ensures fault { IfErr result (λ o. IsRefusedByRequest (found_act act.now) (plain_request request.now) o) }
 {
-    if !is_acceptable(act, request.accept) {
-        return Err(Outcome::NotAcceptable);
-    }
-    if has_other_format(act, request) {
-        return Err(Outcome::Format);
-    }
+    judge_formats(answer_format(act), body_format(act), request)?;
     let inputs = inputs_of(alloc, act, request.body)?;
     if is_any_long(inputs.as_slice()) {
         return Err(Outcome::TooLarge);
@@ -46,50 +42,29 @@ pub fn judge<'a>(
     Ok(inputs)
 }
 
-/// The sender takes what the answer of the act can be sent as.
-fn is_acceptable(act: &Act<'_>, accept: Accept) -> bool
-    ensures { result ≡ refusal.is_acceptable (found_act act.now) accept }
+/// What the answer of an act can be sent as.
+fn answer_format(act: &Act<'_>) -> AnswerFormat
+    ensures { result ≡ refusal.answer_format (found_act act.now) }
 {
     match act {
-        Act::Describes(_) => accept.json || accept.td,
+        Act::Describes(_) => AnswerFormat::Description,
         Act::ReadsAll(_)
         | Act::Reads(_)
         | Act::Invokes(_)
         | Act::Queries(_, _)
         | Act::ReadsEvent(_)
-        | Act::Waits(_) => accept.json,
-        Act::WritesMany(_) | Act::Writes(_) | Act::Cancels(_, _) => true,
+        | Act::Waits(_) => AnswerFormat::Json,
+        Act::WritesMany(_) | Act::Writes(_) | Act::Cancels(_, _) => AnswerFormat::Any,
     }
 }
 
-/// The request has a body in a format that isn't taken.
-fn has_other_format(act: &Act<'_>, request: &Request<'_>) -> bool
-    ensures { IsTrue result ↔ ((¬ (refusal.IsEmptyBody (plain_request request.now).body)) × (refusal.is_taken_format (found_act act.now) request.now.format ≡ false)) }
-{
-    if request.body.is_empty() {
-        return false;
-    }
-    !is_taken_format(act, request.format)
-}
-
-/// The act takes a body of this format.
-fn is_taken_format(act: &Act<'_>, format: Format) -> bool
-    ensures { result ≡ refusal.is_taken_format (found_act act.now) format }
-{
-    match format {
-        Format::Absent | Format::Json => true,
-        Format::Td => is_description(act),
-        Format::Patch | Format::Other => false,
-    }
-}
-
-/// The act describes a Thing.
-fn is_description(act: &Act<'_>) -> bool
-    ensures { result ≡ refusal.is_description (found_act act.now) }
+/// What the body of an act is taken as.
+fn body_format(act: &Act<'_>) -> BodyFormat
+    ensures { result ≡ refusal.body_format (found_act act.now) }
 {
     match act {
-        Act::Describes(_) => true,
-        _ => false,
+        Act::Describes(_) => BodyFormat::Description,
+        _ => BodyFormat::Json,
     }
 }
 
@@ -146,8 +121,8 @@ fn one_input<'a>(alloc: Global, spot: Spot<'a>, body: &[u8]) -> Result<Vec<Input
     Ok(inputs)
 }
 
-/// The value that a body is.
-fn value_in(alloc: Global, body: &[u8]) -> Result<Tree, Outcome>
+/// The value that a body is, where it is a JSON text; else the outcome.
+pub fn value_in(alloc: Global, body: &[u8]) -> Result<Tree, Outcome>
     ensures ok { IfOk result (λ value. tree_of body.now ≡ Some (json_of value)) }
     ensures fault { IfErr result (λ o. (o ≡ Outcome.Memory) ⊎ ((tree_of body.now ≡ None) × (o ≡ Outcome.BadValue))) }
 {

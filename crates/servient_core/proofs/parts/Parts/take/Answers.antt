@@ -1,14 +1,13 @@
-use Rattle.std.proofs.Common.{◌∙◌, List, ℕ, sym, subst, arith, ap}
+use Rattle.std.proofs.Common.{◌∙◌, List, ℕ, refl, sym, subst, arith, ap}
 use Rattle.servient_base.specs.Moves.{Each, Refines}
 use Rattle.thing_ops.specs.Requests.{plain_request}
 use Rattle.thing_site.specs.Site.{Site}
 use Rattle.thing_site.specs.Fits.{Fits}
 use Rattle.coap_exchange.specs.Table.{Table}
-use Rattle.thing_core.proofs.ThingLaws.{fits_on}
 use Rattle.servient_core.specs.Trace.{outside, Shows}
 use Rattle.servient_core.specs.Machine.{Delivers}
 use Rattle.servient_core.specs.Serving.{StandsFor}
-use Rattle.servient_core.proofs.PartLaws.{others_keep}
+use Rattle.servient_core.proofs.PartLaws.{others_keep, refines_by_http}
 use Rattle.servient_core.proofs.LoopLaws.{others_then, others_all}
 use Rattle.servient_core.proofs.ConnectionLaws.{takes_nothing, takes_continue, takes_fault, takes_unread, takes_interruption, takes_request}
 use Rattle.servient_core.proofs.parts.Parts.take.Goals as goal
@@ -68,33 +67,36 @@ returns-in-Memory-clause-less g c = λ more. omega (arith, c.in-Memory.ensures.l
 pub returns-in-Ask-clause-takes : goal.returns-in-Ask-clause-takes
 returns-in-Ask-clause-takes g c =
     let asked = c.in-Ask.ensures.gives in
-    let done = c.perform-outcome.ensures.performed in
+    let made = c.perform_by_http-outcome.ensures in
     let k = c.args.self.now in
+    let q = plain_request c.in-Ask.request in
+    let e = c.perform_by_http-outcome.new.exposed in
+    let f = c.perform_by_http-outcome.new.directory in
     let before = g.R.Handlers.slots c.args.rack.now in
-    let after = g.R.Handlers.slots c.perform-outcome.new.rack in
+    let after = g.R.Handlers.slots c.perform_by_http-outcome.new.rack in
     let n = g.N.Net.seen c.args.net.now in
     let m = g.N.Net.seen c.answer-in-Ask.new.net in
     let v = outside (g.N.Net.seen c.deliver.new.net) after in
-    takes_request k.exposed.site c.args.c (plain_request c.in-Ask.request) done.done c.perform-outcome.result k c.deliver.new.self c.next.new.self c.answer-in-Ask.new.http
-    c.perform-outcome.new.exposed n m before after v asked.0 done.made done.outcome c.answer-in-Ask.ensures.answered
-    (subst (λ (ts : List ℕ). Refines StandsFor Shows (Each Delivers ts) (record k { http = c.answer-in-Ask.new.http; exposed = c.perform-outcome.new.exposed }) c.deliver.new.self (outside m after) v)
-    done.pending (c.deliver.ensures.delivered after))
+    takes_request k.exposed.site c.args.c q made.done c.perform_by_http-outcome.result k c.deliver.new.self c.next.new.self c.answer-in-Ask.new.http
+    e f n m before after v asked.0
+    (refines_by_http k.exposed.site q c.perform_by_http-outcome.result (record k { http = c.next.new.self }) e f n before after made refl)
+    made.outcome c.answer-in-Ask.ensures.answered
+    (subst (λ (ts : List ℕ). Refines StandsFor Shows (Each Delivers ts) (record k { http = c.answer-in-Ask.new.http; exposed = e; directory = f }) c.deliver.new.self (outside m after) v)
+    made.pending (c.deliver.ensures.delivered after))
 
 pub returns-in-Ask-clause-on : goal.returns-in-Ask-clause-on
 returns-in-Ask-clause-on g c =
-    let done = c.perform-outcome.ensures.performed in
+    let made = c.perform_by_http-outcome.ensures in
     let only = c.deliver.ensures.only in
     record {
       connection = c.requires.on.connection;
       pending = c.deliver.ensures.pending;
       moment = omega (arith, c.requires.on.moment, only.moment, ap (λ (x : Table). x.moment) only.exchanges);
-      fits = subst (λ (site : Site). Fits site (g.R.Handlers.slots c.perform-outcome.new.rack)) (sym only.site)
-          (fits_on c.args.self.now.exposed c.perform-outcome.new.exposed (plain_request c.in-Ask.request) c.perform-outcome.result
-          (g.R.Handlers.slots c.args.rack.now) (g.R.Handlers.slots c.perform-outcome.new.rack) done c.requires.on.fits);
+      fits = subst (λ (site : Site). Fits site (g.R.Handlers.slots c.perform_by_http-outcome.new.rack)) (sym only.site) (made.fits c.requires.on.fits);
     }
 
 pub returns-in-Ask-clause-site : goal.returns-in-Ask-clause-site
-returns-in-Ask-clause-site g c = c.deliver.ensures.only.site ∙ c.perform-outcome.ensures.performed.site
+returns-in-Ask-clause-site g c = c.deliver.ensures.only.site ∙ c.perform_by_http-outcome.ensures.site
 
 pub returns-in-Ask-clause-left : goal.returns-in-Ask-clause-left
 returns-in-Ask-clause-left g c =

@@ -3,7 +3,7 @@ use Rattle.thing_ops.specs.declared.outcome.Outcome.{Outcome}
 use Rattle.thing_ops.specs.Requests.{plain_request}
 use Rattle.servient_core.specs.Keeping.{IsSendable}
 use Rattle.servient_core.proofs.OutcomeLaws.{acts_sendable}
-use Rattle.servient_core.proofs.parts.perform.Goals as goal
+use Rattle.servient_core.proofs.performing.perform.Goals as goal
 
 pub returns-clause-sendable : goal.returns-clause-sendable
 returns-clause-sendable g c = λ short.

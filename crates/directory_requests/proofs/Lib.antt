@@ -1,0 +1,5 @@
+pub mod EntryPaths
+pub mod JudgeLaws
+pub mod TaskLaws
+pub mod DigitLaws
+mod Places

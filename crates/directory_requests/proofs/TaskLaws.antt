@@ -1,0 +1,113 @@
+-- What is to be done tells the act that was asked for; and an act on an entry was asked for at the path of one.
+use Rattle.std.proofs.Common.{◌≡◌, ℕ, List, [], ◌∷◌, Bool, true, false, refl, sym, ap, subst, ◌∙◌, inl, inr}
+use Rattle.std.proofs.lemmas.Option.{same_Some}
+use Rattle.std.specs.Prelude.{Option, Some, None, if◌then◌else◌}
+use Rattle.wot_json.specs.Meaning.{json_of}
+use Rattle.wot_json.specs.Reading.{tree_of}
+use Rattle.wot_json.specs.declared.tree.Tree.{Tree}
+use Rattle.thing_ops.specs.declared.verb.Verb.{Verb}
+use Rattle.thing_ops.specs.declared.verb.Verb.TheVariants as verb
+use Rattle.thing_ops.specs.declared.routing.RouteKind.{RouteKind}
+use Rattle.thing_ops.specs.declared.routing.RouteKind.TheVariants as route
+use Rattle.thing_ops.specs.declared.outcome.Outcome.{Outcome}
+use Rattle.thing_ops.specs.Requests.{PlainRequest}
+use Rattle.thing_ops.specs.Routes.{route_of}
+use Rattle.thing_ops.specs.Verbs.{verbs_of}
+use Rattle.thing_site.specs.Places.{is_listed}
+use Rattle.wot_directory.specs.Contents.{Contents}
+use Rattle.directory_requests.specs.declared.act.DirectoryAct.{DirectoryAct}
+use Rattle.directory_requests.specs.declared.act.DirectoryAct.TheVariants as act
+use Rattle.directory_requests.specs.declared.judging.Task.{Task}
+use Rattle.directory_requests.specs.declared.judging.Task.TheVariants as task
+use Rattle.directory_requests.specs.Asked.{is_of_directory, act_of, act_at, act_asked, id_in, no_flags}
+use Rattle.directory_requests.specs.Judged.{IsTask, IsJudged, IsOrMemory, IsRefusedOrMemory}
+use Rattle.directory_requests.specs.Window.{window_of}
+use Rattle.wot_json.specs.Lookup.{member_named}
+use Rattle.directory_requests.specs.Requests.{listed_by, shown, CreatesEntry, PutsEntry, PatchesEntry, RemovesEntry, Performs, DirectoryActs, refuses, is_out_of_memory, performs}
+
+-- ---- the act of what is to be done
+
+abbrev pub act_of_task : Task → DirectoryAct
+act_of_task task.Lists = act.Lists
+act_of_task (task.Creates tree) = act.Creates
+act_of_task task.Shows = act.Shows
+act_of_task (task.Puts tree) = act.Puts
+act_of_task (task.Patches tree) = act.Patches
+act_of_task task.Removes = act.Removes
+
+same_act : (a : DirectoryAct) (body : List ℕ) (t : Task) → IsTask a body t → a ≡ act_of_task t
+same_act act.Lists body task.Lists e = refl
+same_act act.Creates body (task.Creates tree) e = refl
+same_act act.Shows body task.Shows e = refl
+same_act act.Puts body (task.Puts tree) e = refl
+same_act act.Patches body (task.Patches tree) e = refl
+same_act act.Removes body task.Removes e = refl
+same_act a body t e = absurd e
+
+pub asked_act : (q : PlainRequest) (t : Task) → IsJudged q t → act_asked q ≡ Some (act_of_task t)
+asked_act q t j = j.asked ∙ ap (λ (a : DirectoryAct). Some a) (same_act j.act q.body t j.is_task)
+
+pub body_is : (q : PlainRequest) (t : Task) → IsJudged q t → IsTask (act_of_task t) q.body t
+body_is q t j = subst (λ (a : DirectoryAct). IsTask a q.body t) (same_act j.act q.body t j.is_task) j.is_task
+
+-- it is done
+pub does : (q : PlainRequest) (t : Task) (o : Outcome) (d e : Contents) → IsJudged q t → Performs (act_of_task t) q o d e → DirectoryActs q o d e
+does q t o d e j done = performs (act_of_task t) (asked_act q t j) j.unrefused done
+
+-- each of them, by what the function that does it says
+pub lists : (q : PlainRequest) (o : Outcome) (d : Contents) → IsJudged q task.Lists → IsOrMemory (listed_by (window_of q.query) d.entries) o → DirectoryActs q o d d
+lists q o d j (inl is) = does q task.Lists o d d j (is, refl)
+lists q o d j (inr memory) = is_out_of_memory memory refl
+
+pub creates : (q : PlainRequest) (tree : Tree) (o : Outcome) (d t : Contents) → IsJudged q (task.Creates tree) → CreatesEntry (json_of tree) o d t → DirectoryActs q o d t
+creates q tree o d t j done = does q (task.Creates tree) o d t j (json_of tree, body_is q (task.Creates tree) j, done)
+
+pub shows : (q : PlainRequest) (id : List ℕ) (o : Outcome) (d : Contents) → IsJudged q task.Shows → id ≡ id_in q.path → IsOrMemory (shown (member_named id d.entries) q.accept) o
+    → DirectoryActs q o d d
+shows q id o d j same (inl is) = does q task.Shows o d d j (subst (λ (x : List ℕ). o ≡ shown (member_named x d.entries) q.accept) same is, refl)
+shows q id o d j same (inr memory) = is_out_of_memory memory refl
+
+pub puts : (q : PlainRequest) (id : List ℕ) (tree : Tree) (o : Outcome) (d t : Contents) → IsJudged q (task.Puts tree) → id ≡ id_in q.path → PutsEntry id (json_of tree) o d t
+    → DirectoryActs q o d t
+puts q id tree o d t j same done =
+    does q (task.Puts tree) o d t j (json_of tree, body_is q (task.Puts tree) j, subst (λ (x : List ℕ). PutsEntry x (json_of tree) o d t) same done)
+
+pub patches : (q : PlainRequest) (id : List ℕ) (tree : Tree) (o : Outcome) (d t : Contents) → IsJudged q (task.Patches tree) → id ≡ id_in q.path → PatchesEntry id (json_of tree) o d t
+    → DirectoryActs q o d t
+patches q id tree o d t j same done =
+    does q (task.Patches tree) o d t j (json_of tree, body_is q (task.Patches tree) j, subst (λ (x : List ℕ). PatchesEntry x (json_of tree) o d t) same done)
+
+pub removes : (q : PlainRequest) (id : List ℕ) (o : Outcome) (d t : Contents) → IsJudged q task.Removes → id ≡ id_in q.path → RemovesEntry id o d t → DirectoryActs q o d t
+removes q id o d t j same done = does q task.Removes o d t j (subst (λ (x : List ℕ). RemovesEntry x o d t) same done)
+
+-- a request that is refused
+pub refused : (q : PlainRequest) (o : Outcome) (d : Contents) → IsRefusedOrMemory q o → DirectoryActs q o d d
+refused q o d (inl memory) = is_out_of_memory memory refl
+refused q o d (inr is) = refuses is refl
+
+-- ---- where it was asked for
+
+abbrev pub is_on_entry : DirectoryAct → Bool
+is_on_entry act.Lists = false
+is_on_entry act.Creates = false
+is_on_entry a = true
+
+at_entry : (form : RouteKind) (v : Verb) → (is_of_directory form ≡ false → ⊥) → is_on_entry (act_of form v) ≡ true → form ≡ route.Entry
+at_entry route.Entry v of_directory on = refl
+at_entry route.Things verb.Post of_directory on = absurd cc
+at_entry route.Things verb.Get of_directory on = absurd cc
+at_entry route.Things verb.Head of_directory on = absurd cc
+at_entry route.Things verb.Put of_directory on = absurd cc
+at_entry route.Things verb.Patch of_directory on = absurd cc
+at_entry route.Things verb.Delete of_directory on = absurd cc
+at_entry route.Things verb.Other of_directory on = absurd cc
+at_entry form v of_directory on = absurd (of_directory refl)
+
+the_act : (form : RouteKind) (v : Verb) (a : DirectoryAct) (b : Bool) → (if b then Some (act_of form v) else None) ≡ Some a → act_of form v ≡ a
+the_act form v a true e = same_Some (act_of form v) a e
+the_act form v a false e = absurd cc
+
+pub on_entry : (q : PlainRequest) (t : Task) → IsJudged q t → is_on_entry (act_of_task t) ≡ true → route_of q.path ≡ route.Entry
+on_entry q t j on =
+    let is = the_act (route_of q.path) q.verb (act_of_task t) (is_listed q.verb (verbs_of (route_of q.path) no_flags)) (asked_act q t j) in
+    at_entry (route_of q.path) q.verb j.unrefused.0 (ap is_on_entry is ∙ on)

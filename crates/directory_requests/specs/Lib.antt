@@ -1,0 +1,5 @@
+pub mod Asked
+pub mod Window
+pub mod Items
+pub mod Requests
+pub mod Judged

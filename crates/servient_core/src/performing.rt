@@ -1,0 +1,56 @@
+//! A request is performed: by the Things, or, where it came by HTTP and its path is one of the directory's, by the
+//! directory.
+
+ghost use Rattle.std.specs.Prelude.{◌≡◌, ◌≤◌, [], length};
+ghost use Rattle.std.specs.List.{All};
+ghost use Rattle.thing_ops.specs.Requests.{plain_request};
+ghost use Rattle.thing_site.specs.Fits.{Fits};
+ghost use Rattle.thing_core.specs.Performing.{MakesAct};
+ghost use Rattle.coap_opts.specs.PlainAsk.{plain_ask};
+ghost use Rattle.servient_core.specs.Machine.{observed_target};
+ghost use Rattle.servient_core.specs.Keeping.{IsSendable, MakesByHttp};
+
+use coap_opts::CoapAsk;
+use directory_requests::{DirectoryServer, is_of_directory};
+use thing_core::Exposed;
+use thing_handler::Handlers;
+use thing_ops::{Outcome, Request, route};
+
+/// Does what a request by HTTP asks. What it emits waits to be delivered.
+pub fn perform_by_http<R: Handlers>(
+    exposed: &mut Exposed,
+    directory: &mut DirectoryServer,
+    rack: &mut R,
+    request: &Request<'_>,
+) -> Outcome
+    requires pending { exposed.old.pending ≡ [] }
+    requires fits { Fits exposed.old.site (R.slots rack.old) }
+    ensures { MakesByHttp exposed.old exposed.new directory.old directory.new (plain_request request.now) result (R.slots rack.old) (R.slots rack.new) }
+{
+    if is_of_directory(route(&request.path)) {
+        return directory.perform(request);
+    }
+    perform(exposed, rack, request)
+}
+
+/// Does what a request asks. What it emits waits to be delivered.
+pub fn perform<R: Handlers>(exposed: &mut Exposed, rack: &mut R, request: &Request<'_>) -> Outcome
+    requires pending { exposed.old.pending ≡ [] }
+    requires fits { Fits exposed.old.site (R.slots rack.old) }
+    ensures performed { MakesAct exposed.old exposed.new (plain_request request.now) result (R.slots rack.old) (R.slots rack.new) }
+    ensures sendable { All (λ segment. length segment ≤ 255) request.now.path → IsSendable result }
+{
+    // For the proof: the number that was read has 64 bits.
+    let _next = exposed.next_invocation();
+    exposed.perform(rack, request)
+}
+
+/// What a request may observe: the target of its path, where it says Observe.
+pub fn observed_by(exposed: &Exposed, ask: &CoapAsk<'_>) -> Option<u32>
+    ensures { result ≡ observed_target exposed.now.site exposed.now.state (plain_ask ask.now) }
+{
+    match ask.observe {
+        Some(_) => exposed.target_of(&ask.request.path),
+        None => None,
+    }
+}

@@ -1,0 +1,5 @@
+mod Histories
+mod RequestLaws
+mod FoundKinds
+mod CallLaws
+mod RunCalls

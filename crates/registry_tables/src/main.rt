@@ -2,15 +2,17 @@
 //! and what comes of it.
 //!
 //! ```text
-//! dates   MILLISECONDS => the text of the date and time that lies so many after the start of 1970
-//! asked   JSON => the time to live that a description asks for or the fault, and what is kept of it
-//! shown   EPOCH CREATED MODIFIED TTL JSON => a description as it is given out, and as a patch is applied to it
+//! dates       MILLISECONDS => the text of the date and time that lies so many after the start of 1970
+//! asked       JSON => the time to live that a description asks for or the fault, and what is kept of it
+//! shown       EPOCH CREATED MODIFIED TTL JSON => a description as it is given out, and as a patch is applied to it
+//! histories   MOMENT CALL => what it answers, where the calls up to an empty line are those of one directory
 //! ```
 //!
 //! The program prints each row with what does come of it, and each other line as it is: so it prints its files, if all
 //! is right.
 #![tactic(auto)]
 
+mod histories;
 mod registrations;
 
 use std::alloc::{AllocError, Global};
@@ -35,19 +37,28 @@ fn put_row(text: &mut String, alloc: Global, table: &str, given: &str) -> Result
     }
 }
 
-/// The rows of a file, each with what comes of it.
-fn page(alloc: Global, table: &str, lines: &str) -> Result<String, AllocError> {
-    let mut text = String::new(alloc);
+/// Writes the rows of a file, each with what comes of it.
+fn put_rows(text: &mut String, alloc: Global, table: &str, lines: &str) -> Result<(), AllocError> {
     for line in lines.lines() {
         match line.split_once(" => ") {
             Some((given, _wanted)) => {
                 text.push_str(given)?;
                 text.push_str(" => ")?;
-                put_row(&mut text, alloc, table, given)?;
+                put_row(text, alloc, table, given)?;
             }
             None => text.push_str(line)?,
         }
         text.push_str("\n")?;
+    }
+    Ok(())
+}
+
+/// A file with what comes of it.
+fn page(alloc: Global, table: &str, lines: &str) -> Result<String, AllocError> {
+    let mut text = String::new(alloc);
+    match table {
+        "histories" => histories::put_histories(&mut text, alloc, lines)?,
+        _ => put_rows(&mut text, alloc, table, lines)?,
     }
     Ok(text)
 }

@@ -15,7 +15,7 @@ const LAST_MOMENT: u64 = 1_000_000_000_000_000;
 const LATEST_EPOCH: u64 = 253_402_300_799_999;
 
 /// The tree of a JSON text; what is none counts as out of memory.
-fn tree_of(alloc: Global, text: &str) -> Result<Tree, AllocError> {
+pub fn tree_of(alloc: Global, text: &str) -> Result<Tree, AllocError> {
     match read(alloc, text.as_bytes()) {
         Ok(tree) => Ok(tree),
         Err(_) => Err(AllocError),
@@ -23,7 +23,7 @@ fn tree_of(alloc: Global, text: &str) -> Result<Tree, AllocError> {
 }
 
 /// Writes a tree.
-fn put_tree(text: &mut String, alloc: Global, tree: &Tree) -> Result<(), AllocError> {
+pub fn put_tree(text: &mut String, alloc: Global, tree: &Tree) -> Result<(), AllocError> {
     let bytes = text_of(alloc, tree)?;
     text.push_str(str::from_utf8(bytes.as_slice()).unwrap_or("no text"))
 }
@@ -52,7 +52,7 @@ fn ttl_of(written: &str) -> Option<u32> {
 }
 
 /// A moment as it is written.
-fn moment(written: &str) -> u64
+pub fn moment(written: &str) -> u64
     ensures { result ≤ last_moment }
 {
     written.parse::<u64>().unwrap_or(0).min(LAST_MOMENT)

@@ -3,3 +3,12 @@ mod Digits
 mod Start
 mod Moments
 mod Members
+mod Names
+mod KeptTimes
+mod Expiring
+mod Due
+mod Standing
+mod HistoryLaws
+mod FullLaws
+mod CallLaws
+mod Listed

@@ -1,8 +1,8 @@
 -- The registration information of a description (WoT Discovery): what is asked for by it, and what is said in it.
-use Rattle.std.specs.Prelude.{◌≡◌, ◌+◌, ◌*◌, ◌&&◌, ◌≤ℤ◌, ℕ, ℤ, pos, List, Option, Some, None, Bool, nat_le, unsigned_abs, codes, if◌then◌else◌}
+use Rattle.std.specs.Prelude.{◌+◌, ◌*◌, ◌&&◌, ℕ, ℤ, pos, List, Option, Some, None, unsigned_abs, codes, if◌then◌else◌}
 use Rattle.std.specs.Prelude.{[], ◌∷◌}
 use Rattle.std.specs.Ordering.{int_cmp, is_le}
-use Rattle.wot_json.specs.Tree.{Json, null, boolean, integer, string, array, object, Members, no_members, member, members_of}
+use Rattle.wot_json.specs.Tree.{Json, null, boolean, integer, string, array, object, no_members, member, members_of}
 use Rattle.wot_json.specs.Lookup.{member_list, member_named, value_under}
 use Rattle.wot_json.specs.Merge.{without_member, members_under, merge}
 use Rattle.wot_registry.specs.Times.{Times, longest_ttl}

@@ -1,10 +1,11 @@
 -- The times of a directory's entries (WoT Discovery, registration information). Moments are milliseconds.
-use Rattle.std.specs.Prelude.{ℕ, ◌+◌, ◌*◌, List, Option, Some, None, Bool, true, false, not, nat_le, option_map, refl}
+use Rattle.std.specs.Prelude.{ℕ, ◌+◌, ◌*◌, List, Option, Some, None, Bool, true, false, not, nat_le, filter, option_map, refl}
 use Rattle.std.specs.Coded.{Coded, code_by, coded×, coded_ℕ, coded_option, coded_list}
-use Rattle.std.specs.Map.{lookup, remove_entry}
-use Rattle.std.specs.BTreeMap.{is_at, insert_entry}
+use Rattle.std.specs.Map.{lookup}
+use Rattle.std.specs.BTreeMap.{insert_entry}
 use Rattle.std.specs.Ordering.{nat_cmp}
 use Rattle.std.specs.Cmp.Lexicographic.{slice_cmp}
+use Rattle.std.specs.Str.{bytes_eq}
 
 -- when an entry was created and last changed, and its time to live in seconds, where it has one
 pub record Times : Type 0 where
@@ -42,14 +43,26 @@ stands now t = not (is_reached now (expiry t))
 
 -- the times of the entry of this id, where it has some
 abbrev pub times_of : List ℕ → List (List ℕ × Times) → Option Times
-times_of id ts = lookup (is_at (slice_cmp nat_cmp id)) ts
+times_of id ts = lookup (bytes_eq id) ts
 
 -- the same with these times under this id, and without those of an id
 abbrev pub with_times : List ℕ → Times → List (List ℕ × Times) → List (List ℕ × Times)
 with_times id t ts = insert_entry (slice_cmp nat_cmp) ts id t
 
 abbrev pub without_times : List ℕ → List (List ℕ × Times) → List (List ℕ × Times)
-without_times id ts = remove_entry (is_at (slice_cmp nat_cmp id)) ts
+without_times id ts = filter (λ e. not (bytes_eq id e.0)) ts
+
+-- what is under this id stands at a moment: no time to live of it has passed
+abbrev pub stands_by : ℕ → Option Times → Bool
+stands_by now None = true
+stands_by now (Some t) = stands now t
+
+abbrev pub is_standing : ℕ → List (List ℕ × Times) → List ℕ → Bool
+is_standing now ts id = stands_by now (times_of id ts)
+
+-- of what is kept by ids, that which stands
+abbrev pub standing_entries : {X : Type 0} → ℕ → List (List ℕ × Times) → List (List ℕ × X) → List (List ℕ × X)
+standing_entries now ts es = filter (λ e. is_standing now ts e.0) es
 
 abbrev pub times_by_id_code : Coded (List (List ℕ × Times))
 times_by_id_code = coded_list (coded× (coded_list coded_ℕ) times_code)

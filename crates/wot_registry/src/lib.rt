@@ -1,26 +1,37 @@
-//! What a directory says of the times of its entries (WoT Discovery, registration information): dates, times, and the
-//! registration information of a description. The directory that keeps them isn't there yet.
+//! A directory of Thing Descriptions whose entries have times (WoT Discovery, registration information). It has no
+//! clock: each call is handed its moment.
 //!
-//! `date_text` gives the text of the UTC date and time that lies some milliseconds after the start of 1970, as
-//! `2000-02-29T00:00:00.000Z`. Its definition counts days through the calendar (`specs/Dates.antt`). `asked_ttl` reads
-//! the time to live that a description asks for, `without_registration` is what is kept of it, and `show` says the
-//! `Times` of an entry in it (`specs/Registration.antt`).
+//! A `Registry` keeps descriptions by their ids, as `wot_directory` does, and when each was created and last changed.
+//! One that asks for a time to live is gone once that has passed since its last change; what is over at the moment of a
+//! call is taken away before anything is judged. Each call is one step over what stands then (`specs/Registry.antt`),
+//! and over all calls exactly that is given out which stands (`specs/Laws.antt`).
+//!
+//! Its parts serve by themselves: `date_text` gives the text of the UTC date and time that lies some milliseconds after
+//! the start of 1970 (`specs/Dates.antt`), `asked_ttl` reads the time to live that a description asks for,
+//! `without_registration` is what is kept of it, and `show` says the `Times` of an entry in it
+//! (`specs/Registration.antt`).
 //!
 //! ```text
+//! let mut registry = Registry::new(alloc, 951_782_400_000);
+//! assert!(registry.put("urn:lamp", lamp, 0)?);
+//! assert!(registry.get("urn:lamp", 59_999)?.is_some());
+//! assert!(matches!(registry.remove("urn:lamp", 60_000), Err(RegFault::Directory(DirFault::NotFound))));
 //! assert_eq!(date_text(alloc, 951_782_400_000)?.as_str(), "2000-02-29T00:00:00.000Z");
-//! assert_eq!(asked_ttl(&lamp)?, Some(60));
-//! let times = Times::changed(now, Some(60), None);
-//! let given_out = show(alloc, epoch, Some(&times), &without_registration(lamp))?;
 //! ```
 #![tactic(auto)]
 
 mod dates;
 mod fault;
+mod laws;
 mod registration;
+mod registry;
 mod times;
+mod times_by_id;
 
 pub use dates::date_text;
 pub use fault::RegFault;
+pub use laws::{gives_out_what_stands, is_full_exactly};
 pub use registration::{asked_ttl, patched_from, show, without_registration};
+pub use registry::Registry;
 pub use servient_base::NoMemory;
 pub use times::Times;

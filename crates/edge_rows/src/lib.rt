@@ -3,4 +3,12 @@
 #![tactic(auto)]
 
 #[cfg(test)]
+mod dialling;
+#[cfg(test)]
+mod listening;
+#[cfg(test)]
+mod order;
+#[cfg(test)]
+mod shares;
+#[cfg(test)]
 mod sockets;

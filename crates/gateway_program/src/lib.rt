@@ -62,7 +62,9 @@ fn run_command(rt: &HostRuntime, entries: &Entries, words: &[Text]) -> Result<u8
     let mut files = FilesReal::new(rt.clone()?);
     let mut net = MioNet::new(rt.clone()?);
     let mut out = OutReal::new(io::writer(rt));
-    Ok(servient_main(alloc, words, &mut files, &mut net, &mut rack, &mut out))
+    let status = servient_main(alloc, words, &mut files, &mut net, &mut rack, &mut out);
+    net.finish();
+    Ok(status)
 }
 
 /// The handler of a slot: that of its device, or the one that the product ships.

@@ -1,1 +1,2 @@
 pub mod BytesInTurns
+pub mod SendingLaws

@@ -1,4 +1,7 @@
+pub mod Moments
 pub mod Timing
-pub mod Turns
+pub mod Sending
+pub mod Connection
+pub mod Numbers
 pub mod FilesReal
 pub mod OutReal

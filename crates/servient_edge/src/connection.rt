@@ -1,47 +1,57 @@
 //! One connection: its socket, and what the socket hasn't taken yet.
 
-ghost use Rattle.std.specs.Prelude.{◌≤◌, ◌≡◌, ◌+◌, IfOk, length};
-ghost use Rattle.servient_edge.specs.Turns.{TookWithin};
+ghost use Rattle.std.specs.Prelude.{◌≡◌, ◌≤◌, ◌++◌, [], true, false, None, IsSome, IfOk, OnErr, is_some, length};
+ghost use Rattle.servient_edge.specs.Connection.{TookAt, KeepsRest, sent_by};
 
+use crate::kept::Kept;
+use crate::sending::{flush, send};
 use crate::turns::Took;
 use mio::net::TcpStream;
 use std::alloc::Global;
-use std::io::{self, ErrorKind, IoSlice, Read};
+use std::io::{self, ErrorKind, Read};
 use std::net::Shutdown;
 
-// A peer that leaves more than this many bytes unread is given up.
-const MOST_KEPT: usize = 4_194_304;
-
-// For how many milliseconds a closed connection waits for its peer.
+// For how many milliseconds a closed connection waits for its peer, once all is sent (RFC 9112, section 9.6).
 const LINGER: u64 = 2000;
+
+// For how many milliseconds a closed connection waits for its peer to take something of what is kept.
+const STALLED: u64 = 30_000;
 
 /// A connection.
 #[derive(Drop)]
 pub struct Connection {
     stream: TcpStream,
-    // What is kept for the socket, which has taken the first `taken` bytes of it.
-    kept: Vec<u8>,
-    taken: usize,
+    kept: Kept,
     // Where the connection is closed: when it was, or when the socket last took bytes since.
     closed: Option<u64>,
-    ghost taken_in_bounds: { taken ≤ length kept.items },
 }
 
 impl Connection {
     /// A connection that is open.
-    pub fn new(alloc: Global, stream: TcpStream) -> Connection {
+    pub fn new(alloc: Global, stream: TcpStream) -> Connection
+        ensures { result.closed ≡ None }
+    {
         Connection {
             stream,
-            kept: Vec::new(alloc),
-            taken: 0,
+            kept: Kept::new(alloc),
             closed: None,
         }
     }
 
-    /// Whether the connection was closed and its peer has had its time (RFC 9112, section 9.6).
-    pub fn is_over(&self, moment: u64) -> bool {
+    /// Whether something is kept.
+    pub fn has_kept(&self) -> bool {
+        self.kept.len() > 0
+    }
+
+    /// Whether the connection was closed and its peer has had its time.
+    pub fn is_over(&self, moment: u64) -> bool
+        ensures { result ≡ true → IsSome self.now.closed }
+    {
         match self.closed {
-            Some(since) => since.saturating_add(LINGER) <= moment,
+            Some(since) => {
+                let limit = if self.has_kept() { STALLED } else { LINGER };
+                since.saturating_add(limit) <= moment
+            }
             None => false,
         }
     }
@@ -50,7 +60,8 @@ impl Connection {
     /// that doesn't read is served no further.
     pub fn turn(&mut self, buffer: &mut [u8], moment: u64) -> Took
         requires { length buffer.old ≡ 4096 }
-        ensures { TookWithin result }
+        ensures took { TookAt (is_some self.old.closed) result }
+        ensures closed { is_some self.new.closed ≡ is_some self.old.closed }
     {
         if self.flush(moment).is_err() {
             return self.gone();
@@ -73,7 +84,7 @@ impl Connection {
     /// What a read of n bytes means; 0 is the end of what the peer sends.
     fn took(&self, count: usize) -> Took
         requires { count ≤ 4096 }
-        ensures { TookWithin result }
+        ensures { TookAt (is_some self.now.closed) result }
     {
         if count == 0 {
             if self.has_kept() {
@@ -90,7 +101,7 @@ impl Connection {
 
     /// What the end of the connection means.
     fn gone(&self) -> Took
-        ensures { TookWithin result }
+        ensures { TookAt (is_some self.now.closed) result }
     {
         match self.closed {
             Some(_) => Took::Over,
@@ -99,22 +110,21 @@ impl Connection {
     }
 
     /// Writes at once what the socket takes, and keeps the rest. After an error the connection is of no more use.
-    pub fn send(&mut self, head: &[u8], body: &[u8]) -> io::Result<()> {
+    pub fn send(&mut self, head: &[u8], body: &[u8]) -> io::Result<()>
+        ensures kept { IfOk result (λ _. KeepsRest self.old.kept (sent_by self.old (head.now ++ body.now)) self.new.kept) }
+        ensures closed { self.new.closed ≡ self.old.closed }
+        ensures failed { OnErr result (is_some self.old.closed ≡ false) }
+    {
         if self.closed.is_some() {
             return Ok(());
         }
-        let written = if self.has_kept() {
-            0
-        } else {
-            write_both(&mut self.stream, head, body)?
-        };
-        let head_left = after(head, written);
-        let body_left = after(body, written.saturating_sub(head.len()));
-        self.keep(head_left, body_left)
+        send(&mut self.stream, &mut self.kept, head, body)
     }
 
     /// Ends what is sent, once all that is kept has gone. After an error the connection is of no more use.
-    pub fn close(&mut self, moment: u64) -> io::Result<()> {
+    pub fn close(&mut self, moment: u64) -> io::Result<()>
+        ensures { IsSome self.new.closed }
+    {
         if self.closed.is_some() {
             return Ok(());
         }
@@ -125,70 +135,31 @@ impl Connection {
         self.stream.shutdown(Shutdown::Write)
     }
 
-    fn has_kept(&self) -> bool {
-        self.taken < self.kept.len()
-    }
-
-    fn keep(&mut self, head: &[u8], body: &[u8]) -> io::Result<()> {
-        let count = (self.kept.len() - self.taken)
-            .saturating_add(head.len())
-            .saturating_add(body.len());
-        if count > MOST_KEPT {
-            return Err(io::Error::from(ErrorKind::OutOfMemory));
-        }
-        self.forget_taken();
-        self.kept.extend_from_slice(head)?;
-        self.kept.extend_from_slice(body)?;
-        Ok(())
-    }
-
-    /// Discards what was taken, where that is half of all or more.
-    fn forget_taken(&mut self) {
-        if self.taken >= self.kept.len() - self.taken {
-            let left = self.kept.len() - self.taken;
-            self.kept.copy_within(self.taken.., 0);
-            self.kept.truncate(left);
-            self.taken = 0;
-        }
-    }
-
     /// One write of what is kept. Where the socket takes less, the system reports when it has room.
-    fn flush(&mut self, moment: u64) -> io::Result<()> {
+    pub fn flush(&mut self, moment: u64) -> io::Result<()>
+        ensures kept { IfOk result (λ _. KeepsRest self.old.kept [] self.new.kept) }
+        ensures closed { is_some self.new.closed ≡ is_some self.old.closed }
+    {
         if !self.has_kept() {
             return Ok(());
         }
-        let count = write_both(&mut self.stream, &self.kept[self.taken..], &[])?;
-        self.taken += count;
-        if count > 0 && self.closed.is_some() {
-            self.closed = Some(moment);
-        }
-        if self.closed.is_some() && !self.has_kept() {
-            self.stream.shutdown(Shutdown::Write)?;
-        }
-        Ok(())
+        let count = flush(&mut self.stream, &mut self.kept)?;
+        self.taken_at(count, moment)
     }
-}
 
-/// What comes after n bytes.
-fn after(bytes: &[u8], count: usize) -> &[u8] {
-    match bytes.get(count..) {
-        Some(rest) => rest,
-        None => &[],
-    }
-}
-
-/// One write of two pieces, and how many of their bytes the socket took; none where it would have to wait.
-fn write_both(stream: &mut TcpStream, head: &[u8], body: &[u8]) -> io::Result<usize>
-    ensures { IfOk result (λ count. count ≤ length head.now + length body.now) }
-{
-    match stream.write_vectored(&[IoSlice::new(head), IoSlice::new(body)]) {
-        Ok(count) => Ok(count),
-        Err(error) => {
-            if error.kind() == ErrorKind::WouldBlock {
-                Ok(0)
-            } else {
-                Err(error)
-            }
+    /// So many bytes of what was kept were taken. Where the connection is closed, its peer has its time from now, and
+    /// what is sent ends once nothing is kept.
+    fn taken_at(&mut self, count: usize, moment: u64) -> io::Result<()>
+        ensures kept { self.new.kept ≡ self.old.kept }
+        ensures closed { is_some self.new.closed ≡ is_some self.old.closed }
+    {
+        if self.closed.is_none() || count == 0 {
+            return Ok(());
         }
+        self.closed = Some(moment);
+        if self.has_kept() {
+            return Ok(());
+        }
+        self.stream.shutdown(Shutdown::Write)
     }
 }

@@ -14,12 +14,19 @@
 //! ```
 #![tactic(auto)]
 
+mod accepting;
 mod addresses;
 mod connection;
 mod dialling;
 mod files_real;
+mod finishing;
+mod kept;
 mod mio_net;
+mod moments;
+mod number;
+mod numbers;
 mod out_real;
+mod sending;
 mod sockets;
 mod timing;
 mod turns;

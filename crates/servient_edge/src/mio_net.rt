@@ -1,14 +1,16 @@
 //! The network over the sockets of the machine, in one thread. What happened isn't recorded, nor is it known what is
 //! still to come: it counts what fails.
 
-ghost use Rattle.std.specs.Prelude.{◌≡◌, ◌≤◌, ◌<◌, ◌^◌, IfOk, IfSome, length};
+ghost use Rattle.std.specs.Prelude.{◌≡◌, ◌≤◌, ◌<◌, ◌^◌, Ok, IfOk, IfSome, length};
 ghost use Rattle.servient_base.specs.Count.{Rose};
 ghost use Rattle.servient_outside.specs.Network.{MayCome};
+ghost use Rattle.servient_edge.specs.Moments.{Reads};
 
 use crate::addresses::{endpoint_of, resolve};
+use crate::finishing::write_kept;
+use crate::moments::Moments;
 use crate::sockets::Sockets;
 use crate::timing::{Due, Timing};
-use crate::turns::Turn;
 use coap_msg::Endpoint;
 use servient_outside::{Dialled, Event, Found, Listened, Net, Next, Place, What};
 use std::alloc::Global;
@@ -17,40 +19,22 @@ use std::net;
 use std::rt::Clock;
 use std::time::Instant;
 
-const LAST_MOMENT: u64 = 1_000_000_000_000_000;
-
 // The system is asked this many times for one event. A report of which nothing comes is no
 // event, and it is asked again.
 const ASKS: u32 = 64;
+
+// How often it is asked after that, each time a millisecond later: by then a tick is due by the clock.
+const PAUSES: u32 = 1000;
 
 /// The network over sockets.
 #[derive(Drop)]
 pub struct MioNet<R: net::Net + Clock + Drop> {
     rt: R,
-    // When it was made, if the clock said it.
-    start: Option<Instant>,
-    // The last moment that was read.
-    moment: u64,
+    moments: Moments,
     sockets: Option<Sockets>,
     // Since it listens, has dialled or has looked something up.
     timing: Option<Timing>,
     faults: u64,
-    ghost moment_in_bounds: { moment ≤ 10 ^ 15 },
-}
-
-/// Milliseconds since a start.
-fn moment_since<R: Clock>(rt: &R, start: Option<Instant>) -> io::Result<u64>
-    ensures { IfOk result (λ moment. moment ≤ 10 ^ 15) }
-{
-    let Some(start) = start else {
-        return Err(io::Error::from(ErrorKind::Unsupported));
-    };
-    let passed = Instant::now(rt)?.duration_since(start).as_millis();
-    Ok(if passed > LAST_MOMENT as u128 {
-        LAST_MOMENT
-    } else {
-        passed as u64
-    })
 }
 
 /// There are no sockets yet, or the clock failed.
@@ -71,26 +55,40 @@ impl<R: net::Net + Clock + Drop> MioNet<R> {
     pub fn new(rt: R) -> MioNet<R>
         ensures { result.faults ≡ 0 }
     {
-        let start = Instant::now(&rt).ok();
+        let moments = Moments::new(&rt);
         MioNet {
             rt,
-            start,
-            moment: 0,
+            moments,
             sockets: None,
             timing: None,
             faults: 0,
         }
     }
 
-    fn read_clock(&mut self) -> io::Result<()>
+    /// Writes what is kept for connections, for two seconds at most, and drops what is left with all sockets. It is
+    /// called once, after a run.
+    pub fn finish(&mut self)
         ensures { self.new.faults ≡ self.old.faults }
     {
-        self.moment = moment_since(&self.rt, self.start)?;
-        Ok(())
+        if let Some(sockets) = &mut self.sockets {
+            write_kept(&self.rt, &mut self.moments, sockets);
+        }
+        self.sockets = None;
+        self.timing = None;
+    }
+
+    /// Reads the clock, and gives what it read.
+    fn read_clock(&mut self) -> io::Result<Instant>
+        ensures moment { Reads self.old.moments result self.new.moments }
+        ensures rises { self.old.moments.last ≤ self.new.moments.last }
+        ensures faults { self.new.faults ≡ self.old.faults }
+    {
+        self.moments.read(&self.rt)
     }
 
     fn count_fault(&mut self)
-        ensures { Rose self.old.faults self.new.faults }
+        ensures faults { Rose self.old.faults self.new.faults }
+        ensures moments { self.new.moments ≡ self.old.moments }
     {
         self.faults = self.faults.saturating_add(1);
     }
@@ -109,11 +107,7 @@ impl<R: net::Net + Clock + Drop> MioNet<R> {
         let bound = sockets.listen(&self.rt, http, coap);
         self.sockets = Some(sockets);
         bound?;
-        self.timing = Some(Timing {
-            idle: place.idle,
-            traffic: self.moment,
-            tick: self.moment,
-        });
+        self.start_times(place.idle);
         Ok(())
     }
 
@@ -124,86 +118,145 @@ impl<R: net::Net + Clock + Drop> MioNet<R> {
         }
     }
 
-    /// Starts the times of ticks, where they haven't begun; without listening there is no idle time.
-    fn start_ticks(&mut self)
+    /// Starts the time without traffic, which is 0 without listening, and that of ticks, where it hasn't begun.
+    fn start_times(&mut self, idle: u64)
         ensures { self.new.faults ≡ self.old.faults }
     {
-        if self.timing.is_none() {
-            self.timing = Some(Timing {
-                idle: 0,
-                traffic: self.moment,
-                tick: self.moment,
-            });
+        let moment = self.moments.last();
+        match &mut self.timing {
+            Some(timing) => {
+                timing.idle = idle;
+                timing.traffic = moment;
+            }
+            None => {
+                self.timing = Some(Timing {
+                    idle,
+                    traffic: moment,
+                    since: Some(moment),
+                });
+            }
         }
+    }
+
+    /// Reads the clock, before the next event is looked for.
+    fn begin(&mut self) -> io::Result<()>
+        ensures moments { self.old.moments.last ≤ self.new.moments.last }
+        ensures faults { self.new.faults ≡ self.old.faults }
+    {
+        self.read_clock()?;
+        if let Some(timing) = &mut self.timing {
+            timing.begin(self.moments.last());
+        }
+        Ok(())
     }
 
     /// What is due now.
     fn due(&self) -> io::Result<Due> {
         match &self.timing {
-            Some(timing) => Ok(timing.due(self.moment)),
+            Some(timing) => Ok(timing.due(self.moments.last())),
             None => Err(not_ready()),
         }
     }
 
-    /// What a turn gives, if anything. It is traffic. What fails for one peer is counted, and
-    /// asked again at the next tick.
+    /// What the turns give, if anything. It is traffic. What fails for one peer is counted.
     fn take(&mut self, buffer: &mut [u8]) -> Option<What>
         requires { length buffer.old ≡ 4096 }
         ensures what { IfSome result MayCome }
+        ensures moments { self.new.moments ≡ self.old.moments }
         ensures faults { self.old.faults ≤ self.new.faults }
     {
         let (Some(sockets), Some(timing)) = (&mut self.sockets, &mut self.timing) else {
             return None;
         };
-        match sockets.take(buffer, self.moment) {
-            Turn::Came(what) => {
-                timing.traffic = self.moment;
+        let moment = self.moments.last();
+        match sockets.take(buffer, moment, &mut self.faults) {
+            Some(what) => {
+                timing.traffic = moment;
                 Some(what)
             }
-            Turn::Fault => {
-                self.faults = self.faults.saturating_add(1);
-                None
-            }
-            Turn::Nothing => None,
+            None => None,
+        }
+    }
+
+    /// Asks without waiting what the system has, unless it was asked at this moment.
+    fn look(&mut self) -> io::Result<()>
+        ensures moments { self.new.moments ≡ self.old.moments }
+        ensures faults { self.new.faults ≡ self.old.faults }
+    {
+        match &mut self.sockets {
+            Some(sockets) => sockets.look(self.moments.last()),
+            None => Err(not_ready()),
         }
     }
 
     /// Waits until the system has something, or something is due.
     fn ask(&mut self) -> io::Result<()>
-        ensures { self.new.faults ≡ self.old.faults }
+        ensures moments { self.old.moments.last ≤ self.new.moments.last }
+        ensures faults { self.new.faults ≡ self.old.faults }
     {
         let (Some(sockets), Some(timing)) = (&mut self.sockets, &self.timing) else {
             return Err(not_ready());
         };
-        sockets.ask(timing.left(self.moment))?;
-        self.read_clock()
+        let moment = self.moments.last();
+        sockets.ask(moment, timing.left(moment))?;
+        self.read_clock()?;
+        Ok(())
     }
 
-    /// A tick at this moment.
-    fn tick(&mut self)
-        ensures { self.new.faults ≡ self.old.faults }
+    /// Lets a millisecond pass.
+    fn pause(&mut self) -> io::Result<()>
+        ensures moments { self.new.moments ≡ self.old.moments }
+        ensures faults { self.new.faults ≡ self.old.faults }
     {
-        if let (Some(sockets), Some(timing)) = (&mut self.sockets, &mut self.timing) {
-            timing.tick = self.moment;
-            sockets.tick(self.moment);
+        match &mut self.sockets {
+            Some(sockets) => sockets.pause(),
+            None => Err(not_ready()),
         }
     }
 
-    /// What comes next.
+    /// A tick at this moment. The second until the next one begins when the next event is asked for.
+    fn tick(&mut self) -> What
+        ensures what { MayCome result }
+        ensures moments { self.new.moments ≡ self.old.moments }
+        ensures faults { self.new.faults ≡ self.old.faults }
+    {
+        if let (Some(sockets), Some(timing)) = (&mut self.sockets, &mut self.timing) {
+            timing.since = None;
+            sockets.tick(self.moments.last());
+        }
+        What::Tick
+    }
+
+    /// What comes next. A tick comes by the clock, after all that waits had its turn, but for one that is due after an
+    /// event: so what is done on ticks or on events may take any time, and each has its share.
     fn come(&mut self, buffer: &mut [u8]) -> io::Result<What>
         requires { length buffer.old ≡ 4096 }
         ensures what { IfOk result MayCome }
+        ensures moments { self.old.moments.last ≤ self.new.moments.last }
         ensures faults { self.old.faults ≤ self.new.faults }
     {
-        self.read_clock()?;
+        self.begin()?;
         if self.due()? == Due::Tick {
-            self.tick();
-            return Ok(What::Tick);
+            return Ok(self.tick());
         }
+        self.look()?;
         if let Some(what) = self.take(buffer) {
             return Ok(what);
         }
-        for _ in 0..ASKS {
+        self.wait(buffer)
+    }
+
+    /// What comes next, once the system has something or the time is over.
+    fn wait(&mut self, buffer: &mut [u8]) -> io::Result<What>
+        requires { length buffer.old ≡ 4096 }
+        ensures what { IfOk result MayCome }
+        ensures moments { self.old.moments.last ≤ self.new.moments.last }
+        ensures faults { self.old.faults ≤ self.new.faults }
+    {
+        for asked in 0..ASKS + PAUSES {
+            if asked >= ASKS {
+                self.pause()?;
+            }
             self.ask()?;
             if let Some(what) = self.take(buffer) {
                 return Ok(what);
@@ -214,8 +267,7 @@ impl<R: net::Net + Clock + Drop> MioNet<R> {
                 Due::Stop => return Ok(What::Stop),
             }
         }
-        self.tick();
-        Ok(What::Tick)
+        Ok(self.tick())
     }
 
     /// The number of a new connection to a host.
@@ -246,6 +298,15 @@ impl<R: net::Net + Clock + Drop> MioNet<R> {
         self.start_ticks();
         Ok(endpoint_of(address))
     }
+
+    /// Starts the times where they haven't begun; without listening there is none without traffic.
+    fn start_ticks(&mut self)
+        ensures { self.new.faults ≡ self.old.faults }
+    {
+        if self.timing.is_none() {
+            self.start_times(0);
+        }
+    }
 }
 
 impl<R: net::Net + Clock + Drop> Net for MioNet<R> {
@@ -253,6 +314,7 @@ impl<R: net::Net + Clock + Drop> Net for MioNet<R> {
     ghost use Rattle.servient_outside.specs.declared.net.Act.TheVariants as act;
     ghost use Rattle.servient_outside.specs.Network.{NetShows, did, came, IsAnswer, IsConnection};
     ghost use Rattle.servient_outside.specs.Network.{listens_as, dials_as, finds_as};
+    ghost use Rattle.servient_edge.specs.Moments.{IsAtMoment};
     ghost use Rattle.servient_outside.specs.Network.{counted_only};
 
     ghost seen = { λ n. counted_only n.faults };
@@ -279,10 +341,12 @@ impl<R: net::Net + Clock + Drop> Net for MioNet<R> {
         requires { length buffer.old ≡ 4096 }
         ensures answer { IsAnswer result }
         ensures shows { NetShows (counted_only self.old.faults) (counted_only self.new.faults) (came result buffer.new ∷ []) }
+        ensures moment { IsAtMoment result self.new.moments.last }
+        ensures rises { self.old.moments.last ≤ self.new.moments.last }
     {
         match self.come(buffer) {
             Ok(what) => Next::Got(Event {
-                moment: self.moment,
+                moment: self.moments.last(),
                 what,
             }),
             Err(_) => {
@@ -306,7 +370,7 @@ impl<R: net::Net + Clock + Drop> Net for MioNet<R> {
         ensures { NetShows (counted_only self.old.faults) (counted_only self.new.faults) (did (act.Closed c) ∷ []) }
     {
         if let (Some(sockets), Some(_)) = (&mut self.sockets, &self.timing) {
-            sockets.close(c, self.moment);
+            sockets.close(c, self.moments.last());
         }
     }
 

@@ -1,18 +1,21 @@
 //! The sockets of the network: the listener, its connections by their numbers, and the socket for datagrams. The system
 //! reports once what is ready, so whoever may have more waits for another turn, until the system says that it has none.
 
-ghost use Rattle.std.specs.Prelude.{◌≡◌, ◌<◌, IfOk, IfSome, length};
-ghost use Rattle.servient_edge.specs.Turns.{IsTurn, TookWithin};
+ghost use Rattle.std.specs.Prelude.{◌≡◌, ◌≤◌, ◌<◌, IfOk, IfSome, length};
+ghost use Rattle.servient_outside.specs.Network.{MayCome};
+ghost use Rattle.servient_edge.specs.Numbers.{Gives, Comes};
 
+use crate::accepting::{Accepted, accept, set_up};
 use crate::addresses::{address_of, endpoint_of};
 use crate::connection::Connection;
 use crate::dialling::connect;
-use crate::turns::{CONNECTIONS, LISTENER, Took, Turn, Turns};
+use crate::numbers::Numbers;
+use crate::turns::{CONNECTIONS, LISTENER, Took, Turns};
 use coap_msg::Endpoint;
-use mio::net::{TcpListener, TcpStream, UdpSocket};
+use mio::net::{TcpListener, UdpSocket};
 use mio::{Events, Interest, Poll, Token};
 use servient_outside::What;
-use std::alloc::{AllocError, Global};
+use std::alloc::Global;
 use std::io::{self, ErrorKind};
 use std::net::{Ipv4Addr, Net, SocketAddr};
 use std::rt::Clock;
@@ -27,53 +30,31 @@ const REPORTS: usize = 128;
 // How many turns are taken before the system is asked again, so that one that always has something hides no other.
 const TURNS: u32 = 128;
 
-const MOST_DATAGRAM_BYTES: usize = 2048;
+// How many datagrams that wait are taken before the next turn of a connection. One such turn may be 87 requests.
+const DATAGRAMS_IN_A_ROW: u32 = 8;
 
-/// What has a number.
-#[derive(Drop)]
-enum Number {
-    Free,
-    Used(Connection),
-    /// The connection was given up, and its end is still to be given.
-    GivenUp,
-}
+const MOST_DATAGRAM_BYTES: usize = 2048;
 
 /// All sockets.
 #[derive(Drop)]
 pub struct Sockets {
     alloc: Global,
     poll: Poll,
+    // Nothing is registered there: it waits for time alone.
+    timer: Poll,
     events: Events,
     listener: Option<TcpListener>,
     udp: Option<UdpSocket>,
-    numbers: Vec<Number>,
+    numbers: Numbers,
     turns: Turns,
     // How many turns are left until the system is asked again.
     turns_left: u32,
-    // Datagrams may wait. They have every second turn.
+    // When the system was asked last.
+    asked: u64,
+    // Datagrams may wait.
     datagrams_wait: bool,
-    datagram_was_last: bool,
-}
-
-/// The least number that is free.
-fn free_number(numbers: &[Number]) -> Option<u32>
-    ensures { IfSome result (λ c. c < 64) }
-{
-    for c in 0..CONNECTIONS {
-        if let Some(Number::Free) = numbers.get(c) {
-            return Some(c as u32);
-        }
-    }
-    None
-}
-
-/// All numbers, which are free.
-fn free_numbers(alloc: Global) -> Result<Vec<Number>, AllocError> {
-    let mut numbers = Vec::with_capacity(alloc, CONNECTIONS)?;
-    for _ in 0..CONNECTIONS {
-        numbers.push(Number::Free)?;
-    }
-    Ok(numbers)
+    // How many more of them are taken before the next turn of a connection.
+    datagrams_left: u32,
 }
 
 impl Sockets {
@@ -81,15 +62,17 @@ impl Sockets {
     pub fn new<R: Net>(rt: &R, alloc: Global) -> io::Result<Sockets> {
         Ok(Sockets {
             alloc,
-            numbers: free_numbers(alloc)?,
+            numbers: Numbers::new(alloc)?,
             events: Events::with_capacity(alloc, REPORTS)?,
             poll: Poll::new(rt)?,
+            timer: Poll::new(rt)?,
             listener: None,
             udp: None,
             turns: Turns::new(),
             turns_left: 0,
+            asked: 0,
             datagrams_wait: false,
-            datagram_was_last: false,
+            datagrams_left: DATAGRAMS_IN_A_ROW,
         })
     }
 
@@ -131,64 +114,56 @@ impl Sockets {
     pub fn dial<R: Net + Clock>(&mut self, rt: &R, address: SocketAddr) -> io::Result<u32>
         ensures { IfOk result (λ c. c < 64) }
     {
-        let Some(c) = free_number(&self.numbers) else {
+        let Some(c) = self.numbers.free() else {
             return Err(io::Error::from(ErrorKind::AddrNotAvailable));
         };
         let stream = connect(rt, self.alloc, address)?;
-        self.take_over(c, stream)?;
+        let stream = set_up(stream, self.poll.registry(), c)?;
+        self.numbers.open(c, Connection::new(self.alloc, stream));
         Ok(c)
     }
 
-    /// Gives a connection a number.
-    fn take_over(&mut self, c: u32, stream: TcpStream) -> io::Result<()> {
-        let mut stream = stream;
-        stream.set_nodelay(true)?;
-        let both = Interest::READABLE | Interest::WRITABLE;
-        self.poll
-            .registry()
-            .register(&mut stream, Token(c as usize), both)?;
-        if let Some(number) = self.numbers.get_mut(c as usize) {
-            *number = Number::Used(Connection::new(self.alloc, stream));
-        }
-        Ok(())
-    }
-
     /// Takes turns until one has something, or none may have.
-    pub fn take(&mut self, buffer: &mut [u8], moment: u64) -> Turn
+    pub fn take(&mut self, buffer: &mut [u8], moment: u64, faults: &mut u64) -> Option<What>
         requires { length buffer.old ≡ 4096 }
-        ensures { IsTurn result }
+        ensures what { IfSome result MayCome }
+        ensures number { Comes self.old.numbers result self.new.numbers }
+        ensures faults { faults.old ≤ faults.new }
     {
         for _ in 0..self.turns_left {
             if !self.is_waiting() {
-                return Turn::Nothing;
+                return None;
             }
             self.turns_left = self.turns_left.saturating_sub(1);
-            let turn = self.turn(buffer, moment);
-            if turn != Turn::Nothing {
-                return turn;
+            match self.turn(buffer, moment, faults) {
+                Some(what) => return Some(what),
+                None => {}
             }
         }
-        Turn::Nothing
+        None
     }
 
     fn is_waiting(&self) -> bool {
         self.datagrams_wait || !self.turns.is_empty()
     }
 
-    fn turn(&mut self, buffer: &mut [u8], moment: u64) -> Turn
+    /// A turn: of datagrams as long as they wait, but for a turn of another in between.
+    fn turn(&mut self, buffer: &mut [u8], moment: u64, faults: &mut u64) -> Option<What>
         requires { length buffer.old ≡ 4096 }
-        ensures { IsTurn result }
+        ensures what { IfSome result MayCome }
+        ensures number { Gives self.old.numbers result self.new.numbers }
+        ensures faults { faults.old ≤ faults.new }
     {
-        if self.datagrams_wait && !self.datagram_was_last {
-            self.datagram_was_last = true;
-            return self.receive(buffer);
+        if self.datagrams_wait && self.datagrams_left > 0 {
+            self.datagrams_left = self.datagrams_left.saturating_sub(1);
+            return self.receive(buffer, faults);
         }
-        self.datagram_was_last = false;
+        self.datagrams_left = DATAGRAMS_IN_A_ROW;
         match self.turns.next() {
-            None => Turn::Nothing,
+            None => None,
             Some(place) => {
                 if place == LISTENER {
-                    self.accept()
+                    self.accept(faults)
                 } else {
                     self.read(place as u32, buffer, moment)
                 }
@@ -197,116 +172,104 @@ impl Sockets {
     }
 
     /// Takes the next connection, if a number is free.
-    fn accept(&mut self) -> Turn
-        ensures { IsTurn result }
+    fn accept(&mut self, faults: &mut u64) -> Option<What>
+        ensures what { IfSome result MayCome }
+        ensures number { Gives self.old.numbers result self.new.numbers }
+        ensures faults { faults.old ≤ faults.new }
     {
-        let Some(c) = free_number(&self.numbers) else {
-            return Turn::Nothing;
+        let Some(c) = self.numbers.free() else {
+            return None;
         };
         let Some(listener) = &self.listener else {
-            return Turn::Nothing;
+            return None;
         };
-        match listener.accept() {
-            Ok((stream, _from)) => match self.take_over(c, stream) {
-                Ok(()) => {
-                    self.turns.add(LISTENER);
-                    Turn::Came(What::Opened(c))
-                }
-                Err(_) => Turn::Fault,
-            },
-            Err(error) => fault_unless_waiting(&error),
+        match accept(listener, self.poll.registry(), c, faults) {
+            Accepted::Nothing => None,
+            Accepted::More => {
+                self.turns.add(LISTENER);
+                None
+            }
+            Accepted::Stream(stream) => {
+                self.turns.add(LISTENER);
+                self.numbers.open(c, Connection::new(self.alloc, stream));
+                Some(What::Opened(c))
+            }
         }
     }
 
     /// Takes the next datagram. The system cuts what doesn't fit, so the buffer has more room than a datagram may have;
     /// one that is longer is dropped.
-    fn receive(&mut self, buffer: &mut [u8]) -> Turn
+    fn receive(&mut self, buffer: &mut [u8], faults: &mut u64) -> Option<What>
         requires { length buffer.old ≡ 4096 }
-        ensures { IsTurn result }
+        ensures what { IfSome result MayCome }
+        ensures number { Gives self.old.numbers result self.new.numbers }
+        ensures faults { faults.old ≤ faults.new }
     {
         let Some(udp) = &self.udp else {
-            return Turn::Nothing;
+            return None;
         };
         match udp.recv_from(buffer) {
             Ok((count, from)) => {
                 if count > MOST_DATAGRAM_BYTES {
-                    return Turn::Nothing;
+                    return None;
                 }
-                Turn::Came(What::Datagram(endpoint_of(from), count))
+                Some(What::Datagram(endpoint_of(from), count))
             }
             Err(error) => {
                 self.datagrams_wait = false;
-                fault_unless_waiting(&error)
+                if error.kind() != ErrorKind::WouldBlock {
+                    *faults = faults.saturating_add(1);
+                }
+                None
             }
         }
     }
 
-    /// A turn of a connection.
-    fn read(&mut self, c: u32, buffer: &mut [u8], moment: u64) -> Turn
+    /// A turn of a connection. Where its number is free then, whoever waits at the listener may have it.
+    fn read(&mut self, c: u32, buffer: &mut [u8], moment: u64) -> Option<What>
         requires bounds { c < 64 }
         requires room { length buffer.old ≡ 4096 }
-        ensures { IsTurn result }
+        ensures what { IfSome result MayCome }
+        ensures number { Gives self.old.numbers result self.new.numbers }
     {
-        let Some(number) = self.numbers.get_mut(c as usize) else {
-            return Turn::Nothing;
-        };
-        match turn_of(number, buffer, moment) {
+        match self.numbers.turn(c, buffer, moment) {
             Took::Bytes(count) => {
                 self.turns.add(c as usize);
-                Turn::Came(What::Bytes(c, count))
+                Some(What::Bytes(c, count))
             }
             Took::Unwanted => {
                 self.turns.add(c as usize);
-                Turn::Nothing
+                None
             }
-            Took::Nothing => Turn::Nothing,
+            Took::Nothing => None,
             Took::Ended => {
-                self.free(c);
-                Turn::Came(What::Ended(c))
+                self.turns.add(LISTENER);
+                Some(What::Ended(c))
             }
             Took::Over => {
-                self.free(c);
-                Turn::Nothing
+                self.turns.add(LISTENER);
+                None
             }
         }
     }
 
-    /// A number is free again, and whoever waits at the listener may have it.
-    fn free(&mut self, c: u32) {
-        if let Some(number) = self.numbers.get_mut(c as usize) {
-            *number = Number::Free;
-        }
-        self.turns.add(LISTENER);
-    }
-
-    /// Sends on a connection, if it is open. One that can't send any more is given up.
+    /// Sends on a connection, if it is open. One that can't send any more is given up, and has a turn to say so.
     pub fn send(&mut self, c: u32, head: &[u8], body: &[u8]) {
-        let Some(number) = self.numbers.get_mut(c as usize) else {
-            return;
-        };
-        if let Number::Used(connection) = number {
-            if connection.send(head, body).is_err() {
-                *number = Number::GivenUp;
-                self.turns.add(c as usize);
-            }
+        if c < CONNECTIONS as u32 && self.numbers.send(c, head, body) {
+            self.turns.add(c as usize);
         }
     }
 
-    /// Closes a connection. It has a turn then, since what its peer sent may wait.
+    /// Closes a connection. It has a turn then, since what its peer sent may wait; where its number is free, the
+    /// listener has one.
     pub fn close(&mut self, c: u32, moment: u64) {
-        let Some(number) = self.numbers.get_mut(c as usize) else {
-            return;
-        };
-        match number {
-            Number::Free => {}
-            Number::GivenUp => self.free(c),
-            Number::Used(connection) => {
-                if connection.close(moment).is_ok() {
-                    self.turns.add(c as usize);
-                } else {
-                    self.free(c);
-                }
-            }
+        if c < CONNECTIONS as u32 {
+            let place = if self.numbers.close(c, moment) {
+                LISTENER
+            } else {
+                c as usize
+            };
+            self.turns.add(place);
         }
     }
 
@@ -318,8 +281,9 @@ impl Sockets {
     }
 
     /// Asks the system what is ready. Where none waits for a turn, it waits for at most `time` milliseconds.
-    pub fn ask(&mut self, time: u64) -> io::Result<()> {
+    pub fn ask(&mut self, moment: u64, time: u64) -> io::Result<()> {
         self.turns_left = TURNS;
+        self.asked = moment;
         let time = if self.is_waiting() { 0 } else { time };
         self.poll
             .poll(&mut self.events, Some(Duration::from_millis(time)))?;
@@ -334,43 +298,32 @@ impl Sockets {
         Ok(())
     }
 
+    /// Asks the system without waiting, where a millisecond or more has passed since it was asked: a datagram isn't to
+    /// wait until all connections had their turns.
+    pub fn look(&mut self, moment: u64) -> io::Result<()> {
+        if self.asked < moment {
+            self.ask(moment, 0)
+        } else {
+            Ok(())
+        }
+    }
+
+    /// Lets a millisecond pass, whatever is ready.
+    pub fn pause(&mut self) -> io::Result<()> {
+        self.timer
+            .poll(&mut self.events, Some(Duration::from_millis(1)))
+    }
+
+    /// Writes once what is kept for each connection. Whether something is still kept.
+    pub fn flush(&mut self, moment: u64) -> bool {
+        self.numbers.flush(moment)
+    }
+
     /// Ends the connections that were closed and are over, and asks again for what failed before, since the system
     /// reports it once.
     pub fn tick(&mut self, moment: u64) {
-        end_those_over(&mut self.numbers, moment);
+        self.numbers.end_those_over(moment);
         self.turns.add(LISTENER);
         self.datagrams_wait = true;
-    }
-}
-
-/// A turn of what has a number.
-fn turn_of(number: &mut Number, buffer: &mut [u8], moment: u64) -> Took
-    requires { length buffer.old ≡ 4096 }
-    ensures { TookWithin result }
-{
-    match number {
-        Number::Free => Took::Nothing,
-        Number::Used(connection) => connection.turn(buffer, moment),
-        Number::GivenUp => Took::Ended,
-    }
-}
-
-fn fault_unless_waiting(error: &io::Error) -> Turn
-    ensures { IsTurn result }
-{
-    if error.kind() == ErrorKind::WouldBlock {
-        Turn::Nothing
-    } else {
-        Turn::Fault
-    }
-}
-
-fn end_those_over(numbers: &mut [Number], moment: u64) {
-    for number in numbers {
-        if let Number::Used(connection) = number {
-            if connection.is_over(moment) {
-                *number = Number::Free;
-            }
-        }
     }
 }

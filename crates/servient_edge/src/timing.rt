@@ -1,6 +1,7 @@
 //! When the network gives a tick, and when it ends for lack of traffic. All moments are in milliseconds.
 
-ghost use Rattle.std.specs.Prelude.{◌≡◌, ◌≤◌, ◌^◌};
+ghost use Rattle.std.specs.Prelude.{◌≡◌, ◌≤◌, ◌^◌, Some, unwrap_or};
+ghost use Rattle.std.specs.Option.{ForSome};
 
 const TICK: u64 = 1000;
 
@@ -19,23 +20,38 @@ pub struct Timing {
     pub idle: u64,
     /// When the last event that is traffic was given.
     pub traffic: u64,
-    /// When the last tick was given.
-    pub tick: u64,
+    /// Since when the second until the next tick counts. After a tick it hasn't begun, until the next event is asked
+    /// for: what is done on a tick may take longer than a second, and something else is to come before another.
+    pub since: Option<u64>,
     ghost traffic_in_bounds: { traffic ≤ 10 ^ 15 },
-    ghost tick_in_bounds: { tick ≤ 10 ^ 15 },
+    ghost since_in_bounds: { ForSome since (λ moment. moment ≤ 10 ^ 15) },
 }
 
 impl Timing {
     ghost use Rattle.servient_edge.specs.Timing.{IsDue, time_left};
+
+    /// The second until the next tick has begun, at this moment if not before.
+    pub fn begin(&mut self, moment: u64)
+        requires { moment ≤ 10 ^ 15 }
+        ensures since { self.new.since ≡ Some (unwrap_or self.old.since moment) }
+        ensures idle { self.new.idle ≡ self.old.idle }
+        ensures traffic { self.new.traffic ≡ self.old.traffic }
+    {
+        match self.since {
+            Some(_) => {}
+            None => self.since = Some(moment),
+        }
+    }
 
     /// What is due at a moment. At one moment Stop comes before Tick.
     pub fn due(&self, moment: u64) -> Due
         requires { moment ≤ 10 ^ 15 }
         ensures { IsDue self.now moment result }
     {
+        let since = self.since.unwrap_or(moment);
         if self.idle != 0 && self.traffic.saturating_add(self.idle) <= moment {
             Due::Stop
-        } else if self.tick.saturating_add(TICK) <= moment {
+        } else if since.saturating_add(TICK) <= moment {
             Due::Tick
         } else {
             Due::Nothing
@@ -47,7 +63,8 @@ impl Timing {
         requires { moment ≤ 10 ^ 15 }
         ensures { result ≡ time_left self.now moment }
     {
-        let tick = self.tick.saturating_add(TICK).saturating_sub(moment);
+        let since = self.since.unwrap_or(moment);
+        let tick = since.saturating_add(TICK).saturating_sub(moment);
         if self.idle == 0 {
             return tick;
         }

@@ -1,8 +1,7 @@
-//! Whose turn it is, and what a turn gives: the connections and the listener wait in a circle, each at most once.
+//! Whose turn it is, and what a turn of a connection gives: the connections and the listener wait in a circle, each at
+//! most once.
 
 ghost use Rattle.std.specs.Prelude.{◌<◌, IfSome};
-
-use servient_outside::What;
 
 /// How many connections there are at most.
 pub const CONNECTIONS: usize = 64;
@@ -11,15 +10,6 @@ pub const CONNECTIONS: usize = 64;
 pub const LISTENER: usize = 64;
 
 const PLACES: usize = 65;
-
-/// What a turn gave.
-#[derive(Clone, Copy, Debug, PartialEq, Eq)]
-pub enum Turn {
-    Came(What),
-    Nothing,
-    /// A call of the system failed for one peer or one datagram.
-    Fault,
-}
 
 /// What a turn of a connection gave.
 #[derive(Clone, Copy, Debug, PartialEq, Eq)]

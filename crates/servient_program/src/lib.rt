@@ -36,7 +36,9 @@ fn run_words(rt: &HostRuntime) -> Result<u8, NoMemory> {
     let mut rack = Rack::new(alloc, list);
     let mut out = OutReal::new(io::writer(rt));
     let words = words.as_slice();
-    Ok(servient_main(alloc, words, &mut files, &mut net, &mut rack, &mut out))
+    let status = servient_main(alloc, words, &mut files, &mut net, &mut rack, &mut out);
+    net.finish();
+    Ok(status)
 }
 
 /// The words after the program's name. Where one of them isn't UTF-8 they are no command line, and no word

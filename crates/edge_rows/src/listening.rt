@@ -1,0 +1,86 @@
+//! A network that listens at ports that were free, and what comes of it.
+
+use servient_edge::{Event, Listened, MioNet, Net, Next, Place, What};
+use std::net::{TcpListener, TcpStream, UdpSocket};
+use std::test::Fail;
+use wot_json::Text;
+
+/// How many events are taken at most until the one that is awaited comes. A tick comes each second.
+const PATIENCE: u32 = 20;
+
+/// How many pairs of ports are tried.
+const TRIES: u32 = 5;
+
+/// A network that listens, and the port of each of its addresses.
+#[derive(Drop)]
+pub struct Listening {
+    pub net: MioNet<HostRuntime>,
+    pub http: u16,
+    pub coap: u16,
+}
+
+/// A network that listens at two ports that were free, and stops after n milliseconds without traffic. A port may be
+/// taken meanwhile, and then two others are tried.
+pub fn on_free_ports(rt: &HostRuntime, idle: u64) -> Result<Listening, Fail> {
+    for _ in 0..TRIES {
+        if let Some(listening) = tried(rt, idle)? {
+            return Ok(listening);
+        }
+    }
+    Err("it doesn't listen")?
+}
+
+/// The same, tried once.
+fn tried(rt: &HostRuntime, idle: u64) -> Result<Option<Listening>, Fail> {
+    let http = TcpListener::bind(rt, "127.0.0.1:0")?.local_addr()?.port();
+    let coap = UdpSocket::bind(rt, "127.0.0.1:0")?.local_addr()?.port();
+    let place = Place {
+        http_host: Text::copy_of(rt.alloc(), "127.0.0.1")?,
+        http_port: http,
+        coap_host: Text::copy_of(rt.alloc(), "localhost")?,
+        coap_port: coap,
+        idle,
+    };
+    let mut net = MioNet::new(rt.clone()?);
+    if net.listen(rt.alloc(), &place) != Listened::Ready {
+        return Ok(None);
+    }
+    if net.listen(rt.alloc(), &place) != Listened::Failed {
+        return Err("it listens twice")?;
+    }
+    Ok(Some(Listening { net, http, coap }))
+}
+
+/// What comes next but ticks.
+pub fn next(net: &mut MioNet<HostRuntime>, buffer: &mut [u8; 4096]) -> Result<What, Fail> {
+    for _ in 0..PATIENCE {
+        match net.next(buffer) {
+            Next::Got(
+                Event {
+                    what: What::Tick,
+                    ..
+                },
+            ) => {}
+            Next::Got(event) => return Ok(event.what),
+            Next::Failed => return Err("the network failed")?,
+        }
+    }
+    Err("nothing came")?
+}
+
+/// So many connections, which have the numbers from 0 on.
+pub fn connected(
+    rt: &HostRuntime,
+    listening: &mut Listening,
+    count: u32,
+) -> Result<Vec<TcpStream>, Fail> {
+    let mut buffer = [0; 4096];
+    let mut peers = Vec::new(rt.alloc());
+    for c in 0..count {
+        peers.push(TcpStream::connect(rt, ("127.0.0.1", listening.http))?)?;
+        if next(&mut listening.net, &mut buffer)? != What::Opened(c) {
+            return Err("another number was opened")?;
+        }
+    }
+    Ok(peers)
+}

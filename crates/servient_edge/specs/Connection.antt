@@ -1,0 +1,22 @@
+-- What a connection gives and keeps.
+use Rattle.std.specs.Prelude.{◌≡◌, ◌≤◌, ℕ, Bool, true, false, List, [], ◌++◌, is_some, if◌then◌else◌}
+use Rattle.servient_edge.specs.declared.connection.Connection.{Connection}
+use Rattle.servient_edge.specs.declared.turns.Took.{Took}
+use Rattle.servient_edge.specs.declared.turns.Took.TheVariants as took
+
+-- What a turn may give of a connection that is closed, or isn't: bytes of one that is open, some and no more than a
+-- buffer takes, and its end; of one that is closed nothing but that it is over.
+abbrev pub TookAt : Bool → Took → Type 0
+TookAt closed (took.Bytes count) = (closed ≡ false) × (1 ≤ count) × (count ≤ 4096)
+TookAt closed took.Unwanted = closed ≡ true
+TookAt closed took.Nothing = Unit {0}
+TookAt closed took.Ended = closed ≡ false
+TookAt closed took.Over = closed ≡ true
+
+-- of what was kept, and then a message, a front has gone, and the rest is kept
+abbrev pub KeepsRest : List ℕ → List ℕ → List ℕ → Type 0
+KeepsRest kept message kept_after = (front : List ℕ) × (kept ++ message ≡ front ++ kept_after)
+
+-- what is sent of a message: nothing where the connection is closed
+abbrev pub sent_by : Connection → List ℕ → List ℕ
+sent_by connection message = if is_some connection.closed then [] else message

@@ -1,0 +1,78 @@
+-- What the numbers of connections stand for, and which of them an event names.
+use Rattle.std.specs.Prelude.{◌≡◌, ◌≤◌, ◌⊎◌, ℕ, List, Option, Some, None, is_some, slice_index_or, slice_set, if◌then◌else◌}
+use Rattle.servient_outside.specs.declared.net.What.{What}
+use Rattle.servient_outside.specs.declared.net.What.TheVariants as what
+use Rattle.servient_edge.specs.declared.number.Number.{Number}
+use Rattle.servient_edge.specs.declared.number.Number.TheVariants as number
+use Rattle.servient_edge.specs.declared.numbers.Numbers.{Numbers}
+use Rattle.servient_edge.specs.declared.turns.Took.{Took}
+use Rattle.servient_edge.specs.declared.turns.Took.TheVariants as took
+
+-- what a number stands for: nothing, a connection that is open, one that is closed and not over yet, or one that was
+-- given up and whose end is still to be given
+pub data Standing : Type 0 where
+  vacant : Standing
+  connected : Standing
+  closing : Standing
+  given_up : Standing
+
+abbrev pub standing : Number → Standing
+standing number.Free = vacant
+standing (number.Used connection) = if is_some connection.closed then closing else connected
+standing number.GivenUp = given_up
+
+-- what has this number
+abbrev pub number_at : ℕ → Numbers → Number
+number_at c n = slice_index_or n.list.items c number.Free
+
+-- what this number stands for
+abbrev pub standing_at : ℕ → Numbers → Standing
+standing_at c n = standing (number_at c n)
+
+-- what has this number may have changed, and what has another is the same
+abbrev pub OthersStay : ℕ → Numbers → Numbers → Type 0
+OthersStay c before after = after.list.items ≡ slice_set before.list.items c (number_at c after)
+
+-- what this number stands for changes so, and what has another is the same
+abbrev pub ChangesAt : (Standing → Standing → Type 0) → ℕ → Numbers → Numbers → Type 0
+ChangesAt R c before after = R (standing_at c before) (standing_at c after) × OthersStay c before after
+
+-- What a turn takes of a number: bytes of an open connection, some and no more than a buffer takes; the end of an open
+-- one, or of one that was given up; of a closed one nothing but that it is over. What has ended or is over is vacant.
+abbrev pub TakesFrom : Standing → Took → Standing → Type 0
+TakesFrom before (took.Bytes count) after = (before ≡ connected) × (after ≡ connected) × (1 ≤ count) × (count ≤ 4096)
+TakesFrom before took.Unwanted after = (before ≡ closing) × (after ≡ closing)
+TakesFrom before took.Nothing after = after ≡ before
+TakesFrom before took.Ended after = ((before ≡ connected) ⊎ (before ≡ given_up)) × (after ≡ vacant)
+TakesFrom before took.Over after = (before ≡ closing) × (after ≡ vacant)
+
+-- sending may give up an open connection, and changes nothing else
+abbrev pub SendsOn : Standing → Standing → Type 0
+SendsOn before after = (after ≡ before) ⊎ ((before ≡ connected) × (after ≡ given_up))
+
+-- nothing comes of it any more
+abbrev pub IsSilent : Standing → Type 0
+IsSilent s = (s ≡ vacant) ⊎ (s ≡ closing)
+
+-- a closed connection may be over, and nothing else changes
+abbrev pub Settled : Standing → Standing → Type 0
+Settled before after = (after ≡ before) ⊎ ((before ≡ closing) × (after ≡ vacant))
+
+-- closed connections may be over, and nothing else changes
+abbrev pub Settles : Numbers → Numbers → Type 0
+Settles before after = (c : ℕ) → Settled (standing_at c before) (standing_at c after)
+
+-- Which number a turn names: one that was vacant, and is open now; one that is open, of which bytes came; one that was
+-- open or given up, and is vacant now. What has another number is the same.
+abbrev pub Gives : Numbers → Option What → Numbers → Type 0
+Gives before None after = Settles before after
+Gives before (Some (what.Opened c)) after = ChangesAt (λ old new. (old ≡ vacant) × (new ≡ connected)) c before after
+Gives before (Some (what.Bytes c count)) after = ChangesAt (λ old new. (old ≡ connected) × (new ≡ connected)) c before after
+Gives before (Some (what.Ended c)) after = ChangesAt (λ old new. ((old ≡ connected) ⊎ (old ≡ given_up)) × (new ≡ vacant)) c before after
+Gives before (Some (what.Datagram from count)) after = after ≡ before
+Gives before (Some what.Tick) after = ⊥
+Gives before (Some what.Stop) after = ⊥
+
+-- which number an event names that comes of some turns, all but the last of which gave none
+abbrev pub Comes : Numbers → Option What → Numbers → Type 0
+Comes before came after = (settled : Numbers) × Settles before settled × Gives settled came after

@@ -1,0 +1,82 @@
+//! What a number of a connection stands for.
+
+ghost use Rattle.std.specs.Prelude.{◌≡◌, length};
+
+use crate::connection::Connection;
+use crate::turns::Took;
+
+/// What has a number.
+#[derive(Drop)]
+pub enum Number {
+    Free,
+    Used(Connection),
+    /// The connection was given up, and its end is still to be given.
+    GivenUp,
+}
+
+impl Number {
+    ghost use Rattle.servient_edge.specs.Numbers.{TakesFrom, SendsOn, IsSilent, standing};
+
+    /// A turn of what has a number, which is free afterwards where it has ended.
+    pub fn turn(&mut self, buffer: &mut [u8], moment: u64) -> Took
+        requires { length buffer.old ≡ 4096 }
+        ensures { TakesFrom (standing self.old) result (standing self.new) }
+    {
+        match self {
+            Number::Free => Took::Nothing,
+            Number::GivenUp => {
+                *self = Number::Free;
+                Took::Ended
+            }
+            Number::Used(connection) => match connection.turn(buffer, moment) {
+                Took::Bytes(count) => Took::Bytes(count),
+                Took::Unwanted => Took::Unwanted,
+                Took::Nothing => Took::Nothing,
+                Took::Ended => {
+                    *self = Number::Free;
+                    Took::Ended
+                }
+                Took::Over => {
+                    *self = Number::Free;
+                    Took::Over
+                }
+            },
+        }
+    }
+
+    /// Sends on what has a number, if it is open. Whether it can't send any more; then it is given up.
+    pub fn send(&mut self, head: &[u8], body: &[u8]) -> bool
+        ensures { SendsOn (standing self.old) (standing self.new) }
+    {
+        match self {
+            Number::Free | Number::GivenUp => false,
+            Number::Used(connection) => match connection.send(head, body) {
+                Ok(()) => false,
+                Err(_) => {
+                    *self = Number::GivenUp;
+                    true
+                }
+            },
+        }
+    }
+
+    /// Closes what has a number. Whether it is free now.
+    pub fn close(&mut self, moment: u64) -> bool
+        ensures { IsSilent (standing self.new) }
+    {
+        match self {
+            Number::Free => false,
+            Number::GivenUp => {
+                *self = Number::Free;
+                true
+            }
+            Number::Used(connection) => match connection.close(moment) {
+                Ok(()) => false,
+                Err(_) => {
+                    *self = Number::Free;
+                    true
+                }
+            },
+        }
+    }
+}

@@ -1,0 +1,108 @@
+//! The numbers of connections, from 0 to 63, and what each stands for.
+
+ghost use Rattle.std.specs.Prelude.{◌≡◌, ◌<◌, IfSome, None, length, vec_len};
+
+use crate::connection::Connection;
+use crate::number::Number;
+use crate::turns::{CONNECTIONS, Took};
+use std::alloc::{AllocError, Global};
+
+/// All numbers.
+#[derive(Drop)]
+pub struct Numbers {
+    list: Vec<Number>,
+    ghost one_for_each: { vec_len list ≡ 64 },
+}
+
+impl Numbers {
+    ghost use Rattle.servient_edge.specs.Numbers.{ChangesAt, TakesFrom, SendsOn, IsSilent, standing_at};
+    ghost use Rattle.servient_edge.specs.Numbers.{vacant, connected};
+
+    /// All are free.
+    pub fn new(alloc: Global) -> Result<Numbers, AllocError> {
+        let mut list = Vec::with_capacity(alloc, CONNECTIONS)?;
+        for count in 0..CONNECTIONS {
+            list.push(Number::Free)?;
+        }
+        Ok(Numbers { list })
+    }
+
+    /// The least number that is free.
+    pub fn free(&self) -> Option<u32>
+        ensures bound { IfSome result (λ c. c < 64) }
+        ensures free { IfSome result (λ c. standing_at c self.now ≡ vacant) }
+    {
+        for c in 0..CONNECTIONS {
+            if let Number::Free = &self.list[c] {
+                return Some(c as u32);
+            }
+        }
+        None
+    }
+
+    /// A number stands for this connection, which is open.
+    pub fn open(&mut self, c: u32, connection: Connection)
+        requires bound { c < 64 }
+        requires open { connection.closed ≡ None }
+        ensures { ChangesAt (λ before after. after ≡ connected) c self.old self.new }
+    {
+        self.list[c as usize] = Number::Used(connection);
+    }
+
+    /// A turn of the connection of a number. One that has ended is none any more.
+    pub fn turn(&mut self, c: u32, buffer: &mut [u8], moment: u64) -> Took
+        requires bound { c < 64 }
+        requires room { length buffer.old ≡ 4096 }
+        ensures { ChangesAt (λ before after. TakesFrom before result after) c self.old self.new }
+    {
+        self.list[c as usize].turn(buffer, moment)
+    }
+
+    /// Sends on a connection, if it is open. Whether it can't send any more; then it is given up.
+    pub fn send(&mut self, c: u32, head: &[u8], body: &[u8]) -> bool
+        requires { c < 64 }
+        ensures { ChangesAt SendsOn c self.old self.new }
+    {
+        self.list[c as usize].send(head, body)
+    }
+
+    /// Closes a connection. Whether its number is free now.
+    pub fn close(&mut self, c: u32, moment: u64) -> bool
+        requires { c < 64 }
+        ensures { ChangesAt (λ before after. IsSilent after) c self.old self.new }
+    {
+        self.list[c as usize].close(moment)
+    }
+
+    /// Ends the connections that were closed and are over.
+    pub fn end_those_over(&mut self, moment: u64) {
+        end_those_over(self.list.as_mut_slice(), moment);
+    }
+
+    /// Writes once what is kept for each. Whether something is still kept.
+    pub fn flush(&mut self, moment: u64) -> bool {
+        flush(self.list.as_mut_slice(), moment)
+    }
+}
+
+/// The connections that were closed and are over have no number any more.
+fn end_those_over(numbers: &mut [Number], moment: u64) {
+    for number in numbers {
+        if let Number::Used(connection) = number {
+            if connection.is_over(moment) {
+                *number = Number::Free;
+            }
+        }
+    }
+}
+
+/// Writes once what is kept. Whether something is still kept, and can be sent.
+fn flush(numbers: &mut [Number], moment: u64) -> bool {
+    let mut is_left = false;
+    for number in numbers {
+        if let Number::Used(connection) = number {
+            is_left |= connection.flush(moment).is_ok() && connection.has_kept();
+        }
+    }
+    is_left
+}

@@ -71,7 +71,7 @@ few_bytes true c n = omega arith
 few_bytes false true n = omega arith
 few_bytes false false n = omega arith
 
-format_value : (n : ℕ) → length (number_bytes n) ≤ 2
+pub format_value : (n : ℕ) → length (number_bytes n) ≤ 2
 format_value n = few_bytes (nat_lt n 1) (nat_lt n 256) n
 
 format_at : (last : ℕ) (value : List ℕ) (text : Option (List ℕ)) → last ≤ 8 → length value ≤ 2
@@ -81,7 +81,7 @@ format_at last value (Some text) low short = let one = option_length last (CONTE
 
 -- ---- Observe
 
-sequence_value_at : (n : ℕ) (b : Bool) → length (if b then number_bytes n else (n / 65536) ∷ (n / 256 % 256) ∷ (n % 256) ∷ []) ≤ 3
+pub sequence_value_at : (n : ℕ) (b : Bool) → length (if b then number_bytes n else (n / 65536) ∷ (n / 256 % 256) ∷ (n % 256) ∷ []) ≤ 3
 sequence_value_at n true = let two = format_value n in omega arith
 sequence_value_at n false = omega arith
 
@@ -106,7 +106,7 @@ segments_after_observe (Some sequence) n place os h =
 -- ---- a whole reply
 
 -- what is started has a short place and a short status, and nothing else has a place
-place_bound : (o : Outcome) → HasShortPlace o
+pub place_bound : (o : Outcome) → HasShortPlace o
     → (place_of o ≡ []) ⊎ ((length (place_of o) ≤ 4) × All (λ segment. length segment ≤ LONGEST_SEGMENT) (place_of o) × (length (payload_of o) ≤ 100))
 place_bound (Started place status) h = inr h
 place_bound _ h = inl refl

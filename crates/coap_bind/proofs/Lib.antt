@@ -1,9 +1,12 @@
+pub mod ArrivalLaws
 pub mod DuplicateLaws
 pub mod HistoryLaws
 pub mod LengthLaws
+pub mod MessageLaws
 pub mod MomentLaws
 pub mod OpenLaws
 pub mod ReadingLaws
 pub mod RepeatedLaws
 pub mod TellingLaws
 pub mod TidyLaws
+pub mod TreatingLaws

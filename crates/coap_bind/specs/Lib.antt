@@ -5,3 +5,6 @@ pub mod Telling
 pub mod Laws
 pub mod Duplicates
 pub mod Settling
+pub mod Histories
+pub mod Messages
+pub mod Treating

@@ -1,7 +1,10 @@
 //! Laws of the server, as contracts of functions that do nothing.
 
 ghost use Rattle.coap_bind.specs.Duplicates.{OnlyConfirmableAreKept, DuplicatesChangeNothing, DuplicatesGetTheFirstReply, OnlyTheFirstReplyIsRepeated};
+ghost use Rattle.coap_bind.specs.Histories.{HearingGoesOn, AskedIsAdmitted};
 ghost use Rattle.coap_bind.specs.Laws.{ExchangesAreOfTheHistory, DuplicatesAskNothing, AsksAreOpen, RepliesFit};
+ghost use Rattle.coap_bind.specs.Messages.{RepliesAreMessages, NotificationsAreMessages};
+ghost use Rattle.coap_bind.specs.Treating.{AllAreTreated};
 
 /// The exchanges of a server are those of the admitted requests that live (RFC 7252, section 4.5).
 pub fn exchanges_are_of_the_history()
@@ -47,4 +50,25 @@ pub fn asks_are_open()
 /// started is long.
 pub fn replies_fit()
     ensures { RepliesFit }
+{}
+
+/// Whatever a server hears, its history goes on by that, and its table is at no later moment (RFC 7252, section 4.5).
+pub fn hearing_goes_on()
+    ensures { HearingGoesOn }
+{}
+
+/// What is asked for is the request of its datagram, which is admitted now (RFC 7252, section 4.5).
+pub fn asked_is_admitted()
+    ensures { AskedIsAdmitted }
+{}
+
+/// What is done with a datagram, case by case: what becomes of the exchanges and of the watchers, and what is sent back.
+pub fn all_are_treated()
+    ensures { AllAreTreated }
+{}
+
+/// Replies and notifications are messages (RFC 7252, section 3).
+pub fn sent_are_messages()
+    ensures replies { RepliesAreMessages }
+    ensures notifications { NotificationsAreMessages }
 {}

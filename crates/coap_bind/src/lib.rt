@@ -49,9 +49,10 @@ mod writing;
 
 pub use bind::CoapBind;
 pub use laws::{
-    asks_are_open, duplicates_ask_nothing, duplicates_change_nothing,
-    duplicates_get_the_first_reply, exchanges_are_of_the_history, only_confirmable_are_kept,
-    only_the_first_reply_is_repeated, replies_fit,
+    all_are_treated, asked_is_admitted, asks_are_open, duplicates_ask_nothing,
+    duplicates_change_nothing, duplicates_get_the_first_reply, exchanges_are_of_the_history,
+    hearing_goes_on, only_confirmable_are_kept, only_the_first_reply_is_repeated, replies_fit,
+    sent_are_messages,
 };
 pub use next::{CoapNext, Ticket};
 pub use servient_base::NoMemory;

@@ -1,8 +1,6 @@
 -- Laws of the client, over all that it did from its beginning.
-use Rattle.std.proofs.Common.{◌≡◌, ◌⊎◌, ℕ, ◌*◌, ◌-◌, ◌<◌, ◌≤◌, ◌&&◌, ◌||◌, ◌∙◌, Bool, true, false, Option, Some, None, List, [], ◌∷◌, ◌++◌, inl, inr, refl, sym, ap, subst, arith}
-use Rattle.std.specs.Prelude.{◌==◌}
+use Rattle.std.proofs.Common.{◌≡◌, ◌⊎◌, ℕ, ◌*◌, ◌-◌, ◌<◌, ◌≤◌, ◌||◌, ◌∙◌, Bool, true, false, Option, Some, None, List, [], ◌∷◌, ◌++◌, inl, inr, refl, sym, ap, subst, arith}
 use Rattle.std.specs.Str.{bytes_eq}
-use Rattle.std.proofs.lemmas.Bool.Decides.{nat_tests}
 use Rattle.std.proofs.lemmas.Slice.Eq.{bytes_eq-Decides}
 use Rattle.coap_msg.specs.declared.endpoint.Endpoint.{Endpoint}
 use Rattle.coap_client.specs.declared.outstanding.Outstanding.{Outstanding}
@@ -15,11 +13,12 @@ use Rattle.coap_msg.specs.Transmission.{first_timeout}
 use Rattle.coap_msg.proofs.SameEndpoints.{both, same_endpoint}
 use Rattle.coap_client.specs.Times.{transmission_end, deadline, retransmissions_by}
 use Rattle.coap_client.specs.Laws.{Did, nothing, asked, refused, took, retransmitted, RetransmissionsEnd, TakenFromTheAsked, TakenFromAPeer, IdsRest}
-use Rattle.coap_client.proofs.StepLaws.{Follows, IsSame, Keeps, keeps_self, keeps_after, keeps_due, follows_kept, follows_later, follows_asked}
+use Rattle.coap_client.specs.Requests.{IsSameRequest}
+use Rattle.coap_client.proofs.StepLaws.{Follows, Keeps, keeps_self, keeps_after, keeps_due, follows_kept, follows_later, follows_asked}
 
 -- ---- all that a client did
 
-keeps_delivered : (s t : State) (from : Endpoint) (bytes : List ℕ) (told : _) (old new : List ℕ) → Delivers s from bytes told old new t → Keeps s t
+pub keeps_delivered : (s t : State) (from : Endpoint) (bytes : List ℕ) (told : _) (old new : List ℕ) → Delivers s from bytes told old new t → Keeps s t
 keeps_delivered s t from bytes told old new (of_message m spells reply news is) = subst (Keeps s) (sym is) (keeps_after s from m.token (meaning s from m))
 keeps_delivered s t from bytes told old new (of_fault f has reply news is) = subst (Keeps s) (sym is) (keeps_self s)
 
@@ -54,10 +53,10 @@ not_acknowledged : (b : Bool) (k n : ℕ) (old new : ℕ) → (old ≡ (elim b a
 not_acknowledged true k n old new e h = absurd (omega arith)
 not_acknowledged false k n old new e h = e
 
-timeout_bound : (id : ℕ) → 31 * first_timeout id ≤ 93000
+pub timeout_bound : (id : ℕ) → 31 * first_timeout id ≤ 93000
 timeout_bound id = omega arith
 
-before_last : (now : ℕ) (o : Outstanding) (b : Bool) → o.is_acknowledged ≡ b → now - o.first < deadline o → o.reached < retransmissions_by o (now - o.first) → now < transmission_end o
+pub before_last : (now : ℕ) (o : Outstanding) (b : Bool) → o.is_acknowledged ≡ b → now - o.first < deadline o → o.reached < retransmissions_by o (now - o.first) → now < transmission_end o
 before_last now o true e h g = let zero : retransmissions_by o (now - o.first) ≡ 0 = rw e refl in absurd (omega arith)
 before_last now o false e h g = let is : deadline o ≡ 31 * first_timeout o.id = rw e refl in omega arith
 
@@ -66,7 +65,7 @@ retransmissions_end sent s t now n old new did later comes =
     let f : Follows sent s = follows sent s did in
     let o : Outstanding = comes.0 in
     let a = f.outstanding comes.0 comes.1 in
-    let same : IsSame a.0 comes.0 = a.2 in
+    let same : IsSameRequest a.0 comes.0 = a.2 in
     let last : now < transmission_end comes.0 = before_last now comes.0 comes.0.is_acknowledged refl comes.2 comes.3 in (
       a.0,
       a.1,

@@ -17,15 +17,8 @@ use Rattle.coap_client.specs.declared.due.Due.TheVariants as due
 use Rattle.coap_client.specs.Asking.{Asking}
 use Rattle.coap_client.specs.Exchange.{at_moment, request_for, with_request, registers, ended, ComesDue, with_latest, acknowledged, after}
 use Rattle.coap_client.specs.Names.{IsNextId, is_recent}
+use Rattle.coap_client.specs.Requests.{IsSameRequest}
 use Rattle.coap_client.specs.Answers.{is_for_request, is_for_observation}
-
--- one request at two moments: how often it was sent again and whether it was acknowledged may differ
-pub record IsSame (a o : Outstanding) : Type 0 where
-  pub peer : a.peer ≡ o.peer
-  pub id : a.id ≡ o.id
-  pub token : a.token ≡ o.token
-  pub first : a.first ≡ o.first
-  pub sent : a.sent ≡ o.sent
 
 -- of two requests with one id the later is sent long after the earlier
 abbrev pub IsRested : Outstanding → Outstanding → Type 0
@@ -36,7 +29,7 @@ pub record Follows (sent : List Outstanding) (s : State) : Type 0 where
   pub ids : length s.uses ≡ 65536
   pub remembered : (a : Outstanding) → Contains sent a → (m : ℕ) × (get_or s.uses a.id None ≡ Some m) × (a.first ≤ m)
   pub past : (a : Outstanding) → Contains sent a → a.first ≤ s.moment
-  pub outstanding : (o : Outstanding) → s.outstanding ≡ Some o → (a : Outstanding) × Contains sent a × IsSame a o
+  pub outstanding : (o : Outstanding) → s.outstanding ≡ Some o → (a : Outstanding) × Contains sent a × IsSameRequest a o
   pub observed : (o : Observation) → s.observation ≡ Some o → (a : Outstanding) × Contains sent a × (a.peer ≡ o.peer) × (a.token ≡ o.token)
   pub rested : AllPairs IsRested sent
 
@@ -46,13 +39,13 @@ pub record Follows (sent : List Outstanding) (s : State) : Type 0 where
 pub record Keeps (s t : State) : Type 0 where
   pub uses : t.uses ≡ s.uses
   pub moment : t.moment ≡ s.moment
-  pub outstanding : (o : Outstanding) → t.outstanding ≡ Some o → (p : Outstanding) × (s.outstanding ≡ Some p) × IsSame p o
+  pub outstanding : (o : Outstanding) → t.outstanding ≡ Some o → (p : Outstanding) × (s.outstanding ≡ Some p) × IsSameRequest p o
   pub observed : (o : Observation) → t.observation ≡ Some o → (p : Observation) × (s.observation ≡ Some p) × (p.peer ≡ o.peer) × (p.token ≡ o.token)
 
-same_self : (o : Outstanding) → IsSame o o
-same_self o = record { peer = refl; id = refl; token = refl; first = refl; sent = refl }
+same_self : (o : Outstanding) → IsSameRequest o o
+same_self o = record { peer = refl; id = refl; token = refl; first = refl; registers = refl; sent = refl }
 
-kept_request : (x : Option Outstanding) (b : Bool) (o : Outstanding) → cond b None x ≡ Some o → (p : Outstanding) × (x ≡ Some p) × IsSame p o
+kept_request : (x : Option Outstanding) (b : Bool) (o : Outstanding) → cond b None x ≡ Some o → (p : Outstanding) × (x ≡ Some p) × IsSameRequest p o
 kept_request x true o e = cc
 kept_request x false o e = (o, e, same_self o)
 
@@ -61,10 +54,10 @@ kept_observation : (x : Option Observation) (b : Bool) (o : Observation) → con
 kept_observation x true o e = cc
 kept_observation x false o e = (o, e, refl, refl)
 
-acknowledged_request : (x : Option Outstanding) (o : Outstanding) → acknowledged x ≡ Some o → (p : Outstanding) × (x ≡ Some p) × IsSame p o
+acknowledged_request : (x : Option Outstanding) (o : Outstanding) → acknowledged x ≡ Some o → (p : Outstanding) × (x ≡ Some p) × IsSameRequest p o
 acknowledged_request None o e = cc
 acknowledged_request (Some p) o e =
-    (p, refl, subst (IsSame p) (same_Some (record p { is_acknowledged = true }) o e) (record { peer = refl; id = refl; token = refl; first = refl; sent = refl }))
+    (p, refl, subst (IsSameRequest p) (same_Some (record p { is_acknowledged = true }) o e) (record { peer = refl; id = refl; token = refl; first = refl; registers = refl; sent = refl }))
 
 later_observation : (x : Option Observation) (v now : ℕ) (o : Observation) → with_latest v now x ≡ Some o
     → (p : Observation) × (x ≡ Some p) × (p.peer ≡ o.peer) × (p.token ≡ o.token)
@@ -111,7 +104,7 @@ keeps_retransmitted : (s : State) (o : Outstanding) (n : ℕ) → s.outstanding 
 keeps_retransmitted s o n is = record {
   uses = refl;
   moment = refl;
-  outstanding = λ p e. (o, is, subst (IsSame o) (same_Some (record o { reached = n }) p e) (record { peer = refl; id = refl; token = refl; first = refl; sent = refl }));
+  outstanding = λ p e. (o, is, subst (IsSameRequest o) (same_Some (record o { reached = n }) p e) (record { peer = refl; id = refl; token = refl; first = refl; registers = refl; sent = refl }));
   observed = λ p e. (p, e, refl, refl);
 }
 
@@ -128,9 +121,9 @@ follows_kept sent s t f k = record {
   outstanding = λ o e.
       let p = k.outstanding o e in
       let a = f.outstanding p.0 p.1 in
-      let x : IsSame a.0 p.0 = a.2 in
-      let y : IsSame p.0 o = p.2 in
-      (a.0, a.1, record { peer = x.peer ∙ y.peer; id = x.id ∙ y.id; token = x.token ∙ y.token; first = x.first ∙ y.first; sent = x.sent ∙ y.sent });
+      let x : IsSameRequest a.0 p.0 = a.2 in
+      let y : IsSameRequest p.0 o = p.2 in
+      (a.0, a.1, record { peer = x.peer ∙ y.peer; id = x.id ∙ y.id; token = x.token ∙ y.token; first = x.first ∙ y.first; registers = x.registers ∙ y.registers; sent = x.sent ∙ y.sent });
   observed = λ o e.
       let p = k.observed o e in
       let a = f.observed p.0 p.1 in
@@ -197,7 +190,7 @@ follows_asked sent s peer a id f next =
       outstanding = λ o e. (
         request_for s peer a id,
         Contains-append_right sent (request_for s peer a id ∷ []) (request_for s peer a id) (the_one (request_for s peer a id)),
-        subst (IsSame (request_for s peer a id)) (same_Some (request_for s peer a id) o e) (same_self (request_for s peer a id)),
+        subst (IsSameRequest (request_for s peer a id)) (same_Some (request_for s peer a id) o e) (same_self (request_for s peer a id)),
       );
       observed = λ o e. elim (observed_with s.observation (request_for s peer a id) (request_for s peer a id).registers o e) [
         | inl new ↦ (request_for s peer a id, Contains-append_right sent (request_for s peer a id ∷ []) (request_for s peer a id) (the_one (request_for s peer a id)), new.0, new.1)

@@ -3,5 +3,7 @@ pub mod Asking
 pub mod Exchange
 pub mod Laws
 pub mod Names
+pub mod Requests
 pub mod Times
+pub mod Tokens
 pub mod Finding

@@ -26,7 +26,7 @@ impl Model for Client {
 }
 
 impl Client {
-    ghost use Rattle.std.specs.Prelude.{◌≡◌, ◌≤◌, IfOk, IfErr, OnErr};
+    ghost use Rattle.std.specs.Prelude.{◌≡◌, ◌≤◌, IfOk, IfErr, OnErr, is_some};
     ghost use Rattle.coap_client.specs.Asking.{MayAsk, asking_of};
     ghost use Rattle.coap_client.specs.Exchange.{IsNew, at_moment, Asks, IsRefused, Delivers, ComesDue};
 
@@ -93,5 +93,12 @@ impl Client {
     {
         self.state.moment = now;
         self.state.due(out)
+    }
+
+    /// Whether a request is outstanding: it was sent, and nothing ended it yet.
+    pub fn has_outstanding(&self) -> bool
+        ensures { result ≡ is_some self.now.outstanding }
+    {
+        self.state.outstanding.is_some()
     }
 }

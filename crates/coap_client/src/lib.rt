@@ -27,8 +27,9 @@
 //!
 //! What a client holds and what its calls do is one machine, `specs/Exchange.antt`. The contract in a sentence: each
 //! call does what the machine does (`Asks` and `IsRefused`, `Delivers`, `ComesDue`), for all that comes in any order.
-//! The laws: a retransmission is sent less than 93 seconds after the first, what is taken comes from a peer that was
-//! asked, and an id isn't used again within 400 seconds.
+//! The laws: a retransmission is the last request, byte for byte, less than 93 seconds after it was sent first, what is
+//! taken comes from a peer that was asked, an id isn't used again within 400 seconds, the ids of the first 65,536 requests
+//! differ, and so do the tokens of registrations.
 #![tactic(auto)]
 
 mod ask;
@@ -49,6 +50,9 @@ pub use ask::Ask;
 pub use client::Client;
 pub use due::Due;
 pub use fault::ClientFault;
-pub use laws::{ids_rest, retransmissions_end, taken_from_a_peer, taken_from_the_asked};
+pub use laws::{
+    asks_are_messages, ids_differ, ids_rest, last_is_outstanding, last_is_retransmitted,
+    registrations_have_tokens, retransmissions_end, taken_from_a_peer, taken_from_the_asked,
+};
 pub use news::{Delivered, News};
 pub use servient_base::NoMemory;

@@ -3,6 +3,7 @@ pub mod Due
 pub mod Counts
 pub mod Found
 mod Tokens
+pub mod AccountLaws
 pub mod CallLaws
 mod NumberLaws
 mod SendingLaws

@@ -236,7 +236,7 @@ registration_says from token target t u (New m) n reg says =
 registration_says from token target t u Full n reg says = absurd (cc)
 
 -- a notice is for the watcher that it is made of
-notice_for : (c : Watcher) (id sequence : ℕ) (fresh : Bool) (n : Notice) → IsNotice c id sequence fresh n
+pub notice_for : (c : Watcher) (id sequence : ℕ) (fresh : Bool) (n : Notice) → IsNotice c id sequence fresh n
     → is_pair n.to (take n.token_length n.token) c ≡ true
 notice_for c id sequence fresh n notice =
     (λ i. is_same_endpoint (notice.to i) c.from && bytes_eq (notice.token i) c.token) ∙ own_pair c

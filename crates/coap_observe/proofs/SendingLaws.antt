@@ -33,11 +33,11 @@ record Holds (from : Endpoint) (token : List ℕ) (r : ℕ) (ws : List Watcher) 
   bound : r ≤ 4
   busy : (w : Watcher) → find (is_pair from token) ws ≡ Some w → HasSent r w
 
-same_one : (w v : Watcher) → Some w ≡ Some v → w ≡ v
+pub same_one : (w v : Watcher) → Some w ≡ Some v → w ≡ v
 same_one w v e = cc
 
 -- the pair is that of a watcher
-pair_is : (from : Endpoint) (token : List ℕ) (w : Watcher) → is_pair from token w ≡ true → (from ≡ w.from) × (token ≡ w.token)
+pub pair_is : (from : Endpoint) (token : List ℕ) (w : Watcher) → is_pair from token w ≡ true → (from ≡ w.from) × (token ≡ w.token)
 pair_is from token w e =
     let h = both (is_same_endpoint from w.from) (bytes_eq token w.token) e in
     (same_endpoint from w.from h.0, same_token token w.token h.1)
@@ -147,7 +147,7 @@ few_sent : (now : ℕ) (ws : List Watcher) (c : Watcher) (s : Sent) → hopeless
 few_sent now ws c s none found was = few_at (find (is_due now) ws) c s found none was
 
 -- a notice is for the watcher that it is made of
-for_whom : (from : Endpoint) (token : List ℕ) (c : Watcher) (id sequence : ℕ) (fresh : Bool) (n : Notice) → IsNotice c id sequence fresh n → is_for from token n ≡ is_pair from token c
+pub for_whom : (from : Endpoint) (token : List ℕ) (c : Watcher) (id sequence : ℕ) (fresh : Bool) (n : Notice) → IsNotice c id sequence fresh n → is_for from token n ≡ is_pair from token c
 for_whom from token c id sequence fresh n notice = λ i. is_same_endpoint from (notice.to i) && bytes_eq token (notice.token i)
 
 -- so many messages go to a pair

@@ -6,3 +6,4 @@ pub mod Places
 pub mod Kept
 pub mod Watched
 pub mod Unsent
+pub mod Accounts

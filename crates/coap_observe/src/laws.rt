@@ -1,5 +1,6 @@
 //! Laws of watchers, as contracts of functions that do nothing.
 
+ghost use Rattle.coap_observe.specs.Accounts.{NoticesGoToTheRegistered, NoticesAreInOrder};
 ghost use Rattle.coap_observe.specs.Laws.{OneUnacknowledged, PairsDiffer, GivenUpLeavesNone, ResetForgets, AbsentStays, NothingForAbsent, NumbersRise, RegistrationsSayIt, NoticesSayIt, AtMostFiveSendings, SendsTheSame, DueAreGone};
 
 /// At most one notification to an endpoint is unacknowledged at a time (RFC 7641, section 4.5.1).
@@ -40,4 +41,11 @@ pub fn sent_five_times()
     ensures five { AtMostFiveSendings }
     ensures same { SendsTheSame }
     ensures gone { DueAreGone }
+{}
+
+/// A notification goes to a watcher that registered for its target. To one that registered once notifications go in the
+/// order of their numbers, and say the values of their target in order (RFC 7641, sections 3.4 and 4.5).
+pub fn notices_are_in_order()
+    ensures registered { NoticesGoToTheRegistered }
+    ensures order { NoticesAreInOrder }
 {}

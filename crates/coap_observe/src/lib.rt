@@ -21,7 +21,9 @@
 //! The contract in a sentence: each call is its step of `specs/Watching.antt`, and `next_send` is `Notifies` there. The
 //! laws (`specs/Laws.antt`): at most one notification to an endpoint is unacknowledged, an endpoint that is given up
 //! has no watcher left, after a Reset nothing is sent to its watcher until that registers again, sequence numbers rise by
-//! one, and a notification that nothing answers is sent at most five times.
+//! one, and a notification that nothing answers is sent at most five times. And over all that was done before
+//! (`specs/Accounts.antt`): a notification goes to a watcher that registered for its target, and those to one that
+//! registered once go in order and say the values of their target in order.
 //!
 //! Inside, watchers are in slots that are linked by their targets and by their endpoints (`slots.rt`), and `next_send`
 //! looks at them only from the moment on at which something may be to be sent (`watchers.rt`).
@@ -39,8 +41,8 @@ mod watcher;
 mod watchers;
 
 pub use laws::{
-    given_up_leaves_none, numbers_rise, one_is_unacknowledged, pairs_differ, reset_forgets,
-    sent_five_times,
+    given_up_leaves_none, notices_are_in_order, numbers_rise, one_is_unacknowledged, pairs_differ,
+    reset_forgets, sent_five_times,
 };
 pub use notice::{Notice, Registered};
 pub use servient_base::NoMemory;

@@ -1,0 +1,155 @@
+-- Replies and notifications are messages within the bounds of one.
+use Rattle.std.proofs.Common.{◌≡◌, ◌⊎◌, ℕ, ◌+◌, ◌/◌, ◌<◌, ◌≤◌, ◌^◌, Bool, true, false, cond, Option, Some, None, List, [], ◌∷◌, ◌++◌, length, inl, inr, refl, sym, subst, arith}
+use Rattle.std.specs.Prelude.{nat_lt, All, take}
+use Rattle.std.specs.Option.{option_map_or}
+use Rattle.std.proofs.lemmas.List.{length-take}
+use Rattle.std.proofs.lemmas.List.Elements.{All-head, All-tail}
+use Rattle.coap_msg.specs.declared.constants.TheConstants.{LOCATION_PATH, CONTENT_FORMAT, JSON, LONGEST_SEGMENT, LONGEST_PAYLOAD}
+use Rattle.coap_msg.specs.declared.message.RequestType.{RequestType}
+use Rattle.coap_msg.specs.declared.message.RequestType.TheVariants.{Confirmable, NonConfirmable}
+use Rattle.coap_msg.specs.Grammar.{CoapOption, AreInOrder}
+use Rattle.coap_msg.specs.Numbers.{number_bytes}
+use Rattle.coap_msg.specs.Opts.{segment_options}
+use Rattle.thing_ops.specs.declared.outcome.Outcome.{Outcome}
+use Rattle.thing_ops.specs.declared.outcome.Outcome.TheVariants as outcome
+use Rattle.thing_ops.specs.Outcomes.{HasCode, payload_of, text_of}
+use Rattle.coap_bind.specs.Writing.{Reply, long_reply, whole_reply, reply_of, place_of, text_format, format_options, sequence_bytes, observe_options, reply_id}
+use Rattle.coap_bind.specs.Laws.{HasShortPlace}
+use Rattle.coap_bind.specs.Messages.{RepliesAreMessages, NotificationsAreMessages}
+use Rattle.coap_bind.proofs.LengthLaws.{format_value, sequence_value_at, place_bound}
+
+-- ---- options in order
+
+-- options may follow each number up to that of Location-Path
+abbrev AreLater : List CoapOption → Type 0
+AreLater os = (last : ℕ) → last ≤ 8 → AreInOrder last os
+
+format_in_order : (value : List ℕ) (text : Option (List ℕ)) → length value ≤ 2 → AreLater (option_map_or (λ _. (CONTENT_FORMAT, value) ∷ []) text [])
+format_in_order value None short last low = tt
+format_in_order value (Some text) short last low = (record { order = omega arith; number = omega arith; value = omega arith }, tt)
+
+place_in_order : (place : List (List ℕ)) (os : List CoapOption) → All (λ segment. length segment ≤ LONGEST_SEGMENT) place → AreLater os
+    → AreLater (segment_options LOCATION_PATH place ++ os)
+place_in_order [] os all rest last low = rest last low
+place_in_order (segment ∷ place) os all rest last low =
+    let bound : length segment ≤ LONGEST_SEGMENT = All-head (λ (s : List ℕ). length s ≤ LONGEST_SEGMENT) segment place all in (
+      record { order = omega arith; number = omega arith; value = omega arith },
+      place_in_order place os (All-tail (λ (s : List ℕ). length s ≤ LONGEST_SEGMENT) segment place all) rest 8 (omega arith),
+    )
+
+observe_in_order : (observe : Option ℕ) (os : List CoapOption) → AreLater os → AreInOrder 0 (observe_options observe ++ os)
+observe_in_order None os rest = rest 0 (omega arith)
+observe_in_order (Some n) os rest =
+    let value : length (sequence_bytes n) ≤ 3 = sequence_value_at n (nat_lt n 65536) in
+    (record { order = omega arith; number = omega arith; value = omega arith }, rest 6 (omega arith))
+
+no_place_in_order : (o : Outcome) → (place : List (List ℕ)) → place ≡ [] → AreLater (segment_options LOCATION_PATH place ++ format_options o)
+no_place_in_order o place none =
+    subst (λ (p : List (List ℕ)). AreLater (segment_options LOCATION_PATH p ++ format_options o)) (sym none)
+    (format_in_order (number_bytes (text_format o)) (text_of o) (format_value (text_format o)))
+
+whole_in_order : (o : Outcome) → HasShortPlace o → AreLater (whole_reply o).options
+whole_in_order o short = elim (place_bound o short) [
+  | inl none ↦ no_place_in_order o (place_of o) none
+  | inr some ↦ place_in_order (place_of o) (format_options o) some.1 (format_in_order (number_bytes (text_format o)) (text_of o) (format_value (text_format o)))
+]
+
+in_order_at : (b : Bool) (r : Reply) → AreLater r.options → AreLater (cond b long_reply r).options
+in_order_at true r later = λ last low. tt
+in_order_at false r later = later
+
+-- ---- codes
+
+-- a code of a response
+pub record IsResponse (code : ℕ) : Type 0 where
+  pub small : code < 256
+  pub class : (code / 32 ≡ 2) ⊎ ((code / 32 ≡ 4) ⊎ (code / 32 ≡ 5))
+
+success : (n : ℕ) → n < 32 → IsResponse (64 + n)
+success n low = record { small = omega arith; class = inl (omega arith) }
+
+client_error : (n : ℕ) → n < 32 → IsResponse (128 + n)
+client_error n low = record { small = omega arith; class = inr (inl (omega arith)) }
+
+server_error : (n : ℕ) → n < 32 → IsResponse (160 + n)
+server_error n low = record { small = omega arith; class = inr (inr (omega arith)) }
+
+whole_code : (o : Outcome) → HasCode o → IsResponse (whole_reply o).code
+whole_code (outcome.Content value) c = success 5 (omega arith)
+whole_code (outcome.Description description td) c = success 5 (omega arith)
+whole_code outcome.Empty c = success 5 (omega arith)
+whole_code outcome.Changed c = success 4 (omega arith)
+whole_code (outcome.Output value) c = success 4 (omega arith)
+whole_code (outcome.Started place status) c = success 1 (omega arith)
+whole_code outcome.Deleted c = success 2 (omega arith)
+whole_code (outcome.Created id) c = absurd (cc)
+whole_code (outcome.Listed entries) c = absurd (cc)
+whole_code (outcome.Wait slot) c = client_error 4 (omega arith)
+whole_code outcome.NotFound c = client_error 4 (omega arith)
+whole_code (outcome.NotAllowed allow) c = client_error 5 (omega arith)
+whole_code outcome.NotAcceptable c = client_error 6 (omega arith)
+whole_code outcome.Format c = client_error 15 (omega arith)
+whole_code outcome.BadValue c = client_error 0 (omega arith)
+whole_code outcome.TooLarge c = client_error 13 (omega arith)
+whole_code (outcome.Refused n) c = client_error 3 (omega arith)
+whole_code (outcome.DeviceFault n) c = server_error 0 (omega arith)
+whole_code outcome.BadAnswer c = server_error 0 (omega arith)
+whole_code outcome.InvocationsFull c = server_error 3 (omega arith)
+whole_code outcome.CallsUsed c = server_error 3 (omega arith)
+whole_code (outcome.Invalid n) c = absurd (cc)
+whole_code outcome.IdDiffers c = absurd (cc)
+whole_code outcome.HasId c = absurd (cc)
+whole_code outcome.DirectoryFull c = absurd (cc)
+whole_code outcome.Memory c = server_error 3 (omega arith)
+
+code_at : (b : Bool) (r : Reply) → IsResponse r.code → IsResponse (cond b long_reply r).code
+code_at true r code = server_error 0 (omega arith)
+code_at false r code = code
+
+-- what is said of an outcome has a code of a response
+pub reply_code : (o : Outcome) → HasCode o → IsResponse (reply_of o).code
+reply_code o code = code_at (nat_lt LONGEST_PAYLOAD (length (payload_of o))) (whole_reply o) (whole_code o code)
+
+some_code : (code : ℕ) → IsResponse code → code ≡ 0 → ⊥
+some_code code is none = elim is.class [
+  | inl two ↦ omega arith
+  | inr more ↦ elim more [
+    | inl four ↦ omega arith
+    | inr five ↦ omega arith
+  ]
+]
+
+id_at : (kind : RequestType) (id next : ℕ) → id < 2 ^ 16 → next < 2 ^ 16 → reply_id kind id next < 2 ^ 16
+id_at Confirmable id next mine its = mine
+id_at NonConfirmable id next mine its = its
+
+-- ---- the messages
+
+pub replies_are_messages : RepliesAreMessages
+replies_are_messages o observe head next code short id token counter =
+    let is : IsResponse (reply_of o).code = reply_code o code in
+    record {
+      code = let small = is.small in omega arith;
+      class = inr is.class;
+      id = id_at head.kind head.id next id counter;
+      token = token;
+      options = observe_in_order observe (reply_of o).options (in_order_at (nat_lt LONGEST_PAYLOAD (length (payload_of o))) (whole_reply o) (whole_in_order o short));
+      empty = λ none. absurd (some_code (reply_of o).code is none);
+    }
+
+short_take : (n : ℕ) (bytes : List ℕ) → length (take n bytes) ≤ n
+short_take n bytes = omega (arith, length-take n bytes)
+
+pub notifications_are_messages : NotificationsAreMessages
+notifications_are_messages n value sendable id =
+    let short = sendable.token in
+    let taken : length (take n.token_length n.token) ≤ n.token_length = short_take n.token_length n.token in
+    record {
+      code = omega arith;
+      class = inr (inl refl);
+      id = id;
+      token = omega arith;
+      options = observe_in_order (Some n.sequence) ((CONTENT_FORMAT, number_bytes JSON) ∷ [])
+          (λ last low. (record { order = omega arith; number = omega arith; value = let two = format_value JSON in omega arith }, tt));
+      empty = λ none. absurd (omega arith);
+    }

@@ -1,0 +1,21 @@
+-- Replies and notifications are messages within the bounds of one (RFC 7252, sections 3 and 12.1.2).
+use Rattle.std.specs.Prelude.{◌<◌, ◌≤◌, ◌^◌, ℕ, Option, List, length}
+use Rattle.coap_msg.specs.declared.constants.TheConstants.{LONGEST_TOKEN}
+use Rattle.coap_msg.specs.Grammar.{IsWellFormed}
+use Rattle.thing_ops.specs.declared.outcome.Outcome.{Outcome}
+use Rattle.thing_ops.specs.Outcomes.{HasCode}
+use Rattle.coap_observe.specs.declared.notice.Notice.{Notice}
+use Rattle.coap_observe.specs.Watching.{IsSendable}
+use Rattle.coap_bind.specs.declared.head.RequestHead.{RequestHead}
+use Rattle.coap_bind.specs.Writing.{reply_of, observed, coap_reply, notification}
+use Rattle.coap_bind.specs.Laws.{HasShortPlace}
+
+-- A reply to a request is a message, if the id and the token of that are those of one.
+abbrev pub RepliesAreMessages : Type 0
+RepliesAreMessages =
+    (o : Outcome) (observe : Option ℕ) (head : RequestHead) (next : ℕ) → HasCode o → HasShortPlace o
+    → head.id < 2 ^ 16 → length head.token ≤ LONGEST_TOKEN → next < 2 ^ 16 → IsWellFormed (coap_reply (observed observe (reply_of o)) head next)
+
+-- And so is a notification.
+abbrev pub NotificationsAreMessages : Type 0
+NotificationsAreMessages = (n : Notice) (value : List ℕ) → IsSendable n → n.id < 2 ^ 16 → IsWellFormed (notification n value)

@@ -82,19 +82,20 @@ each_fit site (p ∷ ps) got done s calls t all r =
 -- those of one kind among those of a Thing
 pub of_one_kind : (site : Site) (k : Kind) (ps : List Placed) → AllByRecursion (Contains (affordances_of site)) ps → AllByRecursion (IsOne site k) (filter (of_kind k) ps)
 of_one_kind site k [] all = tt
-of_one_kind site k (p ∷ ps) all = by_test (is_kind k p.affordance.kind) refl
+of_one_kind site k (p ∷ ps) all = by_test (of_one_kind site k ps all.1) (is_kind k p.affordance.kind) refl
   where
-    by_test : (b : Bool) → is_kind k p.affordance.kind ≡ b → AllByRecursion (IsOne site k) (cond b (p ∷ filter (of_kind k) ps) (filter (of_kind k) ps))
-    by_test true is = (record { among = all.0; kind = same_kind k p.affordance.kind is }, of_one_kind site k ps all.1)
-    by_test false isnt = of_one_kind site k ps all.1
+    by_test : AllByRecursion (IsOne site k) (filter (of_kind k) ps) → (b : Bool) → is_kind k p.affordance.kind ≡ b
+        → AllByRecursion (IsOne site k) (cond b (p ∷ filter (of_kind k) ps) (filter (of_kind k) ps))
+    by_test rest true is = (record { among = all.0; kind = same_kind k p.affordance.kind is }, rest)
+    by_test rest false isnt = rest
 
 some_of : (site : Site) (k : Kind) (f : Placed → Bool) (ps : List Placed) → AllByRecursion (IsOne site k) ps → AllByRecursion (IsOne site k) (filter f ps)
 some_of site k f [] all = tt
-some_of site k f (p ∷ ps) all = by_test (f p)
+some_of site k f (p ∷ ps) all = by_test (some_of site k f ps all.1) (f p)
   where
-    by_test : (b : Bool) → AllByRecursion (IsOne site k) (cond b (p ∷ filter f ps) (filter f ps))
-    by_test true = (all.0, some_of site k f ps all.1)
-    by_test false = some_of site k f ps all.1
+    by_test : AllByRecursion (IsOne site k) (filter f ps) → (b : Bool) → AllByRecursion (IsOne site k) (cond b (p ∷ filter f ps) (filter f ps))
+    by_test rest true = (all.0, rest)
+    by_test rest false = rest
 
 -- ---- what is handed in
 

@@ -56,12 +56,13 @@ both_true false b e = absurd cc
 
 pub named_kind : (k : Kind) (name : List ℕ) (ps : List Placed) (p : Placed) → affordance_named k name ps ≡ Some p → p.affordance.kind ≡ k
 named_kind k name [] p e = absurd cc
-named_kind k name (q ∷ ps) p e = by_test (is_kind k q.affordance.kind && bytes_eq name q.affordance.name) refl e
+named_kind k name (q ∷ ps) p e = by_test (named_kind k name ps p) (is_kind k q.affordance.kind && bytes_eq name q.affordance.name) refl e
   where
-    by_test : (b : Bool) → (is_kind k q.affordance.kind && bytes_eq name q.affordance.name) ≡ b → cond b (Some q) (affordance_named k name ps) ≡ Some p → p.affordance.kind ≡ k
-    by_test true is found =
+    by_test : (affordance_named k name ps ≡ Some p → p.affordance.kind ≡ k) → (b : Bool) → (is_kind k q.affordance.kind && bytes_eq name q.affordance.name) ≡ b
+        → cond b (Some q) (affordance_named k name ps) ≡ Some p → p.affordance.kind ≡ k
+    by_test further true is found =
         subst (λ (x : Placed). x.affordance.kind ≡ k) (same_Some q p found) (same_kind k q.affordance.kind (both_true (is_kind k q.affordance.kind) (bytes_eq name q.affordance.name) is))
-    by_test false isnt found = named_kind k name ps p found
+    by_test further false isnt found = further found
 
 in_path_kind : (k : Kind) (path : List (List ℕ)) (site : Site) (p : Placed) → affordance_in k path site ≡ Some p → p.affordance.kind ≡ k
 in_path_kind k path site p e =

@@ -1,6 +1,6 @@
 -- What comes of a duplicate, and of a request that finds the table full.
-use Rattle.std.proofs.Common.{◌≡◌, ◌≤◌, ℕ, List, [], ◌∷◌, ◌++◌, max, true, false, refl, sym, ap, subst, ◌∙◌, arith, inl, inr}
-use Rattle.std.specs.Prelude.{◌⊎◌, Contains}
+use Rattle.std.proofs.Common.{◌≡◌, ◌≤◌, ℕ, Bool, length, List, [], ◌∷◌, ◌++◌, max, true, false, refl, sym, ap, subst, ◌∙◌, arith, inl, inr}
+use Rattle.std.specs.Prelude.{◌⊎◌, Contains, filter, nat_lt, if◌then◌else◌}
 use Rattle.std.specs.List.{list_any}
 use Rattle.std.proofs.lemmas.List.Elements.{filter_map-append, Contains-append_right}
 use Rattle.servient_base.specs.Moves.{Then}
@@ -12,7 +12,7 @@ use Rattle.coap_msg.proofs.FaultLaws.{no_fault_of_message}
 use Rattle.coap_msg.specs.Requests.{request_type}
 use Rattle.coap_msg.specs.declared.message.RequestType.{RequestType}
 use Rattle.coap_msg.specs.declared.message.RequestType.TheVariants.{Confirmable, NonConfirmable}
-use Rattle.coap_exchange.specs.Admission.{Arrival, Verdict, duplicate, refused, admitted as is_admitted, verdict, is_duplicate_of, admitted_among}
+use Rattle.coap_exchange.specs.Admission.{Arrival, Verdict, duplicate, refused, admitted as is_admitted, verdict, is_duplicate_of, lives, admitted_among}
 use Rattle.coap_exchange.specs.Table.{at_moment}
 use Rattle.coap_exchange.specs.Laws.{IsVerdict}
 use Rattle.coap_exchange.specs.declared.met.Met.{Met}
@@ -115,23 +115,27 @@ met_by exchanges history from bytes now m met s t did past is =
 
 -- ---- a duplicate
 
-any_has : (p : Arrival → _) (xs : List Arrival) → list_any p xs ≡ true → (x : Arrival) × Contains xs x × (p x ≡ true)
-any_has p [] e = absurd cc
-any_has p (x ∷ xs) e = by_test (p x) refl
-  where
-    further : list_any p xs ≡ true → (y : Arrival) × Contains (x ∷ xs) y × (p y ≡ true)
-    further is = let y = any_has p xs is in (y.0, Contains-append_right (x ∷ []) xs y.0 y.1, y.2)
+among : (p : Arrival → Bool) (x : Arrival) (xs : List Arrival) → p x ≡ false → list_any p (x ∷ xs) ≡ true → list_any p xs ≡ true
+among p x xs isnt all = let same : list_any p (x ∷ xs) ≡ list_any p xs = rw isnt refl in sym same ∙ all
 
-    by_test : (b : _) → p x ≡ b → (y : Arrival) × Contains (x ∷ xs) y × (p y ≡ true)
-    by_test true is = (x, (0, omega arith, refl), is)
-    by_test false isnt = further (let all : list_any p (x ∷ xs) ≡ true = e in cc)
+any_has : (p : Arrival → Bool) (xs : List Arrival) → list_any p xs ≡ true → (x : Arrival) × Contains xs x × (p x ≡ true)
+any_has p [] e = absurd cc
+any_has p (x ∷ xs) e = by_test (any_has p xs) (p x) refl
+  where
+    later : (y : Arrival) × Contains xs y × (p y ≡ true) → (y : Arrival) × Contains (x ∷ xs) y × (p y ≡ true)
+    later (y, has, is) = (y, Contains-append_right (x ∷ []) xs y has, is)
+
+    by_test : (list_any p xs ≡ true → (y : Arrival) × Contains xs y × (p y ≡ true)) → (b : Bool) → p x ≡ b → (y : Arrival) × Contains (x ∷ xs) y × (p y ≡ true)
+    by_test further true is = (x, (0, omega arith, refl), is)
+    by_test further false isnt = later (further (among p x xs isnt e))
+
+verdict_of : (b c : Bool) → (if b then duplicate else (if c then is_admitted else refused)) ≡ duplicate → b ≡ true
+verdict_of true c e = refl
+verdict_of false true e = absurd cc
+verdict_of false false e = absurd cc
 
 duplicate_has : (exchanges : ℕ) (before : List Arrival) (a : Arrival) → verdict exchanges before a ≡ duplicate → (x : Arrival) × Contains before x × (is_duplicate_of a x ≡ true)
-duplicate_has exchanges before a is = any_has (is_duplicate_of a) before (by_test (list_any (is_duplicate_of a) before) refl)
-  where
-    by_test : (b : _) → list_any (is_duplicate_of a) before ≡ b → b ≡ true
-    by_test true e = refl
-    by_test false e = absurd cc
+duplicate_has exchanges before a is = any_has (is_duplicate_of a) before (verdict_of (list_any (is_duplicate_of a) before) (nat_lt (length (filter (lives a.moment) before)) exchanges) is)
 
 -- by what is sent to answer it
 by_reply : (site : Site) (exchanges watchers : ℕ) (from : Endpoint) (m : CoapMessage) (s t : State) (e : EventWithBytes) (seen : List Sighting)

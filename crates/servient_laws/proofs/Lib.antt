@@ -3,3 +3,4 @@ mod RequestLaws
 mod FoundKinds
 mod CallLaws
 mod RunCalls
+mod MemoryLaws

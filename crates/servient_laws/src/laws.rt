@@ -1,6 +1,7 @@
 //! Laws over whole runs.
 
 ghost use Rattle.servient_laws.specs.Calls.{CallsAreFit};
+ghost use Rattle.servient_laws.specs.Memory.{MemoryIsSeen};
 ghost use Rattle.servient_laws.specs.Requests.{RepeatsActOnce, FullTablesActOnNothing};
 
 /// A duplicate of a request that was admitted and lives calls no handler, changes nothing, and is answered with the very
@@ -18,4 +19,10 @@ pub fn full_tables_act_on_nothing()
 /// handed in is accepted by its schema and has at most 1,024 bytes.
 pub fn calls_are_fit()
     ensures { CallsAreFit }
+{}
+
+/// A request that was out of memory made no call and left the Things as they were, or the last thing seen of it is that the
+/// handler which was to be called next was out of memory.
+pub fn memory_is_seen()
+    ensures { MemoryIsSeen }
 {}

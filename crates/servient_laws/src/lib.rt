@@ -6,8 +6,9 @@
 //! - A CoAP request that comes again within its exchange lifetime acts once: `repeats_act_once`.
 //! - A full table of exchanges acts on nothing: `full_tables_act_on_nothing`.
 //! - What its schema refuses reaches no device: `calls_are_fit`, said of the calls alone.
+//! - A request that was out of memory made no call, or ended at a handler that was: `memory_is_seen`.
 #![tactic(auto)]
 
 mod laws;
 
-pub use laws::{calls_are_fit, full_tables_act_on_nothing, repeats_act_once};
+pub use laws::{calls_are_fit, full_tables_act_on_nothing, memory_is_seen, repeats_act_once};

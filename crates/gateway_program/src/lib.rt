@@ -15,7 +15,7 @@ use file_devices::{Entries, SlotHandler, file_handler, shipped_handler};
 use servient_base::NoMemory;
 use servient_cli::{report, servient_main};
 use servient_edge::{FilesReal, MioNet, OutReal};
-use servient_program::{out_of_memory, words};
+use servient_program::{after_first, out_of_memory, process_words};
 use std::alloc::Global;
 use std::io;
 use std::process::ExitCode;
@@ -32,9 +32,9 @@ pub fn run(rt: &HostRuntime) -> ExitCode {
 
 /// Does what the words say. Without any they are no command line of the servient either.
 fn run_words(rt: &HostRuntime) -> Result<u8, NoMemory> {
-    let words = words(rt)?;
-    match words.as_slice() {
-        [] => run_command(rt, &Entries::new(rt.alloc()), words.as_slice()),
+    let words = process_words(rt)?;
+    match after_first(words.as_slice()) {
+        [] => run_command(rt, &Entries::new(rt.alloc()), &[]),
         [devices, command @ ..] => run_devices(rt, devices, command),
     }
 }

@@ -5,14 +5,19 @@
 //! words and an exit status of its own.
 #![tactic(auto)]
 
+ghost use Rattle.std.specs.Prelude.{◌≡◌, drop};
+ghost use Rattle.servient_core.specs.Trace.{outside};
+ghost use Rattle.servient_cli.specs.Stages.{around};
+ghost use Rattle.servient_cli.specs.Command.{Ends};
+
 use servient_base::NoMemory;
 use servient_cli::servient_main;
-use servient_edge::{FilesReal, MioNet, Out, OutReal, Put};
-use std::alloc::AllocError;
+use servient_edge::{Files, FilesReal, MioNet, Net, Out, OutReal, Put};
+use std::alloc::{AllocError, Global};
 use std::io::ErrorKind;
 use std::process::ExitCode;
 use std::{env, io};
-use thing_handler::{Handler, Rack, SHIPPED_SLOTS, shipped_in};
+use thing_handler::{Handler, Handlers, Rack, SHIPPED_SLOTS, shipped_in};
 use wot_json::Text;
 
 /// Does what the words after the program's name say, and gives the exit status. docs/PROFILE.md has the table of these.
@@ -26,7 +31,7 @@ pub fn run(rt: &HostRuntime) -> ExitCode {
 /// Makes what the top call needs, and calls it.
 fn run_words(rt: &HostRuntime) -> Result<u8, NoMemory> {
     let alloc = rt.alloc();
-    let words = words(rt)?;
+    let words = process_words(rt)?;
     let mut files = FilesReal::new(rt.clone()?);
     let mut net = MioNet::new(rt.clone()?);
     let mut list: Vec<Box<dyn Handler>> = Vec::new(alloc);
@@ -36,18 +41,46 @@ fn run_words(rt: &HostRuntime) -> Result<u8, NoMemory> {
     let mut rack = Rack::new(alloc, list);
     let mut out = OutReal::new(io::writer(rt));
     let words = words.as_slice();
-    let status = servient_main(alloc, words, &mut files, &mut net, &mut rack, &mut out);
+    let status = run_process(alloc, words, &mut files, &mut net, &mut rack, &mut out);
     net.finish();
     Ok(status)
 }
 
-/// The words after the program's name. Where one of them isn't UTF-8 they are no command line, and no word
-/// is handed on.
-pub fn words(rt: &HostRuntime) -> Result<Vec<Text>, NoMemory> {
+/// Does what the words of a process say, of which the first is the program's own name, and gives the exit status.
+pub fn run_process<F: Files, N: Net, R: Handlers, O: Out>(
+    alloc: Global,
+    words: &[Text],
+    files: &mut F,
+    net: &mut N,
+    rack: &mut R,
+    out: &mut O,
+) -> u8
+    ensures { Ends (drop 1 words.now)
+        (around (F.seen files.old) (outside (N.seen net.old) (R.slots rack.old)))
+        (around (F.seen files.new) (outside (N.seen net.new) (R.slots rack.new)))
+        (O.seen out.old)
+        (O.seen out.new) result }
+{
+    servient_main(alloc, after_first(words), files, net, rack, out)
+}
+
+/// The words after the first.
+pub fn after_first(words: &[Text]) -> &[Text]
+    ensures { result.now ≡ drop 1 words.now }
+{
+    match words {
+        [] => &[],
+        [_, rest @ ..] => rest,
+    }
+}
+
+/// The words of this process, the program's name first. Where one of them isn't UTF-8 they are no command line, and no
+/// word is handed on.
+pub fn process_words(rt: &HostRuntime) -> Result<Vec<Text>, NoMemory> {
     let mut words = Vec::new(rt.alloc());
     match env::args(rt) {
         Ok(given) => {
-            for word in given.skip(1) {
+            for word in given {
                 words.push(Text::from_string(word))?;
             }
             Ok(words)

@@ -1,8 +1,7 @@
 //! A stored run over sockets. The program starts itself as a child that serves a plan, writes and reads a property of
 //! the shipped rack over TCP and UDP, and prints what came, and how the child ended once no traffic came for five
 //! seconds. Meanwhile further children consume the Thing: one writes the property over CoAP, and two read it, over CoAP
-//! and over HTTP. Then a child that may open no more than 24 files is spoken to beside 30 connections that do nothing.
-//! Last a child checks a Thing Description without a `title`, which ends with a status that isn't 0.
+//! and over HTTP. Then a child checks a Thing Description without a `title`, which ends with a status that isn't 0.
 //!
 //! With words of its own it is the servient; without any it is the run.
 #![tactic(auto)]
@@ -21,12 +20,6 @@ const PAUSE: u64 = 100;
 
 /// How often the child is started: a port that was free may be taken meanwhile.
 const STARTS: u32 = 5;
-
-/// How many connections are opened to a child that may have no more than 24 files, and for how many milliseconds they
-/// are left, so that its listener fails again at a tick.
-const CROWD: u32 = 30;
-
-const CROWDED: u64 = 1500;
 
 /// How long an answer is awaited, in seconds.
 const PATIENCE: u64 = 10;
@@ -62,7 +55,7 @@ fn main(rt: HostRuntime) -> ExitCode {
 fn run(rt: &HostRuntime) -> ExitCode {
     for _ in 0..STARTS {
         match speak(rt) {
-            Ok(true) => return ended(rt, speak_with_few_files(rt)),
+            Ok(true) => return ended(rt, refuse(rt)),
             Ok(false) => {}
             Err(error) => return ended(rt, Err(error)),
         }
@@ -79,12 +72,6 @@ fn ended(rt: &HostRuntime, outcome: io::Result<()>) -> ExitCode {
             ExitCode::FAILURE
         }
     }
-}
-
-/// What is left to do once the child was spoken to.
-fn speak_with_few_files(rt: &HostRuntime) -> io::Result<()> {
-    crowd(rt)?;
-    refuse(rt)
 }
 
 /// Starts the child on two ports that are free, speaks to it, and prints what came; false: a port was taken meanwhile.
@@ -140,17 +127,12 @@ fn plan(rt: &HostRuntime, http: u16, coap: u16) -> io::Result<String> {
     )?)
 }
 
-/// Where the program is.
-fn own_path(rt: &HostRuntime) -> io::Result<String> {
-    match env::args(rt)?.next() {
-        Some(path) => Ok(path),
-        None => Err(io::Error::from(io::ErrorKind::NotFound)),
-    }
-}
-
 /// The program as a servient with these words, whose output is caught.
 fn servient(rt: &HostRuntime, words: &[&str]) -> io::Result<Command> {
-    let mut command = Command::new(rt.alloc(), own_path(rt)?)?;
+    let Some(program) = env::args(rt)?.next() else {
+        return Err(io::Error::from(io::ErrorKind::NotFound));
+    };
+    let mut command = Command::new(rt.alloc(), program)?;
     for word in words {
         command.arg(*word)?;
     }
@@ -162,47 +144,6 @@ fn servient(rt: &HostRuntime, words: &[&str]) -> io::Result<Command> {
 /// Starts the program as a servient that ends after five seconds without traffic.
 fn start(rt: &HostRuntime) -> io::Result<Child> {
     servient(rt, &["serve", "level.plan.json", "--idle", "5"])?.spawn(rt)
-}
-
-/// Starts the program as such a servient that may open no more than 24 files.
-fn start_with_few_files(rt: &HostRuntime) -> io::Result<Child> {
-    let mut command = Command::new(rt.alloc(), "sh")?;
-    command.arg("-c")?;
-    command.arg("ulimit -n 24; exec \"$0\" serve level.plan.json --idle 5")?;
-    command.arg(own_path(rt)?)?;
-    command.stdout(Stdio::piped());
-    command.stderr(Stdio::piped());
-    command.spawn(rt)
-}
-
-/// More connections are opened to the child than it may have files. Those that it has are served, and so are datagrams;
-/// once others are closed, one that waited is.
-fn crowd(rt: &HostRuntime) -> io::Result<()> {
-    let http = free_tcp_port(rt)?;
-    let coap = free_udp_port(rt)?;
-    fs::write(rt, "level.plan.json", plan(rt, http, coap)?.as_str())?;
-    let mut child = start_with_few_files(rt)?;
-    let Some(first) = connected(rt, http, &mut child)? else {
-        return print_end(rt, &child.wait_with_output(rt.alloc())?);
-    };
-    let mut others = Vec::new(rt.alloc());
-    for _ in 0..CROWD {
-        others.push(TcpStream::connect(rt, ("127.0.0.1", http))?)?;
-    }
-    let last = TcpStream::connect(rt, ("127.0.0.1", http))?;
-    sleep(rt, Duration::from_millis(CROWDED));
-    let written = exchange(rt, first, WRITE)?;
-    let mut answer = [0u8; 2048];
-    let size = ask(rt, coap, &mut answer)?;
-    drop(others);
-    let read = exchange(rt, last, READ)?;
-    print(
-        rt,
-        written.as_slice(),
-        read.as_slice(),
-        answer.get(..size).unwrap_or(b""),
-    )?;
-    print_end(rt, &child.wait_with_output(rt.alloc())?)
 }
 
 /// The description of the Thing at these ports, as a consumer has it.

@@ -2,4 +2,5 @@ pub mod HistoryLaws
 pub mod IdLaws
 pub mod RequestLaws
 pub mod StepLaws
+pub mod RegistrationLaws
 pub mod TokenLaws

@@ -3,6 +3,8 @@ pub mod Due
 pub mod Counts
 pub mod Found
 mod Tokens
+pub mod KnownOfWatchers
+mod KnownAfterCalls
 pub mod AccountLaws
 pub mod CallLaws
 mod NumberLaws

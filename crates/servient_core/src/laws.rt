@@ -48,8 +48,8 @@ pub fn full_table_acts_on_nothing()
 {}
 
 /// By either binding an operation has one meaning: two messages that are read as the same request, which isn't one to the
-/// directory, where the Things are in the same state, the handlers give the same answers and nothing is out of memory, have the same calls, outcome and
-/// emissions, and what is written is that outcome.
+/// directory, where the Things are in the same state, the handlers give the same answers and nothing is out of memory,
+/// have the same calls, outcome and emissions, and what is written is that outcome.
 pub fn one_meaning()
     ensures written { (site : Site) → (m : Message) → IsWritten site m }
     ensures same { (site : Site) → (m n : Message) → HaveOneMeaning site m n }

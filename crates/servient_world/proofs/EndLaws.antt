@@ -1,0 +1,131 @@
+-- What all moves together keep, and how asks ended.
+use Rattle.std.proofs.Common.{◌≡◌, ℕ, ◌≤◌, ◌∙◌, Option, Some, None, List, [], ◌∷◌, length, inl, inr, refl, sym, ap, subst, arith}
+use Rattle.std.specs.Prelude.{slice_get}
+use Rattle.std.proofs.lemmas.List.{length_push}
+use Rattle.std.proofs.lemmas.List.Elements.{All-contains}
+use Rattle.coap_client.specs.declared.outstanding.Outstanding.{Outstanding}
+use Rattle.coap_client.specs.Exchange.{at_moment, request_for}
+use Rattle.coap_observe.specs.declared.notice.Notice.{Notice}
+use Rattle.coap_bind.specs.Writing.{Reply}
+use Rattle.servient_world.specs.World.{server_place, Datagram, answered, observed, AskEnd, WorldState, IsStart, WorldMove, ask, due, deliver, pass, elsewhere, emit, notify, ClientAsks, sends_ask, refuses_ask, skips_ask, ClientDoesDue, retransmits, gives_up, waits, with_notice, too_late, to_client, to_server, ComesIfSent, ComesElsewhere, comes_elsewhere, skips_end, Plays, PlaysAll}
+use Rattle.servient_world.specs.Laws.{AnsweredOnce, ObservedOnce}
+use Rattle.servient_world.proofs.Holds.{Holds}
+use Rattle.servient_world.proofs.OnceLaws.{holds_after, holds_at_start}
+use Rattle.servient_world.proofs.WatchLaws.{Watched}
+use Rattle.servient_world.proofs.Exact.{Exact, IsEnd}
+use Rattle.servient_world.proofs.AnsweredLaws.{exact_after, exact_at_start}
+use Rattle.servient_world.proofs.WatchedLaws.{watched_after, watched_at_start}
+
+-- ---- asks and ids are never forgotten
+
+-- there are no fewer asks, and no fewer ids were used
+pub record Grows (w v : WorldState) : Type 0 where
+  pub asks : length w.asks ≤ length v.asks
+  pub ids : w.ids ≤ v.ids
+
+grows : (w v u : WorldState) → v ≡ u → length w.asks ≤ length u.asks → w.ids ≤ u.ids → Grows w v
+grows w v u e asks ids = record {
+  asks = subst (λ (y : WorldState). length w.asks ≤ length y.asks) (sym e) asks;
+  ids = subst (λ (y : WorldState). w.ids ≤ y.ids) (sym e) ids;
+}
+
+grow_asked : (a : _) (w v : WorldState) → ClientAsks a w v → Grows w v
+grow_asked a w v (sends_ask n old new t may asks is) =
+    let o : Outstanding = request_for (at_moment w.moment w.client) server_place a asks.id in
+    let more = length_push w.asks o in
+    grows w v _ is (omega arith) (omega arith)
+grow_asked a w v (refuses_ask f refused is) = grows w v _ is (omega arith) (omega arith)
+grow_asked a w v (skips_ask may_not is) = grows w v w is (omega arith) (omega arith)
+
+grow_due : (w v : WorldState) → ClientDoesDue w v → Grows w v
+grow_due w v (retransmits n old new t is_due is) = grows w v _ is (omega arith) (omega arith)
+grow_due w v (gives_up old new t is_due is) = grows w v _ is (omega arith) (omega arith)
+grow_due w v (waits old new t is_due is) = grows w v _ is (omega arith) (omega arith)
+
+grow_delivered : (w v : WorldState) (o : Option Datagram) → ComesIfSent o w v → Grows w v
+grow_delivered w v None is = grows w v w is (omega arith) (omega arith)
+grow_delivered w v (Some d) (too_late late is) = grows w v w is (omega arith) (omega arith)
+grow_delivered w v (Some d) (to_client may to s) = grows w v _ s.next (omega arith) (omega arith)
+grow_delivered w v (Some d) (to_server may to s) = grows w v _ s.next (omega arith) (omega arith)
+
+grow_elsewhere : (from : _) (bytes : List ℕ) (w v : WorldState) → ComesElsewhere from bytes w v → Grows w v
+grow_elsewhere from bytes w v (comes_elsewhere no_end s) = grows w v _ s.next (omega arith) (omega arith)
+grow_elsewhere from bytes w v (skips_end is_one is) = grows w v w is (omega arith) (omega arith)
+
+grow_noticed : (w u v : WorldState) (o : Option Notice) → u.asks ≡ w.asks → u.ids ≡ w.ids → v ≡ with_notice o u → Grows w v
+grow_noticed w u v None asks ids is = grows w v u is (let e = ap length asks in omega arith) (omega arith)
+grow_noticed w u v (Some n) asks ids is = grows w v _ is (let e = ap length asks in omega arith) (omega arith)
+
+pub grows_by : (m : WorldMove) (w v : WorldState) → Plays m w v → Grows w v
+grows_by (ask a) w v plays = grow_asked a w v plays
+grows_by due w v plays = grow_due w v plays
+grows_by (deliver i) w v plays = grow_delivered w v (slice_get w.sent i) plays
+grows_by (pass n) w v plays = grows w v _ plays (omega arith) (omega arith)
+grows_by (elsewhere from bytes) w v plays = grow_elsewhere from bytes w v plays
+grows_by (emit e) w v plays = grows w v _ plays (omega arith) (omega arith)
+grows_by notify w v plays = grow_noticed w (record w { server = plays.after }) v plays.notice refl refl plays.next
+
+pub all_grow : (moves : List WorldMove) (w v : WorldState) → PlaysAll moves w v → Grows w v
+all_grow [] w v is = grows w v w is (omega arith) (omega arith)
+all_grow (m ∷ moves) w v plays =
+    let one = grows_by m w plays.0 plays.1 in
+    let more = all_grow moves plays.0 v plays.2 in
+    let asks = more.asks in
+    let ids = more.ids in
+    let asks_now = one.asks in
+    let ids_now = one.ids in
+    record { asks = omega arith; ids = omega arith }
+
+-- ---- all that holds
+
+-- of a world with at most 65,536 asks
+pub record Stands (exchanges watchers : ℕ) (w : WorldState) : Type 0 where
+  pub holds : Holds exchanges w
+  pub exact : Exact w
+  pub watched : Watched watchers w
+
+pub stands_after : (exchanges watchers : ℕ) (m : WorldMove) (w v : WorldState) → Plays m w v → length w.asks ≤ 65536 → Stands exchanges watchers w → Stands exchanges watchers v
+stands_after exchanges watchers m w v plays few s =
+    let after = holds_after exchanges m w v plays s.holds in
+    record {
+      holds = after;
+      exact = exact_after exchanges watchers m w v plays s.holds after few s.watched s.exact;
+      watched = watched_after exchanges watchers m w v plays s.holds after few s.exact s.watched;
+    }
+
+pub stands_at_start : (first_id exchanges watchers : ℕ) (w : WorldState) → IsStart first_id exchanges watchers w → Stands exchanges watchers w
+stands_at_start first_id exchanges watchers w start = record {
+  holds = holds_at_start first_id exchanges watchers w start;
+  exact = exact_at_start first_id exchanges watchers w start;
+  watched = watched_at_start first_id exchanges watchers w start;
+}
+
+pub stands_after_all : (exchanges watchers : ℕ) (moves : List WorldMove) (w v : WorldState) → PlaysAll moves w v → length v.asks ≤ 65536 → Stands exchanges watchers w → Stands exchanges watchers v
+stands_after_all exchanges watchers [] w v plays few s = subst (Stands exchanges watchers) (sym plays) s
+stands_after_all exchanges watchers (m ∷ moves) w v plays few s =
+    let one = (grows_by m w plays.0 plays.1).asks in
+    let more = (all_grow moves plays.0 v plays.2).asks in
+    stands_after_all exchanges watchers moves plays.0 v plays.2 few (stands_after exchanges watchers m w plays.0 plays.1 (omega arith) s)
+
+-- ---- how asks ended
+
+pub observed_once : ObservedOnce
+observed_once first_id exchanges watchers moves w v k start plays few has =
+    let s = stands_after_all exchanges watchers moves w v plays few (stands_at_start first_id exchanges watchers w start) in
+    All-contains (λ (e : AskEnd). IsEnd v.acts e.ask e.end) v.ends (record { ask = k; end = observed }) s.exact.ended has
+
+pub answered_once : AnsweredOnce
+answered_once first_id exchanges watchers moves w v k code payload start plays few has =
+    let s = stands_after_all exchanges watchers moves w v plays few (stands_at_start first_id exchanges watchers w start) in
+    let is = All-contains (λ (e : AskEnd). IsEnd v.acts e.ask e.end) v.ends (record { ask = k; end = answered code payload }) s.exact.ended has in
+    elim is.1 [
+      | inl full ↦ inl (is.2 ∙ ap (λ (r : Reply). r.code) full, inl (is.3 ∙ ap (λ (r : Reply). r.payload) full))
+      | inr (inl none) ↦ inl (is.2 ∙ ap (λ (r : Reply). r.code) none, inr (is.3 ∙ ap (λ (r : Reply). r.payload) none))
+      | inr (inr act) ↦ inr (record {
+        act = act.0;
+        made = act.1;
+        for_it = act.2;
+        says_code = is.2 ∙ ap (λ (r : Reply). r.code) act.4;
+        says_payload = is.3 ∙ ap (λ (r : Reply). r.payload) act.4;
+      })
+    ]

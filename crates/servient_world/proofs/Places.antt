@@ -1,0 +1,29 @@
+-- Elements of lists by their places.
+use Rattle.std.proofs.Common.{◌≡◌, ℕ, ◌-◌, ◌∙◌, ◌++◌, List, [], ◌∷◌, Some, length, zero, suc, refl, sym, ap, subst, arith}
+use Rattle.std.specs.Prelude.{All, slice_get}
+use Rattle.std.proofs.lemmas.List.{length_push}
+use Rattle.std.proofs.lemmas.Option.{same_Some, slice_get_within, get_or_from_slice_get}
+
+-- what holds of all holds of one
+pub all_at : {X : Type 0} (P : X → Type 0) (xs : List X) (k : ℕ) (x : X) → All P xs → slice_get xs k ≡ Some x → P x
+all_at P xs k x all e = subst P (get_or_from_slice_get xs k x x e) (all k x (slice_get_within xs k x e))
+
+pub at_more : {X : Type 0} (xs ys : List X) (k : ℕ) (x : X) → slice_get xs k ≡ Some x → slice_get (xs ++ ys) k ≡ Some x
+at_more [] ys k x e = cc
+at_more (y ∷ xs) ys zero x e = e
+at_more (y ∷ xs) ys (suc k) x e = at_more xs ys k x e
+
+pub at_last : {X : Type 0} (xs : List X) (x : X) → slice_get (xs ++ x ∷ []) (length xs) ≡ Some x
+at_last [] x = refl
+at_last (y ∷ xs) x = at_last xs x
+
+pub at_same : {X : Type 0} (xs : List X) (k : ℕ) (x y : X) → slice_get xs k ≡ Some x → slice_get xs k ≡ Some y → x ≡ y
+at_same xs k x y e f = same_Some x y (sym e ∙ f)
+
+-- the last of a list
+pub at_end : {X : Type 0} (xs before : List X) (x : X) → xs ≡ before ++ x ∷ [] → slice_get xs (length xs - 1) ≡ Some x
+at_end {X} xs before x e =
+    let count = length_push before x in
+    let total = ap length e in
+    let place : length xs - 1 ≡ length before = omega arith in
+    ap (λ k. slice_get xs k) place ∙ (ap (λ (l : List X). slice_get l (length before)) e ∙ at_last before x)

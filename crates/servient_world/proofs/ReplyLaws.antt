@@ -1,0 +1,83 @@
+-- What replies and notifications say of Observe (RFC 7641, section 2).
+use Rattle.std.proofs.Common.{◌≡◌, ℕ, ◌/◌, ◌%◌, ◌<◌, ◌≤◌, ◌^◌, ◌∙◌, Bool, true, false, cond, Option, Some, None, List, [], ◌∷◌, ◌++◌, length, inr, refl, sym, ap, arith}
+use Rattle.std.specs.Prelude.{nat_lt, nat_le}
+use Rattle.std.specs.Option.{option_map_or}
+use Rattle.std.proofs.lemmas.Bool.Decides.{nat_tests}
+use Rattle.coap_msg.specs.declared.constants.TheConstants.{OBSERVE, LOCATION_PATH, CONTENT_FORMAT, JSON, LONGEST_PAYLOAD}
+use Rattle.coap_msg.specs.declared.message.RequestType.{RequestType}
+use Rattle.coap_msg.specs.declared.message.RequestType.TheVariants.{Confirmable, NonConfirmable}
+use Rattle.coap_msg.specs.Grammar.{CoapOption, IsWellFormed}
+use Rattle.coap_msg.specs.Numbers.{number_of, number_bytes}
+use Rattle.coap_msg.specs.Opts.{segment_options}
+use Rattle.thing_ops.specs.declared.outcome.Outcome.{Outcome}
+use Rattle.thing_ops.specs.Outcomes.{payload_of, text_of}
+use Rattle.coap_client.specs.Answers.{number_within, sequence_of}
+use Rattle.coap_observe.specs.declared.notice.Notice.{Notice}
+use Rattle.coap_bind.specs.declared.head.RequestHead.{RequestHead}
+use Rattle.coap_bind.specs.Writing.{Reply, full_reply, long_reply, whole_reply, reply_of, place_of, text_format, format_options, sequence_bytes, reply_id, coap_reply, notification}
+use Rattle.coap_bind.proofs.LengthLaws.{sequence_value_at}
+
+-- ---- numbers
+
+number_at : (n : ℕ) (b c d : Bool) → nat_lt n 65536 ≡ b → nat_lt n 1 ≡ c → nat_lt n 256 ≡ d → n < 2 ^ 24
+    → number_of (cond b (cond c [] (cond d (n ∷ []) ((n / 256) ∷ (n % 256) ∷ []))) ((n / 65536) ∷ (n / 256 % 256) ∷ (n % 256) ∷ [])) ≡ n
+number_at n true true d e f g low = let none : n ≡ 0 = grind (arith, nat_tests) in sym none
+number_at n true false true e f g low = omega arith
+number_at n true false false e f g low = omega arith
+number_at n false c d e f g low = omega arith
+
+number_of_bytes : (n : ℕ) → n < 2 ^ 24 → number_of (sequence_bytes n) ≡ n
+number_of_bytes n low = number_at n (nat_lt n 65536) (nat_lt n 1) (nat_lt n 256) refl refl refl low
+
+within_at : (value : List ℕ) (b : Bool) → nat_le (length value) 3 ≡ b → length value ≤ 3 → cond b (Some (number_of value)) None ≡ Some (number_of value)
+within_at value true e short = refl
+within_at value false e short = absurd (let long : nat_le (length value) 3 ≡ true = grind (arith, nat_tests) in cc)
+
+shown_number : (n : ℕ) → n < 2 ^ 24 → number_within (sequence_bytes n) ≡ Some n
+shown_number n low =
+    within_at (sequence_bytes n) (nat_le (length (sequence_bytes n)) 3) refl (sequence_value_at n (nat_lt n 65536))
+    ∙ ap (λ (k : ℕ). Some k) (number_of_bytes n low)
+
+-- options that begin with Observe say its number
+pub observe_says : (n : ℕ) (os : List CoapOption) → n < 2 ^ 24 → sequence_of ((OBSERVE, sequence_bytes n) ∷ os) ≡ Some n
+observe_says n os low = shown_number n low
+
+-- ---- replies
+
+format_unnumbered : (value : List ℕ) (text : Option (List ℕ)) → sequence_of (option_map_or (λ _. (CONTENT_FORMAT, value) ∷ []) text []) ≡ None
+format_unnumbered value None = refl
+format_unnumbered value (Some text) = refl
+
+place_unnumbered : (place : List (List ℕ)) (os : List CoapOption) → sequence_of os ≡ None → sequence_of (segment_options LOCATION_PATH place ++ os) ≡ None
+place_unnumbered [] os e = e
+place_unnumbered (segment ∷ place) os e = place_unnumbered place os e
+
+unnumbered_at : (b : Bool) (r : Reply) → sequence_of r.options ≡ None → sequence_of (cond b long_reply r).options ≡ None
+unnumbered_at true r e = refl
+unnumbered_at false r e = e
+
+-- a reply by itself has no Observe
+pub unnumbered : (o : Outcome) → sequence_of (reply_of o).options ≡ None
+unnumbered o =
+    unnumbered_at (nat_lt LONGEST_PAYLOAD (length (payload_of o))) (whole_reply o)
+    (place_unnumbered (place_of o) (format_options o) (format_unnumbered (number_bytes (text_format o)) (text_of o)))
+
+-- that the table is full is a message
+id_at : (kind : RequestType) (id next : ℕ) → id < 2 ^ 16 → next < 2 ^ 16 → reply_id kind id next < 2 ^ 16
+id_at Confirmable id next mine its = mine
+id_at NonConfirmable id next mine its = its
+
+pub full_is_message : (head : RequestHead) (next : ℕ) → head.id < 2 ^ 16 → length head.token ≤ 8 → next < 2 ^ 16 → IsWellFormed (coap_reply full_reply head next)
+full_is_message head next id token counter = record {
+  code = omega arith;
+  class = inr (inr (inr refl));
+  id = id_at head.kind head.id next id counter;
+  token = token;
+  options = tt;
+  empty = λ e. absurd (omega arith);
+}
+
+-- ---- notifications
+
+pub notification_says : (n : Notice) (value : List ℕ) → n.sequence < 2 ^ 24 → sequence_of (notification n value).options ≡ Some n.sequence
+notification_says n value low = observe_says n.sequence ((CONTENT_FORMAT, number_bytes JSON) ∷ []) low

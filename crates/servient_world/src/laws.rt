@@ -1,0 +1,39 @@
+//! Laws of the world of both ends, as contracts of functions that do nothing.
+
+ghost use Rattle.servient_world.specs.Examples.{SomeoneActs, SomeoneTakesAValue};
+ghost use Rattle.servient_world.specs.Laws.{ActedOnce, AnsweredOnce, ObservedOnce, ValuesNeverGoBack, ValuesHaveASource};
+
+/// For each ask the server makes at most one act, whatever is lost, repeated or reordered.
+pub fn acted_once()
+    ensures { ActedOnce }
+{}
+
+/// For each ask that was answered, but by excuses, the server made an act, and the response says what that came to.
+pub fn answered_once()
+    ensures { AnsweredOnce }
+{}
+
+/// For each ask that ended with a value of what it observes the server made an act.
+pub fn observed_once()
+    ensures { ObservedOnce }
+{}
+
+/// Of the values that are taken for one ask none is of an earlier emission than one before it.
+pub fn values_never_go_back()
+    ensures { ValuesNeverGoBack }
+{}
+
+/// Each value that is taken was read by the act for its ask, or emitted for the target of that act.
+pub fn values_have_a_source()
+    ensures { ValuesHaveASource }
+{}
+
+/// Something happens in the world: there is a run in which the server makes an act.
+pub fn someone_acts()
+    ensures { SomeoneActs }
+{}
+
+/// There is a run in which the client takes a value.
+pub fn someone_takes_a_value()
+    ensures { SomeoneTakesAValue }
+{}

@@ -1,0 +1,13 @@
+//! Both ends over every schedule: one CoAP client and one CoAP server (RFC 7252, RFC 7641), and a network that may lose,
+//! repeat and reorder what either sends within 100 seconds. It has laws alone: `specs/World.antt` is the world,
+//! `specs/Laws.antt` what holds of it after every list of moves. Each end is what its own crate says that it is.
+#![tactic(auto)]
+
+mod laws;
+mod network;
+
+pub use laws::{
+    acted_once, answered_once, observed_once, someone_acts, someone_takes_a_value,
+    values_have_a_source, values_never_go_back,
+};
+pub use network::MAX_LATENCY;

@@ -1,4 +1,4 @@
--- Each move keeps that too, so an ask that was answered, but for excuses, was acted on, and so was one that ended with a value.
+-- Each move keeps what `Exact` says, so an ask that was answered, but for excuses, was acted on, and so was one that ended with a value.
 use Rattle.std.proofs.Common.{◌≡◌, ◌≢◌, ℕ, ◌+◌, ◌<◌, ◌≤◌, ◌^◌, ◌∙◌, Bool, true, false, Option, Some, None, List, [], ◌∷◌, ◌++◌, take, length, inl, inr, refl, sym, ap, subst, arith}
 use Rattle.std.specs.Prelude.{◌||◌, All, AllPairs, slice_get, find}
 use Rattle.std.proofs.lemmas.Bool.{cases_Bool}
@@ -11,7 +11,7 @@ use Rattle.coap_msg.proofs.SameEndpoints.{same_endpoint}
 use Rattle.coap_exchange.specs.Table.{Table}
 use Rattle.coap_client.specs.declared.outstanding.Outstanding.{Outstanding}
 use Rattle.coap_client.specs.Asking.{Asking}
-use Rattle.coap_client.specs.Exchange.{at_moment, request_for, after, registers}
+use Rattle.coap_client.specs.Exchange.{at_moment, request_for}
 use Rattle.coap_client.proofs.RequestLaws.{ids_differ}
 use Rattle.coap_observe.specs.declared.watcher.Watcher.{Watcher}
 use Rattle.coap_observe.specs.declared.notice.Notice.{Notice}

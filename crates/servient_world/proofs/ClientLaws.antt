@@ -1,4 +1,4 @@
--- What the client does keeps that: what it sends goes to the server, and an answer or a value ends the ask that it is for.
+-- What the client does keeps what `Exact` says: what it sends goes to the server, and an answer or a value ends the ask that it is for.
 use Rattle.std.proofs.Common.{◌≡◌, ◌⊎◌, ℕ, ◌<◌, ◌≤◌, ◌∙◌, Bool, true, false, cond, Option, Some, None, List, [], ◌∷◌, ◌++◌, map, take, length, inl, inr, refl, sym, ap, subst, arith}
 use Rattle.std.specs.Prelude.{All, Contains, slice_get, option_map}
 use Rattle.std.specs.Option.{option_to_list}
@@ -21,12 +21,12 @@ use Rattle.coap_client.specs.declared.news.News.TheVariants as news
 use Rattle.coap_client.specs.declared.news.Delivered.{Delivered}
 use Rattle.coap_client.specs.Laws.{Did as ClientDid}
 use Rattle.coap_client.specs.Answers.{takes as is_taken, is_for_request, is_for_observation, meaning, notified}
-use Rattle.coap_client.specs.Exchange.{at_moment, Delivers, of_message, of_fault, IsNews, after, valued, registers}
+use Rattle.coap_client.specs.Exchange.{at_moment, Delivers, of_message, of_fault, IsNews, after, valued}
 use Rattle.coap_client.proofs.RequestLaws.{last_is_outstanding, ids_differ}
 use Rattle.coap_client.proofs.RegistrationLaws.{registration_is_observed}
 use Rattle.coap_bind.specs.Server.{is_request}
 use Rattle.coap_bind.specs.Writing.{Reply, notification}
-use Rattle.servient_world.specs.World.{client_place, server_place, Purpose, copy_of, reply_to, notice_for, other, Datagram, Act, answered, observed, reset, AskEnd, Value, WorldState, ask, latest, with_sent, end_by, taken_by}
+use Rattle.servient_world.specs.World.{client_place, server_place, Purpose, copy_of, reply_to, notice_for, other, Datagram, Act, answered, observed, reset, AskEnd, Value, WorldState, latest, with_sent, end_by, taken_by}
 use Rattle.servient_world.proofs.Places.{at_end}
 use Rattle.servient_world.proofs.Holds.{Holds}
 use Rattle.servient_world.proofs.Exact.{Exact, IsWhy, IsKept, IsSaid, IsSentBack, IsNotice, IsEnd, all_kept_more, all_said_more, same_ask}

@@ -1,4 +1,4 @@
--- What holds of the world besides, where no two asks have one id: each reply that is kept or was sent is the server's reply to
+-- What else holds of the world where no two asks have one id (`Exact`): each reply that is kept or was sent is the server's reply to
 -- its ask, each notification is of an ask that registered, and each response that ended an ask is such a reply.
 use Rattle.std.proofs.Common.{◌≡◌, ◌≢◌, ◌⊎◌, ℕ, ◌<◌, ◌^◌, ◌∙◌, true, false, Option, Some, List, ◌++◌, get_or, inl, inr, sym, ap, arith}
 use Rattle.std.specs.Prelude.{All, AllPairs, Contains, slice_get}
@@ -13,10 +13,8 @@ use Rattle.coap_client.specs.declared.outstanding.Outstanding.{Outstanding}
 use Rattle.coap_client.specs.Answers.{sequence_of}
 use Rattle.coap_observe.specs.declared.notice.Notice.{Notice}
 use Rattle.coap_observe.specs.Accounts.{token_of}
-use Rattle.coap_bind.specs.Observing.{registers}
 use Rattle.coap_bind.specs.Writing.{Reply, full_reply, reply_of, observed as observed_reply, notification}
-use Rattle.coap_bind.specs.Server.{is_request, arrival}
-use Rattle.coap_bind.specs.Treating.{acted, no_request}
+use Rattle.coap_bind.specs.Server.{is_request}
 use Rattle.servient_world.specs.World.{client_place, server_place, Purpose, copy_of, reply_to, notice_for, other, Datagram, Act, End, answered, observed, reset, timed_out, AskEnd, WorldState}
 use Rattle.servient_world.proofs.Places.{at_more}
 

@@ -1,14 +1,12 @@
 -- Schedules in which an act is made and a value is taken.
-use Rattle.std.proofs.Common.{◌≡◌, ℕ, ◌+◌, ◌<◌, ◌≤◌, ◌∙◌, true, Option, Some, None, List, [], ◌∷◌, ◌++◌, length, take, inl, inr, refl, sym, ap, subst, arith}
+use Rattle.std.proofs.Common.{◌≡◌, ℕ, ◌≤◌, Option, Some, None, List, [], ◌∷◌, ◌++◌, length, take, inl, inr, refl, sym, ap, subst, arith}
 use Rattle.std.specs.Prelude.{slice_index_or}
 use Rattle.std.specs.Int.{to_be_bytes, w64}
 use Rattle.std.proofs.lemmas.List.{take_all}
 use Rattle.std.proofs.lemmas.List.Elements.{All-nil}
-use Rattle.coap_msg.specs.declared.message.Type4.TheVariants.{Con}
 use Rattle.coap_msg.specs.declared.message.RequestType.TheVariants.{Confirmable}
 use Rattle.coap_msg.specs.Grammar.{CoapMessage, IsWellFormed, Spells, option_spelling, spelling}
 use Rattle.coap_exchange.specs.Table.{Table, at_moment as later, with_exchange}
-use Rattle.coap_exchange.specs.declared.met.Met.TheVariants.{Fresh}
 use Rattle.coap_observe.specs.declared.notice.Registered.TheVariants.{New}
 use Rattle.coap_observe.specs.Watching.{Watching, newcomer}
 use Rattle.thing_ops.specs.declared.outcome.Outcome.TheVariants as outcome
@@ -19,13 +17,12 @@ use Rattle.coap_client.specs.declared.news.Delivered.{Delivered}
 use Rattle.coap_client.specs.Asking.{MayAsk, message_for}
 use Rattle.coap_client.specs.Names.{is_recent}
 use Rattle.coap_client.specs.Exchange.{IsNew, at_moment, Asks, request_for, with_request, valued, Delivers, of_message}
-use Rattle.coap_bind.specs.declared.head.OpenAsk.{OpenAsk}
 use Rattle.coap_bind.specs.declared.server.Server.{Server}
 use Rattle.coap_bind.specs.Observing.{registers}
 use Rattle.coap_bind.specs.Writing.{Reply, reply_of, observed as observed_reply, coap_reply}
-use Rattle.coap_bind.specs.Server.{start as nothing_came, arrival, asked, asks, opened_ask, IsMet, Hears, admitted, with_kept, with_id_used, with_watchers, Answers}
+use Rattle.coap_bind.specs.Server.{start as nothing_came, arrival, asked, asks, opened_ask, Hears, admitted, with_kept, with_id_used, with_watchers, Answers}
 use Rattle.coap_bind.specs.Treating.{Acted, Treats, acts}
-use Rattle.servient_world.specs.World.{client_place, server_place, copy_of, reply_to, other, Datagram, Act, WorldState, IsStart, ask, deliver, latest, end_by, taken_by, with_sent, ClientAsks, sends_ask, ClientTakes, ServerTakes, treated, Comes, to_client, to_server, PlaysAll}
+use Rattle.servient_world.specs.World.{client_place, server_place, copy_of, reply_to, other, WorldState, IsStart, latest, end_by, taken_by, with_sent, ClientAsks, sends_ask, treated, Comes, to_client, to_server, PlaysAll}
 use Rattle.servient_world.specs.Examples.{world_of, observe_root, ask_that_comes, ask_and_reply, SomeoneActs, SomeoneTakesAValue}
 
 -- ---- what is sent
@@ -120,6 +117,7 @@ asks_it uses unused = record {
 }
 
 asking_plays : (uses : List (Option ℕ)) → slice_index_or uses 0 None ≡ None → ClientAsks observe_root (world_of (fresh uses)) (asked_world uses)
+unfolding asks_it
 asking_plays uses unused = sends_ask (length question_bytes) question_bytes question_bytes (asked_state uses) may_ask_it (asks_it uses unused) refl
 
 -- ---- the server acts on it
@@ -202,13 +200,13 @@ taken_run uses unused =
     (valued_world uses, (asked_world uses, asking_plays uses unused, (answered_world uses, acting_plays uses, (valued_world uses, taking_plays uses, refl))), refl)
 
 pub someone_acts : SomeoneActs
-someone_acts s new = (
-  starts s new,
-  subst (λ (t : State). (v : WorldState) × PlaysAll ask_that_comes (world_of t) v × (length v.acts ≡ 1)) (sym (is_fresh s new)) (acted_run s.uses (new.unused 0)),
-)
+someone_acts s new =
+    let run : (v : WorldState) × PlaysAll ask_that_comes (world_of s) v × (length v.acts ≡ 1)
+    = subst (λ (t : State). (v : WorldState) × PlaysAll ask_that_comes (world_of t) v × (length v.acts ≡ 1)) (sym (is_fresh s new)) (acted_run s.uses (new.unused 0)) in
+    (starts s new, run.0, run.1, run.2)
 
 pub someone_takes_a_value : SomeoneTakesAValue
-someone_takes_a_value s new = (
-  starts s new,
-  subst (λ (t : State). (v : WorldState) × PlaysAll ask_and_reply (world_of t) v × (length v.taken ≡ 1)) (sym (is_fresh s new)) (taken_run s.uses (new.unused 0)),
-)
+someone_takes_a_value s new =
+    let run : (v : WorldState) × PlaysAll ask_and_reply (world_of s) v × (length v.taken ≡ 1)
+    = subst (λ (t : State). (v : WorldState) × PlaysAll ask_and_reply (world_of t) v × (length v.taken ≡ 1)) (sym (is_fresh s new)) (taken_run s.uses (new.unused 0)) in
+    (starts s new, run.0, run.1, run.2)

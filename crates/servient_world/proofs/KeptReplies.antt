@@ -1,4 +1,4 @@
--- What the server keeps and sends back keeps that: on a copy of an ask a reply to it, on an empty message nothing, and what comes
+-- What the server keeps and sends back is as `Exact` says: on a copy of an ask a reply to it, on an empty message nothing, and what comes
 -- from elsewhere makes no exchange of the client's.
 use Rattle.std.proofs.Common.{◌≡◌, ◌≢◌, ℕ, ◌<◌, ◌^◌, ◌∙◌, ◌&&◌, Bool, true, false, cond, Option, Some, None, List, [], ◌∷◌, ◌++◌, inl, inr, refl, sym, ap, subst, arith}
 use Rattle.std.specs.Prelude.{◌==◌, All, AllPairs, Contains, slice_get, option_map}
@@ -20,7 +20,6 @@ use Rattle.coap_exchange.specs.Admission.{Arrival, lives, is_same_exchange, is_d
 use Rattle.coap_exchange.specs.Table.{Exchange, Table, at_moment as later}
 use Rattle.thing_ops.specs.declared.outcome.Outcome.{Outcome}
 use Rattle.thing_ops.specs.declared.outcome.Outcome.TheVariants.{Memory}
-use Rattle.coap_opts.specs.Table.{observe}
 use Rattle.coap_opts.specs.Reading.{faults_of, asked as what_is_asked}
 use Rattle.coap_client.specs.declared.outstanding.Outstanding.{Outstanding}
 use Rattle.coap_client.specs.Answers.{sequence_of}

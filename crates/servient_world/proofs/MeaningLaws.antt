@@ -27,7 +27,6 @@ use Rattle.coap_client.proofs.TokenLaws.{token_is_new_or_observed}
 use Rattle.coap_observe.specs.declared.notice.Notice.{Notice}
 use Rattle.coap_observe.specs.Accounts.{token_of}
 use Rattle.coap_bind.specs.Writing.{notification}
-use Rattle.servient_world.specs.World.{Value}
 use Rattle.servient_world.proofs.Places.{all_at, at_last, at_same}
 use Rattle.servient_world.proofs.ReplyLaws.{notification_says}
 

@@ -8,11 +8,10 @@ use Rattle.coap_msg.specs.declared.endpoint.Endpoint.{Endpoint}
 use Rattle.coap_msg.specs.Endpoints.{is_same_endpoint}
 use Rattle.coap_msg.proofs.SameEndpoints.{both, itself}
 use Rattle.coap_client.specs.declared.outstanding.Outstanding.{Outstanding}
-use Rattle.coap_client.specs.Exchange.{registers}
 use Rattle.coap_client.proofs.TokenLaws.{registrations_differ}
 use Rattle.coap_observe.specs.declared.notice.Notice.{Notice}
 use Rattle.coap_observe.specs.Accounts.{token_of, last_place}
-use Rattle.servient_world.specs.World.{Emission, client_place, notice_for, other, WorldState, ask, targets_of, registration_from, purpose_at, purpose_of}
+use Rattle.servient_world.specs.World.{Emission, client_place, notice_for, other, WorldState, targets_of, registration_from, purpose_at, purpose_of}
 use Rattle.servient_world.proofs.Tokens.{same_token, own_token}
 use Rattle.servient_world.proofs.Holds.{Holds, both_true}
 use Rattle.servient_world.proofs.WatchLaws.{IsRegistered, same_registration}

@@ -1,4 +1,4 @@
--- Each move keeps the invariant, so an ask is acted on at most once.
+-- Each move keeps what `Holds` says, so an ask is acted on at most once.
 use Rattle.std.proofs.Common.{◌≡◌, ◌≢◌, ℕ, ◌+◌, ◌-◌, ◌≤◌, ◌∙◌, Bool, true, false, cond, Option, Some, None, List, [], ◌∷◌, ◌++◌, map, take, length, refl, sym, ap, subst, arith}
 use Rattle.std.specs.Prelude.{All, AllPairs, Contains, slice_get, option_map}
 use Rattle.std.specs.Option.{option_to_list}
@@ -23,7 +23,7 @@ use Rattle.coap_bind.specs.Laws.{Did as ServerDid, nothing as server_did_nothing
 use Rattle.coap_bind.specs.Treating.{Acted}
 use Rattle.coap_bind.proofs.HistoryLaws.{sent_stays}
 use Rattle.servient_world.specs.declared.network.TheConstants.{MAX_LATENCY}
-use Rattle.servient_world.specs.World.{Emission, client_place, server_place, Purpose, copy_of, other, Datagram, Act, AskEnd, Value, WorldState, IsStart, WorldMove, ask, due, deliver, pass, elsewhere, emit, notify, latest, with_sent, ClientAsks, sends_ask, refuses_ask, skips_ask, ClientDoesDue, retransmits, gives_up, waits, ClientTakes, end_by, taken_by, acts_for, id_used, purpose_back, ServerTakes, with_emission, targets_of, registration_from, purpose_at, purpose_of, notice_sent, with_notice, ServerNotifies, Comes, too_late, to_client, to_server, ComesIfSent, from_elsewhere, ComesElsewhere, comes_elsewhere, skips_end, Plays, PlaysAll}
+use Rattle.servient_world.specs.World.{Emission, client_place, server_place, Purpose, copy_of, other, Datagram, Act, AskEnd, Value, WorldState, IsStart, WorldMove, ask, due, deliver, pass, elsewhere, emit, notify, latest, with_sent, ClientAsks, sends_ask, refuses_ask, skips_ask, ClientDoesDue, retransmits, gives_up, waits, ClientTakes, end_by, taken_by, acts_for, id_used, purpose_back, ServerTakes, with_new_value, targets_of, registration_from, purpose_at, purpose_of, notice_sent, with_notice, ServerNotifies, Comes, too_late, to_client, to_server, ComesIfSent, from_elsewhere, ComesElsewhere, comes_elsewhere, skips_end, Plays, PlaysAll}
 use Rattle.servient_world.specs.Laws.{ActedOnce}
 use Rattle.servient_world.proofs.Places.{all_at, at_last, at_end}
 use Rattle.servient_world.proofs.AskLaws.{HasMessage, asks_are_asks}
@@ -237,7 +237,7 @@ holds_server capacity w t emitted h did moment = record {
   once = h.once;
 }
 
-keeps_emit : (capacity : ℕ) (e : Emission) (w v : WorldState) → v ≡ with_emission e w → Holds capacity w → Holds capacity v
+keeps_emit : (capacity : ℕ) (e : Emission) (w v : WorldState) → v ≡ with_new_value e w → Holds capacity w → Holds capacity v
 keeps_emit capacity e w v is h =
     subst (Holds capacity) (sym is)
     (holds_server capacity w (with_emitted e.target w.server) (w.emitted ++ e ∷ []) h (h.served.0, server_emitted h.history w.server (with_emitted e.target w.server) e.target h.served.1 refl) h.server_moment)

@@ -25,10 +25,10 @@ use Rattle.coap_observe.specs.Accounts.{place_after, last_place, token_of, IsToR
 use Rattle.coap_observe.proofs.AccountLaws.{notices_go_to_the_registered}
 use Rattle.coap_bind.specs.declared.server.Server.{Server}
 use Rattle.coap_bind.specs.Server.{SendsNext}
-use Rattle.coap_bind.specs.Writing.{Reply, observed as observed_reply, notification}
+use Rattle.coap_bind.specs.Writing.{Reply, notification}
 use Rattle.coap_bind.proofs.MessageLaws.{notifications_are_messages}
 use Rattle.servient_world.specs.World.{Emission, client_place, server_place, Purpose, copy_of, reply_to, notice_for, other, Datagram, Act, WorldState, Value, AskEnd, WorldMove, ask, due, deliver, pass, elsewhere, emit, notify, with_sent, latest, value_by, taken_by, end_by, acts_for, purpose_back, id_used, targets_of, value_after, last_value, purpose_of, notice_sent, with_notice, ClientAsks, sends_ask, refuses_ask, skips_ask, ClientDoesDue, retransmits, gives_up, waits, Comes, too_late, to_client, to_server, ComesIfSent, ComesElsewhere, comes_elsewhere, skips_end, Plays, PlaysAll}
-use Rattle.servient_world.specs.Laws.{IsRead, IsEmitted, ValuesHaveASource}
+use Rattle.servient_world.specs.Laws.{WasRead, WasEmitted, ValuesHaveASource}
 use Rattle.servient_world.proofs.Places.{all_at, at_more, at_last}
 use Rattle.servient_world.proofs.Holds.{Holds}
 use Rattle.servient_world.proofs.WatchLaws.{IsKnown, Watched}
@@ -64,7 +64,6 @@ there_after : (target place : ℕ) (text : List ℕ) (before es : List Emission)
     → IsThere (before ++ es) target (place_after target (length before) place (targets_of es)) (value_after target text es)
 there_after target place text before [] h = subst (λ (l : List Emission). IsThere l target place text) (sym (append-nil before)) h
 there_after target place text before (e ∷ es) h =
-    let b : Bool = e.target == target in
     let now = there_at target place text before e (e.target == target) refl h in
     let rest = there_after target (cond (e.target == target) (length before + 1) place) (cond (e.target == target) e.text text) (before ++ e ∷ []) es now in
     let count : length (before ++ e ∷ []) ≡ length before + 1 = length_push before e in
@@ -100,7 +99,7 @@ SaysIt acts emitted d (reply_to k) = Unit {0}
 SaysIt acts emitted d other = Unit {0}
 
 abbrev IsSource : List Act → List Emission → Value → Type 0
-IsSource acts emitted x = IsRead acts x ⊎ IsEmitted acts emitted x
+IsSource acts emitted x = WasRead acts x ⊎ WasEmitted acts emitted x
 
 record Sourced (w : WorldState) : Type 0 where
   says : All (λ d. SaysIt w.acts w.emitted d d.purpose) w.sent
@@ -168,10 +167,7 @@ plain_back other acts emitted d = tt
 
 -- ---- what is taken
 
-same_payload : (said : Option ℕ) (r : Reply) → (observed_reply said r).payload ≡ r.payload
-same_payload said r = refl
-
-read_of : (acts : List Act) (k : ℕ) (r : Reply) (payload : List ℕ) → IsWhy acts k r → (r.options ≡ [] → ⊥) → payload ≡ r.payload → IsRead acts (record { ask = k; place = 0; payload = payload })
+read_of : (acts : List Act) (k : ℕ) (r : Reply) (payload : List ℕ) → IsWhy acts k r → (r.options ≡ [] → ⊥) → payload ≡ r.payload → WasRead acts (record { ask = k; place = 0; payload = payload })
 read_of acts k r payload (inl full) some is = absurd (some (ap (λ (x : Reply). x.options) full))
 read_of acts k r payload (inr (inl none)) some is = absurd (some (ap (λ (x : Reply). x.options) none))
 read_of acts k r payload (inr (inr act)) some is =

@@ -39,7 +39,7 @@ use Rattle.coap_bind.specs.declared.server.Server.{Server}
 use Rattle.coap_bind.specs.Server.{SendsNext}
 use Rattle.coap_bind.specs.Writing.{notification}
 use Rattle.servient_world.specs.declared.network.TheConstants.{MAX_LATENCY}
-use Rattle.servient_world.specs.World.{client_place, server_place, Purpose, copy_of, reply_to, notice_for, other, Datagram, WorldState, Value, AskEnd, IsStart, WorldMove, ask, due, deliver, pass, elsewhere, emit, notify, latest, value_by, taken_by, end_by, acts_for, purpose_back, id_used, targets_of, notice_sent, with_notice, ClientAsks, sends_ask, refuses_ask, skips_ask, ClientDoesDue, retransmits, gives_up, waits, Comes, too_late, to_client, to_server, ComesIfSent, ComesElsewhere, comes_elsewhere, skips_end, with_emission, Plays, PlaysAll}
+use Rattle.servient_world.specs.World.{client_place, server_place, Purpose, copy_of, reply_to, notice_for, other, Datagram, WorldState, Value, AskEnd, IsStart, WorldMove, ask, due, deliver, pass, elsewhere, emit, notify, latest, value_by, taken_by, end_by, acts_for, purpose_back, id_used, targets_of, notice_sent, with_notice, ClientAsks, sends_ask, refuses_ask, skips_ask, ClientDoesDue, retransmits, gives_up, waits, Comes, too_late, to_client, to_server, ComesIfSent, ComesElsewhere, comes_elsewhere, skips_end, with_new_value, Plays, PlaysAll}
 use Rattle.servient_world.specs.Laws.{ValuesNeverGoBack}
 use Rattle.servient_world.proofs.Places.{all_at, at_same, at_end}
 use Rattle.servient_world.proofs.Tokens.{own_token}
@@ -344,7 +344,7 @@ valued_after capacity watchers due w v plays s few few_after low y = valued_due 
 valued_after capacity watchers (deliver i) w v plays s few few_after low y = valued_deliver capacity w v i (slice_get w.sent i) refl plays s.holds few s.exact y
 valued_after capacity watchers (pass n) w v plays s few few_after low y = subst Valued (sym plays) (valued_client w (record w { moment = w.moment + n }) refl refl refl (λ o e. e) y)
 valued_after capacity watchers (elsewhere from bytes) w v plays s few few_after low y = valued_elsewhere capacity from bytes w v plays s.holds y
-valued_after capacity watchers (emit e) w v plays s few few_after low y = subst Valued (sym plays) (valued_client w (with_emission e w) refl refl refl (λ o e. e) y)
+valued_after capacity watchers (emit e) w v plays s few few_after low y = subst Valued (sym plays) (valued_client w (with_new_value e w) refl refl refl (λ o e. e) y)
 valued_after capacity watchers notify w v plays s few few_after low y =
     subst Valued (sym plays.next) (valued_noticed capacity watchers w plays.after plays.notice s.holds few low s.watched plays.sends y)
 

@@ -24,7 +24,7 @@ use Rattle.coap_bind.specs.declared.server.Server.{Server}
 use Rattle.coap_bind.specs.Server.{is_request, with_next_id, with_emitted, with_watchers, with_notice_sent, SendsNext}
 use Rattle.coap_bind.specs.Treating.{Acted, IsTreated, no_request, is_duplicate, finds_full, is_answered, is_ignored}
 use Rattle.coap_bind.proofs.TreatingLaws.{all_are_treated}
-use Rattle.servient_world.specs.World.{Emission, client_place, server_place, Purpose, copy_of, reply_to, notice_for, other, Datagram, Act, AskEnd, Value, WorldState, IsStart, WorldMove, ask, due, deliver, pass, elsewhere, emit, notify, latest, with_sent, ClientAsks, sends_ask, refuses_ask, skips_ask, ClientDoesDue, retransmits, gives_up, waits, end_by, taken_by, Receives, too_long, treated, id_used, acts_for, purpose_back, ServerTakes, with_emission, targets_of, purpose_of, notice_sent, with_notice, Comes, too_late, to_client, to_server, ComesIfSent, from_elsewhere, ComesElsewhere, comes_elsewhere, skips_end, Plays}
+use Rattle.servient_world.specs.World.{Emission, client_place, server_place, Purpose, copy_of, reply_to, notice_for, other, Datagram, Act, AskEnd, Value, WorldState, IsStart, WorldMove, ask, due, deliver, pass, elsewhere, emit, notify, latest, with_sent, ClientAsks, sends_ask, refuses_ask, skips_ask, ClientDoesDue, retransmits, gives_up, waits, end_by, taken_by, Receives, too_long, treated, id_used, acts_for, purpose_back, ServerTakes, with_new_value, targets_of, purpose_of, notice_sent, with_notice, Comes, to_client, to_server, ComesIfSent, from_elsewhere, ComesElsewhere, comes_elsewhere, skips_end, Plays}
 use Rattle.servient_world.proofs.Places.{all_at}
 use Rattle.servient_world.proofs.Tokens.{same_token}
 use Rattle.servient_world.proofs.AskLaws.{HasMessage}
@@ -272,7 +272,7 @@ watched_due watchers w v (waits old new t is_due is) y = subst (Watched watchers
 
 -- ---- values and notifications
 
-watched_emit : (watchers : ℕ) (e : Emission) (w : WorldState) → Watched watchers w → Watched watchers (with_emission e w)
+watched_emit : (watchers : ℕ) (e : Emission) (w : WorldState) → Watched watchers w → Watched watchers (with_new_value e w)
 watched_emit watchers e w y = record {
   account = with_value e.target y.account;
   did = was_emitted y.account w.server.watchers (with_emitted e.target w.server).watchers e.target y.did refl;

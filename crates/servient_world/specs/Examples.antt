@@ -1,5 +1,5 @@
 -- A schedule in which something happens. Without one the laws could hold because nothing ever does.
-use Rattle.std.specs.Prelude.{◌≡◌, ℕ, true, Some, None, List, [], ◌∷◌, length}
+use Rattle.std.specs.Prelude.{◌≡◌, true, Some, None, List, [], ◌∷◌, length}
 use Rattle.coap_client.specs.declared.state.State.{State}
 use Rattle.coap_client.specs.Asking.{Asking}
 use Rattle.coap_client.specs.Exchange.{IsNew}

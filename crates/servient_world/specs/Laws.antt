@@ -53,7 +53,7 @@ ValuesNeverGoBack =
     → IsStart first_id exchanges watchers w → PlaysAll moves w v → length v.asks ≤ 65536 → v.ids ≤ 65536 → NeverGoBack v.taken
 
 -- A value was read by the registration of its ask: it is what the act for that came to.
-pub record IsRead (acts : List Act) (x : Value) : Type 0 where
+pub record WasRead (acts : List Act) (x : Value) : Type 0 where
   pub act : Act
   pub made : Contains acts act
   pub for_it : act.ask ≡ x.ask
@@ -61,7 +61,7 @@ pub record IsRead (acts : List Act) (x : Value) : Type 0 where
   pub payload : x.payload ≡ (reply_of act.acted.outcome).payload
 
 -- A value was emitted for the target for which its ask registered.
-pub record IsEmitted (acts : List Act) (emitted : List Emission) (x : Value) : Type 0 where
+pub record WasEmitted (acts : List Act) (emitted : List Emission) (x : Value) : Type 0 where
   pub act : Act
   pub made : Contains acts act
   pub for_it : act.ask ≡ x.ask
@@ -72,7 +72,7 @@ pub record IsEmitted (acts : List Act) (emitted : List Emission) (x : Value) : T
 
 -- Each value that is taken was one of the two.
 abbrev pub HaveASource : List Act → List Emission → List Value → Type 0
-HaveASource acts emitted taken = All (λ x. IsRead acts x ⊎ IsEmitted acts emitted x) taken
+HaveASource acts emitted taken = All (λ x. WasRead acts x ⊎ WasEmitted acts emitted x) taken
 
 abbrev pub ValuesHaveASource : Type 0
 ValuesHaveASource =

@@ -230,8 +230,8 @@ pub record ServerTakes (d : Datagram) (w v : WorldState) : Type 0 where
       server_place d.from (purpose_back d.purpose) back
 
 -- a target gets a new value
-abbrev pub with_emission : Emission → WorldState → WorldState
-with_emission e w = record w { server = with_emitted e.target w.server; emitted = w.emitted ++ e ∷ [] }
+abbrev pub with_new_value : Emission → WorldState → WorldState
+with_new_value e w = record w { server = with_emitted e.target w.server; emitted = w.emitted ++ e ∷ [] }
 
 abbrev pub targets_of : List Emission → List ℕ
 targets_of emitted = map (λ e. e.target) emitted
@@ -319,7 +319,7 @@ Plays due w v = ClientDoesDue w v
 Plays (deliver i) w v = ComesIfSent (slice_get w.sent i) w v
 Plays (pass n) w v = v ≡ record w { moment = w.moment + n }
 Plays (elsewhere from bytes) w v = ComesElsewhere from bytes w v
-Plays (emit e) w v = v ≡ with_emission e w
+Plays (emit e) w v = v ≡ with_new_value e w
 Plays notify w v = ServerNotifies w v
 
 -- one move after another

@@ -1,9 +1,9 @@
 -- Each call of a request and of a poll is fit.
-use Rattle.std.proofs.Common.{◌≡◌, ◌≤◌, ◌<◌, ℕ, List, [], ◌∷◌, ◌++◌, length, Bool, true, false, cond, refl, sym, ap, subst, ◌∙◌, arith, inl, inr}
+use Rattle.std.proofs.Common.{◌≡◌, ◌<◌, ℕ, List, [], ◌∷◌, ◌++◌, length, Bool, true, false, cond, refl, sym, subst, arith, inl, inr}
 use Rattle.std.specs.Prelude.{Option, Some, None, Result, Ok, Err, option_map, Contains}
 use Rattle.std.specs.List.{AllByRecursion, filter}
 use Rattle.std.proofs.lemmas.Option.{same_Some}
-use Rattle.servient_base.specs.Moves.{Becomes, Stays, Then}
+use Rattle.servient_base.specs.Moves.{Then}
 use Rattle.wot_json.specs.Json.{text_of}
 use Rattle.wot_json.specs.Tree.{Json, Members, no_members, member, object}
 use Rattle.wot_json.specs.Reading.{tree_of}
@@ -17,11 +17,11 @@ use Rattle.thing_handler.specs.declared.handler.CallKind.{CallKind}
 use Rattle.thing_handler.specs.declared.handler.CallKind.TheVariants as call
 use Rattle.thing_handler.specs.declared.handler.Answer.TheVariants as answer
 use Rattle.thing_handler.specs.Turns.{HandlerCall}
-use Rattle.thing_site.specs.Site.{Placed, ExposedThing, Site, affordance_named, is_kind, of_kind, those_of, events_of}
+use Rattle.thing_site.specs.Site.{Placed, ExposedThing, Site, affordance_named, is_kind, of_kind, those_of}
 use Rattle.thing_site.specs.Places.{Act, describes, reads_all, writes_many, reads, writes, invokes, queries, cancels, reads_event, waits}
 use Rattle.thing_site.specs.Refusals.{Input, inputs_of, only_input, member_inputs, object_inputs, invoke_inputs, no_inputs, written_property, unless_read_only, longest_value, Holding, IsLong, IsRefusedBySchema, SomeInput}
 use Rattle.thing_core.specs.State.{State, Emission, Status, running, completed}
-use Rattle.thing_core.specs.Refusals.{Asked, act_asked, refusals, NoneStands}
+use Rattle.thing_core.specs.Refusals.{Asked, act_asked}
 use Rattle.thing_core.specs.Performing.{affordances_of_act}
 use Rattle.thing_core.specs.Thing.{Done, Called, no_number, no_memory, gives, failure_of, Calls, ReadsValue, readable, is_readable, ReadsEach, Emits, emissions_of_write, Stops, IfDone, WritesEach, IsHandedIn, IsInvoked, IsQueried, Queries, IsCancelled, Cancels, Performs, Acts, refuses, has_no_memory, performs, PollsEvent}
 use Rattle.thing_core.proofs.ReadLaws.{AfterValue}

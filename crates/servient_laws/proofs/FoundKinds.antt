@@ -1,13 +1,10 @@
 -- The affordances that an act calls are of the act's kind, and what is handed in to them is fit for them.
-use Rattle.std.proofs.Common.{◌≡◌, ◌≤◌, ◌<◌, ℕ, List, [], ◌∷◌, ◌++◌, length, Bool, true, false, cond, refl, sym, ap, subst, ◌∙◌, arith, inl, inr}
-use Rattle.std.specs.Prelude.{Option, Some, None, option_map, option_and_then, slice_get, ◌&&◌, Contains, All}
-use Rattle.std.specs.List.{AllByRecursion, flat_map, filter}
+use Rattle.std.proofs.Common.{◌≡◌, ℕ, List, [], ◌∷◌, ◌++◌, Bool, true, false, cond, refl, subst}
+use Rattle.std.specs.Prelude.{Some, None, option_and_then, slice_get, ◌&&◌, Contains}
+use Rattle.std.specs.List.{AllByRecursion}
 use Rattle.std.specs.Str.{bytes_eq}
 use Rattle.std.proofs.lemmas.Option.{same_Some}
 use Rattle.std.proofs.lemmas.List.Elements.{All-contains_itself, recursion_from_All}
-use Rattle.wot_json.specs.Json.{text_of}
-use Rattle.wot_json.specs.Tree.{Json, Members, no_members, member, object}
-use Rattle.wot_json.specs.Reading.{tree_of}
 use Rattle.wot_terms.specs.declared.kind.Kind.{Kind}
 use Rattle.wot_terms.specs.declared.kind.Kind.TheVariants as kind
 use Rattle.thing_ops.specs.declared.routing.RouteKind.{RouteKind}
@@ -16,13 +13,11 @@ use Rattle.thing_ops.specs.declared.verb.Verb.{Verb}
 use Rattle.thing_ops.specs.declared.verb.Verb.TheVariants as verb
 use Rattle.thing_ops.specs.Routes.{route_of}
 use Rattle.thing_ops.specs.Verbs.{verbs_of}
-use Rattle.thing_site.specs.Site.{Placed, ExposedThing, Site, affordance_named, is_kind, of_kind}
-use Rattle.thing_site.specs.Places.{Place, description, all_properties, property, observed, action, invocation, event, subscribed, affordance_in, thing_in, place_at, where_observable, Act, describes, reads_all, writes_many, reads, writes, invokes, queries, cancels, reads_event, waits, act_of, act_at, flags_of, is_listed}
-use Rattle.thing_site.specs.Refusals.{Input, inputs_of, longest_value, IsLong, IsAccepted, IsRefusedBySchema, SomeInput}
+use Rattle.thing_site.specs.Site.{Placed, ExposedThing, Site, affordance_named, is_kind}
+use Rattle.thing_site.specs.Places.{Place, description, all_properties, property, observed, action, invocation, event, subscribed, affordance_in, thing_in, place_at, where_observable, Act, reads, writes, invokes, queries, cancels, act_of, act_at, flags_of, is_listed}
 use Rattle.thing_core.specs.Places.{where_stands}
 use Rattle.thing_core.specs.State.{Invocation, invocation_named}
 use Rattle.thing_core.specs.Refusals.{Asked, act_asked, place_asked}
-use Rattle.thing_core.specs.Performing.{affordances_of_act}
 use Rattle.thing_core.proofs.Handed.{came_of, made_of}
 use Rattle.thing_core.proofs.SlotLaws.{SiteHas}
 use Rattle.servient_laws.specs.Calls.{affordances_of}

@@ -1,5 +1,5 @@
 -- The requests of a run are determined by its events.
-use Rattle.std.proofs.Common.{◌≡◌, ◌≤◌, ℕ, List, [], ◌∷◌, ◌++◌, max, true, false, refl, sym, ap, ap₂, subst, ◌∙◌, arith, inl, inr}
+use Rattle.std.proofs.Common.{◌≡◌, ℕ, List, [], ◌∷◌, ◌++◌, max, true, false, refl, sym, ap, ap₂, subst, ◌∙◌, arith, inl, inr}
 use Rattle.coap_msg.specs.declared.endpoint.Endpoint.{Endpoint}
 use Rattle.coap_msg.specs.Grammar.{CoapMessage, Spells}
 use Rattle.coap_msg.proofs.Messages.{at_most_one_message}

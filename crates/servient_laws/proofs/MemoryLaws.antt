@@ -1,27 +1,24 @@
 -- Where a request was out of memory.
-use Rattle.std.proofs.Common.{◌≡◌, ℕ, List, [], ◌∷◌, ◌++◌, Bool, true, false, refl, sym, ap, ap₂, subst, ◌∙◌, append_assoc, inl, inr}
-use Rattle.std.specs.Prelude.{◌⊎◌, Option, Some, None, Result, Ok, Err}
+use Rattle.std.proofs.Common.{◌≡◌, ℕ, List, [], ◌∷◌, ◌++◌, Bool, refl, sym, ap, ap₂, ◌∙◌, append_assoc, inl, inr}
+use Rattle.std.specs.Prelude.{Option, Some, None, Result, Ok, Err}
 use Rattle.servient_base.specs.Moves.{Then}
 use Rattle.wot_json.specs.Tree.{Json}
 use Rattle.wot_json.specs.Meaning.{json_of}
-use Rattle.wot_json.specs.declared.tree.Tree.{Tree}
-use Rattle.wot_json.specs.Json.{text_of}
 use Rattle.thing_ops.specs.declared.outcome.Outcome.{Outcome}
 use Rattle.thing_ops.specs.declared.outcome.Outcome.TheVariants as outcome
 use Rattle.thing_ops.specs.Requests.{PlainRequest}
 use Rattle.thing_handler.specs.declared.handler.CallKind.{CallKind}
 use Rattle.thing_handler.specs.declared.handler.CallKind.TheVariants as call
-use Rattle.thing_handler.specs.declared.handler.Answer.{Answer}
 use Rattle.thing_handler.specs.declared.handler.Answer.TheVariants as answer
 use Rattle.thing_handler.specs.Turns.{HandlerCall, missed}
-use Rattle.thing_site.specs.Site.{Placed, Site}
+use Rattle.thing_site.specs.Site.{Placed}
 use Rattle.thing_site.specs.Places.{Act, describes, reads_all, writes_many, reads, writes, invokes, queries, cancels, reads_event, waits}
 use Rattle.thing_site.specs.Refusals.{Input}
 use Rattle.thing_core.specs.State.{State, Emission, Status, running, completed, last_of}
 use Rattle.thing_core.specs.Refusals.{Asked, refusals, IsRefusedBy}
-use Rattle.thing_core.specs.Thing.{Done, only, Called, no_number, no_memory, gives, failure_of, Calls, GivesValue, ReadsValue, readable, ReadsEach, Emits, emissions_of_write, Stops, IfDone, WritesEach, IsInvoked, IsQueried, Queries, IsCancelled, Cancels, event_outcome, Performs, Acts, refuses, has_no_memory, performs}
+use Rattle.thing_core.specs.Thing.{Done, only, Called, no_number, no_memory, gives, failure_of, Calls, GivesValue, ReadsValue, readable, ReadsEach, Emits, emissions_of_write, Stops, IfDone, WritesEach, IsInvoked, IsQueried, Queries, IsCancelled, Cancels, event_outcome, Performs, refuses, has_no_memory, performs}
 use Rattle.thing_core.proofs.ReadLaws.{AfterValue}
-use Rattle.servient_laws.specs.Memory.{LeavesAll, EndsInMiss, MemoryIsSeen}
+use Rattle.servient_laws.specs.Memory.{EndsInMiss, MemoryIsSeen}
 
 -- ---- traces that end in a miss
 

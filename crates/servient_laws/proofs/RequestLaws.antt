@@ -3,7 +3,6 @@ use Rattle.std.proofs.Common.{◌≡◌, ◌≤◌, ℕ, Bool, length, List, [],
 use Rattle.std.specs.Prelude.{◌⊎◌, Contains, filter, nat_lt, if◌then◌else◌}
 use Rattle.std.specs.List.{list_any}
 use Rattle.std.proofs.lemmas.List.Elements.{filter_map-append, Contains-append_right}
-use Rattle.servient_base.specs.Moves.{Then}
 use Rattle.coap_msg.specs.declared.endpoint.Endpoint.{Endpoint}
 use Rattle.coap_msg.specs.declared.constants.TheConstants.{LONGEST_DATAGRAM}
 use Rattle.coap_msg.specs.Grammar.{CoapMessage, Spells}
@@ -16,7 +15,7 @@ use Rattle.coap_exchange.specs.Admission.{Arrival, Verdict, duplicate, refused, 
 use Rattle.coap_exchange.specs.Table.{at_moment}
 use Rattle.coap_exchange.specs.Laws.{IsVerdict}
 use Rattle.coap_exchange.specs.declared.met.Met.{Met}
-use Rattle.coap_exchange.specs.declared.met.Met.TheVariants.{Fresh, Repeat, Full}
+use Rattle.coap_exchange.specs.declared.met.Met.TheVariants.{Fresh, Repeat}
 use Rattle.coap_exchange.proofs.HistoryLaws.{tables_follow_the_history}
 use Rattle.coap_bind.specs.declared.server.Server.{Server}
 use Rattle.coap_bind.specs.Duplicates.{OnlyTimePassed, WasRepliedTo}
@@ -34,7 +33,7 @@ use Rattle.servient_core.specs.Machine.{Site, State, Follows, HearsDatagram, Ans
 use Rattle.servient_core.specs.Runs.{HasHistory}
 use Rattle.servient_core.proofs.MeaningLaws.{ends_quiet}
 use Rattle.servient_core.proofs.RunHistories.{each_run_has_a_history}
-use Rattle.servient_laws.specs.Requests.{Brings, moment_of, ComesTo, ActsOnNothing, sends_back, ActsNoMore, IsTurnedAway, RepeatsActOnce, FullTablesActOnNothing}
+use Rattle.servient_laws.specs.Requests.{moment_of, ComesTo, ActsOnNothing, ActsNoMore, RepeatsActOnce, FullTablesActOnNothing}
 use Rattle.servient_laws.proofs.Histories.{same_requests}
 
 -- ---- the parts of a step on a datagram that is looked at

@@ -1,15 +1,15 @@
 -- Each call of a run is fit.
-use Rattle.std.proofs.Common.{◌≡◌, ℕ, List, [], ◌∷◌, ◌++◌, map, Bool, true, false, cond, refl, sym, ap, subst, ◌∙◌, inl, inr}
-use Rattle.std.specs.Prelude.{Option, Some, None, Contains, All}
-use Rattle.std.specs.List.{AllByRecursion, filter, flat_map}
+use Rattle.std.proofs.Common.{◌≡◌, ℕ, List, [], ◌∷◌, ◌++◌, map, true, false, sym, ap, subst, ◌∙◌, inl, inr}
+use Rattle.std.specs.Prelude.{Contains}
+use Rattle.std.specs.List.{AllByRecursion}
 use Rattle.std.proofs.lemmas.List.Elements.{filter_map-append, All-from_recursion}
-use Rattle.servient_base.specs.Moves.{Until, is_done, goes_on, Then, Each}
+use Rattle.servient_base.specs.Moves.{Until, is_done, goes_on, Each}
 use Rattle.coap_msg.specs.declared.endpoint.Endpoint.{Endpoint}
 use Rattle.wot_terms.specs.declared.kind.Kind.TheVariants as kind
 use Rattle.thing_handler.specs.Turns.{HandlerCall}
 use Rattle.thing_ops.specs.Requests.{PlainRequest}
-use Rattle.thing_site.specs.Site.{Placed, ExposedThing, Site, events_of, those_of}
-use Rattle.thing_core.specs.Thing.{Done, Acts}
+use Rattle.thing_site.specs.Site.{Placed, Site, events_of, those_of}
+use Rattle.thing_core.specs.Thing.{Done}
 use Rattle.thing_core.proofs.SlotLaws.{SiteHas}
 use Rattle.coap_bind.specs.Server.{Heard, ignored, answered_at_once, asked}
 use Rattle.http_bind.specs.Streams.{Taken, asks, wants_continue, is_faulty, interrupts, IsDry}
@@ -18,13 +18,12 @@ use Rattle.servient_outside.specs.declared.net.What.TheVariants as what
 use Rattle.servient_outside.specs.declared.net.EventWithBytes.{EventWithBytes}
 use Rattle.servient_outside.specs.declared.net.Act.TheVariants as act
 use Rattle.servient_core.specs.Trace.{Sighting, at_handler, call_in, calls_in}
-use Rattle.servient_core.specs.Machine.{State, acts_of_reply, AnswersDatagram, HearsDatagram, PerformsByHttp, AnswersTaken, TakesNextMessage, TakesEveryMessage, HearsPiece, PollsAndDelivers, Follows, Step, EventAndStep, Run}
+use Rattle.servient_core.specs.Machine.{State, acts_of_reply, AnswersDatagram, HearsDatagram, PerformsByHttp, AnswersTaken, TakesNextMessage, HearsPiece, PollsAndDelivers, Follows, EventAndStep, Run}
 use Rattle.servient_core.specs.Meaning.{by_coap, by_http}
-use Rattle.servient_core.specs.Promises.{ActsOnNothing}
 use Rattle.servient_core.proofs.PartLaws.{the_calls}
 use Rattle.servient_core.proofs.MeaningLaws.{does_quiet, each_quiet, ends_quiet, rest_quiet}
 use Rattle.servient_laws.specs.Calls.{affordances_of, IsFit, CallsAreFit}
-use Rattle.servient_laws.proofs.FoundKinds.{site_has_its_own, same_kind}
+use Rattle.servient_laws.proofs.FoundKinds.{site_has_its_own}
 use Rattle.servient_laws.proofs.CallLaws.{IsOne, of_one_kind, acts_fit, polled_fit}
 
 abbrev AreFit : Site → List Sighting → Type 0

@@ -1,7 +1,11 @@
 //! Laws over whole runs.
 
 ghost use Rattle.servient_laws.specs.Calls.{CallsAreFit};
+ghost use Rattle.servient_laws.specs.Determined.{RunsAreDetermined};
 ghost use Rattle.servient_laws.specs.Memory.{MemoryIsSeen};
+ghost use Rattle.servient_laws.specs.Payloads.{PayloadsAreOfOutcomes};
+ghost use Rattle.servient_laws.specs.Spoken.{RequestsAreSpoken};
+ghost use Rattle.servient_laws.specs.Untouched.{FaultsTakeNoEvent, HandlersStay};
 ghost use Rattle.servient_laws.specs.Requests.{RepeatsActOnce, FullTablesActOnNothing};
 
 /// A duplicate of a request that was admitted and lives calls no handler, changes nothing, and is answered with the very
@@ -25,4 +29,32 @@ pub fn calls_are_fit()
 /// handler which was to be called next was out of memory.
 pub fn memory_is_seen()
     ensures { MemoryIsSeen }
+{}
+
+/// Two runs from the start with the same Things, events and answers of handlers, in both of which there was memory enough,
+/// do the same, act by act and call by call: so the machine leaves nothing open but memory.
+pub fn runs_are_determined()
+    ensures { RunsAreDetermined }
+{}
+
+/// Where a plan is served and the status isn't 0, 6, 8 or 7, no event was taken from the network.
+pub fn faults_take_no_event()
+    ensures { FaultsTakeNoEvent }
+{}
+
+/// Where the words are no command, or `check` or `derive`, each handler is as it was.
+pub fn handlers_stay()
+    ensures { HandlersStay }
+{}
+
+/// What is sent in reply to a message says the payload of its outcome: by CoAP unless it is too long for a datagram, by
+/// HTTP unless the request was HEAD. So two messages of one meaning are replied to with one payload.
+pub fn payloads_are_of_outcomes()
+    ensures { PayloadsAreOfOutcomes }
+{}
+
+/// Each request that both bindings can say is read from a message of either: so that an operation has one meaning by both
+/// is said of something.
+pub fn requests_are_spoken()
+    ensures { RequestsAreSpoken }
 {}

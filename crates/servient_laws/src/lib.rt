@@ -7,8 +7,18 @@
 //! - A full table of exchanges acts on nothing: `full_tables_act_on_nothing`.
 //! - What its schema refuses reaches no device: `calls_are_fit`, said of the calls alone.
 //! - A request that was out of memory made no call, or ended at a handler that was: `memory_is_seen`.
+//! - An operation has one meaning by either binding: beside `one_meaning` of `servient_core`, it is replied to with one
+//!   payload, `payloads_are_of_outcomes`, and what both bindings can say is read from a message of either,
+//!   `requests_are_spoken`.
+//! - One run, one outcome: with the same events and answers the same is done, where there is memory enough:
+//!   `runs_are_determined`.
+//! - Nothing before the word: no event is taken by a command that didn't serve, `faults_take_no_event`, and no handler
+//!   is called by one that calls none, `handlers_stay`.
 #![tactic(auto)]
 
 mod laws;
 
-pub use laws::{calls_are_fit, full_tables_act_on_nothing, memory_is_seen, repeats_act_once};
+pub use laws::{
+    calls_are_fit, faults_take_no_event, full_tables_act_on_nothing, handlers_stay, memory_is_seen,
+    payloads_are_of_outcomes, repeats_act_once, requests_are_spoken, runs_are_determined,
+};

@@ -1,0 +1,116 @@
+-- The payload of what is sent.
+use Rattle.std.proofs.Common.{◌≡◌, ◌≤◌, ℕ, Bool, false, length, map, List, [], ◌∷◌, ◌++◌, Option, Some, None, option_map, refl, sym, ap, subst, ◌∙◌, arith, inl, inr}
+use Rattle.std.specs.Prelude.{◌⊎◌, Contains, nat_lt, if◌then◌else◌}
+use Rattle.std.proofs.lemmas.List.Elements.{Contains-append_left, Contains-append_right}
+use Rattle.std.proofs.lemmas.Bool.Decides.{nat_tests}
+use Rattle.std.proofs.lemmas.Option.{same_Some}
+use Rattle.coap_msg.specs.declared.constants.TheConstants.{LONGEST_PAYLOAD}
+use Rattle.coap_msg.specs.declared.endpoint.Endpoint.{Endpoint}
+use Rattle.coap_msg.specs.Grammar.{spelling}
+use Rattle.thing_ops.specs.declared.outcome.Outcome.{Outcome}
+use Rattle.thing_ops.specs.Outcomes.{payload_of}
+use Rattle.thing_core.specs.Thing.{Done}
+use Rattle.coap_opts.specs.Reading.{PlainAsk}
+use Rattle.coap_bind.specs.declared.head.OpenAsk.{OpenAsk}
+use Rattle.coap_bind.specs.Writing.{reply_of, observed, coap_reply}
+use Rattle.http_bind.specs.Replying.{reply, reply_head, reply_body}
+use Rattle.thing_ops.specs.Requests.{PlainRequest}
+use Rattle.http_bind.specs.Streams.{Streams, connection_at, Answers as AnswersRequest, lets_wait, sends_reply, waits_of}
+use Rattle.servient_outside.specs.declared.net.Act.TheVariants as act
+use Rattle.servient_outside.specs.Network.{did}
+use Rattle.servient_core.specs.Trace.{Sighting, at_network}
+use Rattle.servient_core.specs.Machine.{Site, State, Sends, SendsIfAny, PerformsByHttp, AnswersAsk, AnswersMessage}
+use Rattle.servient_core.specs.Meaning.{Message, by_coap, by_http}
+use Rattle.servient_laws.specs.Payloads.{SaysByCoap, SaysByHttp, Says, PayloadsAreOfOutcomes}
+
+-- the payload of a reply that isn't too long
+short_payload : (o : Outcome) → length (payload_of o) ≤ LONGEST_PAYLOAD → (reply_of o).payload ≡ payload_of o
+short_payload o short = rw fits refl
+  where
+    fits : nat_lt LONGEST_PAYLOAD (length (payload_of o)) ≡ false
+    fits = grind (arith, nat_tests)
+
+-- what a part of a trace has, the trace has
+in_whole : (x : Sighting) (a b seen : List Sighting) → seen ≡ a ++ b → Contains a x ⊎ Contains b x → Contains seen x
+in_whole x a b seen whole (inl there) = subst (λ (l : List Sighting). Contains l x) (sym whole) (Contains-append_left a b x there)
+in_whole x a b seen whole (inr there) = subst (λ (l : List Sighting). Contains l x) (sym whole) (Contains-append_right a b x there)
+
+first_of : (x : Sighting) (rest seen : List Sighting) → seen ≡ x ∷ rest → Contains seen x
+first_of x rest seen is = subst (λ (l : List Sighting). Contains l x) (sym is) (0, omega arith, refl)
+
+by_ask : (site : Site) (from : Endpoint) (ask : PlainAsk) (r : OpenAsk) (done : Done) (s t : State) (seen : List Sighting) → AnswersAsk site from ask r done s seen t → SaysByCoap from done.outcome seen
+by_ask site from ask r done s t seen (bytes, w) = record {
+  message = coap_reply (observed w.one.1.observe (reply_of done.outcome)) r.request.head s.coap.next_id;
+  sent = in_whole (at_network (did (act.Datagram from (spelling (coap_reply (observed w.one.1.observe (reply_of done.outcome)) r.request.head s.coap.next_id))))) w.first w.second seen w.whole
+      (inr (first_of (at_network (did (act.Datagram from (spelling (coap_reply (observed w.one.1.observe (reply_of done.outcome)) r.request.head s.coap.next_id))))) [] w.second
+      (w.other.saw ∙ ap (λ (x : List ℕ). at_network (did (act.Datagram from x)) ∷ []) w.one.1.replies.bytes_are)));
+  payload = short_payload done.outcome;
+}
+
+-- a reply is its head and its body
+parts_of : (bodiless closes : Bool) (o : Outcome) (bytes : List ℕ) → reply bodiless closes o ≡ Some bytes → (head : List ℕ) × (reply_head closes o ≡ Some head) × (bytes ≡ head ++ reply_body bodiless o)
+parts_of bodiless closes o bytes is = by (reply_head closes o) refl is
+  where
+    by : (h : Option (List ℕ)) → reply_head closes o ≡ h → option_map (λ head. head ++ reply_body bodiless o) h ≡ Some bytes → (head : List ℕ) × (reply_head closes o ≡ Some head) × (bytes ≡ head ++ reply_body bodiless o)
+    by None none e = absurd cc
+    by (Some head) some e = (head, some, sym (same_Some (head ++ reply_body bodiless o) bytes e))
+
+by_message : (c : ℕ) (done : Done) (s t : State) (seen : List Sighting) → waits_of done.outcome ≡ None → AnswersMessage c done s seen t → SaysByHttp c done.outcome s seen
+by_message c done s t seen answered (sent, w) = by sent w.one.1 w.other
+  where
+    by : (sent : Option (List ℕ × Bool)) → AnswersRequest c done.outcome s.moment sent s.http w.one.0 → SendsIfAny c sent w.mid w.second t → SaysByHttp c done.outcome s seen
+    by sent (lets_wait target is waits none) sends = absurd (let apart : None ≡ Some target = sym answered ∙ ap waits_of is in cc)
+    by sent (sends_reply bytes closes none replies is) sends =
+        let does : Sends c (bytes, closes) w.mid w.second t = subst (λ (x : Option (List ℕ × Bool)). SendsIfAny c x w.mid w.second t) is sends in
+        let owed = replies.1 in
+        let parts = parts_of owed.bodiless owed.closes done.outcome bytes (subst (λ (b : Bool). reply owed.bodiless b done.outcome ≡ Some bytes) replies.4 replies.5) in
+        record {
+          connection = replies.0;
+          owed = owed;
+          there = replies.2;
+          owes = replies.3;
+          head = parts.0;
+          head_is = parts.1;
+          sent = in_whole (at_network (did (act.Sent c (parts.0 ++ reply_body owed.bodiless done.outcome)))) w.first w.second seen w.whole
+              (inr (first_of (at_network (did (act.Sent c (parts.0 ++ reply_body owed.bodiless done.outcome)))) (map (λ x. at_network (did x)) (if closes then act.Closed c ∷ [] else [])) w.second
+              (does.saw ∙ ap (λ (x : List ℕ). at_network (did (act.Sent c x)) ∷ map (λ y. at_network (did y)) (if closes then act.Closed c ∷ [] else [])) parts.2)));
+        }
+
+-- what is written is in the trace of all
+whole_says : (m : Message) (o : Outcome) (s : State) (a c d seen : List Sighting) → seen ≡ a ++ (c ++ d) → Says m o s c → Says m o s seen
+whole_says (by_coap from ask request) o s a c d seen whole says = record {
+  message = says.message;
+  sent = in_whole (at_network (did (act.Datagram from (spelling says.message)))) a (c ++ d) seen whole (inr (Contains-append_left c d (at_network (did (act.Datagram from (spelling says.message)))) says.sent));
+  payload = says.payload;
+}
+whole_says (by_http n q) o s a c d seen whole says = record {
+  connection = says.connection;
+  owed = says.owed;
+  there = says.there;
+  owes = says.owes;
+  head = says.head;
+  head_is = says.head_is;
+  sent = in_whole (at_network (did (act.Sent n (says.head ++ reply_body says.owed.bodiless o)))) a (c ++ d) seen whole
+      (inr (Contains-append_left c d (at_network (did (act.Sent n (says.head ++ reply_body says.owed.bodiless o)))) says.sent));
+}
+
+-- performing a request leaves the connections as they are
+same_http : (site : Site) (q : PlainRequest) (done : Done) (s t : State) (seen : List Sighting) → PerformsByHttp site q done s seen t → t.http ≡ s.http
+same_http site q done s t seen (inl directory) = ap (λ (x : State). x.http) directory.1.3.next
+same_http site q done s t seen (inr things) = ap (λ (x : State). x.http) things.1.3.next
+
+pub payloads_are_of_outcomes : PayloadsAreOfOutcomes
+payloads_are_of_outcomes site (by_coap from ask request) done s t seen both answered =
+    whole_says (by_coap from ask request) done.outcome s both.first both.other.first both.other.second seen (both.whole ∙ ap (λ (x : List Sighting). both.first ++ x) both.other.whole)
+    (by_ask site from ask request done both.mid both.other.mid both.other.first both.other.one)
+payloads_are_of_outcomes site (by_http c q) done s t seen both answered =
+    let says : SaysByHttp c done.outcome both.mid both.other.first = by_message c done both.mid both.other.mid both.other.first answered both.other.one in
+    whole_says (by_http c q) done.outcome s both.first both.other.first both.other.second seen (both.whole ∙ ap (λ (x : List Sighting). both.first ++ x) both.other.whole) (record {
+      connection = says.connection;
+      owed = says.owed;
+      there = subst (λ (h : Streams). connection_at c h ≡ Some says.connection) (same_http site q done s both.mid both.first both.one) says.there;
+      owes = says.owes;
+      head = says.head;
+      head_is = says.head_is;
+      sent = says.sent;
+    })

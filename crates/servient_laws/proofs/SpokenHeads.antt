@@ -1,0 +1,352 @@
+-- The head of the HTTP message that says a request: it is a head by the grammar, and its lines say what the request says.
+use Rattle.std.proofs.Common.{◌≡◌, ◌≢◌, ◌<◌, ◌≤◌, ◌^◌, ℕ, Bool, true, false, not, List, [], ◌∷◌, ◌++◌, append_assoc, length, map, reverse, refl, ap, ap₂, ◌∙◌, arith}
+use Rattle.std.specs.Prelude.{◌==◌, ◌&&◌, codes, decimal, IsTrue}
+use Rattle.std.specs.List.{AllByRecursion, list_all, flat_map}
+use Rattle.std.specs.Str.{IsAscii}
+use Rattle.std.specs.Str.Parse.{AllDigits, digits_value}
+use Rattle.std.proofs.lemmas.Bool.Decides.{nat_tests}
+use Rattle.std.proofs.lemmas.Fmt.{decimal_is_IsNumeral}
+use Rattle.std.proofs.lemmas.List.{length-append, reverse-reverse}
+use Rattle.std.proofs.lemmas.List.Elements.{All-from_recursion, All-head}
+use Rattle.std.proofs.lemmas.Str.{IsUtf8-from_ascii}
+use Rattle.std.proofs.lemmas.Str.Ascii.{IsAscii-from_all}
+use Rattle.std.proofs.lemmas.Str.Parse.{digit_at}
+use Rattle.httparse.specs.Grammar.{is_token_byte, is_uri_byte, is_value_byte, is_ows, AllPass, IsToken, Field, IsField, crlf, skip_ows, trim_ows, print_field, print_section, print_request, IsRequestHead}
+use Rattle.httparse.specs.Spans.{name_and_value}
+use Rattle.httparse.proofs.TrimLemmas.{AllPass-reverse}
+use Rattle.http_wire.specs.Fields.{absent, once, Said, said_by, format_of, accept_of}
+use Rattle.http_wire.specs.Judging.{is_once, is_often, longest_body}
+use Rattle.thing_ops.specs.declared.verb.Verb.{Verb}
+use Rattle.thing_ops.specs.declared.verb.Verb.TheVariants as verb
+use Rattle.thing_ops.specs.declared.request.Format.{Format}
+use Rattle.thing_ops.specs.declared.request.Format.TheVariants as format
+use Rattle.thing_ops.specs.Requests.{PlainRequest}
+use Rattle.servient_laws.specs.Spoken.{method_of, target_of, type_lines, accept_lines, header_lines, http_head}
+use Rattle.servient_laws.proofs.HeadLines.{IsPlain, IsLine, AreLines, printed}
+use Rattle.servient_laws.proofs.SpokenTargets.{IsTargetByte, target_bytes}
+
+-- ---- tests of bytes
+
+both : (b c : Bool) → (b && c) ≡ true → (b ≡ true) × (c ≡ true)
+both true c h = (refl, h)
+both false c h = absurd cc
+
+passes : (test : ℕ → Bool) (bytes : List ℕ) → list_all test bytes ≡ true → AllByRecursion (λ b. IsTrue (test b)) bytes
+passes test [] h = tt
+passes test (b ∷ bytes) h = let parts = both (test b) (list_all test bytes) h in (parts.0, passes test bytes parts.1)
+
+all_pass : (test : ℕ → Bool) (bytes : List ℕ) → list_all test bytes ≡ true → AllPass test bytes
+all_pass test bytes h = All-from_recursion (λ b. IsTrue (test b)) bytes (passes test bytes h)
+
+both_all : (P : ℕ → Type 0) (a b : List ℕ) → AllByRecursion P a → AllByRecursion P b → AllByRecursion P (a ++ b)
+both_all P [] b p q = q
+both_all P (x ∷ a) b p q = (p.0, both_all P a b p.1 q)
+
+weaker : (P Q : ℕ → Type 0) (bytes : List ℕ) → ((b : ℕ) → P b → Q b) → AllByRecursion P bytes → AllByRecursion Q bytes
+weaker P Q [] f all = tt
+weaker P Q (b ∷ bytes) f all = (f b all.0, weaker P Q bytes f all.1)
+
+-- a byte that is no part of a line's end
+abbrev plain : ℕ → Bool
+plain b = not (b == 13) && not (b == 10)
+
+is_plain : (b : ℕ) → plain b ≡ true → IsPlain b
+is_plain b h = (no_return, no_feed)
+  where
+    no_return : b ≢ 13
+    no_return = grind (arith, nat_tests)
+
+    no_feed : b ≢ 10
+    no_feed = grind (arith, nat_tests)
+
+plain_bytes : (bytes : List ℕ) → list_all plain bytes ≡ true → AllByRecursion IsPlain bytes
+plain_bytes bytes h = weaker (λ b. IsTrue (plain b)) IsPlain bytes is_plain (passes plain bytes h)
+
+-- ---- digits
+
+digit_range : (c : ℕ) (cs : List ℕ) → AllDigits 10 (c ∷ cs) → (48 ≤ c) × (c ≤ 57)
+digit_range c cs h = let range = digit_at (c ∷ cs) 0 h (omega arith) in (omega (arith, range), omega (arith, range))
+
+pub digits_pass : (test : ℕ → Bool) (cs : List ℕ) → ((c : ℕ) → 48 ≤ c → c ≤ 57 → test c ≡ true) → AllDigits 10 cs → list_all test cs ≡ true
+digits_pass test [] each h = refl
+digits_pass test (c ∷ cs) each h =
+    let range = digit_range c cs h in
+    ap₂ (λ (x y : Bool). x && y) (each c range.0 range.1) (digits_pass test cs each h.1)
+
+-- no white space is around them
+not_ows : ℕ → Bool
+not_ows b = not (is_ows b)
+
+skips_nothing : (bytes : List ℕ) → AllPass (λ b. not (is_ows b)) bytes → skip_ows bytes ≡ bytes
+skips_nothing [] pass = refl
+skips_nothing (b ∷ bytes) pass = rw isnt refl
+  where
+    first : not (is_ows b) ≡ true
+    first = All-head (λ x. IsTrue (not (is_ows x))) b bytes pass
+
+    negated : (x : Bool) → not x ≡ true → x ≡ false
+    negated true h = absurd cc
+    negated false h = refl
+
+    isnt : is_ows b ≡ false
+    isnt = negated (is_ows b) first
+
+trims_nothing : (bytes : List ℕ) → AllPass (λ b. not (is_ows b)) bytes → trim_ows bytes ≡ bytes
+unfolding trim_ows
+trims_nothing bytes pass =
+    ap (λ (x : List ℕ). reverse (skip_ows (reverse x))) (skips_nothing bytes pass)
+    ∙ ap (λ (x : List ℕ). reverse x) (skips_nothing (reverse bytes) (AllPass-reverse (λ b. not (is_ows b)) bytes pass))
+    ∙ reverse-reverse bytes
+
+pub record IsSize (n : ℕ) : Type 0 where
+  pub some : 0 < length (decimal n)
+  pub value : digits_value 10 (decimal n) ≡ n
+  pub digits : AllDigits 10 (decimal n)
+  pub trimmed : trim_ows (decimal n) ≡ decimal n
+
+pub is_size : (n : ℕ) → n ≤ longest_body → IsSize n
+is_size n short =
+    let fits : n < 2 ^ 64 = omega (arith, short) in
+    let numeral = decimal_is_IsNumeral n fits in
+    record {
+      some = numeral.0.0;
+      value = numeral.1;
+      digits = numeral.0.1;
+      trimmed = trims_nothing (decimal n) (all_pass (λ b. not (is_ows b)) (decimal n) (digits_pass (λ b. not (is_ows b)) (decimal n) unspaced numeral.0.1));
+    }
+  where
+    unspaced : (c : ℕ) → 48 ≤ c → c ≤ 57 → not (is_ows c) ≡ true
+    unspaced c low high = grind (arith, nat_tests)
+
+-- ---- what the header lines say
+
+abbrev pub field_of : List ℕ × List ℕ → Field
+field_of l = record { name = l.0; raw = l.1; end = crlf }
+
+abbrev pub fields : List (List ℕ × List ℕ) → List Field
+fields lines = map field_of lines
+
+pub record Says (f : Format) (json td : Bool) (size : List ℕ) (s : Said) : Type 0 where
+  pub host : is_once s.host ≡ true
+  pub size_is : s.content_length ≡ once (trim_ows size)
+  pub coding : s.transfer_encoding ≡ absent
+  pub one_type : is_often s.content_type ≡ false
+  pub format_is : format_of s.content_type ≡ f
+  pub continues : s.continues ≡ false
+  pub accept_is : accept_of s.accept ≡ record { json = json; td = td }
+
+pub says : (f : Format) (json td : Bool) (size : List ℕ) → Says f json td size (said_by (map name_and_value (fields (header_lines f json td size))))
+unfolding trim_ows
+says format.Absent true true size = record { host = refl; size_is = refl; coding = refl; one_type = refl; format_is = refl; continues = refl; accept_is = refl }
+says format.Absent true false size = record { host = refl; size_is = refl; coding = refl; one_type = refl; format_is = refl; continues = refl; accept_is = refl }
+says format.Absent false true size = record { host = refl; size_is = refl; coding = refl; one_type = refl; format_is = refl; continues = refl; accept_is = refl }
+says format.Absent false false size = record { host = refl; size_is = refl; coding = refl; one_type = refl; format_is = refl; continues = refl; accept_is = refl }
+says format.Json true true size = record { host = refl; size_is = refl; coding = refl; one_type = refl; format_is = refl; continues = refl; accept_is = refl }
+says format.Json true false size = record { host = refl; size_is = refl; coding = refl; one_type = refl; format_is = refl; continues = refl; accept_is = refl }
+says format.Json false true size = record { host = refl; size_is = refl; coding = refl; one_type = refl; format_is = refl; continues = refl; accept_is = refl }
+says format.Json false false size = record { host = refl; size_is = refl; coding = refl; one_type = refl; format_is = refl; continues = refl; accept_is = refl }
+says format.Td true true size = record { host = refl; size_is = refl; coding = refl; one_type = refl; format_is = refl; continues = refl; accept_is = refl }
+says format.Td true false size = record { host = refl; size_is = refl; coding = refl; one_type = refl; format_is = refl; continues = refl; accept_is = refl }
+says format.Td false true size = record { host = refl; size_is = refl; coding = refl; one_type = refl; format_is = refl; continues = refl; accept_is = refl }
+says format.Td false false size = record { host = refl; size_is = refl; coding = refl; one_type = refl; format_is = refl; continues = refl; accept_is = refl }
+says format.Patch true true size = record { host = refl; size_is = refl; coding = refl; one_type = refl; format_is = refl; continues = refl; accept_is = refl }
+says format.Patch true false size = record { host = refl; size_is = refl; coding = refl; one_type = refl; format_is = refl; continues = refl; accept_is = refl }
+says format.Patch false true size = record { host = refl; size_is = refl; coding = refl; one_type = refl; format_is = refl; continues = refl; accept_is = refl }
+says format.Patch false false size = record { host = refl; size_is = refl; coding = refl; one_type = refl; format_is = refl; continues = refl; accept_is = refl }
+says format.Other true true size = record { host = refl; size_is = refl; coding = refl; one_type = refl; format_is = refl; continues = refl; accept_is = refl }
+says format.Other true false size = record { host = refl; size_is = refl; coding = refl; one_type = refl; format_is = refl; continues = refl; accept_is = refl }
+says format.Other false true size = record { host = refl; size_is = refl; coding = refl; one_type = refl; format_is = refl; continues = refl; accept_is = refl }
+says format.Other false false size = record { host = refl; size_is = refl; coding = refl; one_type = refl; format_is = refl; continues = refl; accept_is = refl }
+
+-- ---- the head as lines
+
+abbrev pub start_line : PlainRequest → List ℕ
+start_line q = method_of q.verb ++ 32 ∷ target_of q.path ++ 32 ∷ codes "HTTP/1.1"
+
+abbrev pub line_of : List ℕ × List ℕ → List ℕ
+line_of l = l.0 ++ 58 ∷ l.1
+
+abbrev pub lines_in : PlainRequest → List (List ℕ × List ℕ)
+lines_in q = header_lines q.format q.accept.json q.accept.td (decimal (length q.body))
+
+abbrev pub head_lines : PlainRequest → List (List ℕ)
+head_lines q = start_line q ∷ map line_of (lines_in q)
+
+section_is : (lines : List (List ℕ × List ℕ)) → print_section (fields lines) crlf ≡ printed (map line_of lines)
+section_is [] = refl
+section_is (l ∷ lines) =
+    append_assoc (line_of l ++ 13 ∷ 10 ∷ []) (flat_map print_field (fields lines)) (13 ∷ 10 ∷ [])
+    ∙ append_assoc (line_of l) (13 ∷ 10 ∷ []) (print_section (fields lines) crlf)
+    ∙ ap (λ (x : List ℕ). line_of l ++ 13 ∷ 10 ∷ x) (section_is lines)
+
+pub head_is : (q : PlainRequest) → print_request (http_head q) ≡ printed (head_lines q)
+unfolding print_request
+head_is q =
+    append_assoc (start_line q) (13 ∷ 10 ∷ []) (print_section (fields (lines_in q)) crlf)
+    ∙ ap (λ (x : List ℕ). start_line q ++ 13 ∷ 10 ∷ x) (section_is (lines_in q))
+
+-- ---- each is a line
+
+plain_method : (v : Verb) → (list_all plain (method_of v) ≡ true) × (0 < length (method_of v))
+plain_method verb.Get = (refl, omega arith)
+plain_method verb.Head = (refl, omega arith)
+plain_method verb.Put = (refl, omega arith)
+plain_method verb.Post = (refl, omega arith)
+plain_method verb.Patch = (refl, omega arith)
+plain_method verb.Delete = (refl, omega arith)
+plain_method verb.Other = (refl, omega arith)
+
+plain_target : (path : List (List ℕ)) → AllByRecursion (AllByRecursion (λ b. b < 256)) path → AllByRecursion IsPlain (target_of path)
+plain_target path bytes = weaker IsTargetByte IsPlain (target_of path) (λ b safe. (target_no_return b safe, target_no_feed b safe)) (target_bytes path bytes)
+  where
+    target_no_return : (b : ℕ) → IsTargetByte b → b ≢ 13
+    target_no_return b safe = let low : 37 ≤ b = safe.0 in omega (arith, low)
+
+    target_no_feed : (b : ℕ) → IsTargetByte b → b ≢ 10
+    target_no_feed b safe = let low : 37 ≤ b = safe.0 in omega (arith, low)
+
+pub start_is_line : (q : PlainRequest) → AllByRecursion (AllByRecursion (λ b. b < 256)) q.path → IsLine (start_line q)
+start_is_line q bytes =
+    let method = plain_method q.verb in
+    let some : 0 < length (method_of q.verb) = method.1 in (
+      both_all IsPlain (method_of q.verb ++ 32 ∷ target_of q.path) (32 ∷ codes "HTTP/1.1")
+          (both_all IsPlain (method_of q.verb) (32 ∷ target_of q.path) (plain_bytes (method_of q.verb) method.0) (is_plain 32 refl, plain_target q.path bytes))
+          (plain_bytes (32 ∷ codes "HTTP/1.1") refl),
+      longer (method_of q.verb ++ 32 ∷ target_of q.path) (32 ∷ codes "HTTP/1.1") (longer (method_of q.verb) (32 ∷ target_of q.path) some),
+    )
+  where
+    longer : (a b : List ℕ) → 0 < length a → 0 < length (a ++ b)
+    longer a b some = let sum = length-append a b in omega (arith, sum, some)
+
+lines_all : (a b : List (List ℕ × List ℕ)) → AreLines (map line_of a) → AreLines (map line_of b) → AreLines (map line_of (a ++ b))
+lines_all [] b p q = q
+lines_all (l ∷ a) b p q = (p.0, lines_all a b p.1 q)
+
+type_are : (f : Format) → AreLines (map line_of (type_lines f))
+type_are format.Absent = tt
+type_are format.Json = ((plain_bytes (line_of (codes "Content-Type", codes "application/json")) refl, omega arith), tt)
+type_are format.Td = ((plain_bytes (line_of (codes "Content-Type", codes "application/td+json")) refl, omega arith), tt)
+type_are format.Patch = ((plain_bytes (line_of (codes "Content-Type", codes "application/merge-patch+json")) refl, omega arith), tt)
+type_are format.Other = ((plain_bytes (line_of (codes "Content-Type", codes "text/plain")) refl, omega arith), tt)
+
+accept_are : (json td : Bool) → AreLines (map line_of (accept_lines json td))
+accept_are true true = tt
+accept_are true false = ((plain_bytes (line_of (codes "Accept", codes "application/json")) refl, omega arith), tt)
+accept_are false true = ((plain_bytes (line_of (codes "Accept", codes "application/td+json")) refl, omega arith), tt)
+accept_are false false = ((plain_bytes (line_of (codes "Accept", codes "text/plain")) refl, omega arith), tt)
+
+size_plain : (c : ℕ) → 48 ≤ c → c ≤ 57 → plain c ≡ true
+size_plain c low high = grind (arith, nat_tests)
+
+pub header_are : (f : Format) (json td : Bool) (n : ℕ) → IsSize n → AreLines (map line_of (header_lines f json td (decimal n)))
+header_are f json td n size = (
+  (plain_bytes (codes "Host:thing") refl, omega arith),
+  (
+    (both_all IsPlain (codes "Content-Length:") (decimal n) (plain_bytes (codes "Content-Length:") refl) (plain_bytes (decimal n) (digits_pass plain (decimal n) size_plain size.digits)), omega arith),
+    lines_all (type_lines f) (accept_lines json td) (type_are f) (accept_are json td),
+  ),
+)
+
+-- ---- it is a head by the grammar
+
+token : (bytes : List ℕ) → 0 < length bytes → list_all is_token_byte bytes ≡ true → IsToken bytes
+token bytes some h = (some, all_pass is_token_byte bytes h)
+
+method_token : (v : Verb) → IsToken (method_of v)
+unfolding is_token_byte
+method_token verb.Get = token (codes "GET") (omega arith) refl
+method_token verb.Head = token (codes "HEAD") (omega arith) refl
+method_token verb.Put = token (codes "PUT") (omega arith) refl
+method_token verb.Post = token (codes "POST") (omega arith) refl
+method_token verb.Patch = token (codes "PATCH") (omega arith) refl
+method_token verb.Delete = token (codes "DELETE") (omega arith) refl
+method_token verb.Other = token (codes "OTHER") (omega arith) refl
+
+abbrev IsGood : List ℕ × List ℕ → Type 0
+IsGood l = IsField (record { name = l.0; raw = l.1; end = crlf })
+
+good : (name value : List ℕ) → 0 < length name → list_all is_token_byte name ≡ true → list_all is_value_byte value ≡ true → IsGood (name, value)
+good name value some named valued = record { name = token name some named; raw = all_pass is_value_byte value valued }
+
+good_all : (a b : List (List ℕ × List ℕ)) → AllByRecursion IsGood a → AllByRecursion IsGood b → AllByRecursion IsGood (a ++ b)
+good_all [] b p q = q
+good_all (l ∷ a) b p q = (p.0, good_all a b p.1 q)
+
+good_types : (f : Format) → AllByRecursion IsGood (type_lines f)
+unfolding is_token_byte
+good_types format.Absent = tt
+good_types format.Json = (good (codes "Content-Type") (codes "application/json") (omega arith) refl refl, tt)
+good_types format.Td = (good (codes "Content-Type") (codes "application/td+json") (omega arith) refl refl, tt)
+good_types format.Patch = (good (codes "Content-Type") (codes "application/merge-patch+json") (omega arith) refl refl, tt)
+good_types format.Other = (good (codes "Content-Type") (codes "text/plain") (omega arith) refl refl, tt)
+
+good_accepts : (json td : Bool) → AllByRecursion IsGood (accept_lines json td)
+unfolding is_token_byte
+good_accepts true true = tt
+good_accepts true false = (good (codes "Accept") (codes "application/json") (omega arith) refl refl, tt)
+good_accepts false true = (good (codes "Accept") (codes "application/td+json") (omega arith) refl refl, tt)
+good_accepts false false = (good (codes "Accept") (codes "text/plain") (omega arith) refl refl, tt)
+
+size_value : (c : ℕ) → 48 ≤ c → c ≤ 57 → is_value_byte c ≡ true
+size_value c low high = grind (arith, nat_tests)
+
+good_lines : (f : Format) (json td : Bool) (n : ℕ) → IsSize n → AllByRecursion IsGood (header_lines f json td (decimal n))
+unfolding is_token_byte
+good_lines f json td n size = (
+  good (codes "Host") (codes "thing") (omega arith) refl refl,
+  (
+    good (codes "Content-Length") (decimal n) (omega arith) refl (digits_pass is_value_byte (decimal n) size_value size.digits),
+    good_all (type_lines f) (accept_lines json td) (good_types f) (good_accepts json td),
+  ),
+)
+
+good_fields : (lines : List (List ℕ × List ℕ)) → AllByRecursion IsGood lines → AllByRecursion IsField (fields lines)
+good_fields [] all = tt
+good_fields (l ∷ lines) all = (all.0, good_fields lines all.1)
+
+uri_bytes : (bytes : List ℕ) → AllByRecursion IsTargetByte bytes → AllByRecursion (λ b. IsTrue (is_uri_byte b)) bytes
+uri_bytes bytes all = weaker IsTargetByte (λ b. IsTrue (is_uri_byte b)) bytes is_uri all
+  where
+    is_uri : (b : ℕ) → IsTargetByte b → is_uri_byte b ≡ true
+    is_uri b safe =
+        let low : 37 ≤ b = safe.0 in
+        let high : b ≤ 70 = safe.1 in
+        grind (arith, nat_tests)
+
+some_target : (path : List (List ℕ)) → 0 < length (target_of path)
+some_target [] = omega arith
+some_target (segment ∷ path) = omega arith
+
+target_ascii : (bytes : List ℕ) → AllByRecursion IsTargetByte bytes → IsAscii bytes
+target_ascii bytes all = IsAscii-from_all bytes (All-from_recursion (λ b. b < 128) bytes (weaker IsTargetByte (λ b. b < 128) bytes (λ b safe. let high : b ≤ 70 = safe.1 in omega (arith, high)) all))
+
+pub request_head : (q : PlainRequest) → AllByRecursion (AllByRecursion (λ b. b < 256)) q.path → IsSize (length q.body) → IsRequestHead (http_head q)
+request_head q bytes size = record {
+  method = method_token q.verb;
+  target = (some_target q.path, All-from_recursion (λ b. IsTrue (is_uri_byte b)) (target_of q.path) (uri_bytes (target_of q.path) (target_bytes q.path bytes)));
+  target_text = IsUtf8-from_ascii (target_of q.path) (target_ascii (target_of q.path) (target_bytes q.path bytes));
+  minor = omega arith;
+  fields = All-from_recursion IsField (fields (lines_in q)) (good_fields (lines_in q) (good_lines q.format q.accept.json q.accept.td (length q.body) size));
+}
+
+pub few_lines : (f : Format) (json td : Bool) (size : List ℕ) → length (header_lines f json td size) ≤ 4
+few_lines format.Absent true true size = omega arith
+few_lines format.Absent true false size = omega arith
+few_lines format.Absent false true size = omega arith
+few_lines format.Absent false false size = omega arith
+few_lines format.Json true true size = omega arith
+few_lines format.Json true false size = omega arith
+few_lines format.Json false true size = omega arith
+few_lines format.Json false false size = omega arith
+few_lines format.Td true true size = omega arith
+few_lines format.Td true false size = omega arith
+few_lines format.Td false true size = omega arith
+few_lines format.Td false false size = omega arith
+few_lines format.Patch true true size = omega arith
+few_lines format.Patch true false size = omega arith
+few_lines format.Patch false true size = omega arith
+few_lines format.Patch false false size = omega arith
+few_lines format.Other true true size = omega arith
+few_lines format.Other true false size = omega arith
+few_lines format.Other false true size = omega arith
+few_lines format.Other false false size = omega arith

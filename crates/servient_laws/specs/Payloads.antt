@@ -1,0 +1,45 @@
+-- What a reply says: by either binding the payload of the outcome.
+use Rattle.std.specs.Prelude.{◌≡◌, ◌≤◌, ◌++◌, ℕ, List, length, Some, None, Contains}
+use Rattle.coap_msg.specs.declared.constants.TheConstants.{LONGEST_PAYLOAD}
+use Rattle.coap_msg.specs.declared.endpoint.Endpoint.{Endpoint}
+use Rattle.coap_msg.specs.Grammar.{CoapMessage, spelling}
+use Rattle.thing_ops.specs.declared.outcome.Outcome.{Outcome}
+use Rattle.thing_ops.specs.Outcomes.{payload_of}
+use Rattle.http_bind.specs.declared.owed.Owed.{Owed}
+use Rattle.http_bind.specs.Replying.{reply_head, reply_body}
+use Rattle.http_bind.specs.Streams.{Connection, connection_at, waits_of}
+use Rattle.servient_outside.specs.declared.net.Act.TheVariants as act
+use Rattle.servient_outside.specs.Network.{did}
+use Rattle.servient_core.specs.Trace.{Sighting, at_network}
+use Rattle.servient_core.specs.Machine.{Site, State}
+use Rattle.servient_core.specs.Meaning.{Message, by_coap, by_http, ComesTo}
+use Rattle.thing_core.specs.Thing.{Done}
+
+-- A datagram was sent to an endpoint whose payload is that of an outcome, if it isn't too long to be sent (RFC 7252,
+-- section 4.6).
+pub record SaysByCoap (from : Endpoint) (o : Outcome) (seen : List Sighting) : Type 0 where
+  pub message : CoapMessage
+  pub sent : Contains seen (at_network (did (act.Datagram from (spelling message))))
+  pub payload : length (payload_of o) ≤ LONGEST_PAYLOAD → message.payload ≡ payload_of o
+
+-- A reply was sent on a connection: its head, and after it the payload of an outcome, which a HEAD request alone isn't
+-- owed (RFC 9110, section 9.3.2).
+pub record SaysByHttp (c : ℕ) (o : Outcome) (s : State) (seen : List Sighting) : Type 0 where
+  pub connection : Connection
+  pub owed : Owed
+  pub there : connection_at c s.http ≡ Some connection
+  pub owes : connection.owed ≡ Some owed
+  pub head : List ℕ
+  pub head_is : reply_head owed.closes o ≡ Some head
+  pub sent : Contains seen (at_network (did (act.Sent c (head ++ reply_body owed.bodiless o))))
+
+abbrev pub Says : Message → Outcome → State → List Sighting → Type 0
+Says (by_coap from ask request) o s seen = SaysByCoap from o seen
+Says (by_http c q) o s seen = SaysByHttp c o s seen
+
+-- What is sent in reply to a message has the payload of its outcome, unless that is to wait. So two messages of one
+-- meaning have one payload.
+abbrev pub PayloadsAreOfOutcomes : Type 0
+PayloadsAreOfOutcomes =
+    (site : Site) (m : Message) (done : Done) (s t : State) (seen : List Sighting)
+    → ComesTo site m done s seen t → waits_of done.outcome ≡ None → Says m done.outcome s seen

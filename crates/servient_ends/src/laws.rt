@@ -1,0 +1,34 @@
+//! Laws of both ends where the server is the whole servient, as contracts of functions that do nothing.
+
+ghost use Rattle.servient_ends.specs.Laws.{TurnsAreMoves, ServientActsOnce, ServientAnswersOnce, ServientObservesOnce};
+ghost use Rattle.servient_ends.specs.Laws.{ServientValuesNeverGoBack, ServientValuesHaveASource};
+
+/// What comes of events at the servient and at the client is what comes of some moves of the world of both ends.
+pub fn turns_are_moves()
+    ensures { TurnsAreMoves }
+{}
+
+/// For each ask the servient makes at most one act, whatever is lost, repeated or reordered.
+pub fn servient_acts_once()
+    ensures { ServientActsOnce }
+{}
+
+/// For each ask that was answered, but by excuses, the servient made an act, and the response says what that came to.
+pub fn servient_answers_once()
+    ensures { ServientAnswersOnce }
+{}
+
+/// For each ask that ended with a value of what it observes the servient made an act.
+pub fn servient_observes_once()
+    ensures { ServientObservesOnce }
+{}
+
+/// Of the values that are taken for one ask none is of an earlier emission of the servient than one before it.
+pub fn servient_values_never_go_back()
+    ensures { ServientValuesNeverGoBack }
+{}
+
+/// Each value that is taken was read by the act for its ask, or emitted for the target of that act.
+pub fn servient_values_have_a_source()
+    ensures { ServientValuesHaveASource }
+{}

@@ -1,6 +1,6 @@
 -- What a move of the machine emits and notifies of is moves of the world.
-use Rattle.std.proofs.Common.{◌≡◌, ◌∙◌, ◌+◌, ℕ, Bool, true, false, List, [], ◌∷◌, ◌++◌, map, refl, sym, ap, subst, arith, append_assoc}
-use Rattle.std.specs.Prelude.{Option, Some, None, unwrap_or}
+use Rattle.std.proofs.Common.{◌≡◌, ◌∙◌, ◌+◌, ℕ, true, List, [], ◌∷◌, ◌++◌, map, refl, sym, ap, subst, arith, append_assoc}
+use Rattle.std.specs.Prelude.{Some, None}
 use Rattle.std.proofs.lemmas.List.{append-nil}
 use Rattle.servient_base.specs.Moves.{Until, is_done, goes_on}
 use Rattle.coap_msg.specs.Grammar.{spelling}
@@ -9,15 +9,15 @@ use Rattle.coap_observe.specs.Accounts.{one_if}
 use Rattle.coap_bind.specs.declared.server.Server.{Server}
 use Rattle.coap_bind.specs.Server.{SendsNext, with_emitted}
 use Rattle.coap_bind.specs.Writing.{notification}
-use Rattle.thing_core.specs.State.{State as ThingState, Emission as ThingEmission, Latest, last_of}
+use Rattle.thing_core.specs.State.{State as ThingState, Emission as ThingEmission}
 use Rattle.servient_core.specs.Trace.{Sighting}
-use Rattle.servient_core.specs.Machine.{Site, State, notice_bytes, SendsNotification, NothingIsDue, EndsEvent}
-use Rattle.servient_world.specs.World.{WorldState, WorldMove, emit, notify, Datagram, with_new_value, with_notice, notice_sent, ServerNotifies, Plays, PlaysAll}
+use Rattle.servient_core.specs.Machine.{Site, State, SendsNotification, NothingIsDue, EndsEvent}
+use Rattle.servient_world.specs.World.{WorldState, WorldMove, emit, notify, Datagram, with_new_value, with_notice, notice_sent, PlaysAll}
 use Rattle.servient_ends.specs.Ends.{along, notices_in, as_emission, fresh_among, notice_of, with_emissions, with_notices}
 use Rattle.servient_ends.proofs.LastValues.{has_target, SayTheLast}
 use Rattle.servient_ends.proofs.TargetLaws.{IsTarget}
 use Rattle.servient_ends.proofs.KnownWatchers.{WatchesTargets, watches_emitted, watches_sent, notice_target}
-use Rattle.servient_ends.proofs.StepParts.{with_targets, targets_in, Leaves, late_leave, idle_leave}
+use Rattle.servient_ends.proofs.StepParts.{with_targets, targets_in, late_leave, idle_leave}
 
 -- one list of moves after another
 pub plays_both : (a b : List WorldMove) (w m v : WorldState) → PlaysAll a w m → PlaysAll b m v → PlaysAll (a ++ b) w v

@@ -1,10 +1,9 @@
 -- Whoever watches, watches a target of the site.
-use Rattle.std.proofs.Common.{◌≡◌, ◌∙◌, ◌⊎◌, ◌<◌, ◌^◌, ℕ, Bool, true, false, cond, List, [], ◌∷◌, ◌++◌, map, inl, inr, refl, sym, ap, subst, arith}
-use Rattle.std.specs.Prelude.{Option, Some, None, All, Contains}
+use Rattle.std.proofs.Common.{◌≡◌, ◌∙◌, ◌⊎◌, ◌<◌, ◌^◌, ℕ, Bool, true, false, cond, List, [], ◌∷◌, ◌++◌, inl, inr, refl, sym, ap, subst, arith}
+use Rattle.std.specs.Prelude.{Option, Some, None, All}
 use Rattle.std.proofs.lemmas.List.Elements.{All-nil, All-push, All-contains}
 use Rattle.coap_msg.specs.declared.endpoint.Endpoint.{Endpoint}
 use Rattle.coap_observe.specs.declared.notice.Notice.{Notice}
-use Rattle.coap_observe.specs.Watching.{Watching}
 use Rattle.coap_observe.specs.Accounts.{Registration, Account, no_account, with_notice as account_noticed, with_value, Did as AccountDid, nothing as nothing_done, emitted as was_emitted, sent as was_sent, IsToRegistered, token_of}
 use Rattle.coap_observe.proofs.AccountLaws.{notices_go_to_the_registered}
 use Rattle.coap_bind.specs.declared.server.Server.{Server}

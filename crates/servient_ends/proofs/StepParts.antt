@@ -1,17 +1,16 @@
 -- What each move of the machine does to the parts of it that the world speaks of: the moment, the CoAP server and the Things.
-use Rattle.std.proofs.Common.{◌≡◌, ◌∙◌, ◌<◌, ◌≤◌, ◌^◌, ℕ, Bool, true, false, List, [], ◌∷◌, ◌++◌, map, length, inl, inr, refl, sym, ap, subst, arith}
+use Rattle.std.proofs.Common.{◌≡◌, ◌∙◌, ◌<◌, ◌≤◌, ◌^◌, ℕ, Bool, List, [], ◌∷◌, ◌++◌, map, length, inl, inr, refl, sym, ap, subst}
 use Rattle.std.specs.Prelude.{Option, Some, None}
 use Rattle.std.proofs.lemmas.Option.{same_Some}
 use Rattle.std.proofs.lemmas.List.{map-append}
-use Rattle.servient_base.specs.Moves.{Becomes, Stays, Each, Until, is_done, goes_on}
+use Rattle.servient_base.specs.Moves.{Becomes, Each, Until, is_done, goes_on}
 use Rattle.coap_msg.specs.declared.endpoint.Endpoint.{Endpoint}
 use Rattle.thing_ops.specs.declared.outcome.Outcome.{Outcome}
 use Rattle.thing_ops.specs.Requests.{PlainRequest}
 use Rattle.coap_opts.specs.Reading.{PlainAsk}
-use Rattle.coap_bind.specs.declared.head.OpenAsk.{OpenAsk}
 use Rattle.coap_bind.specs.declared.server.Server.{Server}
 use Rattle.coap_bind.specs.Server.{Heard, ignored, answered_at_once, asked, Hears, Answers, with_emitted}
-use Rattle.coap_bind.specs.Treating.{Acted, Treats, ignores, answers, acts}
+use Rattle.coap_bind.specs.Treating.{Acted, ignores, answers, acts}
 use Rattle.http_bind.specs.Streams.{Streams, Taken, asks, wants_continue, is_faulty, interrupts, oldest_for, oldest_late, IsDry, NoneIdle}
 use Rattle.thing_site.specs.Site.{Placed, events_of}
 use Rattle.thing_core.specs.State.{State as ThingState, Emission, last_of}
@@ -19,14 +18,14 @@ use Rattle.thing_core.specs.Thing.{Done}
 use Rattle.servient_outside.specs.declared.net.What.{What}
 use Rattle.servient_outside.specs.declared.net.What.TheVariants as what
 use Rattle.servient_core.specs.Keeping.{IsSendable}
-use Rattle.servient_core.specs.Trace.{Sighting, at_handler}
+use Rattle.servient_core.specs.Trace.{Sighting}
 use Rattle.servient_core.specs.Machine.{Site, State, Move, SendsIfAny, RepliesToWait, AnswersWait, AnswersLateWait, AnswersLateWaits, Delivers, DeliversEach, observed_target, PerformsByHttp, AnswersDatagram, HearsDatagram, AnswersTaken, TakesNextMessage, ClosesIdle, ClosesAllIdle, PollsAndDelivers, Follows}
 use Rattle.servient_core.proofs.OutcomeLaws.{acts_sendable}
 use Rattle.servient_core.proofs.PathLaws.{asked_short}
 use Rattle.servient_world.specs.World.{Receives, too_long, treated}
 use Rattle.servient_ends.specs.Ends.{along, act_on, sent_on, emitted_on, act_of, back_of, emitted_by_datagram, emitted_by_message, emitted_by_next, emitted_by_polls, emitted_by}
 use Rattle.servient_ends.proofs.ThingLaws.{IsCounted, few_ids, Emitted, emitted_then, acts_emit, polls_emit}
-use Rattle.servient_ends.proofs.TargetLaws.{IsTarget, observed_there}
+use Rattle.servient_ends.proofs.TargetLaws.{observed_there}
 use Rattle.servient_ends.proofs.KnownWatchers.{ActsOnTarget}
 
 -- ---- moves that leave these parts

@@ -2,7 +2,7 @@
 use Rattle.std.proofs.Common.{◌≡◌, ◌≤◌, ◌<◌, ◌+◌, ◌^◌, ℕ, List, [], ◌∷◌, ◌++◌, map, refl, sym, ap, subst, ◌∙◌, arith, inl, inr, append_assoc}
 use Rattle.std.specs.Prelude.{Result, Ok, Err, Option, Some, None}
 use Rattle.std.proofs.lemmas.List.{append-nil}
-use Rattle.servient_base.specs.Moves.{Then, Becomes, Stays}
+use Rattle.servient_base.specs.Moves.{Then, Becomes}
 use Rattle.wot_json.specs.Tree.{Json}
 use Rattle.thing_ops.specs.declared.outcome.Outcome.{Outcome}
 use Rattle.thing_ops.specs.Requests.{PlainRequest}
@@ -128,7 +128,7 @@ writes_more (i ∷ is) before done s seen t q =
     none_before before done s q.2.1.mid t (call_emits i.affordance.slot (call.Write q.0) q.2.0 s q.2.1.first q.2.1.mid q.2.1.one)
     (if_done q.2.0 (Then (Emits (emissions_of_write i)) (WritesEach is (before ++ emissions_of_write i) done)) (Stops (failure_of q.2.0) before done) q.2.1.mid q.2.1.second t (EmitsMore before done q.2.1.mid t)
     (λ x. more_after (emissions_of_write i) before done q.2.1.mid x.mid t (emits_these (emissions_of_write i) q.2.1.mid x.first x.mid x.one)
-        (writes_more is (before ++ emissions_of_write i) done x.mid x.second t x.other))
+    (writes_more is (before ++ emissions_of_write i) done x.mid x.second t x.other))
     (λ x. stops_more (failure_of q.2.0) before done q.2.1.mid q.2.1.second t x) q.2.1.other)
 
 writes_emit : (is : List Input) (done : Done) (s : State) (seen : List HandlerCall) (t : State) → WritesEach is [] done s seen t → Emitted done.emissions s t

@@ -1,5 +1,5 @@
 -- Each turn is moves of the world.
-use Rattle.std.proofs.Common.{◌≡◌, ◌∙◌, ◌+◌, ◌<◌, ◌≤◌, ℕ, max, Bool, true, false, cond, List, [], ◌∷◌, ◌++◌, map, length, refl, sym, ap, subst, arith}
+use Rattle.std.proofs.Common.{◌≡◌, ◌∙◌, ◌+◌, ◌≤◌, ℕ, max, true, cond, List, [], ◌∷◌, ◌++◌, map, length, refl, sym, ap, subst, arith}
 use Rattle.std.specs.Prelude.{Option, Some, None, slice_get, ◌==◌}
 use Rattle.coap_msg.specs.declared.endpoint.Endpoint.{Endpoint}
 use Rattle.coap_client.specs.Asking.{Asking}
@@ -7,13 +7,12 @@ use Rattle.coap_observe.specs.declared.notice.Notice.{Notice}
 use Rattle.coap_bind.specs.declared.server.Server.{Server}
 use Rattle.coap_bind.specs.Treating.{Acted}
 use Rattle.thing_site.specs.Site.{emitters_of}
-use Rattle.thing_core.specs.State.{State as ThingState, Emission as ThingEmission, Latest, silent, last_after}
+use Rattle.thing_core.specs.State.{State as ThingState, Emission as ThingEmission, Latest}
 use Rattle.servient_outside.specs.declared.net.What.{What}
 use Rattle.servient_outside.specs.declared.net.What.TheVariants as what
-use Rattle.servient_core.specs.declared.capacity.TheConstants.{MOST_WATCHERS}
 use Rattle.servient_core.specs.Trace.{Sighting}
 use Rattle.servient_core.specs.Machine.{Site, State, start, EndsEvent}
-use Rattle.servient_world.specs.World.{WorldState, WorldMove, ask, due, deliver, pass, elsewhere, emit, notify, Datagram, Emission, server_place, other, purpose_back, acts_for, id_used, with_sent, Receives, ServerTakes, Comes, to_client, to_server, ComesIfSent, from_elsewhere, comes_elsewhere, ClientAsks, sends_ask, refuses_ask, skips_ask, ClientDoesDue, retransmits, gives_up, waits, ClientTakes, Plays, PlaysAll}
+use Rattle.servient_world.specs.World.{WorldState, WorldMove, ask, due, deliver, pass, elsewhere, emit, Datagram, Emission, server_place, purpose_back, acts_for, id_used, with_sent, Receives, ServerTakes, Comes, to_client, to_server, ComesIfSent, from_elsewhere, comes_elsewhere, ClientAsks, sends_ask, refuses_ask, skips_ask, ClientDoesDue, retransmits, gives_up, waits, ClientTakes, Plays, PlaysAll}
 use Rattle.servient_ends.specs.Ends.{EndsState, IsBeginning, act_of, back_of, emitted_by_datagram, emitted_by, notices_in, as_emission, with_emissions, with_notices, ServientHears, ServientDoes, Turn, asks_next, does_due, delivers, passes, happens, AtClient, Stays, Arrives, ArrivesIfSent, FromElsewhere, comes_from_elsewhere, is_of_an_end, Besides, Takes, TakesAll}
 use Rattle.servient_ends.specs.Ends.{too_late as comes_too_late, to_client as comes_to_client, to_servient as comes_to_servient}
 use Rattle.servient_ends.proofs.ThingLaws.{IsCounted, Emitted}
@@ -120,10 +119,10 @@ hears_turn site d size move p q as_move h it =
     let receives : Receives d.from d.bytes now act back p.world.server heard.after
     = subst (λ (x : Server). Receives d.from d.bytes now act back x heard.after) coap1 (subst (λ (n : ℕ). Receives d.from d.bytes n act back s1.coap heard.after) at heard.receives) in
     let w1 : WorldState = with_sent (record p.world {
-        server = heard.after;
-        acts = p.world.acts ++ acts_for d.purpose act;
-        ids = p.world.ids + id_used p.world.server heard.after;
-      }) server_place d.from (purpose_back d.purpose) back in
+      server = heard.after;
+      acts = p.world.acts ++ acts_for d.purpose act;
+      ids = p.world.ids + id_used p.world.server heard.after;
+    }) server_place d.from (purpose_back d.purpose) back in
     let watches : WatchesTargets site heard.after = watches_received site d.from d.bytes s1.moment act back s1.coap heard.after heard.receives heard.target h1.watches in
     let h2 : HoldsOf site w1.emitted s1 = h1 in
     let e = ended site es w1 s1 mid q.servient step.second heard.after refl heard.coap (heard.moment ∙ at) heard.thing h2 watches step.other in
@@ -131,10 +130,10 @@ hears_turn site d size move p q as_move h it =
     = used_same p.servient.coap mid.coap p.world.server heard.after (ap (λ (x : Server). x.next_id) (sym h.server)) (ap (λ (x : Server). x.next_id) heard.coap ∙ targets_next (targets_in es) heard.after) in
     let next : q.world ≡ with_notices q.servient.thing (notices_in mid step.second q.servient step.other) (with_emissions es (record w1 { server = q.servient.coap }))
     = it.next ∙ ap (λ (n : ℕ). with_notices q.servient.thing (notices_in mid step.second q.servient step.other) (with_emissions es (with_sent (record p.world {
-        server = q.servient.coap;
-        acts = p.world.acts ++ acts_for d.purpose act;
-        ids = p.world.ids + n;
-      }) server_place d.from (purpose_back d.purpose) back))) ids in
+      server = q.servient.coap;
+      acts = p.world.acts ++ acts_for d.purpose act;
+      ids = p.world.ids + n;
+    }) server_place d.from (purpose_back d.purpose) back))) ids in
     record {
       moves = move ∷ e.moves;
       plays = (w1, as_move w1 (record { act = act; back = back; after = heard.after; receives = receives; next = refl }), subst (PlaysAll e.moves w1) (sym next) e.plays);

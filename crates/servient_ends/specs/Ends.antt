@@ -3,7 +3,7 @@
 --
 -- `World` of servient_world says what the client does, what was sent for what, and which datagrams may come; `EventAndStep` of
 -- servient_core says what the servient does. Nothing here says how a server treats a datagram.
-use Rattle.std.specs.Prelude.{◌≡◌, ◌+◌, ℕ, true, false, List, [], ◌∷◌, ◌++◌, length, map, Option, Some, None, unwrap_or, slice_get}
+use Rattle.std.specs.Prelude.{◌≡◌, ◌+◌, ℕ, true, false, List, [], ◌∷◌, ◌++◌, length, map, Option, Some, None, slice_get}
 use mathlib.Core.Logic.{inl, inr}
 use Rattle.servient_base.specs.Moves.{Until, is_done, goes_on, Each}
 use Rattle.coap_msg.specs.declared.endpoint.Endpoint.{Endpoint}

@@ -6,3 +6,6 @@ pub mod StepParts
 pub mod EndOfEvent
 pub mod TurnLaws
 pub mod EndsLaws
+pub mod SeenLaws
+pub mod RunLaws
+pub mod ExampleLaws

@@ -3,10 +3,11 @@
 --
 -- `World` of servient_world says what the client does, what was sent for what, and which datagrams may come; `EventAndStep` of
 -- servient_core says what the servient does. Nothing here says how a server treats a datagram.
-use Rattle.std.specs.Prelude.{◌≡◌, ◌+◌, ℕ, true, false, List, [], ◌∷◌, ◌++◌, length, map, Option, Some, None, slice_get}
+use Rattle.std.specs.Prelude.{◌≡◌, ◌+◌, ℕ, true, false, List, [], ◌∷◌, ◌++◌, length, map, Option, Some, None, slice_get, if◌then◌else◌}
 use mathlib.Core.Logic.{inl, inr}
 use Rattle.servient_base.specs.Moves.{Until, is_done, goes_on, Each}
 use Rattle.coap_msg.specs.declared.endpoint.Endpoint.{Endpoint}
+use Rattle.coap_msg.specs.Endpoints.{is_same_endpoint}
 use Rattle.coap_client.specs.Asking.{Asking}
 use Rattle.coap_observe.specs.declared.notice.Notice.{Notice}
 use Rattle.coap_observe.specs.Accounts.{one_if}
@@ -18,8 +19,11 @@ use Rattle.thing_core.specs.State.{State as ThingState, Emission as ThingEmissio
 use Rattle.servient_outside.specs.declared.net.What.{What}
 use Rattle.servient_outside.specs.declared.net.What.TheVariants as what
 use Rattle.servient_outside.specs.declared.net.EventWithBytes.{EventWithBytes}
+use Rattle.servient_outside.specs.declared.net.Act.{Act}
+use Rattle.servient_outside.specs.declared.net.Act.TheVariants as act
+use Rattle.servient_outside.specs.Network.{Happening, heard, did, broke}
 use Rattle.servient_core.specs.declared.capacity.TheConstants.{MOST_WATCHERS}
-use Rattle.servient_core.specs.Trace.{Sighting}
+use Rattle.servient_core.specs.Trace.{Sighting, at_network, at_handler}
 use Rattle.servient_core.specs.Machine.{Site, State, start, Move, observed_target, notice_bytes, AnswersDatagram, HearsDatagram, AnswersTaken, TakesNextMessage, PollsAndDelivers, SendsNotification, NothingIsDue, EndsEvent, Follows, EventAndStep}
 use Rattle.servient_world.specs.World.{WorldState, Datagram, Purpose, Emission, client_place, server_place, is_end, other, purpose_of, purpose_back, acts_for, id_used, with_sent, may_come, IsStart, ClientAsks, ClientDoesDue, ClientTakes}
 
@@ -205,3 +209,25 @@ Takes site (happens w bytes) p q = Besides site w bytes p q
 abbrev pub TakesAll : Site → List Turn → EndsState → EndsState → Type 0
 TakesAll site [] p q = q ≡ p
 TakesAll site (m ∷ ms) p q = (mid : EndsState) × Takes site m p mid × TakesAll site ms mid q
+
+-- ---- what is sent
+
+-- the datagrams among what is seen, in order, with their receivers
+abbrev pub datagrams_of : Act → List (Endpoint × List ℕ)
+datagrams_of (act.Datagram to bytes) = (to, bytes) ∷ []
+datagrams_of a = []
+
+abbrev pub datagrams_at : Happening → List (Endpoint × List ℕ)
+datagrams_at (did a) = datagrams_of a
+datagrams_at (heard e) = []
+datagrams_at (broke call) = []
+
+abbrev pub datagrams_in : List Sighting → List (Endpoint × List ℕ)
+datagrams_in [] = []
+datagrams_in (at_network h ∷ seen) = datagrams_at h ++ datagrams_in seen
+datagrams_in (at_handler call ∷ seen) = datagrams_in seen
+
+-- those that the servient sent, among all that was sent
+abbrev pub sent_by_servient : List Datagram → List (Endpoint × List ℕ)
+sent_by_servient [] = []
+sent_by_servient (d ∷ ds) = if is_same_endpoint d.from server_place then (d.to, d.bytes) ∷ sent_by_servient ds else sent_by_servient ds

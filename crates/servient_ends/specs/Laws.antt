@@ -1,15 +1,24 @@
 -- What holds of both ends where the server is the whole servient, over every list of turns.
 use Rattle.std.specs.Prelude.{◌≡◌, ◌≤◌, ◌⊎◌, ℕ, List, length, Contains}
-use Rattle.servient_core.specs.Machine.{Site}
+use Rattle.servient_outside.specs.declared.net.EventWithBytes.{EventWithBytes}
+use Rattle.servient_core.specs.Trace.{Sighting}
+use Rattle.servient_core.specs.Machine.{Site, start, Run}
 use Rattle.servient_world.specs.World.{WorldMove, Act, answered, observed, PlaysAll}
 use Rattle.servient_world.specs.Laws.{AreForDifferentAsks, IsExcuse, IsAnsweredBy, NeverGoBack, HaveASource}
-use Rattle.servient_ends.specs.Ends.{EndsState, IsBeginning, Turn, TakesAll}
+use Rattle.servient_ends.specs.Ends.{EndsState, IsBeginning, Turn, TakesAll, datagrams_in, sent_by_servient}
 
 -- Whatever comes of turns is what comes of some moves of the world, in which the server is a CoAP server alone.
 abbrev pub TurnsAreMoves : Type 0
 TurnsAreMoves =
     (site : Site) (first_id exchanges : ℕ) (turns : List Turn) (p q : EndsState) → IsBeginning site first_id exchanges p → TakesAll site turns p q
     → (moves : List WorldMove) × PlaysAll moves p.world q.world
+
+-- What the servient does meanwhile is a run of its machine, and what it sent in the world is what is seen of that run.
+abbrev pub ServientRuns : Type 0
+ServientRuns =
+    (site : Site) (first_id exchanges : ℕ) (turns : List Turn) (p q : EndsState) → IsBeginning site first_id exchanges p → TakesAll site turns p q
+    → (events : List EventWithBytes) × (seen : List Sighting) × Run site events (start site exchanges) seen q.servient
+    × (sent_by_servient q.world.sent ≡ datagrams_in seen)
 
 -- For each ask the servient makes at most one act.
 abbrev pub ServientActsOnce : Type 0

@@ -1,11 +1,17 @@
 //! Laws of both ends where the server is the whole servient, as contracts of functions that do nothing.
 
+ghost use Rattle.servient_ends.specs.Examples.{SomeServientActs};
 ghost use Rattle.servient_ends.specs.Laws.{TurnsAreMoves, ServientActsOnce, ServientAnswersOnce, ServientObservesOnce};
-ghost use Rattle.servient_ends.specs.Laws.{ServientValuesNeverGoBack, ServientValuesHaveASource};
+ghost use Rattle.servient_ends.specs.Laws.{ServientValuesNeverGoBack, ServientValuesHaveASource, ServientRuns};
 
 /// What comes of events at the servient and at the client is what comes of some moves of the world of both ends.
 pub fn turns_are_moves()
     ensures { TurnsAreMoves }
+{}
+
+/// What the servient does meanwhile is a run of its machine, and what it sent in the world is what is seen of that run.
+pub fn servient_runs()
+    ensures { ServientRuns }
 {}
 
 /// For each ask the servient makes at most one act, whatever is lost, repeated or reordered.
@@ -31,4 +37,9 @@ pub fn servient_values_never_go_back()
 /// Each value that is taken was read by the act for its ask, or emitted for the target of that act.
 pub fn servient_values_have_a_source()
     ensures { ServientValuesHaveASource }
+{}
+
+/// Something happens: there is a run in which the servient makes an act.
+pub fn some_servient_acts()
+    ensures { SomeServientActs }
 {}

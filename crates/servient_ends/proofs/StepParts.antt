@@ -221,7 +221,7 @@ other_happened site what.Stop bytes s t seen plain f = happened_left s t (leaves
 -- ---- a datagram
 
 -- What a datagram did: the server received it, with this act and this sent back, and then what was emitted was delivered.
-pub record Comes_in (site : Site) (from : Endpoint) (bytes : List ℕ) (act : Option Acted) (back : List (List ℕ)) (es : List Emission) (s t : State) : Type 0 where
+pub record IsHeard (site : Site) (from : Endpoint) (bytes : List ℕ) (act : Option Acted) (back : List (List ℕ)) (es : List Emission) (s t : State) : Type 0 where
   pub after : Server
   pub receives : Receives from bytes s.moment act back s.coap after
   pub coap : t.coap ≡ with_targets (targets_in es) after
@@ -241,7 +241,7 @@ one_target site ask o thing = λ a n is target.
 
 on_heard : (site : Site) (from : Endpoint) (bytes : List ℕ) (h : Heard) (s : State) (c : Server) (m t : State) (seen : List Sighting) → length bytes ≤ 1280
     → Hears from bytes s.moment h s.coap c → m ≡ record s { coap = c } → IsCounted s.thing → (r : AnswersDatagram site from h m seen t)
-    → Comes_in site from bytes (act_on site from h m seen t r) (sent_on site from h m seen t r) (emitted_on site from h m seen t r) s t
+    → IsHeard site from bytes (act_on site from h m seen t r) (sent_on site from h m seen t r) (emitted_on site from h m seen t r) s t
 on_heard site from bytes ignored s c m t seen short hears is counted r = record {
   after = c;
   receives = treated short (ignores hears refl refl);
@@ -291,7 +291,7 @@ on_heard site from bytes (asked ask request) s c m t seen short hears is counted
 
 -- A datagram is received by the CoAP server as the world says, and then what it emits is delivered.
 pub datagram_heard : (site : Site) (from : Endpoint) (bytes : List ℕ) (s t : State) (seen : List Sighting) → IsCounted s.thing → (r : HearsDatagram site from bytes s seen t)
-    → Comes_in site from bytes (act_of site from bytes s seen t r) (back_of site from bytes s seen t r) (emitted_by_datagram site from bytes s seen t r) s t
+    → IsHeard site from bytes (act_of site from bytes s seen t r) (back_of site from bytes s seen t r) (emitted_by_datagram site from bytes s seen t r) s t
 datagram_heard site from bytes s t seen counted (inl long) = record {
   after = s.coap;
   receives = too_long long.0 refl refl refl;

@@ -17,6 +17,7 @@ use Rattle.thing_ops.specs.declared.verb.Verb.TheVariants as verb
 use Rattle.thing_ops.specs.Verbs.{verbs_in}
 use Rattle.thing_site.specs.Refusals.{Refusal, nothing_there, verb_not_taken, answer_not_acceptable, format_not_taken, body_not_as_wanted, value_too_large, refused_by_schema, no_invocation_left, IsFirst}
 use Rattle.thing_core.proofs.CompleteLaws.{none_is_first}
+use Rattle.thing_core.proofs.DeterminedLaws.{same_verbs}
 use Rattle.wot_directory.specs.Contents.{Contents, Entries, most_entries}
 use Rattle.wot_directory.specs.Directory.{id_of, IsFirstFault, HasRoom, with_entry, HasPutFault, Puts, IsLeastUnused, AreAllUsed, IsNextNumber, local_id, number_after, HasCreateFault, Creates, IsPatched, HasPatchFault, Patches, HasRemoveFault}
 use Rattle.wot_directory.specs.declared.fault.DirFault.{DirFault}
@@ -235,30 +236,6 @@ performed_once act.Patches q o p d t u on_o on_p (v, read, a) (w, read', b) =
 performed_once act.Removes q o p d t u on_o on_p a b = removes_once (id_in q.path) o p d t u a b
 
 -- ---- refusals
-
--- whether a verb is the one at this place of their order
-abbrev is_at : ℕ → Verb → Bool
-is_at n verb.Get = n == 0
-is_at n verb.Head = n == 1
-is_at n verb.Put = n == 2
-is_at n verb.Post = n == 3
-is_at n verb.Patch = n == 4
-is_at n verb.Delete = n == 5
-is_at n verb.Other = n == 6
-
-abbrev is_listed : ℕ → List Verb → Bool
-is_listed n [] = false
-is_listed n (v ∷ vs) = is_at n v || is_listed n vs
-
--- what is taken where these are listed
-abbrev allow_back : List Verb → Allow
-allow_back vs = record { get = is_listed 0 vs; head = is_listed 1 vs; put = is_listed 2 vs; post = is_listed 3 vs; patch = is_listed 4 vs; delete = is_listed 5 vs }
-
-allow_is_back : (a : Allow) → allow_back (verbs_in a) ≡ a
-allow_is_back a = grind arith
-
-same_verbs : (a b : Allow) → verbs_in a ≡ verbs_in b → a ≡ b
-same_verbs a b e = sym (allow_is_back a) ∙ ap allow_back e ∙ allow_is_back b
 
 one_answer : (r : Refusal) (q : PlainRequest) (o p : Outcome) → IsAnsweredWith r q o → IsAnsweredWith r q p → o ≡ p
 one_answer nothing_there q o p a b = a ∙ sym b

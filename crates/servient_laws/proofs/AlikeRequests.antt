@@ -14,7 +14,7 @@ use Rattle.thing_site.specs.Site.{Placed}
 use Rattle.thing_core.specs.State.{State as ThingState, Emission, last_after}
 use Rattle.thing_core.specs.Thing.{Done, Acts, Called, no_number, no_memory, gives, Calls, IsTaken, Decides, emission, IsPolled, PollsEvent}
 use Rattle.thing_core.specs.Determined.{AreAnsweredBy, HadMemory as WasAmple}
-use Rattle.thing_core.proofs.DeterminedLaws.{determined}
+use Rattle.thing_core.proofs.DeterminedLaws.{determined, answered_first, answered_rest, one_decision}
 use Rattle.wot_directory.specs.Contents.{Contents}
 use Rattle.directory_requests.specs.Asked.{is_of_directory}
 use Rattle.directory_requests.specs.Requests.{DirectoryActs}
@@ -103,12 +103,6 @@ called_once answers slot what (gives a) (gives b) s m n calls more p q on_p on_q
     }
 called_once answers slot what no_memory d s m n calls more p q on_p on_q had has = absurd (subst (λ (l : List HandlerCall). NoneMissed l) p.1.saw had).0
 called_once answers slot what c no_memory s m n calls more p q on_p on_q had has = absurd (subst (λ (l : List HandlerCall). NoneMissed l) q.1.saw has).0
-
-one_decision : {A : Type 0} (P : Type 0) (x y a b : A) → Decides P x y a → Decides P x y b → a ≡ b
-one_decision P x y a b (inl p) (inl q) = p.1 ∙ sym q.1
-one_decision P x y a b (inl p) (inr q) = absurd (q.0 p.0)
-one_decision P x y a b (inr p) (inl q) = absurd (p.0 q.0)
-one_decision P x y a b (inr p) (inr q) = p.1 ∙ sym q.1
 
 polled_once : (p : Placed) (c : Called) (e f : List Emission) → IsPolled p e c → IsPolled p f c → e ≡ f
 polled_once p (gives (answer.Fired tree)) e f a b = one_decision (IsTaken p.affordance.output (json_of tree)) (emission p (json_of tree) ∷ []) [] e f a b

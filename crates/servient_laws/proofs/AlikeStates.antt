@@ -7,6 +7,7 @@ use Rattle.thing_handler.specs.declared.handler.Answer.{Answer}
 use Rattle.thing_handler.specs.Turns.{HandlerCall, answered, missed}
 use Rattle.thing_core.specs.State.{State as ThingState}
 use Rattle.thing_core.specs.Determined.{AreAnsweredBy}
+use Rattle.thing_core.proofs.DeterminedLaws.{answered_first, answered_rest}
 use Rattle.wot_directory.specs.Contents.{Contents}
 use Rattle.coap_exchange.specs.Table.{Exchange, Table}
 use Rattle.coap_bind.specs.declared.server.Server.{Server}
@@ -68,16 +69,6 @@ pub directory_changed : (s t : State) (d f : Contents) → Alike s t → d ≡ f
 directory_changed s t d f e same = record { moment = e.moment; http = e.http; coap = e.coap; thing = e.thing; directory = same }
 
 -- ---- parts of a trace
-
-pub answered_first : (answers : ℕ → Answer) (first rest : List HandlerCall) → AreAnsweredBy answers (first ++ rest) → AreAnsweredBy answers first
-answered_first answers [] rest h = tt
-answered_first answers (answered turn ∷ first) rest h = (h.0, answered_first answers first rest h.1)
-answered_first answers (missed slot ∷ first) rest h = answered_first answers first rest h
-
-pub answered_rest : (answers : ℕ → Answer) (first rest : List HandlerCall) → AreAnsweredBy answers (first ++ rest) → AreAnsweredBy answers rest
-answered_rest answers [] rest h = h
-answered_rest answers (answered turn ∷ first) rest h = answered_rest answers first rest h.1
-answered_rest answers (missed slot ∷ first) rest h = answered_rest answers first rest h
 
 had_first : (a b : List Sighting) → AllByRecursion HadMemory (a ++ b) → AllByRecursion HadMemory a
 had_first [] b h = tt

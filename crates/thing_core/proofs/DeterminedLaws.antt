@@ -56,12 +56,12 @@ same_tree a b e = sym (is_back a) ∙ ap tree_back e ∙ is_back b
 
 -- ---- answers of a part
 
-answered_first : (answers : ℕ → Answer) (first rest : List HandlerCall) → AreAnsweredBy answers (first ++ rest) → AreAnsweredBy answers first
+pub answered_first : (answers : ℕ → Answer) (first rest : List HandlerCall) → AreAnsweredBy answers (first ++ rest) → AreAnsweredBy answers first
 answered_first answers [] rest h = tt
 answered_first answers (answered turn ∷ first) rest h = (h.0, answered_first answers first rest h.1)
 answered_first answers (missed slot ∷ first) rest h = answered_first answers first rest h
 
-answered_rest : (answers : ℕ → Answer) (first rest : List HandlerCall) → AreAnsweredBy answers (first ++ rest) → AreAnsweredBy answers rest
+pub answered_rest : (answers : ℕ → Answer) (first rest : List HandlerCall) → AreAnsweredBy answers (first ++ rest) → AreAnsweredBy answers rest
 answered_rest answers [] rest h = h
 answered_rest answers (answered turn ∷ first) rest h = answered_rest answers first rest h.1
 answered_rest answers (missed slot ∷ first) rest h = answered_rest answers first rest h
@@ -144,7 +144,7 @@ determined_call {A} answers Well slot what K s told further =
 
 -- ---- properties
 
-one_decision : {A : Type 0} (P : Type 0) (x y a b : A) → Decides P x y a → Decides P x y b → a ≡ b
+pub one_decision : {A : Type 0} (P : Type 0) (x y a b : A) → Decides P x y a → Decides P x y b → a ≡ b
 one_decision P x y a b (inl p) (inl q) = p.1 ∙ sym q.1
 one_decision P x y a b (inl p) (inr q) = absurd (q.0 p.0)
 one_decision P x y a b (inr p) (inl q) = absurd (p.0 q.0)
@@ -325,7 +325,7 @@ allow_back vs = record { get = is_listed 0 vs; head = is_listed 1 vs; put = is_l
 allow_is_back : (a : Allow) → allow_back (verbs_in a) ≡ a
 allow_is_back a = grind arith
 
-same_verbs : (a b : Allow) → verbs_in a ≡ verbs_in b → a ≡ b
+pub same_verbs : (a b : Allow) → verbs_in a ≡ verbs_in b → a ≡ b
 same_verbs a b e = sym (allow_is_back a) ∙ ap allow_back e ∙ allow_is_back b
 
 one_list : (a b : Allow) (f : Place → List Verb) (place : Option Place) → Holding (λ (x : Place). verbs_in a ≡ f x) place → Holding (λ (x : Place). verbs_in b ≡ f x) place → a ≡ b

@@ -36,9 +36,13 @@ misses_then a b slot (x ∷ old) (y ∷ mid) [] p q = absurd q
 misses_then a b slot (x ∷ old) (y ∷ mid) (z ∷ new) p q =
     (omega (arith, p.0, q.0, times-append slot a b), misses_then a b (suc slot) old mid new p.1 q.1)
 
+missing_then : (count : ℕ) (a b : List ℕ) → AllByRecursion (λ slot. slot < count) a → AllByRecursion (λ slot. slot < count) b → AllByRecursion (λ slot. slot < count) (a ++ b)
+missing_then count [] b p q = q
+missing_then count (slot ∷ a) b p q = (p.0, missing_then count a b p.1 q)
+
 -- where nothing was called
 pub rack_shows_none : (slots : List Seen) → RackShows slots slots []
-rack_shows_none slots = record { slots = tt; turns = grew_by_none 0 slots; misses = misses_none 0 slots }
+rack_shows_none slots = record { slots = tt; missing = tt; turns = grew_by_none 0 slots; misses = misses_none 0 slots }
 
 -- at one time and then at another
 pub rack_shows_then : (old mid new : List Seen) (a b : List HandlerCall) → RackShows old mid a → RackShows mid new b → RackShows old new (a ++ b)
@@ -46,6 +50,9 @@ rack_shows_then old mid new a b p q = record {
   slots = subst (λ (turns : List RunTurn). AllByRecursion (λ (t : RunTurn). t.slot < length old) turns) (sym (filter_map-append turn_in a b))
       (stand_then (length old) (turns_in a) (turns_in b) p.slots
       (subst (λ (n : ℕ). AllByRecursion (λ (t : RunTurn). t.slot < n) (turns_in b)) (as_many (turns_in a) 0 old mid p.turns) q.slots));
+  missing = subst (λ (slots : List ℕ). AllByRecursion (λ slot. slot < length old) slots) (sym (filter_map-append miss_in a b))
+      (missing_then (length old) (misses_in a) (misses_in b) p.missing
+      (subst (λ (n : ℕ). AllByRecursion (λ slot. slot < n) (misses_in b)) (as_many (turns_in a) 0 old mid p.turns) q.missing));
   turns = subst (λ (turns : List RunTurn). GrewBy turns 0 old new) (sym (filter_map-append turn_in a b))
       (grew_by_then (turns_in a) (turns_in b) 0 old mid new p.turns q.turns);
   misses = subst (λ (slots : List ℕ). CountMisses slots 0 old new) (sym (filter_map-append miss_in a b))
@@ -88,6 +95,7 @@ rack_shows_answer before after slot number what answer c =
     let turn : RunTurn = record { number = number; slot = slot; what = what; answer = answer } in
     record {
       slots = (slice_get_within before slot c.before c.was, tt);
+      missing = tt;
       turns = subst (λ (slots : List Seen). GrewBy (turn ∷ []) 0 before slots) (sym c.others)
           (grew_by_set (turn ∷ []) slot 0 slot before c.before c.after (omega arith) c.was c.call.0 (c.call.1 ∙ ap (λ (ts : List Turn). c.before.turns ++ ts) (sym (of_slot turn))) (of_other turn));
       misses = subst (λ (slots : List Seen). CountMisses [] 0 before slots) (sym c.others)
@@ -98,6 +106,7 @@ rack_shows_answer before after slot number what answer c =
 pub rack_shows_miss : (before after : List Seen) (slot number : ℕ) (what : CallKind) (e : AllocError) → CallsHandler before after slot number what (Err e) → RackShows before after (missed slot ∷ [])
 rack_shows_miss before after slot number what e c = record {
   slots = tt;
+  missing = (slice_get_within before slot c.before c.was, tt);
   turns = subst (λ (slots : List Seen). GrewBy [] 0 before slots) (sym c.others)
       (grew_by_set [] slot 0 slot before c.before c.after (omega arith) c.was c.call.0 (c.call.1 ∙ sym (append-nil c.before.turns)) (λ other differs. refl));
   misses = subst (λ (slots : List Seen). CountMisses (slot ∷ []) 0 before slots) (sym c.others)

@@ -72,9 +72,10 @@ CountMisses misses slot (old ∷ before) (new ∷ after) =
 CountMisses misses slot [] (new ∷ after) = ⊥
 CountMisses misses slot (old ∷ before) [] = ⊥
 
--- What the handlers of a rack show from one time to another: these calls and no others. Each turn is one of a handler
--- of the rack, each handler kept its own turns in their order, and each counted the calls that were out of memory.
+-- What the handlers of a rack show from one time to another: these calls and no others. Each call is one of a handler of
+-- the rack, each handler kept its own turns in their order, and each counted the calls that were out of memory.
 pub record RackShows (before after : List Seen) (calls : List HandlerCall) : Type 0 where
   pub slots : AllByRecursion (λ t. t.slot < length before) (turns_in calls)
+  pub missing : AllByRecursion (λ slot. slot < length before) (misses_in calls)
   pub turns : GrewBy (turns_in calls) 0 before after
   pub misses : CountMisses (misses_in calls) 0 before after

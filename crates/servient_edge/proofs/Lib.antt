@@ -1,2 +1,3 @@
 pub mod BytesInTurns
 pub mod SendingLaws
+pub mod NamingLaws

@@ -123,7 +123,8 @@ impl Connection {
 
     /// Ends what is sent, once all that is kept has gone. After an error the connection is of no more use.
     pub fn close(&mut self, moment: u64) -> io::Result<()>
-        ensures { IsSome self.new.closed }
+        ensures closed { IsSome self.new.closed }
+        ensures kept { self.new.kept ≡ self.old.kept }
     {
         if self.closed.is_some() {
             return Ok(());

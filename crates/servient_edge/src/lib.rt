@@ -28,6 +28,7 @@ mod numbers;
 mod out_real;
 mod sending;
 mod sockets;
+mod starting;
 mod timing;
 mod turns;
 

@@ -1,12 +1,12 @@
 //! The network over the sockets of the machine, in one thread. What happened isn't recorded, nor is it known what is
 //! still to come: it counts what fails.
 
-ghost use Rattle.std.specs.Prelude.{◌≡◌, ◌≤◌, ◌<◌, ◌^◌, Ok, IfOk, IfSome, length};
+ghost use Rattle.std.specs.Prelude.{◌≡◌, ◌≤◌, IfOk, IfSome, length};
 ghost use Rattle.servient_base.specs.Count.{Rose};
 ghost use Rattle.servient_outside.specs.Network.{MayCome};
 ghost use Rattle.servient_edge.specs.Moments.{Reads};
+ghost use Rattle.servient_edge.specs.Naming.{Names, MaySettle, numbers_of, what_of};
 
-use crate::addresses::{endpoint_of, resolve};
 use crate::finishing::write_kept;
 use crate::moments::Moments;
 use crate::sockets::Sockets;
@@ -29,25 +29,17 @@ const PAUSES: u32 = 1000;
 /// The network over sockets.
 #[derive(Drop)]
 pub struct MioNet<R: net::Net + Clock + Drop> {
-    rt: R,
-    moments: Moments,
-    sockets: Option<Sockets>,
+    pub(crate) rt: R,
+    pub(crate) moments: Moments,
+    pub(crate) sockets: Option<Sockets>,
     // Since it listens, has dialled or has looked something up.
-    timing: Option<Timing>,
+    pub(crate) timing: Option<Timing>,
     faults: u64,
 }
 
 /// There are no sockets yet, or the clock failed.
 fn not_ready() -> io::Error {
     io::Error::from(ErrorKind::NotConnected)
-}
-
-/// The sockets, made where there are none.
-fn made<R: net::Net>(rt: &R, alloc: Global, sockets: Option<Sockets>) -> io::Result<Sockets> {
-    match sockets {
-        Some(sockets) => Ok(sockets),
-        None => Sockets::new(rt, alloc),
-    }
 }
 
 impl<R: net::Net + Clock + Drop> MioNet<R> {
@@ -78,10 +70,11 @@ impl<R: net::Net + Clock + Drop> MioNet<R> {
     }
 
     /// Reads the clock, and gives what it read.
-    fn read_clock(&mut self) -> io::Result<Instant>
+    pub(crate) fn read_clock(&mut self) -> io::Result<Instant>
         ensures moment { Reads self.old.moments result self.new.moments }
         ensures rises { self.old.moments.last ≤ self.new.moments.last }
         ensures faults { self.new.faults ≡ self.old.faults }
+        ensures numbers { numbers_of self.new.sockets ≡ numbers_of self.old.sockets }
     {
         self.moments.read(&self.rt)
     }
@@ -89,65 +82,23 @@ impl<R: net::Net + Clock + Drop> MioNet<R> {
     fn count_fault(&mut self)
         ensures faults { Rose self.old.faults self.new.faults }
         ensures moments { self.new.moments ≡ self.old.moments }
+        ensures numbers { numbers_of self.new.sockets ≡ numbers_of self.old.sockets }
     {
         self.faults = self.faults.saturating_add(1);
     }
 
-    /// Binds the sockets of a place, and starts the times of tick and traffic.
-    fn start_listening(&mut self, alloc: Global, place: &Place) -> io::Result<()>
-        ensures { self.new.faults ≡ self.old.faults }
-    {
-        self.read_clock()?;
-        if self.is_listening() {
-            return Err(io::Error::from(ErrorKind::AlreadyExists));
-        }
-        let http = resolve(&self.rt, place.http_host.as_str(), place.http_port)?;
-        let coap = resolve(&self.rt, place.coap_host.as_str(), place.coap_port)?;
-        let mut sockets = made(&self.rt, alloc, self.sockets.take())?;
-        let bound = sockets.listen(&self.rt, http, coap);
-        self.sockets = Some(sockets);
-        bound?;
-        self.start_times(place.idle);
-        Ok(())
-    }
-
-    fn is_listening(&self) -> bool {
-        match &self.sockets {
-            Some(sockets) => sockets.is_listening(),
-            None => false,
-        }
-    }
-
-    /// Starts the time without traffic, which is 0 without listening, and that of ticks, where it hasn't begun.
-    fn start_times(&mut self, idle: u64)
-        ensures { self.new.faults ≡ self.old.faults }
-    {
-        let moment = self.moments.last();
-        match &mut self.timing {
-            Some(timing) => {
-                timing.idle = idle;
-                timing.traffic = moment;
-            }
-            None => {
-                self.timing = Some(Timing {
-                    idle,
-                    traffic: moment,
-                    since: Some(moment),
-                });
-            }
-        }
-    }
-
-    /// Reads the clock, before the next event is looked for.
-    fn begin(&mut self) -> io::Result<()>
-        ensures moments { self.old.moments.last ≤ self.new.moments.last }
+    /// Reads the clock, before the next event is looked for, and gives what it read.
+    fn begin(&mut self) -> io::Result<Instant>
+        ensures moment { Reads self.old.moments result self.new.moments }
+        ensures rises { self.old.moments.last ≤ self.new.moments.last }
+        ensures numbers { numbers_of self.new.sockets ≡ numbers_of self.old.sockets }
         ensures faults { self.new.faults ≡ self.old.faults }
     {
-        self.read_clock()?;
+        let now = self.read_clock()?;
         if let Some(timing) = &mut self.timing {
             timing.begin(self.moments.last());
         }
-        Ok(())
+        Ok(now)
     }
 
     /// What is due now.
@@ -159,28 +110,50 @@ impl<R: net::Net + Clock + Drop> MioNet<R> {
     }
 
     /// What the turns give, if anything. It is traffic. What fails for one peer is counted.
+    #[tactic(auto, using(crate::proofs::NamingLaws::names_still))]
     fn take(&mut self, buffer: &mut [u8]) -> Option<What>
         requires { length buffer.old ≡ 4096 }
         ensures what { IfSome result MayCome }
+        ensures names { Names (numbers_of self.old.sockets) result (numbers_of self.new.sockets) }
         ensures moments { self.new.moments ≡ self.old.moments }
         ensures faults { self.old.faults ≤ self.new.faults }
     {
-        let (Some(sockets), Some(timing)) = (&mut self.sockets, &mut self.timing) else {
-            return None;
-        };
-        let moment = self.moments.last();
-        match sockets.take(buffer, moment, &mut self.faults) {
-            Some(what) => {
-                timing.traffic = moment;
-                Some(what)
-            }
+        let taken = self.take_turns(buffer);
+        if taken.is_some() {
+            self.note_traffic();
+        }
+        taken
+    }
+
+    #[tactic(auto, using(crate::proofs::NamingLaws::comes_named, crate::proofs::NamingLaws::settles_same))]
+    fn take_turns(&mut self, buffer: &mut [u8]) -> Option<What>
+        requires { length buffer.old ≡ 4096 }
+        ensures what { IfSome result MayCome }
+        ensures names { Names (numbers_of self.old.sockets) result (numbers_of self.new.sockets) }
+        ensures moments { self.new.moments ≡ self.old.moments }
+        ensures faults { self.old.faults ≤ self.new.faults }
+    {
+        match &mut self.sockets {
+            Some(sockets) => sockets.take(buffer, self.moments.last(), &mut self.faults),
             None => None,
+        }
+    }
+
+    /// The time without traffic begins anew.
+    fn note_traffic(&mut self)
+        ensures moments { self.new.moments ≡ self.old.moments }
+        ensures numbers { numbers_of self.new.sockets ≡ numbers_of self.old.sockets }
+        ensures faults { self.new.faults ≡ self.old.faults }
+    {
+        if let Some(timing) = &mut self.timing {
+            timing.traffic = self.moments.last();
         }
     }
 
     /// Asks without waiting what the system has, unless it was asked at this moment.
     fn look(&mut self) -> io::Result<()>
         ensures moments { self.new.moments ≡ self.old.moments }
+        ensures numbers { numbers_of self.new.sockets ≡ numbers_of self.old.sockets }
         ensures faults { self.new.faults ≡ self.old.faults }
     {
         match &mut self.sockets {
@@ -189,23 +162,42 @@ impl<R: net::Net + Clock + Drop> MioNet<R> {
         }
     }
 
-    /// Waits until the system has something, or something is due.
-    fn ask(&mut self) -> io::Result<()>
-        ensures moments { self.old.moments.last ≤ self.new.moments.last }
+    /// Waits until the system has something, or something is due. Then it reads the clock, and gives what it read.
+    fn ask(&mut self) -> io::Result<Instant>
+        ensures moment { Reads self.old.moments result self.new.moments }
+        ensures rises { self.old.moments.last ≤ self.new.moments.last }
+        ensures numbers { numbers_of self.new.sockets ≡ numbers_of self.old.sockets }
         ensures faults { self.new.faults ≡ self.old.faults }
     {
-        let (Some(sockets), Some(timing)) = (&mut self.sockets, &self.timing) else {
-            return Err(not_ready());
-        };
-        let moment = self.moments.last();
-        sockets.ask(moment, timing.left(moment))?;
-        self.read_clock()?;
-        Ok(())
+        let time = self.time_left()?;
+        self.ask_for(time)?;
+        self.read_clock()
+    }
+
+    /// How long it is until something is due, in milliseconds.
+    fn time_left(&self) -> io::Result<u64> {
+        match &self.timing {
+            Some(timing) => Ok(timing.left(self.moments.last())),
+            None => Err(not_ready()),
+        }
+    }
+
+    /// Waits until the system has something, and for this many milliseconds at most.
+    fn ask_for(&mut self, time: u64) -> io::Result<()>
+        ensures moments { self.new.moments ≡ self.old.moments }
+        ensures numbers { numbers_of self.new.sockets ≡ numbers_of self.old.sockets }
+        ensures faults { self.new.faults ≡ self.old.faults }
+    {
+        match &mut self.sockets {
+            Some(sockets) => sockets.ask(self.moments.last(), time),
+            None => Err(not_ready()),
+        }
     }
 
     /// Lets a millisecond pass.
     fn pause(&mut self) -> io::Result<()>
         ensures moments { self.new.moments ≡ self.old.moments }
+        ensures numbers { numbers_of self.new.sockets ≡ numbers_of self.old.sockets }
         ensures faults { self.new.faults ≡ self.old.faults }
     {
         match &mut self.sockets {
@@ -214,30 +206,33 @@ impl<R: net::Net + Clock + Drop> MioNet<R> {
         }
     }
 
-    /// A tick at this moment. The second until the next one begins when the next event is asked for.
-    fn tick(&mut self) -> What
-        ensures what { MayCome result }
+    /// What is done for a tick at this moment. The second until the next one begins when the next event is asked for.
+    #[tactic(auto, using(crate::proofs::NamingLaws::settles_same))]
+    fn tick(&mut self)
         ensures moments { self.new.moments ≡ self.old.moments }
+        ensures numbers { MaySettle (numbers_of self.old.sockets) (numbers_of self.new.sockets) }
         ensures faults { self.new.faults ≡ self.old.faults }
     {
         if let (Some(sockets), Some(timing)) = (&mut self.sockets, &mut self.timing) {
             timing.since = None;
             sockets.tick(self.moments.last());
         }
-        What::Tick
     }
 
     /// What comes next. A tick comes by the clock, after all that waits had its turn, but for one that is due after an
     /// event: so what is done on ticks or on events may take any time, and each has its share.
+    #[tactic(auto, using(crate::proofs::NamingLaws::names_later, crate::proofs::NamingLaws::settles_same))]
     fn come(&mut self, buffer: &mut [u8]) -> io::Result<What>
         requires { length buffer.old ≡ 4096 }
         ensures what { IfOk result MayCome }
+        ensures names { Names (numbers_of self.old.sockets) (what_of result) (numbers_of self.new.sockets) }
         ensures moments { self.old.moments.last ≤ self.new.moments.last }
         ensures faults { self.old.faults ≤ self.new.faults }
     {
         self.begin()?;
         if self.due()? == Due::Tick {
-            return Ok(self.tick());
+            self.tick();
+            return Ok(What::Tick);
         }
         self.look()?;
         if let Some(what) = self.take(buffer) {
@@ -247,9 +242,11 @@ impl<R: net::Net + Clock + Drop> MioNet<R> {
     }
 
     /// What comes next, once the system has something or the time is over.
+    #[tactic(auto, using(crate::proofs::NamingLaws::names_later, crate::proofs::NamingLaws::settles_same, crate::proofs::NamingLaws::settles_twice))]
     fn wait(&mut self, buffer: &mut [u8]) -> io::Result<What>
         requires { length buffer.old ≡ 4096 }
         ensures what { IfOk result MayCome }
+        ensures names { Names (numbers_of self.old.sockets) (what_of result) (numbers_of self.new.sockets) }
         ensures moments { self.old.moments.last ≤ self.new.moments.last }
         ensures faults { self.old.faults ≤ self.new.faults }
     {
@@ -267,54 +264,19 @@ impl<R: net::Net + Clock + Drop> MioNet<R> {
                 Due::Stop => return Ok(What::Stop),
             }
         }
-        Ok(self.tick())
-    }
-
-    /// The number of a new connection to a host.
-    fn connect(&mut self, alloc: Global, host: &str, port: u16) -> io::Result<u32>
-        ensures number { IfOk result (λ c. c < 64) }
-        ensures faults { self.new.faults ≡ self.old.faults }
-    {
-        self.read_clock()?;
-        let address = resolve(&self.rt, host, port)?;
-        let mut sockets = made(&self.rt, alloc, self.sockets.take())?;
-        let dialled = sockets.dial(&self.rt, address);
-        self.sockets = Some(sockets);
-        let c = dialled?;
-        self.start_ticks();
-        Ok(c)
-    }
-
-    /// The endpoint of a host, once a socket for datagrams is bound.
-    fn look_up(&mut self, alloc: Global, host: &str, port: u16) -> io::Result<Endpoint>
-        ensures { self.new.faults ≡ self.old.faults }
-    {
-        self.read_clock()?;
-        let address = resolve(&self.rt, host, port)?;
-        let mut sockets = made(&self.rt, alloc, self.sockets.take())?;
-        let bound = sockets.bind_any(&self.rt);
-        self.sockets = Some(sockets);
-        bound?;
-        self.start_ticks();
-        Ok(endpoint_of(address))
-    }
-
-    /// Starts the times where they haven't begun; without listening there is none without traffic.
-    fn start_ticks(&mut self)
-        ensures { self.new.faults ≡ self.old.faults }
-    {
-        if self.timing.is_none() {
-            self.start_times(0);
-        }
+        self.tick();
+        Ok(What::Tick)
     }
 }
 
 impl<R: net::Net + Clock + Drop> Net for MioNet<R> {
-    ghost use Rattle.std.specs.Prelude.{◌≡◌, ◌≢◌, [], ◌∷◌, ◌++◌, length};
+    ghost use Rattle.std.specs.Prelude.{◌≡◌, ◌≢◌, ◌<◌, [], ◌∷◌, ◌++◌, length};
     ghost use Rattle.servient_outside.specs.declared.net.Act.TheVariants as act;
     ghost use Rattle.servient_outside.specs.Network.{NetShows, did, came, IsAnswer, IsConnection};
     ghost use Rattle.servient_outside.specs.Network.{listens_as, dials_as, finds_as};
     ghost use Rattle.servient_edge.specs.Moments.{IsAtMoment};
+    ghost use Rattle.servient_edge.specs.Numbers.{SendsOn, IsSilent};
+    ghost use Rattle.servient_edge.specs.Naming.{ChangesOne, what_in};
     ghost use Rattle.servient_outside.specs.Network.{counted_only};
 
     ghost seen = { λ n. counted_only n.faults };
@@ -337,12 +299,14 @@ impl<R: net::Net + Clock + Drop> Net for MioNet<R> {
 
     /// Failed before it listens, dials or looks something up, and where the system doesn't say what is ready or what
     /// time it is.
+    #[tactic(auto, using(crate::proofs::NamingLaws::names_still))]
     fn next(&mut self, buffer: &mut [u8]) -> Next
         requires { length buffer.old ≡ 4096 }
         ensures answer { IsAnswer result }
         ensures shows { NetShows (counted_only self.old.faults) (counted_only self.new.faults) (came result buffer.new ∷ []) }
         ensures moment { IsAtMoment result self.new.moments.last }
         ensures rises { self.old.moments.last ≤ self.new.moments.last }
+        ensures names { Names (numbers_of self.old.sockets) (what_in result) (numbers_of self.new.sockets) }
     {
         match self.come(buffer) {
             Ok(what) => Next::Got(Event {
@@ -358,27 +322,30 @@ impl<R: net::Net + Clock + Drop> Net for MioNet<R> {
 
     /// It does nothing where there are no sockets yet.
     fn send(&mut self, c: u32, head: &[u8], body: &[u8])
-        ensures { NetShows (counted_only self.old.faults) (counted_only self.new.faults) (did (act.Sent c (head.now ++ body.now)) ∷ []) }
+        ensures shows { NetShows (counted_only self.old.faults) (counted_only self.new.faults) (did (act.Sent c (head.now ++ body.now)) ∷ []) }
+        ensures number { c < 64 → ChangesOne SendsOn c (numbers_of self.old.sockets) (numbers_of self.new.sockets) }
     {
-        if let (Some(sockets), Some(_)) = (&mut self.sockets, &self.timing) {
+        if let Some(sockets) = &mut self.sockets {
             sockets.send(c, head, body);
         }
     }
 
-    /// It does nothing where there are no sockets yet.
+    /// It does nothing where there are no sockets yet. Nothing comes of a connection that is closed.
     fn close(&mut self, c: u32)
-        ensures { NetShows (counted_only self.old.faults) (counted_only self.new.faults) (did (act.Closed c) ∷ []) }
+        ensures shows { NetShows (counted_only self.old.faults) (counted_only self.new.faults) (did (act.Closed c) ∷ []) }
+        ensures number { c < 64 → ChangesOne (λ before after. IsSilent after) c (numbers_of self.old.sockets) (numbers_of self.new.sockets) }
     {
-        if let (Some(sockets), Some(_)) = (&mut self.sockets, &self.timing) {
+        if let Some(sockets) = &mut self.sockets {
             sockets.close(c, self.moments.last());
         }
     }
 
     /// It does nothing where there are no sockets yet.
     fn datagram(&mut self, to: Endpoint, bytes: &[u8])
-        ensures { NetShows (counted_only self.old.faults) (counted_only self.new.faults) (did (act.Datagram to bytes.now) ∷ []) }
+        ensures shows { NetShows (counted_only self.old.faults) (counted_only self.new.faults) (did (act.Datagram to bytes.now) ∷ []) }
+        ensures numbers { numbers_of self.new.sockets ≡ numbers_of self.old.sockets }
     {
-        if let (Some(sockets), Some(_)) = (&self.sockets, &self.timing) {
+        if let Some(sockets) = &self.sockets {
             sockets.datagram(to, bytes);
         }
     }

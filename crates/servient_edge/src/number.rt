@@ -15,7 +15,7 @@ pub enum Number {
 }
 
 impl Number {
-    ghost use Rattle.servient_edge.specs.Numbers.{TakesFrom, SendsOn, IsSilent, standing};
+    ghost use Rattle.servient_edge.specs.Numbers.{TakesFrom, SendsOn, IsSilent, Settled, standing};
 
     /// A turn of what has a number, which is free afterwards where it has ended.
     pub fn turn(&mut self, buffer: &mut [u8], moment: u64) -> Took
@@ -77,6 +77,17 @@ impl Number {
                     true
                 }
             },
+        }
+    }
+
+    /// What was closed and is over has no number any more.
+    pub fn end_if_over(&mut self, moment: u64)
+        ensures { Settled (standing self.old) (standing self.new) }
+    {
+        if let Number::Used(connection) = self {
+            if connection.is_over(moment) {
+                *self = Number::Free;
+            }
         }
     }
 }

@@ -15,7 +15,7 @@ pub struct Numbers {
 }
 
 impl Numbers {
-    ghost use Rattle.servient_edge.specs.Numbers.{ChangesAt, TakesFrom, SendsOn, IsSilent, standing_at};
+    ghost use Rattle.servient_edge.specs.Numbers.{ChangesAt, TakesFrom, SendsOn, IsSilent, Settled, Settles, standing_at};
     ghost use Rattle.servient_edge.specs.Numbers.{vacant, connected};
 
     /// All are free.
@@ -75,24 +75,26 @@ impl Numbers {
     }
 
     /// Ends the connections that were closed and are over.
-    pub fn end_those_over(&mut self, moment: u64) {
-        end_those_over(self.list.as_mut_slice(), moment);
+    #[tactic(auto, using(crate::proofs::NamingLaws::settles_one))]
+    pub fn end_those_over(&mut self, moment: u64)
+        ensures { Settles self.old self.new }
+    {
+        for c in 0..CONNECTIONS as u32 {
+            self.end_if_over(c, moment);
+        }
+    }
+
+    /// Ends the connection of a number where it was closed and is over.
+    fn end_if_over(&mut self, c: u32, moment: u64)
+        requires { c < 64 }
+        ensures { ChangesAt Settled c self.old self.new }
+    {
+        self.list[c as usize].end_if_over(moment)
     }
 
     /// Writes once what is kept for each. Whether something is still kept.
     pub fn flush(&mut self, moment: u64) -> bool {
         flush(self.list.as_mut_slice(), moment)
-    }
-}
-
-/// The connections that were closed and are over have no number any more.
-fn end_those_over(numbers: &mut [Number], moment: u64) {
-    for number in numbers {
-        if let Number::Used(connection) = number {
-            if connection.is_over(moment) {
-                *number = Number::Free;
-            }
-        }
     }
 }
 

@@ -3,7 +3,7 @@
 
 ghost use Rattle.std.specs.Prelude.{◌≡◌, ◌≤◌, ◌<◌, IfOk, IfSome, length};
 ghost use Rattle.servient_outside.specs.Network.{MayCome};
-ghost use Rattle.servient_edge.specs.Numbers.{Gives, Comes};
+ghost use Rattle.servient_edge.specs.Numbers.{Gives, Comes, ChangesAt, SendsOn, IsSilent, Settles};
 
 use crate::accepting::{Accepted, accept, set_up};
 use crate::addresses::{address_of, endpoint_of};
@@ -254,7 +254,9 @@ impl Sockets {
     }
 
     /// Sends on a connection, if it is open. One that can't send any more is given up, and has a turn to say so.
-    pub fn send(&mut self, c: u32, head: &[u8], body: &[u8]) {
+    pub fn send(&mut self, c: u32, head: &[u8], body: &[u8])
+        ensures { c < 64 → ChangesAt SendsOn c self.old.numbers self.new.numbers }
+    {
         if c < CONNECTIONS as u32 && self.numbers.send(c, head, body) {
             self.turns.add(c as usize);
         }
@@ -262,7 +264,9 @@ impl Sockets {
 
     /// Closes a connection. It has a turn then, since what its peer sent may wait; where its number is free, the
     /// listener has one.
-    pub fn close(&mut self, c: u32, moment: u64) {
+    pub fn close(&mut self, c: u32, moment: u64)
+        ensures { c < 64 → ChangesAt (λ before after. IsSilent after) c self.old.numbers self.new.numbers }
+    {
         if c < CONNECTIONS as u32 {
             let place = if self.numbers.close(c, moment) {
                 LISTENER
@@ -281,26 +285,23 @@ impl Sockets {
     }
 
     /// Asks the system what is ready. Where none waits for a turn, it waits for at most `time` milliseconds.
-    pub fn ask(&mut self, moment: u64, time: u64) -> io::Result<()> {
+    pub fn ask(&mut self, moment: u64, time: u64) -> io::Result<()>
+        ensures { self.new.numbers ≡ self.old.numbers }
+    {
         self.turns_left = TURNS;
         self.asked = moment;
         let time = if self.is_waiting() { 0 } else { time };
         self.poll
             .poll(&mut self.events, Some(Duration::from_millis(time)))?;
-        for event in self.events.iter() {
-            let Token(token) = event.token();
-            if token == DATAGRAMS {
-                self.datagrams_wait = true;
-            } else {
-                self.turns.add(token);
-            }
-        }
+        note(&self.events, &mut self.turns, &mut self.datagrams_wait);
         Ok(())
     }
 
     /// Asks the system without waiting, where a millisecond or more has passed since it was asked: a datagram isn't to
     /// wait until all connections had their turns.
-    pub fn look(&mut self, moment: u64) -> io::Result<()> {
+    pub fn look(&mut self, moment: u64) -> io::Result<()>
+        ensures { self.new.numbers ≡ self.old.numbers }
+    {
         if self.asked < moment {
             self.ask(moment, 0)
         } else {
@@ -309,7 +310,9 @@ impl Sockets {
     }
 
     /// Lets a millisecond pass, whatever is ready.
-    pub fn pause(&mut self) -> io::Result<()> {
+    pub fn pause(&mut self) -> io::Result<()>
+        ensures { self.new.numbers ≡ self.old.numbers }
+    {
         self.timer
             .poll(&mut self.events, Some(Duration::from_millis(1)))
     }
@@ -321,9 +324,23 @@ impl Sockets {
 
     /// Ends the connections that were closed and are over, and asks again for what failed before, since the system
     /// reports it once.
-    pub fn tick(&mut self, moment: u64) {
+    pub fn tick(&mut self, moment: u64)
+        ensures { Settles self.old.numbers self.new.numbers }
+    {
         self.numbers.end_those_over(moment);
         self.turns.add(LISTENER);
         self.datagrams_wait = true;
+    }
+}
+
+/// What is reported as ready waits for a turn.
+fn note(events: &Events, turns: &mut Turns, datagrams_wait: &mut bool) {
+    for event in events.iter() {
+        let Token(token) = event.token();
+        if token == DATAGRAMS {
+            *datagrams_wait = true;
+        } else {
+            turns.add(token);
+        }
     }
 }

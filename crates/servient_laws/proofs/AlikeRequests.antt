@@ -22,7 +22,7 @@ use Rattle.servient_core.specs.Trace.{Sighting, at_handler, calls_in}
 use Rattle.servient_core.specs.Machine.{Site, State, OnThing, Performs, PerformsOnDirectory, PerformsByHttp, PollsAndDelivers, DeliversEach}
 use Rattle.servient_core.proofs.PartLaws.{the_calls}
 use Rattle.servient_laws.specs.Determined.{HadMemory, Fits}
-use Rattle.servient_laws.proofs.AlikeStates.{Alike, Agree, AgreeAs, thing_changed, directory_changed, becomes_agree, passing_same, answered_first}
+use Rattle.servient_laws.proofs.AlikeStates.{Alike, Agree, AgreeAs, thing_changed, directory_changed, becomes_agree, passing_same}
 use Rattle.servient_laws.proofs.AlikeMoves.{deliveries_agree}
 use Rattle.servient_laws.proofs.AlikeDirectories.{directory_determined}
 

@@ -8,3 +8,4 @@ pub mod FaultLaws
 pub mod OneFault
 pub mod OptionParts
 pub mod SameEndpoints
+pub mod BlockValues

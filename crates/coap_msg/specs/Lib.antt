@@ -14,3 +14,4 @@ pub mod Empty
 pub mod Written
 pub mod Kept
 pub mod Parts
+pub mod Blocks

@@ -9,3 +9,7 @@ number_of (b ∷ bytes) = 256 ^ length bytes * b + number_of bytes
 -- a number below 65,536 in as few bytes as say it, in network byte order; 0 in none
 abbrev pub number_bytes : ℕ → List ℕ
 number_bytes n = if nat_lt n 1 then [] else if nat_lt n 256 then n ∷ [] else (n / 256) ∷ (n % 256) ∷ []
+
+-- a number below 2^24 in as few bytes as say it, in network byte order; 0 in none
+abbrev pub short_number_bytes : ℕ → List ℕ
+short_number_bytes n = if nat_lt n 65536 then number_bytes n else (n / 65536) ∷ (n / 256 % 256) ∷ (n % 256) ∷ []

@@ -18,7 +18,7 @@ pub const LONGEST_MESSAGE: usize = 1152;
 /// whole (RFC 8200, section 5).
 pub const LONGEST_DATAGRAM: usize = 1280;
 
-// ---- the numbers of options (RFC 7252, section 12.2; RFC 7641, section 2)
+// ---- the numbers of options (RFC 7252, section 12.2; RFC 7641, section 2; RFC 7959, section 2.1)
 
 /// The host that a request is for.
 pub const URI_HOST: u16 = 3;
@@ -43,6 +43,12 @@ pub const URI_QUERY: u16 = 15;
 
 /// The content format that a response is to have.
 pub const ACCEPT: u16 = 17;
+
+/// A block of the response, given or asked for (RFC 7959, section 2.1).
+pub const BLOCK2: u16 = 23;
+
+/// A block of the request (RFC 7959, section 2.1).
+pub const BLOCK1: u16 = 27;
 
 /// The URI that a proxy is asked for.
 pub const PROXY_URI: u16 = 35;

@@ -4,6 +4,7 @@ ghost use Rattle.std.specs.Prelude.{◌≡◌, ℕ, List};
 ghost use Rattle.coap_msg.specs.declared.message.MsgFault.{MsgFault};
 ghost use Rattle.coap_msg.specs.Grammar.{CoapMessage, IsWellFormed, Spells};
 ghost use Rattle.coap_msg.specs.Faults.{HasMsgFault};
+ghost use Rattle.coap_msg.specs.Blocks.{BlocksAreReadAgain, ReadBlocksAreBlocks};
 
 /// A message within the bounds has exactly one spelling.
 pub fn one_spelling()
@@ -24,4 +25,14 @@ pub fn no_fault()
 /// Bytes have at most one fault.
 pub fn one_fault()
     ensures { (f g : MsgFault) (b : List ℕ) → HasMsgFault f b → HasMsgFault g b → f ≡ g }
+{}
+
+/// A block whose value is written and read again is the same (RFC 7959, section 2.2).
+pub fn blocks_are_read_again()
+    ensures { BlocksAreReadAgain }
+{}
+
+/// What is read is a block that may be written.
+pub fn read_blocks_are_blocks()
+    ensures { ReadBlocksAreBlocks }
 {}

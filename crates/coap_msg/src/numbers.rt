@@ -1,8 +1,9 @@
 //! Numbers as the values of options (RFC 7252, section 3.2).
 
-ghost use Rattle.std.specs.Prelude.{◌≡◌, ◌≤◌, [], ◌∷◌, length, OnOk};
-ghost use Rattle.coap_msg.specs.Numbers.{number_of, number_bytes};
+ghost use Rattle.std.specs.Prelude.{◌≡◌, ◌≤◌, ◌<◌, ◌^◌, [], ◌∷◌, length, OnOk};
+ghost use Rattle.coap_msg.specs.Numbers.{number_of, number_bytes, short_number_bytes};
 ghost use Rattle.coap_msg.specs.Opts.{last_number, PutsOptions};
+ghost use Rattle.coap_msg.specs.Written.{IsWritten};
 
 use crate::{NoRoom, Opts};
 
@@ -35,5 +36,28 @@ pub fn put_number(options: &mut Opts<'_>, number: u16, value: u16) -> Result<(),
         options.push(number, &[low])
     } else {
         options.push(number, &[high, low])
+    }
+}
+
+/// Writes a number below 2^24 to the beginning of `out`, in as few bytes as say it, and returns how many they are.
+pub fn write_number(number: u32, out: &mut [u8; 3]) -> usize
+    requires { number < 2 ^ 24 }
+    ensures { IsWritten (short_number_bytes number) result out.old out.new }
+{
+    let high = (number / 65536) as u8;
+    let middle = (number / 256 % 256) as u8;
+    let low = (number % 256) as u8;
+    if number == 0 {
+        0
+    } else if number < 256 {
+        out[0] = low;
+        1
+    } else if number < 65536 {
+        out[0] = middle;
+        out[1] = low;
+        2
+    } else {
+        *out = [high, middle, low];
+        3
     }
 }

@@ -1,0 +1,78 @@
+//! The values of the options Block1 and Block2 (RFC 7959, section 2.2).
+
+ghost use Rattle.std.specs.Prelude.{◌≡◌, ◌≤◌, length};
+ghost use Rattle.coap_msg.specs.Blocks.{IsBlock, block_bytes, block_in as block_in_number, block_of};
+ghost use Rattle.coap_msg.specs.Written.{IsWritten};
+
+use crate::numbers::{number_of, write_number};
+
+/// One block of a body.
+#[derive(Clone, Copy, Debug, PartialEq, Eq)]
+pub struct Block {
+    /// Its number among the blocks of the body (NUM), counted from 0; of at most 20 bits.
+    pub number: u32,
+    /// Whether further blocks come after it (M).
+    pub more: bool,
+    /// The exponent of its size (SZX), from 0 to 6: a block has two to the power of `szx` + 4 bytes.
+    pub szx: u8,
+}
+
+impl Block {
+    ghost use Rattle.coap_msg.specs.Blocks.{block_size, block_start};
+    ghost use Rattle.std.specs.Prelude.{◌*◌, ◌^◌};
+
+    /// The size of the block, in bytes: from 16 to 1,024.
+    pub fn size(&self) -> usize
+        requires { IsBlock self.now }
+        ensures size { result ≡ block_size self.now }
+        ensures least { 16 ≤ result }
+        ensures most { result ≤ 1024 }
+    {
+        16 << self.szx
+    }
+
+    /// Where the block begins in its body, in bytes.
+    pub fn start(&self) -> usize
+        requires { IsBlock self.now }
+        ensures start { result ≡ block_start self.now }
+        ensures most { result ≤ 2 ^ 20 * 1024 }
+    {
+        self.number as usize * self.size()
+    }
+}
+
+/// The block that the value of an option says; none where it has more than three bytes, or says the size that is
+/// reserved.
+pub fn read_block(value: &[u8]) -> Option<Block>
+    ensures { result ≡ block_of value.now }
+{
+    if value.len() > 3 {
+        return None;
+    }
+    block_in(number_of(value))
+}
+
+/// The block that a number says.
+fn block_in(number: u32) -> Option<Block>
+    ensures { result ≡ block_in_number number }
+{
+    let szx = (number % 8) as u8;
+    if szx == 7 {
+        return None;
+    }
+    Some(Block {
+        number: number / 16,
+        more: number / 8 % 2 == 1,
+        szx,
+    })
+}
+
+/// Writes the value of an option for a block to the beginning of `out`, with no leading zero byte, and returns how many
+/// bytes it has.
+pub fn write_block(block: Block, out: &mut [u8; 3]) -> usize
+    requires { IsBlock block }
+    ensures { IsWritten (block_bytes block) result out.old out.new }
+{
+    let more = if block.more { 8 } else { 0 };
+    write_number(16 * block.number + more + u32::from(block.szx), out)
+}

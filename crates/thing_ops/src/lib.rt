@@ -39,7 +39,7 @@ pub use outcome::Outcome;
 pub use replies::{coap_code, http_status};
 pub use request::{Accept, Format, Request};
 pub use routing::{RouteKind, route};
-pub use segments::Segments;
+pub use segments::{Segments, piece};
 pub use servient_base::NoMemory;
 pub use verb::Verb;
 pub use words::{LONGEST_WORD, word};

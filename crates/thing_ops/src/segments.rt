@@ -109,8 +109,9 @@ impl Segments {
     }
 }
 
-/// The piece of these bytes with this number.
-fn piece<'a>(bytes: &'a [u8], ends: &[usize], index: usize) -> &'a [u8]
+/// The piece of these bytes with this number, by where each piece ends. It is for paths that are kept elsewhere in the
+/// way of this file.
+pub fn piece<'a>(bytes: &'a [u8], ends: &[usize], index: usize) -> &'a [u8]
     requires within { index < length ends.now }
     requires ends { AreEnds 0 ends.now (length bytes.now) }
     ensures { slice_get (pieces bytes.now 0 ends.now) index ≡ Some result.now }

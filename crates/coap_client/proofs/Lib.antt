@@ -4,3 +4,4 @@ pub mod RequestLaws
 pub mod StepLaws
 pub mod RegistrationLaws
 pub mod TokenLaws
+pub mod Taking

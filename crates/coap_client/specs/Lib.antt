@@ -7,3 +7,4 @@ pub mod Requests
 pub mod Times
 pub mod Tokens
 pub mod Finding
+pub mod Transfers

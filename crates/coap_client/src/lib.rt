@@ -45,6 +45,7 @@ mod news;
 mod observation;
 mod outstanding;
 mod state;
+mod transfer;
 
 pub use ask::Ask;
 pub use client::Client;
@@ -56,3 +57,4 @@ pub use laws::{
 };
 pub use news::{Delivered, News};
 pub use servient_base::NoMemory;
+pub use transfer::{Taken, Transfer};

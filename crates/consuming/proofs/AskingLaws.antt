@@ -1,5 +1,5 @@
 -- What is seen of the whole of an operation.
-use Rattle.std.proofs.Common.{◌≡◌, ◌≤◌, ◌<◌, ℕ, List, [], ◌∷◌, ◌++◌, Bool, true, false, Option, Some, None, refl, sym, ap, subst, ◌∙◌, inl, inr, arith, append-nil, append_assoc}
+use Rattle.std.proofs.Common.{◌≡◌, ℕ, List, [], ◌∷◌, ◌++◌, Bool, true, false, Option, Some, refl, sym, subst, ◌∙◌, append-nil}
 use Rattle.std.specs.Prelude.{option_map}
 use Rattle.wot_forms.specs.declared.scheme.Scheme.{Scheme}
 use Rattle.wot_forms.specs.declared.scheme.Scheme.TheVariants as scheme
@@ -13,7 +13,7 @@ use Rattle.servient_outside.specs.declared.net.Dialled.TheVariants as dialled
 use Rattle.servient_outside.specs.declared.net.Found.TheVariants as found
 use Rattle.servient_outside.specs.declared.out.Put.{Put}
 use Rattle.servient_outside.specs.declared.out.Put.TheVariants as put
-use Rattle.servient_outside.specs.Network.{Happening, did, broke, looking, dialling, dials_as, finds_as, NetSeen, NetShows}
+use Rattle.servient_outside.specs.Network.{Happening, did, dials_as, finds_as, NetSeen, NetShows}
 use Rattle.servient_outside.specs.Out.{OutSeen}
 use Rattle.servient_outside.proofs.NetLaws.{net_shows_then}
 use Rattle.consuming.specs.declared.operation.Operation.{Operation}
@@ -23,7 +23,7 @@ use Rattle.consuming.specs.declared.consumed.Outcome.TheVariants as outcome
 use Rattle.consuming.specs.declared.waiting.Waiting.{Waiting}
 use Rattle.consuming.specs.declared.waiting.Waiting.TheVariants.{Http, Coap}
 use Rattle.consuming.specs.declared.coap_waiting.CoapWaiting.{CoapWaiting}
-use Rattle.consuming.specs.Deeds.{Deed, happens, happen, Sight, sight, ShowsDeeds, Shows, ShowsHappenings, put_of}
+use Rattle.consuming.specs.Deeds.{happen, Sight, sight, Shows, ShowsHappenings, put_of}
 use Rattle.consuming.specs.HttpWaiting.{waiting_on}
 use Rattle.consuming.specs.CoapWaiting.{Sends}
 use Rattle.consuming.specs.Waiting.{Awaits, most_events}

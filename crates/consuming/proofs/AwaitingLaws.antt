@@ -1,5 +1,5 @@
 -- Awaiting what comes of a request: what holds before each event, and how it ends.
-use Rattle.std.proofs.Common.{◌≡◌, ℕ, zero, suc, ◌+◌, ◌<◌, List, [], ◌∷◌, ◌++◌, Option, Some, None, take, refl, subst, sym, ◌∙◌, ap, arith, append_assoc}
+use Rattle.std.proofs.Common.{◌≡◌, ℕ, zero, suc, ◌+◌, ◌<◌, List, [], ◌∷◌, ◌++◌, Some, None, take, refl, subst, sym, ◌∙◌, ap, arith, append_assoc}
 use Rattle.servient_outside.specs.declared.net.EventWithBytes.{EventWithBytes}
 use Rattle.servient_outside.specs.declared.net.Event.{Event}
 use Rattle.servient_outside.specs.declared.out.Put.{Put}
@@ -11,7 +11,7 @@ use Rattle.consuming.specs.declared.operation.Operation.{Operation}
 use Rattle.consuming.specs.declared.consumed.Consumed.{Consumed}
 use Rattle.consuming.specs.declared.consumed.Consumed.TheVariants.{Failed, Spent}
 use Rattle.consuming.specs.declared.waiting.Waiting.{Waiting}
-use Rattle.consuming.specs.Deeds.{Deed, happens, happen, Sight, sight, ShowsDeeds, Shows, put_of, put_in}
+use Rattle.consuming.specs.Deeds.{Deed, happens, Sight, sight, ShowsDeeds, Shows, put_of}
 use Rattle.consuming.specs.Waiting.{Hears, IsReady, Awaits, is_spent, is_broken, comes_to, goes_on}
 use Rattle.consuming.proofs.DeedLaws.{shows_none, shows_then, shows_net}
 

@@ -1,5 +1,5 @@
 -- What was chosen can be asked.
-use Rattle.std.proofs.Common.{◌≡◌, ◌≢◌, ◌<◌, ℕ, List, [], ◌∷◌, Bool, true, false, Option, Some, None, refl, sym, subst, arith, inl, inr}
+use Rattle.std.proofs.Common.{◌≡◌, ◌≢◌, ◌<◌, ℕ, List, [], ◌∷◌, Bool, true, false, Option, Some, None, sym, subst, arith, inl, inr}
 use Rattle.std.specs.Prelude.{codes, unwrap_or, if◌then◌else◌}
 use Rattle.std.specs.Str.{bytes_eq}
 use Rattle.wot_terms.specs.declared.op.Op.{Op}
@@ -10,11 +10,11 @@ use Rattle.wot_forms.specs.declared.scheme.Scheme.TheVariants as scheme
 use Rattle.thing_ops.specs.declared.verb.Verb.{Verb}
 use Rattle.thing_ops.specs.declared.verb.Verb.TheVariants as verb
 use Rattle.wot_consumer.specs.declared.chosen.Chosen.{Chosen}
-use Rattle.wot_consumer.specs.Operations.{default_verb, verb_named, verb_of}
+use Rattle.wot_consumer.specs.Operations.{default_verb, verb_of}
 use Rattle.wot_consumer.specs.Places.{AreSendable}
 use Rattle.wot_json.specs.Tree.{Json}
 use Rattle.wot_json.specs.Meaning.{json_of}
-use Rattle.wot_consumer.specs.Choice.{IsFirst, IsChosen, Qualifies, base_of, wanted}
+use Rattle.wot_consumer.specs.Choice.{IsFirst, IsChosen, base_of, wanted}
 use Rattle.coap_client.specs.Asking.{Asking, MayAsk}
 use Rattle.consuming.specs.declared.operation.Operation.{Operation}
 use Rattle.consuming.specs.Asking.{method_code, asking_for, cancelling, IsChoice}

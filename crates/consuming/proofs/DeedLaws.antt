@@ -1,5 +1,5 @@
 -- Laws of deeds, and of what the outside shows of them.
-use Rattle.std.proofs.Common.{◌≡◌, ◌≢◌, ℕ, List, [], ◌∷◌, ◌++◌, Option, Some, None, refl, sym, ap, subst, ◌∙◌, append_assoc, arith, inl, inr}
+use Rattle.std.proofs.Common.{◌≡◌, ◌≢◌, ℕ, List, [], ◌∷◌, ◌++◌, refl, sym, ap, subst, ◌∙◌, append_assoc, arith}
 use Rattle.std.specs.Prelude.{codes}
 use Rattle.std.proofs.lemmas.Grind.{flat_map-append}
 use Rattle.std.proofs.lemmas.List.{append-nil}
@@ -9,8 +9,9 @@ use Rattle.servient_outside.specs.declared.out.Put.TheVariants as put
 use Rattle.servient_outside.specs.Network.{Happening, NetSeen, NetShows}
 use Rattle.servient_outside.specs.Out.{OutSeen, OutShows}
 use Rattle.servient_outside.proofs.NetLaws.{net_shows_none, net_shows_then}
+use Rattle.servient_outside.proofs.OutLaws.{fits_none, fits_then, fits_no_longer}
 use Rattle.servient_outside.proofs.ToldLaws.{continues_same, continues_then}
-use Rattle.consuming.specs.Deeds.{Deed, happens, prints, happen, happening_in, happened_in, printed_in, text_in, printed, Sight, sight, ShowsDeeds, Shows, ShowsHappenings}
+use Rattle.consuming.specs.Deeds.{Deed, happen, happening_in, happened_in, printed_in, text_in, printed, Sight, sight, ShowsDeeds}
 
 pub happened_in-happen : (hs : List Happening) → happened_in (happen hs) ≡ hs
 happened_in-happen [] = refl
@@ -23,13 +24,14 @@ text_in-happen (h ∷ hs) = text_in-happen hs
 -- ## The output
 
 pub out_none : (o : OutSeen) → OutShows o o put.Done []
-out_none o = record { writes = continues_same o.written; faults = omega arith; failed = λ e. absurd cc }
+out_none o = record { writes = continues_same o.written; faults = omega arith; failed = λ e. absurd cc; fits = fits_none o }
 
 pub out_then : (a b c : OutSeen) (p : Put) (x y : List ℕ) → OutShows a b put.Done x → OutShows b c p y → OutShows a c p (x ++ y)
 out_then a b c put.Done x y first second = record {
   writes = continues_then a.written b.written c.written x y first.writes second.writes;
   faults = omega (arith, first.faults, second.faults);
   failed = λ e. absurd cc;
+  fits = fits_then a b c put.Done x y first.fits second.fits;
 }
 out_then a b c put.Failed x y first second = record {
   writes = (
@@ -40,6 +42,7 @@ out_then a b c put.Failed x y first second = record {
   );
   faults = omega (arith, first.faults, second.faults);
   failed = λ e. (let rose = second.failed refl in omega (arith, first.faults, rose));
+  fits = fits_then a b c put.Failed x y first.fits second.fits;
 }
 
 -- the output failed at a piece, and so at a longer one
@@ -48,6 +51,7 @@ out_failed a b x y shows = record {
   writes = (shows.writes.0, shows.writes.1 ++ y, ap (λ (z : List ℕ). z ++ y) shows.writes.2 ∙ append_assoc shows.writes.0 shows.writes.1 y, shows.writes.3);
   faults = shows.faults;
   failed = shows.failed;
+  fits = fits_no_longer a b x y shows.fits;
 }
 
 -- what is printed of a payload is one text

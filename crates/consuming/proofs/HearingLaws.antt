@@ -1,5 +1,5 @@
 -- What one event does: the parts of it put together.
-use Rattle.std.proofs.Common.{◌≡◌, ◌≢◌, ◌≤◌, ℕ, List, [], ◌∷◌, ◌++◌, take, length, Bool, true, false, Option, Some, None, refl, sym, ap, subst, ◌∙◌, arith, inl, inr}
+use Rattle.std.proofs.Common.{◌≡◌, ◌≤◌, ℕ, List, [], ◌∷◌, ◌++◌, take, length, Bool, true, false, Option, Some, None, refl, sym, ap, subst, ◌∙◌, arith, inl, inr}
 use Rattle.std.specs.Prelude.{cond, max, nat_le, slice_index_or, IfSome, IsNone, IsSome}
 use Rattle.coap_msg.specs.declared.endpoint.Endpoint.{Endpoint}
 use Rattle.coap_msg.specs.Grammar.{CoapMessage}
@@ -34,7 +34,7 @@ use Rattle.consuming.specs.declared.http_waiting.HttpWaiting.{HttpWaiting}
 use Rattle.consuming.specs.declared.coap_waiting.CoapWaiting.{CoapWaiting}
 use Rattle.consuming.specs.declared.waiting.Waiting.{Waiting}
 use Rattle.consuming.specs.declared.waiting.Waiting.TheVariants.{Http, Coap}
-use Rattle.consuming.specs.Deeds.{Deed, happen, text_in, printed, Sight, sight, ShowsDeeds, Shows, ShowsHappenings, put_of, put_in}
+use Rattle.consuming.specs.Deeds.{happen, text_in, printed, Sight, sight, ShowsDeeds, Shows, ShowsHappenings, put_of, put_in}
 use Rattle.consuming.specs.Answers.{Closes, ReceivesAs}
 use Rattle.consuming.specs.HttpWaiting.{Brings, bytes_came, at_deadline, after_event, HearsByHttp, has_come, has_not_come}
 use Rattle.consuming.specs.Asking.{cancelling}

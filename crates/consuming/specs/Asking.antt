@@ -1,5 +1,5 @@
 -- What is asked over CoAP (RFC 7252, section 5.8; RFC 7641, section 3).
-use Rattle.std.specs.Prelude.{◌≡◌, ℕ, List, [], Bool, true, false, Option, Some, None, unwrap_or, option_map}
+use Rattle.std.specs.Prelude.{ℕ, List, [], Bool, true, false, Option, Some, None, unwrap_or, option_map}
 use Rattle.coap_msg.specs.declared.constants.TheConstants.{EMPTY, GET, POST, PUT, DELETE, JSON}
 use Rattle.thing_ops.specs.declared.verb.Verb.{Verb}
 use Rattle.thing_ops.specs.declared.verb.Verb.TheVariants as verb

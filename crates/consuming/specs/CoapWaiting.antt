@@ -10,7 +10,6 @@ use Rattle.coap_client.specs.Asking.{Asking}
 use Rattle.coap_client.specs.declared.news.News.{News}
 use Rattle.coap_client.specs.declared.news.News.TheVariants as news
 use Rattle.coap_client.specs.declared.news.Delivered.{Delivered}
-use Rattle.coap_client.specs.declared.due.Due.{Due}
 use Rattle.coap_client.specs.declared.due.Due.TheVariants as due
 use Rattle.coap_client.specs.Exchange.{at_moment, Asks, IsRefused, Delivers, ComesDue}
 use Rattle.servient_outside.specs.declared.net.What.{What}

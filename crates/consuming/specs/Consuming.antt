@@ -1,7 +1,7 @@
 -- One operation on another Thing (TD 1.1, section 5.3.4.2), over HTTP or over CoAP: what is done, and how it ends. The
 -- form's host and port are dialled or looked up once. Over HTTP one request is sent. Over CoAP the client sends one, again
 -- where it has to, acknowledges what it is answered, and asks for no further values at the end of an observation.
-use Rattle.std.specs.Prelude.{◌≡◌, ℕ, List, [], ◌∷◌, ◌++◌, true, false, Option, Some, None, option_map}
+use Rattle.std.specs.Prelude.{◌≡◌, ℕ, List, [], ◌∷◌, ◌++◌, true, false, Option, option_map}
 use Rattle.wot_json.specs.Tree.{Json}
 use Rattle.wot_json.specs.Json.{text_of}
 use Rattle.wot_json.specs.Meaning.{json_of}
@@ -11,10 +11,8 @@ use Rattle.wot_consumer.specs.declared.chosen.Chosen.{Chosen}
 use Rattle.wot_consumer.specs.Judgement.{AcceptsInput}
 use Rattle.wot_consumer.specs.Messages.{request_bytes}
 use Rattle.coap_msg.specs.declared.endpoint.Endpoint.{Endpoint}
-use Rattle.coap_client.specs.declared.state.State.{State}
-use Rattle.coap_client.specs.declared.fault.ClientFault.TheVariants as client_fault
 use Rattle.coap_client.specs.Asking.{Asking}
-use Rattle.coap_client.specs.Exchange.{at_moment, IsNew, Asks, IsRefused}
+use Rattle.coap_client.specs.Exchange.{IsNew}
 use Rattle.servient_outside.specs.declared.net.Act.TheVariants as act
 use Rattle.servient_outside.specs.declared.net.Dialled.TheVariants as dialled
 use Rattle.servient_outside.specs.declared.net.Found.TheVariants as found

@@ -1,5 +1,5 @@
 -- What an operation does, in order, and what the outside shows of it.
-use Rattle.std.specs.Prelude.{◌≡◌, ◌≢◌, ℕ, List, [], ◌∷◌, ◌++◌, codes, map, Option, Some, None}
+use Rattle.std.specs.Prelude.{ℕ, List, [], ◌∷◌, ◌++◌, codes, map, Option, Some, None}
 use Rattle.std.specs.List.{filter_map, flat_map}
 use Rattle.servient_outside.specs.declared.out.Put.{Put}
 use Rattle.servient_outside.specs.declared.out.Put.TheVariants as put

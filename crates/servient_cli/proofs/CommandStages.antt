@@ -1,5 +1,5 @@
 -- The whole call: what its words lead to, and how it ends where nothing is wrong.
-use Rattle.std.proofs.Common.{true, false, ◌≡◌, ◌≤◌, ◌⊎◌, ℕ, List, [], ◌∷◌, length, Result, Ok, Err, Option, Some, None, refl, sym, ap, ◌∙◌, subst, inl, inr}
+use Rattle.std.proofs.Common.{true, false, ◌≡◌, ◌≤◌, ◌⊎◌, ℕ, List, [], ◌∷◌, length, Result, Err, Option, Some, None, refl, sym, ap, ◌∙◌, subst, inl, inr}
 use Rattle.std.proofs.lemmas.Option.{same_Some}
 use Rattle.wot_json.specs.Tree.{Json}
 use Rattle.wot_json.specs.Meaning.{json_of}
@@ -30,7 +30,7 @@ use Rattle.servient_cli.specs.Reading.{ReadsFile, ReadsTree, longest_json}
 use Rattle.servient_cli.specs.Replaying.{plan_name, ReadsInputs, run_events, RunsOn}
 use Rattle.servient_cli.specs.Checking.{Checks, IsFaultlessDescription, Judges}
 use Rattle.servient_cli.specs.Deriving.{ReadsPlanned, Derives, derived_of, Prints, DerivesAndPrints}
-use Rattle.servient_outside.specs.Out.{OutSeen}
+use Rattle.servient_outside.specs.Out.{OutSeen, NoWriteFailed}
 use Rattle.servient_cli.specs.Command.{IsFaultless, HasFaultlessFiles, IsReported, Ends, NothingFailed, IsWell, Does, Commands, EndsAndReports, consumption_in, is_consuming, is_networked, is_serving, is_no_command, is_command, words_memory}
 use Rattle.servient_cli.proofs.FaultlessStages.{GoesOn, EndsWell, by_memory, same_status, HasTrouble, what_trouble, rose_some, then_well, read_well, tree_well, judge_well, derive_well, print_well, planned_well, with_events, inputs_well, run_on_well}
 use Rattle.servient_cli.proofs.ServedStages.{IsServed, serving_well}
@@ -87,8 +87,8 @@ command_well held kinds words seen o fine quiet (is_command command meaning does
 command_well held kinds words seen o fine quiet (words_memory out) = inl (inr out.1)
 
 -- how stages came out, and what was reported of it
-pub stages_reported : (P : List Deed → Outcome (Unit {0}) → Type 0) (before now : Around) (out out_now : OutSeen) (r : Result Ending Ended) (result : ℕ) → EndsBy P before now r → IsReported (final_status r) (final_text r) out out_now result → EndsAndReports P before now out out_now result
-stages_reported P before now out out_now r result ended reported =
+pub stages_reported : (P : List Deed → Outcome (Unit {0}) → Type 0) (before now : Around) (out out_now : OutSeen) (r : Result Ending Ended) (result : ℕ) → EndsBy P before now r → IsReported (final_status r) (final_text r) out out_now result → NoWriteFailed out out_now (final_text r) → EndsAndReports P before now out out_now result
+stages_reported P before now out out_now r result ended reported fits =
     let comes = ends_so P before now r ended in
     record {
       seen = comes.seen;
@@ -96,17 +96,18 @@ stages_reported P before now out out_now r result ended reported =
       stage = comes.stage;
       shows = comes.shows;
       reported = subst (λ (t : List ℕ). IsReported (final_status r) t out out_now result) (sym comes.text_is) reported;
+      no_failure = subst (λ (t : List ℕ). NoWriteFailed out out_now t) (sym comes.text_is) fits;
     }
 
 -- the whole call, from what was done with its command
 pub command_ends : (words : List (List ℕ)) (before now : Around) (out out_now : OutSeen) (command : Command) (result : ℕ) → meaning_of words ≡ Some command → EndsAndReports (Does before.files.held (kinds_of before.outside.slots) command) before now out out_now result → Ends words before now out out_now result
-command_ends words before now out out_now command result meaning e = record { seen = e.seen; status = e.status; stage = is_command command meaning e.stage; shows = e.shows; reported = e.reported }
+command_ends words before now out out_now command result meaning e = record { seen = e.seen; status = e.status; stage = is_command command meaning e.stage; shows = e.shows; reported = e.reported; no_failure = e.no_failure }
 
 -- of a command but `consume`
 pub built_ends : (words : List (List ℕ)) (before now : Around) (out out_now : OutSeen) (command : Command) (r : Result Ending Ended) (result : ℕ) → meaning_of words ≡ Some command → EndsBy (Does before.files.held (kinds_of before.outside.slots) command) before now r → IsReported (final_status r) (final_text r) out out_now result
-    → Ends words before now out out_now result
-built_ends words before now out out_now command r result meaning ended reported =
-    command_ends words before now out out_now command result meaning (stages_reported (Does before.files.held (kinds_of before.outside.slots) command) before now out out_now r result ended reported)
+    → NoWriteFailed out out_now (final_text r) → Ends words before now out out_now result
+built_ends words before now out out_now command r result meaning ended reported fits =
+    command_ends words before now out out_now command result meaning (stages_reported (Does before.files.held (kinds_of before.outside.slots) command) before now out out_now r result ended reported fits)
 
 -- of `consume`
 is_consume : (command : Command) (k : Consumption) → consumption_in command ≡ Some k → command ≡ Consume k
@@ -137,20 +138,22 @@ pub other_is_not : (words : List (List ℕ)) (command : Command) → meaning_of 
 other_is_not words command meaning is = ap is_consuming meaning ∙ other_is command is
 
 -- of words that are refused
-pub refusal_ends : (words : List (List ℕ)) (a : Around) (out out_now : OutSeen) (fault : WordsFault) (e : Ended) (result : ℕ) → Reads {A = Command} (meaning_of words) (Err fault) → EndsAs fault e → IsReported (status_of e) (text_of e) out out_now result → Ends words a a out out_now result
-refusal_ends words a out out_now Usage e result refused ends_as reported = record {
+pub refusal_ends : (words : List (List ℕ)) (a : Around) (out out_now : OutSeen) (fault : WordsFault) (e : Ended) (result : ℕ) → Reads {A = Command} (meaning_of words) (Err fault) → EndsAs fault e → IsReported (status_of e) (text_of e) out out_now result → NoWriteFailed out out_now (text_of e) → Ends words a a out out_now result
+refusal_ends words a out out_now Usage e result refused ends_as reported fits = record {
   seen = did_write usage_line ∷ [];
   status = 2;
   stage = is_no_command refused (refl, refl);
   shows = shows_wrote a usage_line;
   reported = subst (λ (t : List ℕ). IsReported 2 t out out_now result) (sym (line_alone usage_line)) (subst (λ (x : Ended). IsReported (status_of x) (text_of x) out out_now result) ends_as reported);
+  no_failure = subst (λ (t : List ℕ). NoWriteFailed out out_now t) (sym (line_alone usage_line)) (subst (λ (x : Ended). NoWriteFailed out out_now (text_of x)) ends_as fits);
 }
-refusal_ends words a out out_now NoMemory e result refused ends_as reported = record {
+refusal_ends words a out out_now NoMemory e result refused ends_as reported fits = record {
   seen = did_write memory_line ∷ [];
   status = 9;
   stage = words_memory (refl, refl);
   shows = shows_wrote a memory_line;
   reported = subst (λ (t : List ℕ). IsReported 9 t out out_now result) (sym (line_alone memory_line)) (subst (λ (x : Ended). IsReported (status_of x) (text_of x) out out_now result) ends_as reported);
+  no_failure = subst (λ (t : List ℕ). NoWriteFailed out out_now t) (sym (line_alone memory_line)) (subst (λ (x : Ended). NoWriteFailed out out_now (text_of x)) ends_as fits);
 }
 
 pub refusal_is : (words : List (List ℕ)) (fault : WordsFault) → Reads {A = Command} (meaning_of words) (Err fault) → fault ≡ Usage → meaning_of words ≡ None

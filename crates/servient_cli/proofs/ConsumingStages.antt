@@ -1,5 +1,5 @@
 -- `consume`: what an operation does as what a command does, and what was written before the end.
-use Rattle.std.proofs.Common.{◌≡◌, ◌≤◌, ◌⊎◌, ◌∙◌, ℕ, List, [], ◌∷◌, ◌++◌, Option, Some, None, Result, Ok, Err, refl, sym, ap, subst, arith, inl, inr, append_assoc}
+use Rattle.std.proofs.Common.{◌≡◌, ◌≤◌, ◌∙◌, ℕ, List, [], ◌∷◌, ◌++◌, Option, Result, Ok, Err, refl, sym, ap, subst, arith, inl, inr, append_assoc}
 use Rattle.std.specs.Prelude.{map, IfOk, MatchResult}
 use Rattle.std.specs.declared.alloc.AllocError.{AllocError}
 use Rattle.std.proofs.lemmas.Grind.{flat_map-append}
@@ -24,9 +24,11 @@ use Rattle.servient_outside.specs.declared.out.Put.TheVariants as put
 use Rattle.servient_outside.specs.Told.{Continues}
 use Rattle.servient_outside.specs.Files.{FilesSeen}
 use Rattle.servient_outside.specs.Network.{NetSeen}
-use Rattle.servient_outside.specs.Out.{OutSeen, OutShows}
+use Rattle.servient_outside.proofs.FilesLaws.{no_read_failed_same}
+use Rattle.servient_outside.proofs.OutLaws.{no_write_failed_then}
+use Rattle.servient_outside.specs.Out.{OutSeen, OutShows, NoWriteFailed}
 use Rattle.servient_outside.proofs.ToldLaws.{continues_same, continues_then}
-use Rattle.servient_core.specs.Trace.{Sighting, at_network, Outside, outside, Shows as ShowsOutside}
+use Rattle.servient_core.specs.Trace.{Sighting, at_network, outside, Shows as ShowsOutside}
 use Rattle.consuming.specs.declared.operation.Operation.{Operation}
 use Rattle.consuming.specs.declared.consumed.Consumed.{Consumed}
 use Rattle.consuming.specs.declared.consumed.Consumed.TheVariants as consumed
@@ -38,11 +40,10 @@ use Rattle.consuming.proofs.DeedLaws.{out_none}
 use Rattle.servient_cli.specs.declared.ending.Ending.{Ending}
 use Rattle.servient_cli.specs.declared.ending.Ended.{Ended}
 use Rattle.servient_cli.specs.declared.ending.Ended.TheVariants as ended
-use Rattle.servient_cli.specs.Lines.{memory_line}
-use Rattle.servient_cli.specs.Stages.{Deed, did_see, did_write, HasFailed, reads_in, sightings_in, text_in, written_in, Outcome, goes_on, ends, AndThen, ends_first, goes_further, Around, around, ShowsDeeds}
+use Rattle.servient_cli.specs.Stages.{Deed, did_write, HasFailed, reads_in, sightings_in, text_in, written_in, Outcome, goes_on, ends, AndThen, ends_first, goes_further, Around, around, ShowsDeeds}
 use Rattle.servient_cli.specs.Ending.{ComesOut, Performs, status_of, text_of, final_status, final_text}
 use Rattle.servient_cli.specs.Command.{IsReported, EndsAndReports}
-use Rattle.servient_cli.specs.Consuming.{ReadsDescription, ConsumesBy, ConsumesThing, Chooses, is_chosen, has_no_affordance, has_no_form, choose_memory, OperatesOn, deed_of, deeds_of, status_after, line_after, IsAskedFor, Operates, has_ended, line_memory, IsEndOf, ComesOutPrinting, EndsPrinting}
+use Rattle.servient_cli.specs.Consuming.{ReadsDescription, ConsumesBy, ConsumesThing, Chooses, is_chosen, has_no_affordance, has_no_form, choose_memory, OperatesOn, deeds_of, line_after, IsAskedFor, Operates, has_ended, line_memory, IsEndOf, EndsPrinting}
 use Rattle.servient_cli.proofs.StageLaws.{line_alone, shows_network, shows_then, shows_wrote}
 
 -- ---- an operation's deeds as those of a command
@@ -72,6 +73,7 @@ shows_operation files n m slots o q p deeds shows = record {
   reads = subst (λ (made : List FileRead). Continues files.reads files.reads made) (sym (reads_of deeds)) (continues_same files.reads);
   faults = omega arith;
   failed = λ failed. absurd (none_failed deeds failed);
+  no_failure = no_read_failed_same files;
   outside = subst (λ (made : List Sighting). ShowsOutside (outside n slots) (outside m slots) made) (sym (sightings_of deeds)) (shows_network n m slots (operation.happened_in deeds) shows.net);
 }
 
@@ -179,13 +181,14 @@ printed_then printed text status put.Failed out out_now later result wrote faile
 
 -- what was written before the end, and then the report
 pub printing_reported : (P : List Deed → Outcome (Unit {0}) → Type 0) (before now : Around) (out out_now later : OutSeen) (r : Result Ending Ended) (result : ℕ) → EndsPrinting P before now out out_now r → IsReported (final_status r) (final_text r) out_now later result → out_now.faults ≤ later.faults
-    → EndsAndReports P before now out later result
-printing_reported P before now out out_now later r result e reported more = record {
+    → NoWriteFailed out_now later (final_text r) → EndsAndReports P before now out later result
+printing_reported P before now out out_now later r result e reported more fits = record {
   seen = e.seen;
   status = final_status r;
   stage = e.stage;
   shows = e.shows;
   reported = subst (λ (t : List ℕ). IsReported (final_status r) t out later result) (sym e.text_is) (printed_then e.printed (final_text r) (final_status r) e.answer out out_now later result e.wrote e.failed more reported);
+  no_failure = subst (λ (t : List ℕ). NoWriteFailed out later t) (sym e.text_is) (no_write_failed_then out out_now later e.answer e.printed (final_text r) e.wrote.fits fits);
 }
 
 -- ---- the stages of `consume`

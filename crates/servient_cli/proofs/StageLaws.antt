@@ -1,5 +1,5 @@
 -- Laws of stages and of what is seen of them.
-use Rattle.std.proofs.Common.{◌≡◌, ◌≤◌, ◌⊎◌, ℕ, List, [], ◌∷◌, ◌++◌, refl, sym, ap, subst, ◌∙◌, append_assoc, arith, inl, inr}
+use Rattle.std.proofs.Common.{◌≡◌, ◌≤◌, ◌⊎◌, ℕ, List, [], ◌∷◌, ◌++◌, refl, sym, ap, subst, ◌∙◌, arith, inl, inr}
 use Rattle.std.proofs.lemmas.Grind.{flat_map-append}
 use Rattle.std.proofs.lemmas.List.Elements.{filter_map-append}
 use Rattle.std.specs.Prelude.{Result, Ok, Err, map, IfOk, MatchResult}
@@ -21,7 +21,8 @@ use Rattle.servient_cli.specs.declared.ending.Ended.TheVariants as ended
 use Rattle.servient_cli.specs.Lines.{memory_line}
 use Rattle.servient_base.specs.Count.{Rose}
 use Rattle.servient_cli.specs.Stages.{Deed, did_read, did_fail, did_see, did_write, sees, HasFailed, reads_in, sightings_in, text_in, Outcome, goes_on, ends, AndThen, ends_first, goes_further, Around, around, ShowsDeeds, read_in, sighting_in, written_in}
-use Rattle.servient_outside.specs.Files.{FilesSeen}
+use Rattle.servient_outside.specs.Files.{FilesSeen, NoReadFailed}
+use Rattle.servient_outside.proofs.FilesLaws.{no_read_failed_same, no_read_failed_then}
 use Rattle.servient_cli.specs.Ending.{ComesOut, Performs, Finishes, EndsBy, status_of, text_of, final_status, final_text}
 
 failed_before : (a b : List Deed) → HasFailed (a ++ b) → HasFailed a ⊎ HasFailed b
@@ -44,10 +45,10 @@ line_alone line = append-nil line
 
 -- what is shown where only a text was written, and where nothing was done
 pub shows_wrote : (a : Around) (text : List ℕ) → ShowsDeeds a a (did_write text ∷ [])
-shows_wrote a text = record { reads = continues_same a.files.reads; faults = omega arith; failed = λ none. absurd none; outside = shows_in_order.none a.outside }
+shows_wrote a text = record { reads = continues_same a.files.reads; faults = omega arith; failed = λ none. absurd none; no_failure = no_read_failed_same a.files; outside = shows_in_order.none a.outside }
 
 pub shows_nothing : (a : Around) → ShowsDeeds a a []
-shows_nothing a = record { reads = continues_same a.files.reads; faults = omega arith; failed = λ none. absurd none; outside = shows_in_order.none a.outside }
+shows_nothing a = record { reads = continues_same a.files.reads; faults = omega arith; failed = λ none. absurd none; no_failure = no_read_failed_same a.files; outside = shows_in_order.none a.outside }
 
 -- what is shown at one time and then at another
 pub shows_then : (a b c : Around) (first second : List Deed) → ShowsDeeds a b first → ShowsDeeds b c second → ShowsDeeds a c (first ++ second)
@@ -59,19 +60,20 @@ shows_then a b c first second p q = record {
     | inl before ↦ rose_then a.files.faults b.files.faults c.files.faults (p.failed before) q.faults
     | inr after ↦ then_rose a.files.faults b.files.faults c.files.faults p.faults (q.failed after)
   ];
+  no_failure = no_read_failed_then a.files b.files c.files p.no_failure q.no_failure;
   outside = subst (λ (sightings : List Sighting). Shows a.outside c.outside sightings) (sym (filter_map-append sighting_in first second))
       (shows_in_order.more a.outside b.outside c.outside (sightings_in first) (sightings_in second) p.outside q.outside);
 }
 
 -- a file was read; a read failed; there was none
-pub shows_read : (before now : FilesSeen) (w : Outside) (file : FileRead) → Continues before.reads now.reads (file ∷ []) → before.faults ≤ now.faults → ShowsDeeds (around before w) (around now w) (did_read file ∷ [])
-shows_read before now w file reads faults = record { reads = reads; faults = faults; failed = λ none. absurd none; outside = shows_in_order.none w }
+pub shows_read : (before now : FilesSeen) (w : Outside) (file : FileRead) → Continues before.reads now.reads (file ∷ []) → before.faults ≤ now.faults → NoReadFailed before now → ShowsDeeds (around before w) (around now w) (did_read file ∷ [])
+shows_read before now w file reads faults never = record { reads = reads; faults = faults; failed = λ none. absurd none; no_failure = never; outside = shows_in_order.none w }
 
-pub shows_failed : (before now : FilesSeen) (w : Outside) (file : FileRead) → Continues before.reads now.reads (file ∷ []) → before.faults ≤ now.faults → Rose before.faults now.faults → ShowsDeeds (around before w) (around now w) (did_fail file ∷ [])
-shows_failed before now w file reads faults rose = record { reads = reads; faults = faults; failed = λ failed. rose; outside = shows_in_order.none w }
+pub shows_failed : (before now : FilesSeen) (w : Outside) (file : FileRead) → Continues before.reads now.reads (file ∷ []) → before.faults ≤ now.faults → Rose before.faults now.faults → NoReadFailed before now → ShowsDeeds (around before w) (around now w) (did_fail file ∷ [])
+shows_failed before now w file reads faults rose never = record { reads = reads; faults = faults; failed = λ failed. rose; no_failure = never; outside = shows_in_order.none w }
 
-pub shows_no_read : (before now : FilesSeen) (w : Outside) → Continues before.reads now.reads [] → before.faults ≤ now.faults → ShowsDeeds (around before w) (around now w) []
-shows_no_read before now w reads faults = record { reads = reads; faults = faults; failed = λ none. absurd none; outside = shows_in_order.none w }
+pub shows_no_read : (before now : FilesSeen) (w : Outside) → Continues before.reads now.reads [] → before.faults ≤ now.faults → NoReadFailed before now → ShowsDeeds (around before w) (around now w) []
+shows_no_read before now w reads faults never = record { reads = reads; faults = faults; failed = λ none. absurd none; no_failure = never; outside = shows_in_order.none w }
 
 -- ---- stages that go on, or write a line at the end
 
@@ -185,6 +187,7 @@ shows_seen files w v seen shows = record {
   reads = subst (λ (made : List FileRead). Continues files.reads files.reads made) (sym (no_reads seen)) (continues_same files.reads);
   faults = omega arith;
   failed = λ failed. absurd (none_failed seen failed);
+  no_failure = no_read_failed_same files;
   outside = subst (λ (made : List Sighting). Shows w v made) (sym (seen_alone seen)) shows;
 }
 

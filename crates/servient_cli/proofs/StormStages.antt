@@ -1,6 +1,6 @@
 -- A storm: its events end with the one Stop, the counts are those of the run, and how it may end.
-use Rattle.std.proofs.Common.{◌≡◌, ◌≢◌, ◌⊎◌, ◌∙◌, ℕ, Bool, true, false, cond, ◌+◌, List, [], ◌∷◌, ◌++◌, Option, Some, None, length, refl, sym, ap, subst, arith, inl, inr, length-append}
-use Rattle.std.specs.List.{AllByRecursion, filter}
+use Rattle.std.proofs.Common.{◌≡◌, ◌≢◌, ◌∙◌, ℕ, true, false, ◌+◌, List, [], ◌∷◌, Option, Some, None, length, refl, sym, ap, arith, inl, inr, length-append}
+use Rattle.std.specs.List.{AllByRecursion}
 use Rattle.std.proofs.lemmas.List.{append-nil}
 use Rattle.std.proofs.lemmas.List.Elements.{filter-append}
 use Rattle.wot_json.specs.Tree.{Json}
@@ -29,7 +29,6 @@ use Rattle.storm_events.proofs.StormLaws.{count_is, never_stops}
 use Rattle.servient_cli.specs.declared.derivation.Planned.{Planned}
 use Rattle.servient_cli.specs.declared.storming.TheConstants.{STORM_EXCHANGES}
 use Rattle.servient_cli.specs.declared.storming.Load.{Load}
-use Rattle.servient_cli.specs.declared.counting.Counts.{Counts}
 use Rattle.servient_cli.specs.Counting.{is_datagram, came, counts_by, counts_in}
 use Rattle.servient_cli.specs.Script.{has_stop, is_stop, StopsAtEnd}
 use Rattle.servient_cli.specs.Stages.{Around, Deed, Outcome, goes_on, ends, AndThen, ends_first, goes_further}

@@ -1,5 +1,5 @@
 -- No stage of a command ends with status 2, so that this status is left to words that are no command.
-use Rattle.std.proofs.Common.{◌≡◌, ◌*◌, ◌⊎◌, ◌∙◌, ℕ, true, false, List, [], ◌∷◌, Option, Some, None, ap, arith, inl, inr, sym}
+use Rattle.std.proofs.Common.{◌≡◌, ◌*◌, ◌⊎◌, ◌∙◌, ℕ, List, [], ◌∷◌, Option, Some, None, ap, arith, inl, inr, sym}
 use Rattle.command_words.specs.declared.command.Command.{Command}
 use Rattle.command_words.specs.declared.command.Command.TheVariants.{Replay, Serve, Derive, Check, Consume, Storm}
 use Rattle.wot_json.specs.declared.tree.Tree.{Tree}

@@ -21,7 +21,7 @@ use Rattle.command_words.specs.declared.command.Command.TheVariants.{Replay, Ser
 use Rattle.servient_outside.specs.declared.files.HeldFile.{HeldFile}
 use Rattle.servient_outside.specs.Told.{Continues}
 use Rattle.servient_outside.specs.Files.{content_of}
-use Rattle.servient_outside.specs.Out.{OutSeen}
+use Rattle.servient_outside.specs.Out.{OutSeen, NoWriteFailed}
 use Rattle.servient_cli.specs.declared.derivation.Planned.{Planned}
 use Rattle.servient_cli.specs.Lines.{usage_line}
 use Rattle.servient_cli.specs.Stages.{Deed, text_in, Outcome, ends, EndsWith, RunsOut, AndThen, Around, ShowsDeeds}
@@ -96,13 +96,14 @@ IsReported status text out out_now result =
     × (prefix : List ℕ) × (rest : List ℕ) × (text ≡ prefix ++ rest) × Continues out.written out_now.written prefix
 
 -- Stages came out with a status, the files, the network and the handlers show what was done, and the output shows what
--- was written.
+-- was written, which it was where it had room for it.
 pub record EndsAndReports (P : List Deed → Outcome (Unit {0}) → Type 0) (before now : Around) (out out_now : OutSeen) (result : ℕ) : Type 0 where
   pub seen : List Deed
   pub status : ℕ
   pub stage : P seen (ends status)
   pub shows : ShowsDeeds before now seen
   pub reported : IsReported status (text_in seen) out out_now result
+  pub no_failure : NoWriteFailed out out_now (text_in seen)
 
 -- What the top call did: the command of its words.
 abbrev pub Ends : List (List ℕ) → Around → Around → OutSeen → OutSeen → ℕ → Type 0

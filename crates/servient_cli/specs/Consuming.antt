@@ -1,7 +1,7 @@
 -- `consume TD OPERATION NAME`: an operation on another Thing. The description is read and judged, then the file of the
 -- value that is handed in is read, if one is named; a form is chosen, and the operation is done by it. Its payloads are
 -- written as they come, and then comes the line on how it ended, if it wasn't done.
-use Rattle.std.specs.Prelude.{◌≡◌, ◌/◌, ◌%◌, ◌⊎◌, ℕ, List, [], ◌∷◌, ◌++◌, codes, decimal, map, Option, Some, None, Result, Ok, Err, option_map, slice_get}
+use Rattle.std.specs.Prelude.{◌≡◌, ◌/◌, ◌%◌, ◌⊎◌, ℕ, List, [], ◌++◌, codes, decimal, map, Option, Some, None, Result, option_map, slice_get}
 use Rattle.wot_json.specs.Meaning.{json_of}
 use Rattle.wot_json.specs.declared.tree.Tree.{Tree}
 use Rattle.wot_terms.specs.Faults.{faults_of}

@@ -7,7 +7,7 @@ use Rattle.servient_base.specs.Count.{Rose}
 use Rattle.servient_base.specs.Moves.{Passing}
 use Rattle.servient_outside.specs.declared.files.FileRead.{FileRead}
 use Rattle.servient_outside.specs.Told.{Continues}
-use Rattle.servient_outside.specs.Files.{FilesSeen}
+use Rattle.servient_outside.specs.Files.{FilesSeen, NoReadFailed}
 use Rattle.servient_core.specs.Trace.{Sighting, Outside, Shows}
 use Rattle.servient_cli.specs.Lines.{memory_line}
 
@@ -95,9 +95,10 @@ abbrev pub around : FilesSeen → Outside → Around
 around files outside = record { files = files; outside = outside }
 
 -- From one time to another the files show these reads, and the network and the handlers what was seen of them, and
--- nothing else. Where a read failed, the count of failures rose; it never falls.
+-- nothing else. Where a read failed, the count of failures rose; it never falls, and stays where no read fails.
 pub record ShowsDeeds (before now : Around) (seen : List Deed) : Type 0 where
   pub reads : Continues before.files.reads now.files.reads (reads_in seen)
   pub faults : before.files.faults ≤ now.files.faults
   pub failed : HasFailed seen → Rose before.files.faults now.files.faults
+  pub no_failure : NoReadFailed before.files now.files
   pub outside : Shows before.outside now.outside (sightings_in seen)

@@ -4,6 +4,7 @@ ghost use Rattle.std.specs.Prelude.{◌≡◌, ◌≢◌, ◌≤◌, ◌⊎◌, 
 ghost use Rattle.thing_site.specs.Exposing.{kinds_of};
 ghost use Rattle.servient_cli.specs.Stages.{around};
 ghost use Rattle.command_words.specs.Grammar.{meaning_of};
+ghost use Rattle.servient_outside.specs.Out.{NoWriteFailed};
 ghost use Rattle.servient_core.specs.Trace.{outside};
 ghost use Rattle.thing_handler.specs.Handler.{Seen};
 ghost use Rattle.servient_cli.specs.Consuming.{ConsumesThing};
@@ -108,6 +109,7 @@ fn consume_and_report<F: Files, N: Net, O: Out>(
 pub fn report<O: Out>(out: &mut O, ended: &Result<Ending, Ended>) -> u8
     ensures reported { IsReported (status_in ended.now) (text_in ended.now) (O.seen out.old) (O.seen out.new) result }
     ensures faults { (O.seen out.old).faults ≤ (O.seen out.new).faults }
+    ensures no_failure { NoWriteFailed (O.seen out.old) (O.seen out.new) (text_in ended.now) }
 {
     match out.put(final_text(ended)) {
         Put::Done => final_status(ended),

@@ -1,5 +1,5 @@
 -- What is seen of the files of the machine.
-use Rattle.std.specs.Prelude.{ℕ, None}
+use Rattle.std.specs.Prelude.{ℕ, false, None}
 use Rattle.servient_outside.specs.Files.{FilesSeen}
 use Rattle.servient_edge.specs.declared.files_real.FilesReal.{FilesReal}
 
@@ -9,4 +9,4 @@ fault_count f = f.faults
 
 -- only that is seen of them
 abbrev pub seen_of : {R F D : Type 0} → FilesReal R F D → FilesSeen
-seen_of f = record { held = None; reads = None; faults = fault_count f }
+seen_of f = record { held = None; reads = None; faults = fault_count f; never_fail = false }

@@ -13,4 +13,4 @@ fault_count o = o.faults
 
 -- only that is seen of it
 abbrev pub seen_of : {W : Type 0} → OutReal W → OutSeen
-seen_of o = record { written = None; faults = fault_count o }
+seen_of o = record { written = None; faults = fault_count o; room = None }

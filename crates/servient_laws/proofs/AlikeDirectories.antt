@@ -1,6 +1,6 @@
 -- What a request does to the directory is determined, unless it is out of memory.
-use Rattle.std.proofs.Common.{◌≡◌, ◌<◌, ◌≤◌, ◌||◌, ℕ, Bool, true, false, List, [], ◌∷◌, length, Option, Some, None, refl, sym, ap, ap₂, subst, ◌∙◌, arith, inl, inr}
-use Rattle.std.specs.Prelude.{◌≢◌, ◌==◌, IsSome, is_some, slice_get}
+use Rattle.std.proofs.Common.{◌≡◌, ◌<◌, ◌≤◌, ℕ, Bool, true, List, [], ◌∷◌, length, Option, Some, None, refl, sym, ap, ap₂, subst, ◌∙◌, arith, inl, inr}
+use Rattle.std.specs.Prelude.{◌≢◌, IsSome, is_some, slice_get}
 use Rattle.std.proofs.lemmas.Option.{same_Some}
 use Rattle.wot_json.specs.Tree.{Json}
 use Rattle.wot_json.specs.Reading.{tree_of}
@@ -11,10 +11,6 @@ use Rattle.wot_terms.specs.declared.fault.TdFault.{TdFault}
 use Rattle.thing_ops.specs.declared.outcome.Outcome.{Outcome}
 use Rattle.thing_ops.specs.declared.outcome.Outcome.TheVariants as outcome
 use Rattle.thing_ops.specs.Requests.{PlainRequest}
-use Rattle.thing_ops.specs.declared.allow.Allow.{Allow}
-use Rattle.thing_ops.specs.declared.verb.Verb.{Verb}
-use Rattle.thing_ops.specs.declared.verb.Verb.TheVariants as verb
-use Rattle.thing_ops.specs.Verbs.{verbs_in}
 use Rattle.thing_site.specs.Refusals.{Refusal, nothing_there, verb_not_taken, answer_not_acceptable, format_not_taken, body_not_as_wanted, value_too_large, refused_by_schema, no_invocation_left, IsFirst}
 use Rattle.thing_core.proofs.CompleteLaws.{none_is_first}
 use Rattle.thing_core.proofs.DeterminedLaws.{same_verbs}

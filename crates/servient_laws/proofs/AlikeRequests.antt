@@ -12,9 +12,9 @@ use Rattle.thing_handler.specs.declared.handler.Answer.TheVariants as answer
 use Rattle.thing_handler.specs.Turns.{HandlerCall, answered}
 use Rattle.thing_site.specs.Site.{Placed}
 use Rattle.thing_core.specs.State.{State as ThingState, Emission, last_after}
-use Rattle.thing_core.specs.Thing.{Done, Acts, Called, no_number, no_memory, gives, Calls, IsTaken, Decides, emission, IsPolled, PollsEvent}
+use Rattle.thing_core.specs.Thing.{Done, Acts, Called, no_number, no_memory, gives, Calls, IsTaken, emission, IsPolled, PollsEvent}
 use Rattle.thing_core.specs.Determined.{AreAnsweredBy, HadMemory as WasAmple}
-use Rattle.thing_core.proofs.DeterminedLaws.{determined, answered_first, answered_rest, one_decision}
+use Rattle.thing_core.proofs.DeterminedLaws.{determined, answered_first, one_decision}
 use Rattle.wot_directory.specs.Contents.{Contents}
 use Rattle.directory_requests.specs.Asked.{is_of_directory}
 use Rattle.directory_requests.specs.Requests.{DirectoryActs}

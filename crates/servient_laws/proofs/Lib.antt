@@ -20,3 +20,4 @@ mod SpokenTargets
 mod SpokenByCoap
 mod SpokenHeads
 mod SpokenByHttp
+mod InMemoryLaws

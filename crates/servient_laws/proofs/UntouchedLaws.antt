@@ -230,6 +230,6 @@ pub faults_take_no_event : FaultsTakeNoEvent
 faults_take_no_event words before now out out_now result ended serving none = by (words_settle before.files.held (kinds_of before.outside.slots) words ended.seen ended.status serving ended.stage) ended.reported
   where
     by : TookNothing ended.seen ⊎ MayHaveServed ended.status → IsReported ended.status (text_in ended.seen) out out_now result → EndsSo TookNothing words before now out out_now result
-    by (inl untook) reported = record { seen = ended.seen; status = ended.status; stage = (ended.stage, untook); shows = ended.shows; reported = ended.reported }
+    by (inl untook) reported = record { seen = ended.seen; status = ended.status; stage = (ended.stage, untook); shows = ended.shows; reported = ended.reported; no_failure = ended.no_failure }
     by (inr may) (inl same) = absurd (none (subst MayHaveServed (sym same.0) may))
     by (inr may) (inr seven) = absurd (none (inr (inr (inr seven.0))))

@@ -5,3 +5,4 @@ pub mod Determined
 pub mod Payloads
 pub mod Untouched
 pub mod Spoken
+pub mod InMemory

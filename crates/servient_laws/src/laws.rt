@@ -2,6 +2,7 @@
 
 ghost use Rattle.servient_laws.specs.Calls.{CallsAreFit};
 ghost use Rattle.servient_laws.specs.Determined.{RunsAreDetermined};
+ghost use Rattle.servient_laws.specs.InMemory.{NothingFailsInMemory};
 ghost use Rattle.servient_laws.specs.Memory.{MemoryIsSeen};
 ghost use Rattle.servient_laws.specs.Payloads.{PayloadsAreOfOutcomes};
 ghost use Rattle.servient_laws.specs.Spoken.{RequestsAreSpoken};
@@ -45,6 +46,12 @@ pub fn faults_take_no_event()
 /// Where the words are no command, or `check` or `derive`, each handler is as it was.
 pub fn handlers_stay()
     ensures { HandlersStay }
+{}
+
+/// Over files and an output in memory none of whose calls fails, with room for what the command writes, nothing failed
+/// of what the clause `complete` of the top call asks about.
+pub fn nothing_fails_in_memory()
+    ensures { NothingFailsInMemory }
 {}
 
 /// What is sent in reply to a message says the payload of its outcome: by CoAP unless it is too long for a datagram, by

@@ -14,11 +14,13 @@
 //!   `runs_are_determined`.
 //! - Nothing before the word: no event is taken by a command that didn't serve, `faults_take_no_event`, and no handler
 //!   is called by one that calls none, `handlers_stay`.
+//! - Memory alone: over files and an output in memory nothing fails but for want of memory, `nothing_fails_in_memory`.
 #![tactic(auto)]
 
 mod laws;
 
 pub use laws::{
     calls_are_fit, faults_take_no_event, full_tables_act_on_nothing, handlers_stay, memory_is_seen,
-    payloads_are_of_outcomes, repeats_act_once, requests_are_spoken, runs_are_determined,
+    nothing_fails_in_memory, payloads_are_of_outcomes, repeats_act_once, requests_are_spoken,
+    runs_are_determined,
 };

@@ -3,3 +3,5 @@ pub mod ToldLaws
 pub mod NetLaws
 pub mod OrderLaws
 pub mod ActsKept
+pub mod FilesLaws
+pub mod OutLaws

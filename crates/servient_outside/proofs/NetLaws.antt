@@ -1,9 +1,8 @@
 -- Laws of what a network shows.
-use Rattle.std.proofs.Common.{◌≡◌, ◌+◌, List, [], ◌∷◌, ◌++◌, Option, Some, None, refl, ap, subst, arith}
+use Rattle.std.proofs.Common.{◌≡◌, ◌+◌, List, [], ◌∷◌, ◌++◌, Option, Some, None, refl, subst, arith}
 use Rattle.servient_base.specs.Moves.{ShowsInOrder}
 use Rattle.servient_outside.specs.declared.net.EventWithBytes.{EventWithBytes}
-use Rattle.servient_outside.specs.declared.net.Act.{Act}
-use Rattle.servient_outside.specs.Network.{Happening, heard, did, broke, acts_in, events_in, break_count, NetSeen, Leaves, NetShows}
+use Rattle.servient_outside.specs.Network.{Happening, heard, did, broke, break_count, NetSeen, Leaves, NetShows}
 use Rattle.servient_outside.proofs.ToldLaws.{continues_same, continues_then}
 
 pub break_count-append : (a b : List Happening) → break_count (a ++ b) ≡ break_count a + break_count b

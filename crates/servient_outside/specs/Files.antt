@@ -1,5 +1,5 @@
 -- What is seen of files: a read, and what the files record of it.
-use Rattle.std.specs.Prelude.{◌≡◌, ◌≤◌, ◌<◌, ℕ, List, [], ◌∷◌, Option, Some, None, IfSome, IsSomeAnd, length, if◌then◌else◌}
+use Rattle.std.specs.Prelude.{◌≡◌, ◌≤◌, ◌<◌, ℕ, Bool, true, List, [], ◌∷◌, Option, Some, None, IfSome, IsSomeAnd, length, if◌then◌else◌}
 use Rattle.std.specs.Str.{bytes_eq}
 use Rattle.servient_outside.specs.declared.files.Got.{Got}
 use Rattle.servient_outside.specs.declared.files.Got.TheVariants.{Whole, Absent, TooLong, Failed, NoMemory}
@@ -32,17 +32,23 @@ added_reads name limit Absent = record { name = name; limit = limit } ∷ []
 added_reads name limit TooLong = record { name = name; limit = limit } ∷ []
 added_reads name limit Failed = record { name = name; limit = limit } ∷ []
 
--- What is seen of files at one time: what they hold and which reads were made, where they record it, and
--- how often a read failed.
+-- What is seen of files at one time: what they hold and which reads were made, where they record it, how often a read
+-- failed, and whether it is known that none fails from now on.
 pub record FilesSeen : Type 0 where
   pub held : Option (List HeldFile)
   pub reads : Option (List FileRead)
   pub faults : ℕ
+  pub never_fail : Bool
+
+-- Where no read fails from now on, none has failed later either.
+abbrev pub NoReadFailed : FilesSeen → FilesSeen → Type 0
+NoReadFailed before now = before.never_fail ≡ true → (now.never_fail ≡ true) × (now.faults ≡ before.faults)
 
 -- From one time to another there was one call, which was answered so: the files hold what they held, the read comes
--- after those before it, and the count of failures never falls, and rose where the read failed.
+-- after those before it, and the count of failures never falls, rose where the read failed, and stays where none fails.
 pub record FilesShow (before now : FilesSeen) (name : List ℕ) (limit : ℕ) (got : Got) : Type 0 where
   pub held : now.held ≡ before.held
   pub reads : Continues before.reads now.reads (added_reads name limit got)
   pub faults : before.faults ≤ now.faults
   pub failed : got ≡ Failed → Rose before.faults now.faults
+  pub no_failure : NoReadFailed before now

@@ -4,6 +4,7 @@ use Rattle.servient_outside.specs.declared.calls.CallCount.{CallCount}
 use Rattle.servient_outside.specs.declared.files.HeldFile.{HeldFile}
 use Rattle.servient_outside.specs.declared.files.FileRead.{FileRead}
 use Rattle.servient_outside.specs.declared.files_memory.FilesMemory.{FilesMemory}
+use Rattle.servient_outside.specs.CallCount.{none_fails}
 use Rattle.servient_outside.specs.Files.{FilesSeen}
 
 -- their calls of `read`
@@ -24,4 +25,4 @@ fault_count f = f.faults
 
 -- all that is seen of them
 abbrev pub seen_of : FilesMemory → FilesSeen
-seen_of f = record { held = Some (held_files f); reads = Some (listed_reads f); faults = fault_count f }
+seen_of f = record { held = Some (held_files f); reads = Some (listed_reads f); faults = fault_count f; never_fail = none_fails (calls_of f).fails }

@@ -60,12 +60,12 @@ fn list_read(
 }
 
 impl FilesMemory {
-    ghost use Rattle.servient_outside.specs.CallCount.{no_calls};
+    ghost use Rattle.servient_outside.specs.CallCount.{no_calls, none_fails};
     ghost use Rattle.servient_outside.specs.FilesMemory.{calls_of};
 
     /// Files that hold this, and whose reads of these numbers fail. The list of reads takes memory.
     pub fn new(alloc: Global, files: Held, fails: Calls) -> Result<FilesMemory, NoMemory>
-        ensures seen { IfOk result (λ f. ⟦<FilesMemory as Files>⟧.seen f ≡ record { held = Some files; reads = Some []; faults = 0 }) }
+        ensures seen { IfOk result (λ f. ⟦<FilesMemory as Files>⟧.seen f ≡ record { held = Some files; reads = Some []; faults = 0; never_fail = none_fails fails }) }
         ensures calls { IfOk result (λ f. calls_of f ≡ no_calls fails) }
     {
         let reads = Vec::with_capacity(alloc, FIRST_READS)?;

@@ -19,12 +19,12 @@ pub struct OutMemory {
 }
 
 impl OutMemory {
-    ghost use Rattle.servient_outside.specs.CallCount.{no_calls};
+    ghost use Rattle.servient_outside.specs.CallCount.{no_calls, where_none_fails};
     ghost use Rattle.servient_outside.specs.OutMemory.{calls_of, room_of, written_bytes};
 
     /// An output with room for `room` bytes, whose calls of these numbers fail.
     pub fn new(alloc: Global, room: usize, fails: Calls) -> Result<OutMemory, NoMemory>
-        ensures seen { IfOk result (λ o. ⟦<OutMemory as Out>⟧.seen o ≡ record { written = Some []; faults = 0 }) }
+        ensures seen { IfOk result (λ o. ⟦<OutMemory as Out>⟧.seen o ≡ record { written = Some []; faults = 0; room = where_none_fails fails (Some room) }) }
         ensures room { IfOk result (λ o. room_of o ≡ room) }
         ensures calls { IfOk result (λ o. calls_of o ≡ no_calls fails) }
     {

@@ -1,4 +1,3 @@
-use Rattle.std.proofs.Common.{List, ℕ, Option, ◌≡◌, subst}
 use Rattle.std.proofs.lemmas.Result.{err_from_is_err_and}
 use Rattle.servient_core.specs.Trace.{outside}
 use Rattle.servient_cli.specs.Stages.{around}

@@ -1,5 +1,5 @@
 use mir.Val.{bool_byte}
-use Rattle.std.proofs.Common.{◌≡◌, ◌∙◌, ◌+◌, ◌≤◌, ℕ, Bool, true, false, cond, take, length, arith, ap, sym, refl, subst}
+use Rattle.std.proofs.Common.{◌≡◌, ◌∙◌, ◌+◌, ◌≤◌, ℕ, Bool, true, false, cond, take, length, arith, ap, sym, refl}
 use Rattle.servient_cli.specs.Counting.{is_datagram, came}
 use Rattle.servient_cli.proofs.CountLaws.{came_more}
 use Rattle.servient_cli.proofs.counting.datagram_count.Goals as goal

@@ -11,4 +11,4 @@ returns g c = λ slots.
     printing_reported (ConsumesThing before.held c.args.consumption.now)
     (around before (outside (g.N.Net.seen c.args.net.now) slots)) (around now (outside (g.N.Net.seen c.consume_thing-ended.new.net) slots))
     (g.O.Out.seen c.args.out.now) (g.O.Out.seen c.consume_thing-ended.new.out) (g.O.Out.seen c.report.new.out)
-    c.consume_thing-ended.result c.report.result (c.consume_thing-ended.ensures slots) c.report.ensures.reported c.report.ensures.faults
+    c.consume_thing-ended.result c.report.result (c.consume_thing-ended.ensures slots) c.report.ensures.reported c.report.ensures.faults c.report.ensures.no_failure

@@ -35,7 +35,7 @@ returns-in-Ok-clause-ends g c =
     let out = g.O.Out.seen c.args.out.now in
     let out_now = g.O.Out.seen c.report.new.out in
     let result = c.report.result in
-    let whole = built_ends c.args.words.now before now out out_now c.in-Ok.command c.run_command.result result c.in-Ok.ensures c.run_command.ensures.ends c.report.ensures.reported in
+    let whole = built_ends c.args.words.now before now out out_now c.in-Ok.command c.run_command.result result c.in-Ok.ensures c.run_command.ensures.ends c.report.ensures.reported c.report.ensures.no_failure in
     whole
 
 pub returns-in-Ok-clause-complete : goal.returns-in-Ok-clause-complete
@@ -45,7 +45,7 @@ returns-in-Ok-clause-complete g c = λ fine kept.
     let out = g.O.Out.seen c.args.out.now in
     let out_now = g.O.Out.seen c.report.new.out in
     let result = c.report.result in
-    let whole = built_ends c.args.words.now before now out out_now c.in-Ok.command c.run_command.result result c.in-Ok.ensures c.run_command.ensures.ends c.report.ensures.reported in
+    let whole = built_ends c.args.words.now before now out out_now c.in-Ok.command c.run_command.result result c.in-Ok.ensures c.run_command.ensures.ends c.report.ensures.reported c.report.ensures.no_failure in
     ends_well c.args.words.now before now out out_now result whole fine kept
 
 pub returns-in-Ok-clause-usage : goal.returns-in-Ok-clause-usage
@@ -55,7 +55,7 @@ returns-in-Ok-clause-usage g c =
     let out = g.O.Out.seen c.args.out.now in
     let out_now = g.O.Out.seen c.report.new.out in
     let result = c.report.result in
-    let whole = built_ends c.args.words.now before now out out_now c.in-Ok.command c.run_command.result result c.in-Ok.ensures c.run_command.ensures.ends c.report.ensures.reported in
+    let whole = built_ends c.args.words.now before now out out_now c.in-Ok.command c.run_command.result result c.in-Ok.ensures c.run_command.ensures.ends c.report.ensures.reported c.report.ensures.no_failure in
     usage_is_exact c.args.words.now before now out out_now result whole
 
 pub returns-in-Ok-clause-storm : goal.returns-in-Ok-clause-storm
@@ -65,7 +65,7 @@ returns-in-Ok-clause-storm g c =
     let out = g.O.Out.seen c.args.out.now in
     let out_now = g.O.Out.seen c.report.new.out in
     let result = c.report.result in
-    let whole = built_ends c.args.words.now before now out out_now c.in-Ok.command c.run_command.result result c.in-Ok.ensures c.run_command.ensures.ends c.report.ensures.reported in
+    let whole = built_ends c.args.words.now before now out out_now c.in-Ok.command c.run_command.result result c.in-Ok.ensures c.run_command.ensures.ends c.report.ensures.reported c.report.ensures.no_failure in
     never_spent c.args.words.now before now out out_now result whole
 
 pub returns-clause-ends : goal.returns-clause-ends
@@ -75,5 +75,5 @@ returns-clause-ends g c =
     let out = g.O.Out.seen c.args.out.now in
     let out_now = g.O.Out.seen c.report-in-Err.new.out in
     let result = c.report-in-Err.result in
-    let whole = refusal_ends c.args.words.now before out out_now c.in-Err.fault c.from.result result c.in-Err.ensures c.from.ensures c.report-in-Err.ensures.reported in
+    let whole = refusal_ends c.args.words.now before out out_now c.in-Err.fault c.from.result result c.in-Err.ensures c.from.ensures c.report-in-Err.ensures.reported c.report-in-Err.ensures.no_failure in
     whole

@@ -1,5 +1,5 @@
 use Rattle.consuming.specs.Deeds.{sight}
-use Rattle.consuming.proofs.HearingLaws.{datagram_met, another_met, passed_over}
+use Rattle.consuming.proofs.HearingLaws.{datagram_met, another_met, passed_over, stop_met}
 use Rattle.consuming.proofs.coap_waiting.CoapWaiting.meet.Goals as goal
 
 pub returns-in-Datagram-clause-meets : goal.returns-in-Datagram-clause-meets
@@ -8,3 +8,6 @@ returns-in-Datagram-clause-meets g c =
 
 pub returns-in_default : goal.returns-in_default
 returns-in_default g c = record { meets = another_met _ _ _ _ (sight (g.N.Net.seen c.args.net.now) (g.O.Out.seen c.args.out.now)) (passed_over _ c.in_default.not-Datagram c.in_default.not-Stop); in_time = c.requires.in_time }
+
+pub returns-in-Stop-clause-meets : goal.returns-in-Stop-clause-meets
+returns-in-Stop-clause-meets g c = stop_met _ _ _ _ _ (sight (g.N.Net.seen c.args.net.now) (g.O.Out.seen c.args.out.now)) c.in-Stop.is

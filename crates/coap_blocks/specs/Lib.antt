@@ -1,0 +1,5 @@
+pub mod Bodies
+pub mod Kept
+pub mod Laws
+pub mod Parts
+pub mod Paths

@@ -1,7 +1,8 @@
 //! A stored run over sockets. The program starts itself as a child that serves a plan, writes and reads a property of
 //! the shipped rack over TCP and UDP, and prints what came, and how the child ended once no traffic came for five
 //! seconds. Meanwhile further children consume the Thing: one writes the property over CoAP, and two read it, over CoAP
-//! and over HTTP. Then a child checks a Thing Description without a `title`, which ends with a status that isn't 0.
+//! and over HTTP. Then a child that may open no more than 24 files is spoken to beside 30 connections that do nothing.
+//! Last a child checks a Thing Description without a `title`, which ends with a status that isn't 0.
 //!
 //! With words of its own it is the servient; without any it is the run.
 #![tactic(auto)]
@@ -20,6 +21,12 @@ const PAUSE: u64 = 100;
 
 /// How often the child is started: a port that was free may be taken meanwhile.
 const STARTS: u32 = 5;
+
+/// How many connections are opened to a child that may have no more than 24 files, and for how many milliseconds they
+/// are left, so that its listener fails again at a tick.
+const CROWD: u32 = 30;
+
+const CROWDED: u64 = 1500;
 
 /// How long an answer is awaited, in seconds.
 const PATIENCE: u64 = 10;
@@ -44,7 +51,7 @@ fn main(rt: HostRuntime) -> ExitCode {
             if words.count() > 1 {
                 servient_program::run(&rt)
             } else {
-                run(&rt)
+                ended(&rt, run(&rt))
             }
         }
         Err(_) => ExitCode::FAILURE,
@@ -52,15 +59,30 @@ fn main(rt: HostRuntime) -> ExitCode {
 }
 
 /// The run, which fails where the system does.
-fn run(rt: &HostRuntime) -> ExitCode {
+fn run(rt: &HostRuntime) -> io::Result<()> {
+    serve_few(rt)?;
+    serve_many(rt)?;
+    refuse(rt)
+}
+
+/// A child is spoken to.
+fn serve_few(rt: &HostRuntime) -> io::Result<()> {
     for _ in 0..STARTS {
-        match speak(rt) {
-            Ok(true) => return ended(rt, refuse(rt)),
-            Ok(false) => {}
-            Err(error) => return ended(rt, Err(error)),
+        if speak(rt)? {
+            return Ok(());
         }
     }
-    ExitCode::FAILURE
+    Err(io::Error::from(io::ErrorKind::AddrInUse))
+}
+
+/// A child with few files is spoken to beside many connections.
+fn serve_many(rt: &HostRuntime) -> io::Result<()> {
+    for _ in 0..STARTS {
+        if crowd(rt)? {
+            return Ok(());
+        }
+    }
+    Err(io::Error::from(io::ErrorKind::AddrInUse))
 }
 
 /// How the run ends.
@@ -127,12 +149,17 @@ fn plan(rt: &HostRuntime, http: u16, coap: u16) -> io::Result<String> {
     )?)
 }
 
+/// Where the program is.
+fn own_path(rt: &HostRuntime) -> io::Result<String> {
+    match env::args(rt)?.next() {
+        Some(path) => Ok(path),
+        None => Err(io::Error::from(io::ErrorKind::NotFound)),
+    }
+}
+
 /// The program as a servient with these words, whose output is caught.
 fn servient(rt: &HostRuntime, words: &[&str]) -> io::Result<Command> {
-    let Some(program) = env::args(rt)?.next() else {
-        return Err(io::Error::from(io::ErrorKind::NotFound));
-    };
-    let mut command = Command::new(rt.alloc(), program)?;
+    let mut command = Command::new(rt.alloc(), own_path(rt)?)?;
     for word in words {
         command.arg(*word)?;
     }
@@ -144,6 +171,56 @@ fn servient(rt: &HostRuntime, words: &[&str]) -> io::Result<Command> {
 /// Starts the program as a servient that ends after five seconds without traffic.
 fn start(rt: &HostRuntime) -> io::Result<Child> {
     servient(rt, &["serve", "level.plan.json", "--idle", "5"])?.spawn(rt)
+}
+
+/// Starts the program as such a servient that may open no more than 24 files.
+fn start_with_few_files(rt: &HostRuntime) -> io::Result<Child> {
+    let mut command = Command::new(rt.alloc(), "sh")?;
+    command.arg("-c")?;
+    command.arg("ulimit -n 24; exec \"$0\" serve level.plan.json --idle 5")?;
+    command.arg(own_path(rt)?)?;
+    command.stdout(Stdio::piped());
+    command.stderr(Stdio::piped());
+    command.spawn(rt)
+}
+
+/// More connections are opened to a child than it may have files. Those that it has are served, and so are datagrams;
+/// once others are closed, one that waited is. False: a port was taken meanwhile.
+fn crowd(rt: &HostRuntime) -> io::Result<bool> {
+    let http = free_tcp_port(rt)?;
+    let coap = free_udp_port(rt)?;
+    fs::write(rt, "level.plan.json", plan(rt, http, coap)?.as_str())?;
+    let mut child = start_with_few_files(rt)?;
+    let first = match connected(rt, http, &mut child)? {
+        Some(stream) => stream,
+        None => return ended_early(rt, child),
+    };
+    let others = connections(rt, http)?;
+    let last = TcpStream::connect(rt, ("127.0.0.1", http))?;
+    sleep(rt, Duration::from_millis(CROWDED));
+    let written = exchange(rt, first, WRITE)?;
+    let mut answer = [0u8; 2048];
+    let size = ask(rt, coap, &mut answer)?;
+    drop(others);
+    let read = exchange(rt, last, READ)?;
+    let output = child.wait_with_output(rt.alloc())?;
+    print(
+        rt,
+        written.as_slice(),
+        read.as_slice(),
+        answer.get(..size).unwrap_or(b""),
+    )?;
+    print_end(rt, &output)?;
+    Ok(true)
+}
+
+/// Connections that do nothing.
+fn connections(rt: &HostRuntime, port: u16) -> io::Result<Vec<TcpStream>> {
+    let mut streams = Vec::new(rt.alloc());
+    for _ in 0..CROWD {
+        streams.push(TcpStream::connect(rt, ("127.0.0.1", port))?)?;
+    }
+    Ok(streams)
 }
 
 /// The description of the Thing at these ports, as a consumer has it.

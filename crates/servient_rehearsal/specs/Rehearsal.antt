@@ -1,0 +1,67 @@
+-- What a rehearsal is: a run of the world of both ends, from its beginning, which the real objects made. The laws of that
+-- world hold of it.
+use Rattle.std.specs.Prelude.{◌≡◌, ◌≤◌, ◌⊎◌, ℕ, List, [], ◌++◌, length, map, Contains}
+use Rattle.servient_base.specs.Moves.{Each}
+use Rattle.coap_client.specs.declared.state.State.{State as ClientState}
+use Rattle.thing_handler.specs.Handler.{Seen}
+use Rattle.thing_handler.specs.Turns.{RackShows}
+use Rattle.servient_core.specs.Trace.{Sighting, calls_in}
+use Rattle.servient_core.specs.Machine.{Site, start}
+use Rattle.servient_core.specs.Serving.{StandsFor}
+use Rattle.servient_core.specs.declared.parts.Parts.{Parts}
+use Rattle.servient_world.specs.World.{Act}
+use Rattle.servient_world.specs.Laws.{AreForDifferentAsks, IsExcuse, IsAnsweredBy, NeverGoBack, HaveASource}
+use Rattle.servient_ends.specs.Ends.{IsBeginning}
+use Rattle.servient_rehearsal.specs.declared.moves.Move.{Move}
+use Rattle.servient_rehearsal.specs.declared.world.World.{World}
+use Rattle.servient_rehearsal.specs.declared.world.End.TheVariants as end
+use Rattle.servient_rehearsal.specs.Moves.{turn_of}
+use Rattle.servient_rehearsal.specs.Noted.{noted_of, shown_values}
+use Rattle.servient_rehearsal.specs.Turns.{Played, TakesTurn}
+use Rattle.servient_rehearsal.specs.Playing.{IsShown}
+
+-- a servient as it was made
+abbrev pub IsUnused : Parts → Type 0
+IsUnused servient = (exchanges : ℕ) × StandsFor servient (start servient.exposed.site exchanges)
+
+-- A run by these moves, from a new world which the real objects stood for, to one that they stand for as they are left. What the
+-- rack shows are the calls of handlers that are seen of it.
+pub record IsRun (site : Site) (moves : List Move) (old_servient servient : Parts) (old new : ClientState) (before after : List Seen) : Type 0 where
+  pub first_id : ℕ
+  pub exchanges : ℕ
+  pub from : Played
+  pub beginning : IsBeginning site first_id exchanges from.ends
+  pub servient_was : StandsFor old_servient from.ends.servient
+  pub client_was : from.ends.world.client ≡ old
+  pub none_taken : from.values ≡ []
+  pub to : Played
+  pub seen : List Sighting
+  pub turns : Each (TakesTurn site) (map turn_of moves) from seen to
+  pub servient_is : StandsFor servient to.ends.servient
+  pub client_is : to.ends.world.client ≡ new
+  pub rack : RackShows before after (calls_in seen)
+
+-- What came of the moves is seen of such a run, and more holds of it.
+pub record Rehearses (site : Site) (moves : List Move) (old_servient servient : Parts) (old new : ClientState) (before after : List Seen) (w : World) : Type 0 where
+  pub run : IsRun site moves old_servient servient old new before after
+  pub shown : IsShown (noted_of w) run.to
+  -- For each ask the servient made at most one act.
+  pub acts_once : AreForDifferentAsks run.to.ends.world.acts
+  -- For an ask that ended with a response that is no excuse it made one, and the response says what that came to.
+  pub answers_once : (k code : ℕ) (payload : List ℕ) → length w.asks.items ≤ 65536
+      → Contains w.ends.items (record { ask = k; end = end.Answered code payload })
+      → IsExcuse code payload ⊎ IsAnsweredBy run.to.ends.world.acts k code payload
+  -- For an ask that ended with a value of what it observes it made one.
+  pub observes_once : (k : ℕ) → length w.asks.items ≤ 65536 → Contains w.ends.items (record { ask = k; end = end.Observed })
+      → (x : Act) × Contains run.to.ends.world.acts x × (x.ask ≡ k)
+  -- The values that were taken are those of the world, each with the ask for which it was sent.
+  pub taken : length w.asks.items ≤ 65536 → w.taken.items ≡ shown_values run.to.ends.world.taken
+  -- Each was read by the act for its ask, or emitted for the target of that act.
+  pub sources : length w.asks.items ≤ 65536 → HaveASource run.to.ends.world.acts run.to.ends.world.emitted run.to.ends.world.taken
+  -- For one ask none is of an earlier emission than one before it, and the one that was read comes first.
+  pub order : length w.asks.items ≤ 65536 → run.to.ends.world.ids ≤ 65536 → NeverGoBack run.to.ends.world.taken
+
+-- Out of memory: both ends are left as a run by a first part of the moves leaves them.
+abbrev pub RehearsesSome : Site → List Move → Parts → Parts → ClientState → ClientState → List Seen → List Seen → Type 0
+RehearsesSome site moves old_servient servient old new before after =
+    (some rest : List Move) × (moves ≡ some ++ rest) × IsRun site some old_servient servient old new before after

@@ -1,0 +1,89 @@
+//! What is seen of a rehearsal.
+
+use coap_msg::Endpoint;
+use wot_json::Bytes;
+
+/// Where the client is.
+pub const CLIENT: Endpoint = Endpoint {
+    host: 1,
+    port: 49152,
+};
+
+/// Where the servient is.
+pub const SERVIENT: Endpoint = Endpoint {
+    host: 2,
+    port: 5683,
+};
+
+/// What came of the moves of a rehearsal. Each list is in the order in which it came about.
+#[derive(Debug, Drop)]
+pub struct World {
+    /// All datagrams that either end sent.
+    pub sent: SentList,
+    /// The asks that were made and not skipped.
+    pub asks: AskList,
+    /// How asks ended.
+    pub ends: EndList,
+    /// The values that the client took of what it observes.
+    pub taken: TakenList,
+    /// The time that passed, in milliseconds.
+    pub moment: u64,
+}
+
+pub type SentList = Vec<SentDatagram>;
+
+pub type AskList = Vec<AskMade>;
+
+pub type EndList = Vec<AskEnd>;
+
+pub type TakenList = Vec<TakenValue>;
+
+/// A datagram, and when it was sent, from where to where.
+#[derive(Debug, Drop)]
+pub struct SentDatagram {
+    /// Milliseconds since the beginning.
+    pub moment: u64,
+    pub from: Endpoint,
+    pub to: Endpoint,
+    pub bytes: Bytes,
+}
+
+/// An ask that was made.
+#[derive(Clone, Copy, Debug, Drop)]
+pub struct AskMade {
+    /// The number of the ask. Those that were made and not skipped are counted from 0.
+    pub ask: u32,
+    /// Its message ID.
+    pub id: u16,
+    /// When it was sent first, in milliseconds.
+    pub first: u64,
+}
+
+/// The end of an ask.
+#[derive(Debug, Drop)]
+pub struct AskEnd {
+    /// The number of the ask.
+    pub ask: u32,
+    pub end: End,
+}
+
+/// How an ask ended.
+#[derive(Debug, Drop)]
+pub enum End {
+    /// By a response, with its code and its payload.
+    Answered(u8, Bytes),
+    /// By a value of what it registered for.
+    Observed,
+    /// By a Reset (RFC 7252, section 4.2).
+    Reset,
+    /// Without a response, by time.
+    TimedOut,
+}
+
+/// A value that the client took (RFC 7641, section 3.4).
+#[derive(Debug, Drop)]
+pub struct TakenValue {
+    /// The number of the ask that registered for it.
+    pub ask: u32,
+    pub value: Bytes,
+}

@@ -1,6 +1,7 @@
 //! Connections that are opened from here.
 
-use servient_edge::{Dialled, Event, MioNet, Net, Next, What};
+use crate::listening::{listen_on_free_ports, next};
+use servient_edge::{Dialled, Event, Found, MioNet, Net, Next, What};
 use std::net::TcpListener;
 use std::test::Fail;
 
@@ -60,4 +61,32 @@ fn a_peer_that_never_accepts_fails_after_ten_seconds(rt: HostRuntime) -> Result<
         }
     }
     Err("all are connected")?
+}
+
+#[test]
+fn it_may_listen_after_it_has_looked_up_and_dialled(rt: HostRuntime) -> Result<(), Fail> {
+    let listener = TcpListener::bind(&rt, "127.0.0.1:0")?;
+    let port = listener.local_addr()?.port();
+    let mut net = MioNet::new(rt.clone()?);
+    let mut buffer = [0; 4096];
+    let Found::At(_) = net.find(rt.alloc(), "localhost", port) else {
+        return Err("the host isn't found")?;
+    };
+    // Its second has begun, and there is no end without listening.
+    let Next::Got(
+        Event {
+            what: What::Tick,
+            ..
+        },
+    ) = net.next(&mut buffer)
+    else {
+        return Err("no tick came")?;
+    };
+    assert_eq!(rt;
+        net.dial(rt.alloc(), "127.0.0.1", port),
+        Dialled::Connected(0)
+    );
+    let _place = listen_on_free_ports(&rt, &mut net, 500)?;
+    assert_eq!(rt; next(&mut net, &mut buffer)?, What::Stop);
+    Ok(())
 }

@@ -19,36 +19,46 @@ pub struct Listening {
     pub coap: u16,
 }
 
-/// A network that listens at two ports that were free, and stops after n milliseconds without traffic. A port may be
-/// taken meanwhile, and then two others are tried.
+/// A network that listens at two ports that were free, and stops after n milliseconds without traffic.
 pub fn on_free_ports(rt: &HostRuntime, idle: u64) -> Result<Listening, Fail> {
+    let mut net = MioNet::new(rt.clone()?);
+    let place = listen_on_free_ports(rt, &mut net, idle)?;
+    if net.listen(rt.alloc(), &place) != Listened::Failed {
+        return Err("it listens twice")?;
+    }
+    Ok(Listening {
+        net,
+        http: place.http_port,
+        coap: place.coap_port,
+    })
+}
+
+/// Has a network listen at two ports that were free. They may be taken meanwhile, and then two others are tried.
+pub fn listen_on_free_ports(
+    rt: &HostRuntime,
+    net: &mut MioNet<HostRuntime>,
+    idle: u64,
+) -> Result<Place, Fail> {
     for _ in 0..TRIES {
-        if let Some(listening) = tried(rt, idle)? {
-            return Ok(listening);
+        let place = free_place(rt, idle)?;
+        if net.listen(rt.alloc(), &place) == Listened::Ready {
+            return Ok(place);
         }
     }
     Err("it doesn't listen")?
 }
 
-/// The same, tried once.
-fn tried(rt: &HostRuntime, idle: u64) -> Result<Option<Listening>, Fail> {
-    let http = TcpListener::bind(rt, "127.0.0.1:0")?.local_addr()?.port();
-    let coap = UdpSocket::bind(rt, "127.0.0.1:0")?.local_addr()?.port();
-    let place = Place {
+/// A place with two ports that are free.
+fn free_place(rt: &HostRuntime, idle: u64) -> Result<Place, Fail> {
+    let http_port = TcpListener::bind(rt, "127.0.0.1:0")?.local_addr()?.port();
+    let coap_port = UdpSocket::bind(rt, "127.0.0.1:0")?.local_addr()?.port();
+    Ok(Place {
         http_host: Text::copy_of(rt.alloc(), "127.0.0.1")?,
-        http_port: http,
+        http_port,
         coap_host: Text::copy_of(rt.alloc(), "localhost")?,
-        coap_port: coap,
+        coap_port,
         idle,
-    };
-    let mut net = MioNet::new(rt.clone()?);
-    if net.listen(rt.alloc(), &place) != Listened::Ready {
-        return Ok(None);
-    }
-    if net.listen(rt.alloc(), &place) != Listened::Failed {
-        return Err("it listens twice")?;
-    }
-    Ok(Some(Listening { net, http, coap }))
+    })
 }
 
 /// What comes next but ticks.

@@ -5,7 +5,7 @@ use servient_edge::{Event, MioNet, Net, Next, What};
 use std::io::{Read, Write};
 use std::net::TcpStream;
 use std::test::Fail;
-use std::time::Duration;
+use std::time::{Duration, Instant};
 
 /// Answers the next byte that comes with that byte and the number of its connection.
 fn answer(net: &mut MioNet<HostRuntime>) -> Result<(), Fail> {
@@ -51,6 +51,27 @@ const PAUSE: u32 = 4;
 /// How often something is read at most.
 const READS: u32 = 2500;
 
+/// The place after some bytes, each of which must be that of its place.
+fn place_after(bytes: &[u8], place: u64) -> Result<u64, Fail> {
+    let mut place = place;
+    for byte in bytes {
+        if u64::from(*byte) != place / PIECE {
+            return Err("another byte came")?;
+        }
+        place = place.saturating_add(1);
+    }
+    Ok(place)
+}
+
+/// Sends all pieces on a connection.
+fn send_pieces(rt: &HostRuntime, net: &mut MioNet<HostRuntime>, c: u32) -> Result<(), Fail> {
+    for number in 0..64u8 {
+        let piece = vec![in rt.alloc(); number; 65_536]?;
+        net.send(c, b"", piece.as_slice());
+    }
+    Ok(())
+}
+
 /// How many bytes come, each of which must be that of its place. Between the reads another peer sends a byte, so that the
 /// network has something to give.
 fn read_pieces(
@@ -66,12 +87,7 @@ fn read_pieces(
             if count == 0 {
                 return Ok(place);
             }
-            for byte in part.get(..count).unwrap_or(b"") {
-                if u64::from(*byte) != place / PIECE {
-                    return Err("another byte came")?;
-                }
-                place = place.saturating_add(1);
-            }
+            place = place_after(part.get(..count).unwrap_or(b""), place)?;
         }
         other.write_all(b"x")?;
         next(net, &mut buffer)?;
@@ -100,10 +116,7 @@ fn pause(net: &mut MioNet<HostRuntime>) -> Result<(), Fail> {
 fn a_peer_that_pauses_gets_all_that_was_kept(rt: HostRuntime) -> Result<(), Fail> {
     let mut listening = on_free_ports(&rt, 0)?;
     let mut peers = connected(&rt, &mut listening, 2)?;
-    for number in 0..64u8 {
-        let piece = vec![in rt.alloc(); number; 65_536]?;
-        listening.net.send(0, b"", piece.as_slice());
-    }
+    send_pieces(&rt, &mut listening.net, 0)?;
     listening.net.close(0);
     pause(&mut listening.net)?;
     let (Some(mut other), Some(mut peer)) = (peers.pop(), peers.pop()) else {
@@ -115,17 +128,72 @@ fn a_peer_that_pauses_gets_all_that_was_kept(rt: HostRuntime) -> Result<(), Fail
     Ok(())
 }
 
+/// The reply comes, and then the end of what is sent.
+fn hear_to_the_end(peer: &mut TcpStream) -> Result<(), Fail> {
+    let mut reply = [0; 5];
+    peer.set_read_timeout(Some(Duration::from_secs(10)))?;
+    peer.read_exact(&mut reply)?;
+    if reply != *b"reply" || peer.read(&mut reply)? != 0 {
+        return Err("another reply came")?;
+    }
+    Ok(())
+}
+
 #[test]
 fn a_closed_connection_waits_two_seconds_for_its_peer(rt: HostRuntime) -> Result<(), Fail> {
     let mut listening = on_free_ports(&rt, 0)?;
-    let _peers = connected(&rt, &mut listening, 1)?;
+    let mut peers = connected(&rt, &mut listening, 1)?;
     let mut buffer = [0; 4096];
     listening.net.send(0, b"reply", b"");
     listening.net.close(0);
+    let Some(mut peer) = peers.pop() else {
+        return Err("there is one peer")?;
+    };
+    hear_to_the_end(&mut peer)?;
+    // It is read no further than to be dropped, and nothing comes of it.
+    peer.write_all(b"more")?;
     let _second = TcpStream::connect(&rt, ("127.0.0.1", listening.http))?;
     assert_eq!(rt; next(&mut listening.net, &mut buffer)?, What::Opened(1));
     pause(&mut listening.net)?;
     let _third = TcpStream::connect(&rt, ("127.0.0.1", listening.http))?;
     assert_eq!(rt; next(&mut listening.net, &mut buffer)?, What::Opened(0));
+    Ok(())
+}
+
+/// Reads until nothing comes for a while, or the end. Each byte must be that of its place, and the place after the last
+/// is given.
+fn read_on(peer: &mut TcpStream, place: u64) -> Result<u64, Fail> {
+    let mut part = [0; 4096];
+    let mut place = place;
+    for _ in 0..READS {
+        match peer.read(&mut part) {
+            Ok(0) | Err(_) => return Ok(place),
+            Ok(count) => place = place_after(part.get(..count).unwrap_or(b""), place)?,
+        }
+    }
+    Ok(place)
+}
+
+#[test]
+fn what_is_kept_is_written_at_the_end_for_two_seconds(rt: HostRuntime) -> Result<(), Fail> {
+    let mut listening = on_free_ports(&rt, 0)?;
+    let mut peers = connected(&rt, &mut listening, 2)?;
+    send_pieces(&rt, &mut listening.net, 0)?;
+    send_pieces(&rt, &mut listening.net, 1)?;
+    // The second peer never reads.
+    let (Some(_other), Some(mut peer)) = (peers.pop(), peers.pop()) else {
+        return Err("there are two peers")?;
+    };
+    peer.set_read_timeout(Some(Duration::from_millis(100)))?;
+    let before = read_on(&mut peer, 0)?;
+    assert!(rt; before < WHOLE);
+    let begin = Instant::now(&rt)?;
+    listening.net.finish();
+    let passed = Instant::now(&rt)?.duration_since(begin).as_millis();
+    assert!(rt; passed >= 1900);
+    assert!(rt; passed < 5000);
+    assert!(rt; read_on(&mut peer, before)? > before);
+    let mut buffer = [0; 4096];
+    assert_eq!(rt; listening.net.next(&mut buffer), Next::Failed);
     Ok(())
 }

@@ -40,10 +40,13 @@ fn each_of_64_connections_has_its_own_reply(rt: HostRuntime) -> Result<(), Fail>
     Ok(())
 }
 
-/// What is sent: 64 pieces of 65,536 bytes, each of which is its number. The socket takes less at once.
+/// What is sent: 96 pieces of 65,536 bytes, each of which is its number. Over the loopback a socket takes some 2.5 to 4.3
+/// MB of them where nobody reads, so that more than nothing and no more than 4,194,304 bytes are kept.
 const PIECE: u64 = 65_536;
 
-const WHOLE: u64 = 4_194_304;
+const PIECES: u8 = 96;
+
+const WHOLE: u64 = 6_291_456;
 
 /// How many ticks the peer reads nothing: longer than a closed connection lingers.
 const PAUSE: u32 = 4;
@@ -65,7 +68,7 @@ fn place_after(bytes: &[u8], place: u64) -> Result<u64, Fail> {
 
 /// Sends all pieces on a connection.
 fn send_pieces(rt: &HostRuntime, net: &mut MioNet<HostRuntime>, c: u32) -> Result<(), Fail> {
-    for number in 0..64u8 {
+    for number in 0..PIECES {
         let piece = vec![in rt.alloc(); number; 65_536]?;
         net.send(c, b"", piece.as_slice());
     }
@@ -160,8 +163,8 @@ fn a_closed_connection_waits_two_seconds_for_its_peer(rt: HostRuntime) -> Result
     Ok(())
 }
 
-/// Reads until nothing comes for a while, or the end. Each byte must be that of its place, and the place after the last
-/// is given.
+/// Reads until nothing comes for the time that the peer waits, or the end. Each byte must be that of its place, and the
+/// place after the last is given.
 fn read_on(peer: &mut TcpStream, place: u64) -> Result<u64, Fail> {
     let mut part = [0; 4096];
     let mut place = place;
@@ -192,7 +195,8 @@ fn what_is_kept_is_written_at_the_end_for_two_seconds(rt: HostRuntime) -> Result
     let passed = Instant::now(&rt)?.duration_since(begin).as_millis();
     assert!(rt; passed >= 1900);
     assert!(rt; passed < 5000);
-    assert!(rt; read_on(&mut peer, before)? > before);
+    peer.set_read_timeout(Some(Duration::from_secs(10)))?;
+    assert_eq!(rt; read_on(&mut peer, before)?, WHOLE);
     let mut buffer = [0; 4096];
     assert_eq!(rt; listening.net.next(&mut buffer), Next::Failed);
     Ok(())

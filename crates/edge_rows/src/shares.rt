@@ -6,7 +6,7 @@ use std::io::Write;
 use std::net::{TcpStream, UdpSocket};
 use std::test::Fail;
 use std::thread::sleep;
-use std::time::Duration;
+use std::time::{Duration, Instant};
 
 /// What came so far.
 #[derive(Drop)]
@@ -85,7 +85,7 @@ fn slow_ticks_leave_room_for_all_else(rt: HostRuntime) -> Result<(), Fail> {
 /// How many connections have something, beside a flood.
 const OTHERS: u32 = 20;
 
-/// How many events are taken at most until each of them was heard: 8 datagrams before each.
+/// How many events are taken at most until each of them was heard: 8 datagrams before each. Nobody waits for a second.
 const EVENTS: u32 = 200;
 
 #[test]
@@ -101,6 +101,7 @@ fn a_flood_of_datagrams_holds_nobody_up(rt: HostRuntime) -> Result<(), Fail> {
     }
     let mut buffer = [0; 4096];
     let mut heard: u32 = 0;
+    let begin = Instant::now(&rt)?;
     for _ in 0..EVENTS {
         socket.send_to(b"x", ("127.0.0.1", listening.coap))?;
         if let Next::Got(
@@ -114,5 +115,7 @@ fn a_flood_of_datagrams_holds_nobody_up(rt: HostRuntime) -> Result<(), Fail> {
         }
     }
     assert_eq!(rt; heard, OTHERS);
+    let passed = Instant::now(&rt)?.duration_since(begin).as_millis();
+    assert!(rt; passed < 1000);
     Ok(())
 }

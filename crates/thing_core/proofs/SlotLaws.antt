@@ -228,7 +228,7 @@ done_by_act count s act stands free = tt
 pub may_be_done : (count : ℕ) (a : Asked) (act : Act) → SiteStands count a.site → act_asked a ≡ Some act → NoneStands refusals a → MayBeDone act a.state
 may_be_done count a act all e none =
     done_by_act count a.state act (asked_stands (λ p. p.slot < count) a act all e)
-    (λ full. none.1.1.1.1.1.1.1.0 (subst (λ (x : Option Act). Holding (HasNoInvocationLeft a.state) x) (sym e) full))
+    (λ full. none.1.1.1.1.1.1.1.1.0 (subst (λ (x : Option Act). Holding (HasNoInvocationLeft a.state) x) (sym e) full))
 
 -- ---- inputs
 

@@ -7,6 +7,7 @@ use Rattle.wot_json.specs.Meaning.{json_of}
 use Rattle.wot_json.specs.declared.tree.Tree.{Tree}
 use Rattle.thing_ops.specs.declared.outcome.Outcome.{Outcome}
 use Rattle.thing_ops.specs.declared.outcome.Outcome.TheVariants as outcome
+use Rattle.thing_ops.specs.declared.conditions.Conditions.{Conditions}
 use Rattle.thing_ops.specs.Requests.{PlainRequest}
 use Rattle.thing_handler.specs.declared.handler.CallKind.{CallKind}
 use Rattle.thing_handler.specs.declared.handler.CallKind.TheVariants as call
@@ -18,7 +19,7 @@ use Rattle.thing_core.specs.State.{State}
 use Rattle.thing_site.specs.declared.place.Act.{Act}
 use Rattle.thing_site.specs.declared.place.Act.TheVariants as act
 use Rattle.thing_core.specs.Refusals.{act_asked, refusals, NoneStands}
-use Rattle.thing_core.specs.Thing.{Done, IsTaken, Acts, most_turns}
+use Rattle.thing_core.specs.Thing.{Done, IsTaken, Acts, most_turns, read_outcome}
 use Rattle.thing_core.specs.Performing.{affordances_of_act}
 
 -- ---- answers in kind
@@ -49,8 +50,14 @@ AnswersInKind (missed slot ∷ calls) p = AnswersInKind calls p
 
 -- ---- successes
 
+-- a value that has no version of its own
 abbrev pub IsContent : Outcome → Type 0
-IsContent o = (text : List ℕ) × (o ≡ outcome.Content text)
+IsContent o = (text : List ℕ) × (o ≡ outcome.Content text None)
+
+-- one property was read, and judged by some version: its value with that version, or its sender has it, or it isn't what
+-- the request asks for
+abbrev pub IsRead : Conditions → Outcome → Type 0
+IsRead c o = (version : ℕ) × (text : List ℕ) × (o ≡ read_outcome c version text)
 
 -- an action is finished, without an output or with one, or runs
 abbrev pub IsInvocation : Outcome → Type 0
@@ -63,7 +70,7 @@ abbrev pub IsSuccess : Act → PlainRequest → Outcome → Type 0
 IsSuccess (act.Describes thing) q o = o ≡ outcome.Description (text_of thing.description) q.accept.td
 IsSuccess (act.ReadsAll thing) q o = IsContent o
 IsSuccess (act.WritesMany thing) q o = o ≡ outcome.Changed
-IsSuccess (act.Reads p) q o = IsContent o
+IsSuccess (act.Reads p) q o = IsRead q.conditions o
 IsSuccess (act.Writes p) q o = o ≡ outcome.Changed
 IsSuccess (act.Invokes p) q o = IsInvocation o
 IsSuccess (act.Queries p id) q o = IsContent o

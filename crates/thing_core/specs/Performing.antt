@@ -17,7 +17,7 @@ use Rattle.thing_handler.specs.Turns.{HandlerCall, RackShows}
 use Rattle.thing_core.specs.declared.admitting.Task.{Task}
 use Rattle.thing_site.specs.Site.{Placed}
 use Rattle.thing_core.specs.State.{State, Emission, Invocation, completed, running, status_text, invocation_named, running_count, most_invocations}
-use Rattle.thing_core.specs.Course.{Course}
+use Rattle.thing_core.specs.Course.{Course, HasRoom}
 use Rattle.thing_site.specs.declared.place.Act.{Act}
 use Rattle.thing_site.specs.declared.place.Act.TheVariants as act
 use Rattle.thing_site.specs.Refusals.{Input, longest_value, inputs_of, IsAnswer, IsFirst, IsNone}
@@ -86,10 +86,16 @@ abbrev pub ComesAs : Called → Result Answer Outcome → Type 0
 ComesAs called (Ok answer) = called ≡ gives answer
 ComesAs called (Err o) = IsUnanswered called o
 
+-- where it was answered, a value of any property may be seen: the turn hasn't brought a version about yet
+abbrev pub HasRoomAfter : Called → State → Type 0
+HasRoomAfter (gives answer) s = HasRoom s
+HasRoomAfter called s = Unit {0}
+
 -- the same where this holds of what came of the call
 pub record CallsFor (P : Called → Type 0) (slot : ℕ) (what : CallKind) (old new : Course) (before after : List Seen) : Type 0 where
   pub called : Called
   pub comes : P called
+  pub versions : HasRoomAfter called new.state
   pub made : Makes RackShows (Calls slot what called) old.state new.state before after
   pub pending : new.pending ≡ old.pending
   pub room : new.room ≡ old.room
@@ -208,7 +214,7 @@ SettlesCancel id answer o old new = IsCancelled id (only o) (gives answer) old.s
 -- an invocation that runs no more was asked about; or it runs, and the room is empty still
 abbrev pub IsTold : Option Invocation → ℕ → Result Outcome (List ℕ) → Type 0
 IsTold found id (Ok o) =
-    (i : Invocation) × (output : Option (List ℕ)) × (found ≡ Some i) × (i.status ≡ completed output) × (o ≡ outcome.Content (status_text id (completed output)))
+    (i : Invocation) × (output : Option (List ℕ)) × (found ≡ Some i) × (i.status ≡ completed output) × (o ≡ outcome.Content (status_text id (completed output)) None)
 IsTold found id (Err room) = IfSome found (λ i. i.status ≡ running) × (room ≡ [])
 
 -- what an act asks of the state: the invocation that it is about is there, and where it begins

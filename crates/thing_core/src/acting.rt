@@ -37,7 +37,7 @@ pub fn act<R: Handlers>(
     match act {
         Act::Describes(thing) => describe(alloc, thing.thing(), request.accept.td),
         Act::ReadsAll(thing) => read_all(alloc, thing.thing(), machine, rack),
-        Act::Reads(spot) => read(alloc, spot, machine, rack),
+        Act::Reads(spot) => read(alloc, spot, &request.conditions, machine, rack),
         Act::WritesMany(_) => write_each(inputs, machine, rack),
         Act::Writes(_) => write_each(inputs, machine, rack),
         Act::Invokes(spot) => match prepare(alloc, &request.path, machine.next_invocation()) {
@@ -73,7 +73,7 @@ fn last_emission(alloc: Global, last: &[Latest], target: u32) -> Outcome
 {
     match last_in(last, target) {
         Some(text) => match Bytes::copy_of(alloc, text) {
-            Ok(text) => Outcome::Content(text),
+            Ok(text) => Outcome::Content { text, tag: None },
             Err(_) => Outcome::Memory,
         },
         None => Outcome::Empty,

@@ -10,7 +10,7 @@ use crate::machine::Machine;
 use crate::standing::place_of;
 use crate::state::{Invocation, MOST_INVOCATIONS};
 use std::alloc::Global;
-use thing_ops::{Outcome, Request, route};
+use thing_ops::{Conditions, Outcome, Request, route};
 use thing_site::{Act, IndexedThings, Input, act_at, judge};
 
 /// An act to do, with what is handed in to it.
@@ -41,10 +41,23 @@ pub fn admitted<'a>(
         Ok(inputs) => inputs,
         Err(outcome) => return Err(outcome),
     };
+    if has_failed_condition(&act, machine, &request.conditions) {
+        return Err(Outcome::PreconditionFailed);
+    }
     if has_none_left(&act, machine.invocations()) {
         return Err(Outcome::InvocationsFull);
     }
     Ok(Task { act, inputs })
+}
+
+/// A property would be written that isn't of a version that the request asks for.
+fn has_failed_condition(act: &Act<'_>, machine: &Machine, conditions: &Conditions) -> bool
+    ensures { IsTrue result ↔ refusal.HasFailedCondition machine.now.state conditions.now act.now }
+{
+    match act {
+        Act::Writes(spot) => conditions.fails_to_write(machine.version_of(spot.slot())),
+        _ => false,
+    }
 }
 
 /// An action would be invoked, and no further invocation may run.

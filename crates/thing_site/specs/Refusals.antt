@@ -144,7 +144,7 @@ IsRefusedBySchema input = ¬ (IsAccepted input.affordance.affordance.input input
 
 -- the kinds of refusals
 pub data Refusal : Type 0 where
-  nothing_there verb_not_taken answer_not_acceptable format_not_taken body_not_as_wanted value_too_large refused_by_schema no_invocation_left : Refusal
+  nothing_there verb_not_taken answer_not_acceptable format_not_taken body_not_as_wanted value_too_large refused_by_schema condition_failed no_invocation_left : Refusal
 
 -- Those of an act that is there for which no state counts, in the order in which they are judged. They are apart from
 -- the two before an act is there, because code that judges an act says what it finds of that act alone.
@@ -182,6 +182,7 @@ IsAnswer format_not_taken o = o ≡ outcome.Format
 IsAnswer body_not_as_wanted o = o ≡ outcome.BadValue
 IsAnswer value_too_large o = o ≡ outcome.TooLarge
 IsAnswer refused_by_schema o = o ≡ outcome.BadValue
+IsAnswer condition_failed o = o ≡ outcome.PreconditionFailed
 IsAnswer no_invocation_left o = o ≡ outcome.InvocationsFull
 IsAnswer r o = ⊥
 

@@ -24,7 +24,7 @@ use Rattle.thing_site.specs.Refusals.{Input, inputs_of, only_input, member_input
 use Rattle.thing_core.specs.State.{State, Emission, Status, running, completed}
 use Rattle.thing_core.specs.Refusals.{Asked, act_asked}
 use Rattle.thing_core.specs.Performing.{affordances_of_act}
-use Rattle.thing_core.specs.Thing.{Done, Called, no_number, no_memory, gives, failure_of, Calls, ReadsValue, readable, is_readable, ReadsEach, Emits, emissions_of_write, Stops, IfDone, WritesEach, IsHandedIn, IsInvoked, IsQueried, Queries, IsCancelled, Cancels, Performs, Acts, refuses, has_no_memory, performs, PollsEvent}
+use Rattle.thing_core.specs.Thing.{Done, Called, no_number, no_memory, gives, failure_of, Calls, ReadsValue, readable, is_readable, ReadsEach, SeesWritten, emissions_of_write, Stops, IfDone, WritesEach, IsHandedIn, IsInvoked, IsQueried, Queries, IsCancelled, Cancels, Performs, Acts, refuses, has_no_memory, performs, PollsEvent}
 use Rattle.thing_core.proofs.ReadLaws.{AfterValue}
 use Rattle.thing_core.proofs.Handed.{came_of, made_of, InputsHave, handed_have}
 use Rattle.thing_core.proofs.SlotLaws.{asked_have}
@@ -158,7 +158,7 @@ its_own P p body inputs has e = handed_have P (invokes p) body inputs (has, tt) 
 
 written_fit : (site : Site) (i : Input) (inputs : List Input) (emitted : List Emission) (done : Done) (c : Called) (s : State) (calls : List HandlerCall) (t : State)
     → ((u : State) (after : List HandlerCall) → WritesEach inputs (emitted ++ emissions_of_write i) done u after t → AreFit site after)
-    → IfDone c (Then (Emits (emissions_of_write i)) (WritesEach inputs (emitted ++ emissions_of_write i) done)) (Stops (failure_of c) emitted done) s calls t
+    → IfDone c (Then (SeesWritten i) (WritesEach inputs (emitted ++ emissions_of_write i) done)) (Stops (failure_of c) emitted done) s calls t
     → AreFit site calls
 written_fit site i inputs emitted done (gives answer.Done) s calls t further r = fit_then site r.first r.second calls (fit_none site r.first r.one.saw) (further r.mid r.second r.other) r.whole
 written_fit site i inputs emitted done no_number s calls t further r = fit_none site calls r.1.saw

@@ -63,7 +63,7 @@ text_after slot number None text = refl
 text_after slot number (Some last) text = by_test (bytes_eq last text) refl
   where
     by_test : (b : Bool) → bytes_eq last text ≡ b
-        → (cond b (record { slot = slot; number = number; text = Some last }) (record { slot = slot; number = number + 1; text = Some text })).text ≡ Some text
+        → (cond {A = Version} b (record { slot = slot; number = number; text = Some last }) (record { slot = slot; number = number + 1; text = Some text })).text ≡ Some text
     by_test true e = ap Some ((bytes_eq-Decides last text).0 e)
     by_test false e = refl
 

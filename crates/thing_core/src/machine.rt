@@ -62,11 +62,9 @@ impl Model for Machine {
 }
 
 impl Machine {
-    ghost use Rattle.std.specs.Prelude.{◌≡◌, ◌≤◌, ◌<◌, ◌+◌, ◌-◌, ◌++◌, ◌∷◌, [], length, option_map, IfOk, OnOk, OnErr, MatchOption};
+    ghost use Rattle.std.specs.Prelude.{◌≡◌, ◌≤◌, ◌<◌, ◌+◌, ◌-◌, ◌++◌, ◌∷◌, [], ℕ, length, option_map, IfOk, OnOk, OnErr, MatchOption};
     ghost use Rattle.thing_site.specs.Refusals.{longest_value};
     ghost use Rattle.thing_core.specs.State as spec;
-    ghost use Rattle.std.specs.Prelude.{ℕ, map};
-    ghost use Rattle.thing_site.specs.Site.{Site};
     ghost use Rattle.thing_core.specs.Thing.{most_turns, with_id_used, with_invocations, with_seen};
     ghost use Rattle.thing_core.specs.Course.{FitsValue, HasRoom};
     ghost use Rattle.thing_core.specs.Ids.{IdsRise};

@@ -8,6 +8,7 @@ use Rattle.std.proofs.lemmas.Slice.Eq.{bytes_eq-Decides}
 use Rattle.std.proofs.lemmas.Bool.{eqb-true}
 use Rattle.wot_json.specs.Tree.{Json}
 use Rattle.wot_json.specs.Json.{text_of}
+use Rattle.wot_json.specs.Meaning.{json_of}
 use Rattle.thing_ops.specs.declared.conditions.Tags.{Tags}
 use Rattle.thing_ops.specs.declared.conditions.Conditions.{Conditions}
 use Rattle.thing_ops.specs.Conditions.{has, fails, fails_to_write, is_missed}
@@ -127,8 +128,11 @@ abbrev failure_in : Result Json Outcome → Bool
 failure_in (Ok value) = false
 failure_in (Err o) = is_failure o
 
+not_ok : (o : Outcome) (value : Json) → Err o ≡ Ok value → ⊥
+not_ok o value e = cc
+
 no_value_fails : (schema : Option Json) (called : Called) (o : Outcome) → GivesValue schema called (Err o) → is_failure o ≡ true
-no_value_fails schema (gives (answer.Value tree)) o (inl taken) = absurd (let differ : failure_in (Err o) ≡ false = ap failure_in taken.1 in let same : Err o ≡ Ok _ = taken.1 in cc)
+no_value_fails schema (gives (answer.Value tree)) o (inl taken) = absurd (not_ok o (json_of tree) taken.1)
 no_value_fails schema (gives (answer.Value tree)) o (inr refused) = ap failure_in refused.1
 no_value_fails schema called o given = ap failure_in given ∙ failures called
 
@@ -289,6 +293,15 @@ has_number None texts w begins e = absurd cc
 has_number (Some v) texts w begins e =
     subst HasNumber (sym (same_Some w (after_texts texts v) e)) (numbers_after texts v (begins v refl))
 
+at_least_one : (tag : ℕ) (text : List ℕ) (v : Version) → HasNumber v → v.number ≡ tag → v.text ≡ Some text → 1 ≤ tag
+at_least_one tag text v h number is = by_test tag refl
+  where
+    none_is : v.text ≡ None → ⊥
+    none_is none = let e : None ≡ Some text = sym none ∙ is in cc
+    by_test : (n : ℕ) → n ≡ tag → 1 ≤ tag
+    by_test zero e = absurd (none_is (h (number ∙ sym e)))
+    by_test (suc n) e = omega (arith, e)
+
 pub tags_are_seen : (site : Site) → TagsAreSeen site
 tags_are_seen site p q done s t tag text reached there asked sent =
     let w = read_shows site p q done s asked.seen t tag text asked.asked asked.move there sent in
@@ -297,17 +310,7 @@ tags_are_seen site p q done s t tag text reached there asked sent =
     let sees = grown.sees p.slot in
     let numbered : HasNumber w.0 =
     has_number (version_in p.slot (start site).versions) sees.0 w.0 (λ v e. begins_unseen p.slot (properties_of site) v e) (sym w.1 ∙ sees.1) in
-    at_least_one w.0 numbered w.2 w.3
-  where
-    at_least_one : (v : Version) → HasNumber v → v.number ≡ tag → v.text ≡ Some text → 1 ≤ tag
-    at_least_one v h number is = by_test tag refl
-      where
-        none_is : v.text ≡ None → ⊥
-        none_is none = let e : None ≡ Some text = sym none ∙ is in cc
-
-        by_test : (n : ℕ) → n ≡ tag → 1 ≤ tag
-        by_test zero e = absurd (none_is (h (number ∙ sym e)))
-        by_test (suc n) e = omega (arith, e)
+    at_least_one tag text w.0 numbered w.2 w.3
 
 -- each property has a version
 begins_there : (ps : List Placed) → AllByRecursion (λ p. IsSome (version_in p.slot (map unseen ps))) ps

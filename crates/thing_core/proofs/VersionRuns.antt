@@ -17,7 +17,7 @@ use Rattle.thing_site.specs.declared.place.Act.{Act}
 use Rattle.thing_site.specs.declared.place.Act.TheVariants.{Describes as describes, ReadsAll as reads_all, WritesMany as writes_many, Reads as reads, Writes as writes, Invokes as invokes, Queries as queries, Cancels as cancels, ReadsEvent as reads_event, Waits as waits}
 use Rattle.thing_site.specs.Refusals.{Input}
 use Rattle.thing_core.specs.Thing.{Move, Done, Called, no_number, no_memory, gives, failure_of, most_turns, Calls, GivesValue, ReadsValue, with_value, ReadsEach, SeesWritten, emissions_of_write, Stops, IfDone, WritesEach, IsInvoked, IsQueried, Queries, IsCancelled, Cancels, Performs, Acts, refuses, has_no_memory, performs, PollsEach}
-use Rattle.thing_core.specs.Runs.{Deed, asks, polls, DoesAll, version_in, after_texts, SeesTexts, IsLater}
+use Rattle.thing_core.specs.Runs.{Deed, asks, polls, DoesAll, version_in, after_texts, changes, SeesTexts, IsLater}
 use Rattle.thing_core.proofs.ReadLaws.{AfterValue}
 use Rattle.thing_core.proofs.VersionLists.{seen_within}
 
@@ -35,6 +35,17 @@ more_texts text texts v later = by_test (is_last_seen text v) later
 pub texts_make_versions : (texts : List (List ℕ)) (v : Version) → IsLater v (after_texts texts v)
 texts_make_versions [] v = (omega arith, λ same. refl)
 texts_make_versions (text ∷ texts) v = more_texts text texts v (texts_make_versions texts (after_text text v))
+
+pub texts_counted : (texts : List (List ℕ)) (v : Version) → (after_texts texts v).number ≡ v.number + changes texts v
+texts_counted [] v = omega arith
+texts_counted (text ∷ texts) v = by_test (is_last_seen text v) (texts_counted texts (after_text text v))
+  where
+    newer : Version
+    newer = record v { number = v.number + 1; text = Some text }
+    by_test : (b : Bool) → (after_texts texts (cond b v newer)).number ≡ (cond b v newer).number + changes texts (cond b v newer)
+        → (after_texts texts (cond b v newer)).number ≡ v.number + (cond b 0 1 + changes texts (cond b v newer))
+    by_test true rest = omega (arith, rest)
+    by_test false rest = omega (arith, rest)
 
 two_parts : (a b : List (List ℕ)) (v : Version) → after_texts b (after_texts a v) ≡ after_texts (a ++ b) v
 two_parts [] b v = refl

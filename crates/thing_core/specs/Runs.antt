@@ -1,6 +1,6 @@
 -- Versions of properties over a run: what entity tags promise (RFC 9110, section 8.8.3), and that no write is lost
 -- (section 13.1.1).
-use Rattle.std.specs.Prelude.{◌≡◌, ◌≤◌, ℕ, ◌==◌, List, [], ◌∷◌, Option, Some, None, option_map, IsSome, if◌then◌else◌, false}
+use Rattle.std.specs.Prelude.{◌≡◌, ◌≤◌, ℕ, ◌+◌, ◌==◌, List, [], ◌∷◌, Option, Some, None, option_map, IsSome, if◌then◌else◌, false}
 use Rattle.std.specs.List.{AllByRecursion}
 use Rattle.servient_base.specs.Moves.{Each}
 use Rattle.thing_ops.specs.declared.outcome.Outcome.TheVariants as outcome
@@ -9,7 +9,7 @@ use Rattle.thing_handler.specs.Turns.{HandlerCall}
 use Rattle.thing_site.specs.Site.{Placed, Site}
 use Rattle.thing_site.specs.declared.place.Act.{Act}
 use Rattle.thing_site.specs.declared.place.Act.TheVariants as act
-use Rattle.thing_core.specs.State.{State, Emission, Version, after_text, start, properties_of, version_of}
+use Rattle.thing_core.specs.State.{State, Emission, Version, is_last_seen, after_text, start, properties_of, version_of}
 use Rattle.thing_core.specs.Refusals.{act_asked}
 use Rattle.thing_core.specs.Thing.{Move, Done, Acts, Polls, most_turns}
 
@@ -52,9 +52,16 @@ IsLater v w = (v.number ≤ w.number) × (w.number ≡ v.number → w ≡ v)
 abbrev pub VersionsSeeTexts : Site → Type 0
 VersionsSeeTexts site = (deeds : List Deed) (s t : State) (seen : List HandlerCall) → DoesAll site deeds s seen t → (slot : ℕ) → SeesTexts slot s t
 
--- A version never falls; while its number is the same, its text is.
+-- how many of these texts differ from the one that was seen before
+abbrev pub changes : List (List ℕ) → Version → ℕ
+changes [] v = 0
+changes (text ∷ texts) v = (if is_last_seen text v then 0 else 1) + changes texts (after_text text v)
+
+-- A version never falls; while its number is the same, its text is; and it rises by one for each text that differs from
+-- the one that was seen before, and by nothing else.
 abbrev pub TextsMakeVersions : Type 0
-TextsMakeVersions = (texts : List (List ℕ)) (v : Version) → IsLater v (after_texts texts v)
+TextsMakeVersions =
+    (texts : List (List ℕ)) (v : Version) → IsLater v (after_texts texts v) × ((after_texts texts v).number ≡ v.number + changes texts v)
 
 -- ---- from the beginning
 

@@ -54,8 +54,8 @@ pub fn requests_are_determined()
     ensures { (site : Site) → (q : PlainRequest) → IsDetermined site q }
 {}
 
-/// Of each property texts are seen one after another, whatever is done: its version never falls, and while its number is
-/// the same, so is its text.
+/// Of each property texts are seen one after another, whatever is done: its version never falls, rises by one for each
+/// text that differs from the one before, and while its number is the same, so is its text.
 pub fn versions_see_texts()
     ensures sees { (site : Site) → VersionsSeeTexts site }
     ensures later { TextsMakeVersions }

@@ -145,10 +145,8 @@ fn put_further(text: &mut String, outcome: &Outcome) -> Result<(), AllocError> {
             text.push_str("; allow ")?;
             put_line(text, *allow)
         }
-        Outcome::Content { tag: Some(tag), .. } | Outcome::NotModified(tag) => write!(
-            text,
-            "; tag {tag}"
-        ),
+        Outcome::Content { tag: Some(tag), .. } => write!(text, "; tag {tag}"),
+        Outcome::NotModified(tag) => write!(text, "; tag {tag}"),
         Outcome::Wait(target) => write!(text, "; waits for {target}"),
         Outcome::Description(_, true) => text.push_str("; as td"),
         Outcome::Created(Some(id)) => write!(text, "; id {id}"),

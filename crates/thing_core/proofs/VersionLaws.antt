@@ -263,7 +263,7 @@ no_write_is_lost site p q r read written s t u v deeds between tag text there as
     let x : Version = after_texts later.0 w.0 in
     let number : x.number ≡ tag = sym (version_number p.slot u.versions x later.1) ∙ sym (write_finds site p r written u again.seen v tag again.asked again.move asks changed) in
     let same : x ≡ w.0 = unchanged p.slot tag t u w.0 x w.1 later.1 (grown.sees p.slot) w.2 number in
-    ap (option_map (λ (y : Version). (y.number, y.text))) (later.1 ∙ ap Some same) ∙ (λ i. Some (w.2 i, w.3 i))
+    ap (option_map {U = ℕ × Option (List ℕ)} (λ (y : Version). (y.number, y.text))) (later.1 ∙ ap Some same) ∙ (λ i. Some (w.2 i, w.3 i))
 
 -- ---- from the beginning
 

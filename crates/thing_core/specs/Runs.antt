@@ -105,7 +105,7 @@ NoWriteIsLost site =
     → IsAsked site q (act.Reads p) read s t → DoesAll site deeds t between u → IsAsked site r (act.Writes p) written u v
     → read.outcome ≡ outcome.Content text (Some tag) → r.conditions.if_match ≡ Some (record { any = false; list = tag ∷ [] })
     → written.outcome ≡ outcome.Changed
-    → option_map (λ w. (w.number, w.text)) (version_in p.slot u.versions) ≡ Some (tag, Some text)
+    → option_map {U = ℕ × Option (List ℕ)} (λ w. (w.number, w.text)) (version_in p.slot u.versions) ≡ Some (tag, Some text)
 
 -- Each property has a version at the beginning, and so in each state that is reached.
 abbrev pub PropertiesHaveVersions : Site → Type 0

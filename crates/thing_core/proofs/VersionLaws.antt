@@ -186,7 +186,7 @@ read_shows : (site : Site) (p : Placed) (q : PlainRequest) (done : Done) (s : St
     → act_asked (record { site = site; state = s; request = q }) ≡ Some (reads p) → Acts site q done s seen t → IsSome (version_in p.slot s.versions)
     → done.outcome ≡ outcome.Content text (Some tag) → Shows p.slot tag text t
 read_shows site p q done s seen t tag text asked (refuses o refused x) there sent =
-    absurd (success_isnt o (outcome.Content text (Some tag)) (refusals_fail _ (record { site = site; state = s; request = q }) refusals o refused) refl (sym (ap (λ (d : Done). d.outcome) x.0) ∙ sent))
+    absurd (success_isnt o (outcome.Content text (Some tag)) (refusals_fail (λ r. Stands r (record { site = site; state = s; request = q })) (record { site = site; state = s; request = q }) refusals o refused) refl (sym (ap (λ (d : Done). d.outcome) x.0) ∙ sent))
 read_shows site p q done s seen t tag text asked (has_no_memory x) there sent =
     absurd (success_isnt outcome.Memory (outcome.Content text (Some tag)) refl refl (sym (ap (λ (d : Done). d.outcome) x.0) ∙ sent))
 read_shows site p q done s seen t tag text asked (performs act inputs none found given does) there sent =
@@ -248,7 +248,7 @@ write_finds : (site : Site) (p : Placed) (q : PlainRequest) (done : Done) (s : S
     → act_asked (record { site = site; state = s; request = q }) ≡ Some (writes p) → Acts site q done s seen t → q.conditions.if_match ≡ Some (record { any = false; list = tag ∷ [] })
     → done.outcome ≡ outcome.Changed → tag ≡ version_of p.slot s.versions
 write_finds site p q done s seen t tag asked (refuses o refused x) asks changed =
-    absurd (success_isnt o outcome.Changed (refusals_fail _ (record { site = site; state = s; request = q }) refusals o refused) refl (sym (ap (λ (d : Done). d.outcome) x.0) ∙ changed))
+    absurd (success_isnt o outcome.Changed (refusals_fail (λ r. Stands r (record { site = site; state = s; request = q })) (record { site = site; state = s; request = q }) refusals o refused) refl (sym (ap (λ (d : Done). d.outcome) x.0) ∙ changed))
 write_finds site p q done s seen t tag asked (has_no_memory x) asks changed =
     absurd (success_isnt outcome.Memory outcome.Changed refl refl (sym (ap (λ (d : Done). d.outcome) x.0) ∙ changed))
 write_finds site p q done s seen t tag asked (performs act inputs none found given does) asks changed =

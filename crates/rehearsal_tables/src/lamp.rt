@@ -46,6 +46,7 @@ fn things_of(alloc: Global, plan: &Plan) -> Result<Things, AllocError>
 }
 
 /// A new servient of the built-in Thing.
+#[tactic(auto, using(crate::proofs::Beginnings::unused_of))]
 fn servient_on<R: Handlers>(alloc: Global, rack: &R) -> Result<Servient, AllocError>
     ensures fits { IfOk result (λ s. Fits s.exposed.site (R.slots rack.now)) }
     ensures unused { IfOk result (λ s. IsUnused s) }
@@ -63,6 +64,7 @@ fn servient_on<R: Handlers>(alloc: Global, rack: &R) -> Result<Servient, AllocEr
 /// # Errors
 ///
 /// Out of memory, and where the moves are too many or take too long.
+#[tactic(auto, using(crate::proofs::Beginnings::new_of))]
 pub fn world_of<R: Handlers>(
     alloc: Global,
     rack: &mut R,

@@ -12,5 +12,11 @@ unused_of s exchanges stands = (exchanges, stands)
 
 pub new_of : (first_id : ℕ) (s : State) → IsNew first_id s → IsNew s.next_id s
 new_of first_id s new = record {
-    moment = new.moment; outstanding = new.outstanding; observation = new.observation; next_token = new.next_token;
-    next_id = refl; ids = new.ids; unused = new.unused }
+  moment = new.moment;
+  outstanding = new.outstanding;
+  observation = new.observation;
+  next_token = new.next_token;
+  next_id = refl;
+  ids = new.ids;
+  unused = new.unused;
+}

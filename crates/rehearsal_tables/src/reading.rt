@@ -23,7 +23,7 @@ fn path_of(alloc: Global, text: &str) -> Result<Segments, AllocError> {
     let mut path = Segments::new(alloc);
     for segment in text.split('/').skip(1) {
         if !segment.is_empty() {
-            path.push(segment.as_bytes())?;
+            path.push(bytes_of(alloc, segment)?.as_slice())?;
         }
     }
     Ok(path)

@@ -20,3 +20,11 @@ KeepsRest kept message kept_after = (front : List ℕ) × (kept ++ message ≡ f
 -- what is sent of a message: nothing where the connection is closed
 abbrev pub sent_by : Connection → List ℕ → List ℕ
 sent_by connection message = if is_some connection.closed then [] else message
+
+-- What a turn leaves of what is kept, where the connection goes on: a front has gone, and the rest is kept.
+abbrev pub Leaves : List ℕ → Took → List ℕ → Type 0
+Leaves before (took.Bytes count) after = KeepsRest before [] after
+Leaves before took.Unwanted after = KeepsRest before [] after
+Leaves before took.Nothing after = KeepsRest before [] after
+Leaves before took.Ended after = Unit {0}
+Leaves before took.Over after = Unit {0}

@@ -1,7 +1,7 @@
 //! One connection: its socket, and what the socket hasn't taken yet.
 
 ghost use Rattle.std.specs.Prelude.{◌≡◌, ◌≤◌, ◌++◌, [], true, false, None, IsSome, IfOk, OnErr, is_some, length};
-ghost use Rattle.servient_edge.specs.Connection.{TookAt, KeepsRest, sent_by};
+ghost use Rattle.servient_edge.specs.Connection.{TookAt, KeepsRest, Leaves, sent_by};
 
 use crate::kept::Kept;
 use crate::sending::{flush, send};
@@ -62,6 +62,7 @@ impl Connection {
         requires { length buffer.old ≡ 4096 }
         ensures took { TookAt (is_some self.old.closed) result }
         ensures closed { is_some self.new.closed ≡ is_some self.old.closed }
+        ensures kept { Leaves self.old.kept result self.new.kept }
     {
         if self.flush(moment).is_err() {
             return self.gone();

@@ -13,6 +13,14 @@ TookAt closed took.Nothing = Unit {0}
 TookAt closed took.Ended = closed ≡ false
 TookAt closed took.Over = closed ≡ true
 
+-- it is the end of a connection
+abbrev pub IsEnd : Took → Type 0
+IsEnd (took.Bytes count) = ⊥
+IsEnd took.Unwanted = ⊥
+IsEnd took.Nothing = ⊥
+IsEnd took.Ended = Unit {0}
+IsEnd took.Over = Unit {0}
+
 -- of what was kept, and then a message, a front has gone, and the rest is kept
 abbrev pub KeepsRest : List ℕ → List ℕ → List ℕ → Type 0
 KeepsRest kept message kept_after = (front : List ℕ) × (kept ++ message ≡ front ++ kept_after)

@@ -1,5 +1,5 @@
 -- Whose turn is next. Who waits is a list with true at its place.
-use Rattle.std.specs.Prelude.{ℕ, Bool, true, false, List, Option, Some, None, ◌+◌, drop, slice_set, option_map, is_none}
+use Rattle.std.specs.Prelude.{ℕ, Bool, false, List, Option, Some, None, ◌+◌, drop, slice_set, option_map, is_none}
 use Rattle.std.specs.List.{position}
 
 -- the first that waits

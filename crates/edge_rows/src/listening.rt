@@ -1,6 +1,6 @@
 //! A network that listens at ports that were free, and what comes of it.
 
-use servient_edge::{Event, Listened, MioNet, Net, Next, Place, What};
+use servient_edge::{Listened, MioNet, Net, Next, Place, What};
 use std::net::{TcpListener, TcpStream, UdpSocket};
 use std::test::Fail;
 use wot_json::Text;
@@ -61,21 +61,39 @@ fn free_place(rt: &HostRuntime, idle: u64) -> Result<Place, Fail> {
     })
 }
 
+/// What comes next, if the network doesn't fail. For the prover: it has no clause, so that its callers are proved without
+/// those of `next` on numbers, at which they don't look.
+pub fn event(net: &mut MioNet<HostRuntime>, buffer: &mut [u8; 4096]) -> Option<What> {
+    match net.next(buffer) {
+        Next::Got(event) => Some(event.what),
+        Next::Failed => None,
+    }
+}
+
 /// What comes next but ticks.
 pub fn next(net: &mut MioNet<HostRuntime>, buffer: &mut [u8; 4096]) -> Result<What, Fail> {
     for _ in 0..PATIENCE {
-        match net.next(buffer) {
-            Next::Got(
-                Event {
-                    what: What::Tick,
-                    ..
-                },
-            ) => {}
-            Next::Got(event) => return Ok(event.what),
-            Next::Failed => return Err("the network failed")?,
+        match event(net, buffer) {
+            Some(What::Tick) => {}
+            Some(what) => return Ok(what),
+            None => return Err("the network failed")?,
         }
     }
     Err("nothing came")?
+}
+
+/// One more connection, which has this number.
+pub fn connected_as(
+    rt: &HostRuntime,
+    listening: &mut Listening,
+    c: u32,
+) -> Result<TcpStream, Fail> {
+    let mut buffer = [0; 4096];
+    let peer = TcpStream::connect(rt, ("127.0.0.1", listening.http))?;
+    if next(&mut listening.net, &mut buffer)? != What::Opened(c) {
+        return Err("another number was opened")?;
+    }
+    Ok(peer)
 }
 
 /// So many connections, which have the numbers from 0 on.
@@ -84,13 +102,10 @@ pub fn connected(
     listening: &mut Listening,
     count: u32,
 ) -> Result<Vec<TcpStream>, Fail> {
-    let mut buffer = [0; 4096];
     let mut peers = Vec::new(rt.alloc());
     for c in 0..count {
-        peers.push(TcpStream::connect(rt, ("127.0.0.1", listening.http))?)?;
-        if next(&mut listening.net, &mut buffer)? != What::Opened(c) {
-            return Err("another number was opened")?;
-        }
+        let peer = connected_as(rt, listening, c)?;
+        peers.push(peer)?;
     }
     Ok(peers)
 }

@@ -1,7 +1,7 @@
 //! What is sent on many connections, and after a pause, comes whole, in order and on its own connection.
 
-use crate::listening::{connected, next, on_free_ports};
-use servient_edge::{Event, MioNet, Net, Next, What};
+use crate::listening::{connected, connected_as, event, next, on_free_ports};
+use servient_edge::{MioNet, Net, What};
 use std::io::{Read, Write};
 use std::net::TcpStream;
 use std::test::Fail;
@@ -102,15 +102,9 @@ fn read_pieces(
 fn pause(net: &mut MioNet<HostRuntime>) -> Result<(), Fail> {
     let mut buffer = [0; 4096];
     for _ in 0..PAUSE {
-        let Next::Got(
-            Event {
-                what: What::Tick,
-                ..
-            },
-        ) = net.next(&mut buffer)
-        else {
+        if event(net, &mut buffer) != Some(What::Tick) {
             return Err("something came")?;
-        };
+        }
     }
     Ok(())
 }
@@ -155,11 +149,9 @@ fn a_closed_connection_waits_two_seconds_for_its_peer(rt: HostRuntime) -> Result
     hear_to_the_end(&mut peer)?;
     // It is read no further than to be dropped, and nothing comes of it.
     peer.write_all(b"more")?;
-    let _second = TcpStream::connect(&rt, ("127.0.0.1", listening.http))?;
-    assert_eq!(rt; next(&mut listening.net, &mut buffer)?, What::Opened(1));
+    let _second = connected_as(&rt, &mut listening, 1)?;
     pause(&mut listening.net)?;
-    let _third = TcpStream::connect(&rt, ("127.0.0.1", listening.http))?;
-    assert_eq!(rt; next(&mut listening.net, &mut buffer)?, What::Opened(0));
+    let _third = connected_as(&rt, &mut listening, 0)?;
     Ok(())
 }
 
@@ -198,6 +190,6 @@ fn what_is_kept_is_written_at_the_end_for_two_seconds(rt: HostRuntime) -> Result
     peer.set_read_timeout(Some(Duration::from_secs(10)))?;
     assert_eq!(rt; read_on(&mut peer, before)?, WHOLE);
     let mut buffer = [0; 4096];
-    assert_eq!(rt; listening.net.next(&mut buffer), Next::Failed);
+    assert!(rt; event(&mut listening.net, &mut buffer).is_none());
     Ok(())
 }

@@ -1,7 +1,7 @@
 //! Everybody has a share: ticks, connections and datagrams.
 
-use crate::listening::{Listening, connected, on_free_ports};
-use servient_edge::{Event, Net, Next, What};
+use crate::listening::{Listening, connected, event, on_free_ports};
+use servient_edge::What;
 use std::io::Write;
 use std::net::{TcpStream, UdpSocket};
 use std::test::Fail;
@@ -28,15 +28,13 @@ fn serve(
     counts: &mut Counts,
 ) -> Result<(), Fail> {
     let mut buffer = [0; 4096];
-    let Next::Got(Event { what, .. }) = listening.net.next(&mut buffer) else {
-        return Err("the network failed")?;
-    };
-    match what {
-        What::Tick => {
+    match event(&mut listening.net, &mut buffer) {
+        None => return Err("the network failed")?,
+        Some(What::Tick) => {
             counts.ticks = counts.ticks.saturating_add(1);
             sleep(rt, Duration::from_millis(SLOW));
         }
-        What::Bytes(_, _) => {
+        Some(What::Bytes(_, _)) => {
             counts.bytes = counts.bytes.saturating_add(1);
             stream.write_all(b"x")?;
         }
@@ -104,13 +102,7 @@ fn a_flood_of_datagrams_holds_nobody_up(rt: HostRuntime) -> Result<(), Fail> {
     let begin = Instant::now(&rt)?;
     for _ in 0..EVENTS {
         socket.send_to(b"x", ("127.0.0.1", listening.coap))?;
-        if let Next::Got(
-            Event {
-                what: What::Bytes(_, _),
-                ..
-            },
-        ) = listening.net.next(&mut buffer)
-        {
+        if let Some(What::Bytes(_, _)) = event(&mut listening.net, &mut buffer) {
             heard = heard.saturating_add(1);
         }
     }

@@ -1,7 +1,7 @@
 //! The network over the sockets of the machine: connections beyond its numbers, datagrams, and peers that don't read.
 
-use crate::listening::{Listening, next, on_free_ports};
-use servient_edge::{Event, MioNet, Net, Next, What};
+use crate::listening::{Listening, event, next, on_free_ports};
+use servient_edge::{MioNet, Net, What};
 use std::io::Read;
 use std::net::{TcpStream, UdpSocket};
 use std::test::Fail;
@@ -15,23 +15,18 @@ fn opened(net: &mut MioNet<HostRuntime>, buffer: &mut [u8; 4096]) -> u32 {
     let mut count: u32 = 0;
     let mut ticks: u32 = 0;
     for _ in 0..200 {
-        match net.next(buffer) {
-            Next::Got(
-                Event {
-                    what: What::Tick,
-                    ..
-                },
-            ) => {
+        match event(net, buffer) {
+            Some(What::Tick) => {
                 ticks = ticks.saturating_add(1);
                 if ticks == QUIET {
                     return count;
                 }
             }
-            Next::Got(_) => {
+            Some(_) => {
                 count = count.saturating_add(1);
                 ticks = 0;
             }
-            Next::Failed => return count,
+            None => return count,
         }
     }
     count

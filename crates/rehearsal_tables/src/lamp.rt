@@ -4,6 +4,7 @@ ghost use Rattle.std.specs.Prelude.{IfOk};
 ghost use Rattle.std.specs.List.{AllByRecursion};
 ghost use Rattle.wot_terms.specs.Faults.{IsValid};
 ghost use Rattle.thing_site.specs.Fits.{Fits};
+ghost use Rattle.servient_rehearsal.specs.Moves.{AreShort};
 ghost use Rattle.servient_rehearsal.specs.Rehearsal.{IsUnused};
 
 use coap_client::Client;
@@ -59,12 +60,27 @@ fn servient_on<R: Handlers>(alloc: Global, rack: &R) -> Result<Servient, AllocEr
     }
 }
 
-/// What comes of moves with a new client, whose first message has the id 0.
+/// What comes of moves with a servient that is new, and a new client, whose first message has the id 0.
+#[tactic(auto, using(crate::proofs::Beginnings::new_of))]
+fn rehearsed<R: Handlers>(
+    alloc: Global,
+    servient: &mut Servient,
+    rack: &mut R,
+    moves: &Moves,
+) -> Result<World, AllocError>
+    requires fits { Fits servient.old.exposed.site (R.slots rack.old) }
+    requires servient { IsUnused servient.old }
+    requires moves { AreShort moves.now.items }
+{
+    let mut client = Client::new(alloc, 0)?;
+    rehearse(alloc, servient, &mut client, rack, moves)
+}
+
+/// What comes of moves with both ends new.
 ///
 /// # Errors
 ///
 /// Out of memory, and where the moves are too many or take too long.
-#[tactic(auto, using(crate::proofs::Beginnings::new_of))]
 pub fn world_of<R: Handlers>(
     alloc: Global,
     rack: &mut R,
@@ -74,6 +90,5 @@ pub fn world_of<R: Handlers>(
         return Err(AllocError);
     }
     let mut servient = servient_on(alloc, rack)?;
-    let mut client = Client::new(alloc, 0)?;
-    rehearse(alloc, &mut servient, &mut client, rack, moves)
+    rehearsed(alloc, &mut servient, rack, moves)
 }

@@ -2,12 +2,12 @@
 use Rattle.std.proofs.Common.{ℕ, refl}
 use Rattle.coap_client.specs.declared.state.State.{State}
 use Rattle.coap_client.specs.Exchange.{IsNew}
-use Rattle.servient_core.specs.declared.parts.Parts.{Parts}
+use Rattle.servient_core.specs.declared.layers.Layers.{Layers}
 use Rattle.servient_core.specs.Machine.{start}
 use Rattle.servient_core.specs.Serving.{StandsFor}
 use Rattle.servient_rehearsal.specs.Rehearsal.{IsUnused}
 
-pub unused_of : (s : Parts) (exchanges : ℕ) → StandsFor s (start s.exposed.site exchanges) → IsUnused s
+pub unused_of : (s : Layers) (exchanges : ℕ) → StandsFor s (start s.exposed.site exchanges) → IsUnused s
 unused_of s exchanges stands = (exchanges, stands)
 
 pub new_of : (first_id : ℕ) (s : State) → IsNew first_id s → IsNew s.next_id s

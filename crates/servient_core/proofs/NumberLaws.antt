@@ -13,7 +13,8 @@ use Rattle.thing_handler.specs.Turns.{RunTurn, HandlerCall, turns_in, AreNumbere
 use Rattle.thing_handler.proofs.TurnLaws.{numbered_then}
 use Rattle.thing_site.specs.Site.{Placed, Site}
 use Rattle.thing_core.specs.State.{State, Status, running, completed, Emission}
-use Rattle.thing_site.specs.Places.{Act, describes, reads_all, writes_many, reads, writes, invokes, queries, cancels, reads_event, waits}
+use Rattle.thing_site.specs.declared.place.Act.{Act}
+use Rattle.thing_site.specs.declared.place.Act.TheVariants.{Describes as describes, ReadsAll as reads_all, WritesMany as writes_many, Reads as reads, Writes as writes, Invokes as invokes, Queries as queries, Cancels as cancels, ReadsEvent as reads_event, Waits as waits}
 use Rattle.thing_site.specs.Refusals.{Input}
 use Rattle.thing_core.specs.Thing.{Done, Called, no_number, no_memory, gives, failure_of, ReadsValue, ReadsEach, WritesEach, IfDone, Emits, emissions_of_write, Stops, Calls, IsInvoked, IsQueried, Queries, IsCancelled, Cancels, PollsEvent, Performs, Acts, refuses, has_no_memory, performs, readable}
 use Rattle.thing_core.proofs.ReadLaws.{AfterValue}

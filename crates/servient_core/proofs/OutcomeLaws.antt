@@ -15,7 +15,8 @@ use Rattle.thing_handler.specs.declared.handler.Answer.TheVariants as answer
 use Rattle.thing_handler.specs.Turns.{HandlerCall}
 use Rattle.thing_site.specs.Site.{Placed, Site}
 use Rattle.thing_core.specs.State.{State, Status, running, completed, Emission, status_text, last_of}
-use Rattle.thing_site.specs.Places.{Act, describes, reads_all, writes_many, reads, writes, invokes, queries, cancels, reads_event, waits}
+use Rattle.thing_site.specs.declared.place.Act.{Act}
+use Rattle.thing_site.specs.declared.place.Act.TheVariants.{Describes as describes, ReadsAll as reads_all, WritesMany as writes_many, Reads as reads, Writes as writes, Invokes as invokes, Queries as queries, Cancels as cancels, ReadsEvent as reads_event, Waits as waits}
 use Rattle.thing_site.specs.Refusals.{Input, Refusal, nothing_there, verb_not_taken, answer_not_acceptable, format_not_taken, body_not_as_wanted, value_too_large, refused_by_schema, no_invocation_left, IsFirst}
 use Rattle.thing_core.specs.Refusals.{Asked, refusals, Stands, IsAnsweredWith}
 use Rattle.thing_core.specs.Thing.{Done, only, Called, no_number, no_memory, gives, failure_of, GivesValue, ReadsValue, ReadsEach, WritesEach, IfDone, Emits, emissions_of_write, Stops, IsInvoked, place_of_invocation, IsQueried, Queries, IsCancelled, Cancels, event_outcome, content_of, readable, Performs, Acts, refuses, has_no_memory, performs}

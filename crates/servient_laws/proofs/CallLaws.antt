@@ -18,7 +18,8 @@ use Rattle.thing_handler.specs.declared.handler.CallKind.TheVariants as call
 use Rattle.thing_handler.specs.declared.handler.Answer.TheVariants as answer
 use Rattle.thing_handler.specs.Turns.{HandlerCall}
 use Rattle.thing_site.specs.Site.{Placed, ExposedThing, Site, affordance_named, is_kind, of_kind, those_of}
-use Rattle.thing_site.specs.Places.{Act, describes, reads_all, writes_many, reads, writes, invokes, queries, cancels, reads_event, waits}
+use Rattle.thing_site.specs.declared.place.Act.{Act}
+use Rattle.thing_site.specs.declared.place.Act.TheVariants.{Describes as describes, ReadsAll as reads_all, WritesMany as writes_many, Reads as reads, Writes as writes, Invokes as invokes, Queries as queries, Cancels as cancels, ReadsEvent as reads_event, Waits as waits}
 use Rattle.thing_site.specs.Refusals.{Input, inputs_of, only_input, member_inputs, object_inputs, invoke_inputs, no_inputs, written_property, unless_read_only, longest_value, Holding, IsLong, IsRefusedBySchema, SomeInput}
 use Rattle.thing_core.specs.State.{State, Emission, Status, running, completed}
 use Rattle.thing_core.specs.Refusals.{Asked, act_asked}

@@ -12,7 +12,8 @@ use Rattle.thing_handler.specs.declared.handler.CallKind.TheVariants as call
 use Rattle.thing_handler.specs.declared.handler.Answer.TheVariants as answer
 use Rattle.thing_handler.specs.Turns.{HandlerCall, missed}
 use Rattle.thing_site.specs.Site.{Placed}
-use Rattle.thing_site.specs.Places.{Act, describes, reads_all, writes_many, reads, writes, invokes, queries, cancels, reads_event, waits}
+use Rattle.thing_site.specs.declared.place.Act.{Act}
+use Rattle.thing_site.specs.declared.place.Act.TheVariants.{Describes as describes, ReadsAll as reads_all, WritesMany as writes_many, Reads as reads, Writes as writes, Invokes as invokes, Queries as queries, Cancels as cancels, ReadsEvent as reads_event, Waits as waits}
 use Rattle.thing_site.specs.Refusals.{Input}
 use Rattle.thing_core.specs.State.{State, Emission, Status, running, completed, last_of}
 use Rattle.thing_core.specs.Refusals.{Asked, refusals, IsRefusedBy}

@@ -24,7 +24,10 @@ use Rattle.thing_handler.specs.declared.handler.Answer.TheVariants as answer
 use Rattle.thing_handler.specs.Turns.{HandlerCall, answered, missed}
 use Rattle.thing_site.specs.Site.{Placed, Site}
 use Rattle.thing_core.specs.State.{Status, running, completed, Invocation, State, Emission}
-use Rattle.thing_site.specs.Places.{Place, flags_of, Act, describes, reads_all, writes_many, reads, writes, invokes, queries, cancels, reads_event, waits}
+use Rattle.thing_site.specs.Places.{flags_of}
+use Rattle.thing_site.specs.declared.place.Place.{Place}
+use Rattle.thing_site.specs.declared.place.Act.{Act}
+use Rattle.thing_site.specs.declared.place.Act.TheVariants.{Describes as describes, ReadsAll as reads_all, WritesMany as writes_many, Reads as reads, Writes as writes, Invokes as invokes, Queries as queries, Cancels as cancels, ReadsEvent as reads_event, Waits as waits}
 use Rattle.thing_site.specs.Refusals.{Refusal, nothing_there, verb_not_taken, answer_not_acceptable, format_not_taken, body_not_as_wanted, value_too_large, refused_by_schema, no_invocation_left, Input, Holding, IsFirst, inputs_of}
 use Rattle.thing_core.specs.Refusals.{Asked, place_asked, refusals, Stands, IsAnsweredWith, NoneStands}
 use Rattle.thing_core.specs.Thing.{Move, Done, content_of, Called, no_number, no_memory, gives, failure_of, Decides, IsTaken, only, Calls, GivesValue, ReadsValue, Reads, readable, ReadsEach, Emits, emissions_of_write, Stops, IfDone, WritesEach, IsHandedIn, IsInvoked, Invokes, IsQueried, Queries, IsCancelled, Cancels, OnInvocation, Answers, Performs, Acts, refuses, has_no_memory, performs}

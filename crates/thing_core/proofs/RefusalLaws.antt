@@ -9,7 +9,9 @@ use Rattle.thing_ops.specs.Requests.{PlainRequest}
 use Rattle.thing_ops.specs.Routes.{route_of}
 use Rattle.thing_ops.specs.Verbs.{verbs_in, verbs_of}
 use Rattle.thing_site.specs.Refusals.{Input}
-use Rattle.thing_site.specs.Places.{Place, Act, act_at, flags_of}
+use Rattle.thing_site.specs.Places.{act_at, flags_of}
+use Rattle.thing_site.specs.declared.place.Place.{Place}
+use Rattle.thing_site.specs.declared.place.Act.{Act}
 use Rattle.thing_site.specs.Refusals.{Refusal, no_invocation_left, refusals_by_request, Holding, StandsByRequest, IsAnswer, IsFirst, IsNone}
 use Rattle.thing_site.specs.HandedIn.{IsRefusedByRequest, IsUnrefused}
 use Rattle.thing_core.specs.State.{State, Invocation}

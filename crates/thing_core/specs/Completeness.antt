@@ -15,7 +15,8 @@ use Rattle.thing_handler.specs.declared.handler.Answer.TheVariants as answer
 use Rattle.thing_handler.specs.Turns.{HandlerCall, answered, missed}
 use Rattle.thing_site.specs.Site.{Placed, Site}
 use Rattle.thing_core.specs.State.{State}
-use Rattle.thing_site.specs.Places.{Act, describes, reads_all, writes_many, reads, writes, invokes, queries, cancels, reads_event, waits}
+use Rattle.thing_site.specs.declared.place.Act.{Act}
+use Rattle.thing_site.specs.declared.place.Act.TheVariants as act
 use Rattle.thing_core.specs.Refusals.{act_asked, refusals, NoneStands}
 use Rattle.thing_core.specs.Thing.{Done, IsTaken, Acts, most_turns}
 use Rattle.thing_core.specs.Performing.{affordances_of_act}
@@ -59,16 +60,16 @@ IsInvocation o =
 
 -- the outcome of each act where it succeeds, by the table of acts
 abbrev pub IsSuccess : Act → PlainRequest → Outcome → Type 0
-IsSuccess (describes thing) q o = o ≡ outcome.Description (text_of thing.description) q.accept.td
-IsSuccess (reads_all thing) q o = IsContent o
-IsSuccess (writes_many thing) q o = o ≡ outcome.Changed
-IsSuccess (reads p) q o = IsContent o
-IsSuccess (writes p) q o = o ≡ outcome.Changed
-IsSuccess (invokes p) q o = IsInvocation o
-IsSuccess (queries p id) q o = IsContent o
-IsSuccess (cancels p id) q o = o ≡ outcome.Deleted
-IsSuccess (reads_event p) q o = (o ≡ outcome.Empty) ⊎ IsContent o
-IsSuccess (waits p) q o = o ≡ outcome.Wait p.slot
+IsSuccess (act.Describes thing) q o = o ≡ outcome.Description (text_of thing.description) q.accept.td
+IsSuccess (act.ReadsAll thing) q o = IsContent o
+IsSuccess (act.WritesMany thing) q o = o ≡ outcome.Changed
+IsSuccess (act.Reads p) q o = IsContent o
+IsSuccess (act.Writes p) q o = o ≡ outcome.Changed
+IsSuccess (act.Invokes p) q o = IsInvocation o
+IsSuccess (act.Queries p id) q o = IsContent o
+IsSuccess (act.Cancels p id) q o = o ≡ outcome.Deleted
+IsSuccess (act.ReadsEvent p) q o = (o ≡ outcome.Empty) ⊎ IsContent o
+IsSuccess (act.Waits p) q o = o ≡ outcome.Wait p.slot
 
 -- a success; or it is out of memory, or the run has no number left for a turn
 pub data Succeeds (S : Outcome → Type 0) (o : Outcome) (t : State) : Type 0 where

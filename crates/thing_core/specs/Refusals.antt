@@ -7,14 +7,17 @@ use Rattle.thing_ops.specs.Requests.{PlainRequest}
 use Rattle.thing_ops.specs.Routes.{route_of}
 use Rattle.thing_ops.specs.Verbs.{verbs_in, verbs_of}
 use Rattle.thing_site.specs.Site.{Site}
-use Rattle.thing_site.specs.Places.{Place, Act, invokes, act_at, flags_of}
+use Rattle.thing_site.specs.Places.{act_at, flags_of}
+use Rattle.thing_site.specs.declared.place.Place.{Place}
+use Rattle.thing_site.specs.declared.place.Act.{Act}
+use Rattle.thing_site.specs.declared.place.Act.TheVariants as act
 use Rattle.thing_site.specs.Refusals.{Refusal, nothing_there, verb_not_taken, no_invocation_left, refusals_by_request, Holding, StandsByRequest, IsAnswer, IsFirst, IsNone}
 use Rattle.thing_core.specs.State.{State, running_count, most_invocations}
 use Rattle.thing_core.specs.Places.{place_of}
 
 -- as many invocations run as may
 abbrev pub HasNoInvocationLeft : State → Act → Type 0
-HasNoInvocationLeft s (invokes p) = most_invocations ≤ running_count s.invocations
+HasNoInvocationLeft s (act.Invokes p) = most_invocations ≤ running_count s.invocations
 HasNoInvocationLeft s act = ⊥
 
 -- ---- the refusals

@@ -19,7 +19,8 @@ use Rattle.thing_handler.specs.declared.handler.Answer.TheVariants as answer
 use Rattle.thing_handler.specs.Turns.{HandlerCall, answered, missed}
 use Rattle.thing_site.specs.Site.{Placed, ExposedThing, Site, those_of, events_of}
 use Rattle.thing_core.specs.State.{Status, running, completed, Invocation, State, Emission, invocation_named, without_invocation, with_completed, with_running, status_text, last_of, last_after}
-use Rattle.thing_site.specs.Places.{Act, describes, reads_all, writes_many, reads, writes, invokes, queries, cancels, reads_event, waits}
+use Rattle.thing_site.specs.declared.place.Act.{Act}
+use Rattle.thing_site.specs.declared.place.Act.TheVariants as act
 use Rattle.thing_site.specs.Refusals.{Input, IsAccepted, longest_value, inputs_of}
 use Rattle.thing_core.specs.Refusals.{act_asked, refusals, IsRefusedBy, NoneStands}
 
@@ -227,16 +228,16 @@ Answers o done s seen t = (done ≡ only o) × Stays s seen t
 
 -- What each act does, with these inputs: the table of acts.
 abbrev pub Performs : Act → PlainRequest → List Input → Done → Move
-Performs (describes thing) q inputs done s seen t = Answers (outcome.Description (text_of thing.description) q.accept.td) done s seen t
-Performs (reads_all thing) q inputs done s seen t = ReadsEach (readable thing) [] done s seen t
-Performs (writes_many thing) q inputs done s seen t = WritesEach inputs [] done s seen t
-Performs (reads p) q inputs done s seen t = Reads p done s seen t
-Performs (writes p) q inputs done s seen t = WritesEach inputs [] done s seen t
-Performs (invokes p) q inputs done s seen t = Invokes p q.path inputs done s seen t
-Performs (queries p id) q inputs done s seen t = OnInvocation p id (Queries p id) done s seen t
-Performs (cancels p id) q inputs done s seen t = OnInvocation p id (Cancels p id) done s seen t
-Performs (reads_event p) q inputs done s seen t = Answers (event_outcome (last_of p.slot s.last)) done s seen t
-Performs (waits p) q inputs done s seen t = Answers (outcome.Wait p.slot) done s seen t
+Performs (act.Describes thing) q inputs done s seen t = Answers (outcome.Description (text_of thing.description) q.accept.td) done s seen t
+Performs (act.ReadsAll thing) q inputs done s seen t = ReadsEach (readable thing) [] done s seen t
+Performs (act.WritesMany thing) q inputs done s seen t = WritesEach inputs [] done s seen t
+Performs (act.Reads p) q inputs done s seen t = Reads p done s seen t
+Performs (act.Writes p) q inputs done s seen t = WritesEach inputs [] done s seen t
+Performs (act.Invokes p) q inputs done s seen t = Invokes p q.path inputs done s seen t
+Performs (act.Queries p id) q inputs done s seen t = OnInvocation p id (Queries p id) done s seen t
+Performs (act.Cancels p id) q inputs done s seen t = OnInvocation p id (Cancels p id) done s seen t
+Performs (act.ReadsEvent p) q inputs done s seen t = Answers (event_outcome (last_of p.slot s.last)) done s seen t
+Performs (act.Waits p) q inputs done s seen t = Answers (outcome.Wait p.slot) done s seen t
 
 -- A request to Things, and its outcome.
 pub data Acts (site : Site) (q : PlainRequest) (done : Done) (s : State) (seen : List HandlerCall) (t : State) : Type 0 where

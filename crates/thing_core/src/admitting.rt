@@ -2,7 +2,6 @@
 
 ghost use Rattle.std.specs.Prelude.{◌≡◌, ◌↔◌, IsTrue, count_by};
 ghost use Rattle.thing_ops.specs.Requests.{plain_request};
-ghost use Rattle.thing_site.specs.Found.{found_act};
 ghost use Rattle.thing_core.specs.State as state;
 ghost use Rattle.thing_core.specs.Refusals as refusal;
 ghost use Rattle.thing_core.specs.Performing.{IsAdmitted};
@@ -50,7 +49,7 @@ pub fn admitted<'a>(
 
 /// An action would be invoked, and no further invocation may run.
 fn has_none_left(act: &Act<'_>, invocations: &[Invocation]) -> bool
-    ensures { (s : state.State) → s.invocations ≡ invocations.now → IsTrue result ↔ refusal.HasNoInvocationLeft s (found_act act.now) }
+    ensures { (s : state.State) → s.invocations ≡ invocations.now → IsTrue result ↔ refusal.HasNoInvocationLeft s act.now }
 {
     match act {
         Act::Invokes(_) => MOST_INVOCATIONS <= running_count(invocations),

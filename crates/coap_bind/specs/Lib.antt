@@ -1,5 +1,7 @@
 pub mod Observing
 pub mod Writing
+pub mod Blocks
+pub mod Portions
 pub mod Server
 pub mod Telling
 pub mod Laws

@@ -38,11 +38,14 @@
 
 mod answering;
 mod bind;
+mod blocks;
 mod head;
 mod laws;
 mod next;
 mod observing;
 mod options;
+mod portion;
+mod reading;
 mod server;
 mod settled;
 mod writing;

@@ -50,7 +50,7 @@ no_fault_here os e same (inr h) = h.0
 no_other : (faults : List AskFault) (f : AskFault) → f ≢ NoMemory → (slice_get faults 0 ≡ Some f) ⊎ ((faults ≡ []) × (f ≡ NoMemory)) → slice_get faults 0 ≡ Some f
 no_other faults f other h = first_fault faults f f refl other h
 
-reads_replied : (from : Endpoint) (now : ℕ) (m : CoapMessage) (slot n : ℕ) (r : Reply) (parts : List Part) (old new : List ℕ) (s t : Server)
+pub reads_replied : (from : Endpoint) (now : ℕ) (m : CoapMessage) (slot n : ℕ) (r : Reply) (parts : List Part) (old new : List ℕ) (s t : Server)
     → IsAnsweredAtOnce from now m r s parts → RepliesAs r (opened m slot) n old new (with_parts parts s) t → ReadsAs from now m slot (read.Done (Some n)) old new s t
 reads_replied from now m slot n r parts old new s t why h = (answered_at_once h.bytes, replied r parts h.bytes why h.replies refl, h.written)
 

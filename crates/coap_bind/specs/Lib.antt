@@ -9,4 +9,5 @@ pub mod Duplicates
 pub mod Settling
 pub mod Histories
 pub mod Messages
+pub mod Transfers
 pub mod Treating

@@ -13,7 +13,7 @@ use coap_msg::{Block, GET, LONGEST_MESSAGE, Message, PROXYING_NOT_SUPPORTED, SER
 use coap_opts::{AskFault, CoapAsk, request_of};
 use servient_base::put_bytes;
 use std::alloc::Global;
-use thing_ops::{NoMemory, Outcome, Segments};
+use thing_ops::{NoMemory, Outcome, Request, Segments};
 
 /// 2.31, that others are to come (RFC 7959, section 2.9.1).
 const CONTINUE: u8 = 32 * 2 + 31;
@@ -284,6 +284,7 @@ ghost use Rattle.coap_msg.specs.Grammar.{spelling};
 ghost use Rattle.coap_msg.specs.Written.{IsWritten};
 ghost use Rattle.coap_blocks.specs.Bodies.{content_of};
 ghost use Rattle.coap_opts.specs.PlainAsk.{plain_ask};
+ghost use Rattle.thing_ops.specs.Requests.{plain_request};
 ghost use Rattle.coap_bind.specs.Blocks.{later_reply, use_of};
 ghost use Rattle.coap_bind.specs.Server.{with_whole_body};
 ghost use Rattle.coap_bind.specs.Writing.{coap_reply};
@@ -292,9 +293,33 @@ ghost use Rattle.coap_bind.specs.Writing.{coap_reply};
 fn with_body<'a>(ask: CoapAsk<'a>, body: &'a [u8]) -> CoapAsk<'a>
     ensures { plain_ask result ≡ with_whole_body body.now (plain_ask ask.entry) }
 {
-    let mut ask = ask;
-    ask.request.body = body;
-    ask
+    let CoapAsk {
+        request,
+        observe,
+        block1,
+        block2,
+    } = ask;
+    let request = with_body_of(request, body);
+    CoapAsk {
+        request,
+        observe,
+        block1,
+        block2,
+    }
+}
+
+/// A request with this body.
+fn with_body_of<'a>(request: Request<'a>, body: &'a [u8]) -> Request<'a>
+    ensures { plain_request result ≡ record (plain_request request.entry) { body = body.now } }
+{
+    Request {
+        verb: request.verb,
+        path: request.path,
+        query: request.query,
+        accept: request.accept,
+        format: request.format,
+        body,
+    }
 }
 
 /// What blocks are to the reply to what is asked.

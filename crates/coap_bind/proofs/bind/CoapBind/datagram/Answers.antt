@@ -3,10 +3,14 @@ use Rattle.std.proofs.Common.{inr, ℕ, List, Option, subst}
 use Rattle.coap_msg.specs.MessageOf.{message_of}
 use Rattle.coap_bind.specs.declared.next.CoapNext.TheVariants.{Nothing, Send}
 use Rattle.coap_bind.specs.declared.server.Server.{Server}
-use Rattle.coap_bind.specs.Server.{settled, admitted}
-use Rattle.coap_bind.specs.Telling.{Tells, HearsAs, SettlesAs}
-use Rattle.coap_bind.specs.Settling.{TellsDone}
+use Rattle.coap_msg.specs.declared.constants.TheConstants.{LONGEST_DATAGRAM, URI_PATH}
+use Rattle.coap_bind.specs.Server.{settled}
+use Rattle.coap_bind.specs.Telling.{HearsAs, SettlesAs}
+use Rattle.coap_bind.specs.Settling.{ReadsAs, TellsDone}
+use Rattle.coap_bind.proofs.MomentLaws.{hears_moment}
 use Rattle.coap_bind.proofs.TellingLaws.{tells_nothing, tells_send}
+use Rattle.coap_bind.proofs.TreatLaws.{has_whole, hears_read, open_handed}
+use Rattle.coap_bind.proofs.WholeLaws.{path_is_short}
 use Rattle.coap_bind.proofs.bind.CoapBind.datagram.Goals as goal
 
 pub returns-in-Done-None-clause-ok : goal.returns-in-Done-None-clause-ok
@@ -41,12 +45,32 @@ returns-in-Done-Some-clause-memory c =
     rw c.in-Done-Some.field-0-is (inr (subst P c.self.view_is
     (record { heard = h.0; settles = h.1; tells = tells_send h.0 c.in-Done-Some.size c.args.out.now c.settle.new.out (subst T c.in-Done-Some.field-0-is h.2) })))
 
+pub read-requires-clause-path : goal.read-requires-clause-path
+read-requires-clause-path c =
+    path_is_short (message_of c.in-Admitted.message) c.args.bytes.now LONGEST_DATAGRAM URI_PATH c.in-Admitted.ensures.ok.0.spells c.requires.length
+
+pub hand_out-requires-clause-whole : goal.hand_out-requires-clause-whole
+hand_out-requires-clause-whole c =
+    has_whole c.args.from c.args.now (message_of c.in-Admitted.message) c.in-Admitted.slot c.read-read.result _ _ _ _ c.read-read.ensures.ok
+
 pub returns-in-Admitted-clause-ok : goal.returns-in-Admitted-clause-ok
 returns-in-Admitted-clause-ok c =
     let h = c.in-Admitted.ensures.ok in
-    let r = c.read.ensures.ok in
-    let before = h.2 in
-    let T : List ℕ → Type 0 = λ out. Tells r.heard c.read.result out c.read.new.out in
-    let P : Server → Type 0 = λ s. HearsAs c.args.from c.args.bytes.now c.args.now c.read.result c.args.out.now c.read.new.out s c.read.new.self in
+    let T : List ℕ → Type 0 = λ out. ReadsAs c.args.from c.args.now (message_of c.in-Admitted.message) c.in-Admitted.slot c.read-read.result out c.read-read.new.out c.settle.new.self c.read-read.new.self in
+    let P : Server → Type 0 = λ s. HearsAs c.args.from c.args.bytes.now c.args.now c.hand_out.result c.args.out.now c.read-read.new.out s c.hand_out.new.self in
     subst P c.self.view_is
-    (record { heard = r.heard; hears = admitted (message_of c.in-Admitted.message) c.in-Admitted.slot c.settle.new.self h.0 r.reads; tells = subst T before r.tells })
+    (hears_read c.args.from c.args.bytes.now c.args.now (message_of c.in-Admitted.message) c.in-Admitted.slot c.read-read.result c.hand_out.result _ _ _ _ _ _ h.0
+    (subst T h.2 c.read-read.ensures.ok) c.hand_out.ensures)
+
+pub returns-in-Admitted-clause-ticket : goal.returns-in-Admitted-clause-ticket
+returns-in-Admitted-clause-ticket c = open_handed c.read-read.result c.hand_out.result _ _ c.read-read.ensures.open c.hand_out.ensures
+
+-- a datagram takes the exchanges to no later moment than its own
+pub returns-in-Done-None-clause-moment : goal.returns-in-Done-None-clause-moment
+returns-in-Done-None-clause-moment c = let h = returns-in-Done-None-clause-ok c in hears_moment c.args.from c.args.bytes.now c.args.now h.heard _ _ h.hears c.requires.moment
+
+pub returns-in-Done-Some-clause-moment : goal.returns-in-Done-Some-clause-moment
+returns-in-Done-Some-clause-moment c = let h = returns-in-Done-Some-clause-ok c in hears_moment c.args.from c.args.bytes.now c.args.now h.heard _ _ h.hears c.requires.moment
+
+pub returns-in-Admitted-clause-moment : goal.returns-in-Admitted-clause-moment
+returns-in-Admitted-clause-moment c = let h = returns-in-Admitted-clause-ok c in hears_moment c.args.from c.args.bytes.now c.args.now h.heard _ _ h.hears c.requires.moment

@@ -3,9 +3,9 @@
 
 ghost use Rattle.std.specs.Prelude.{◌≤◌};
 
+use crate::datagrams::LONGEST_BODY;
 use case_notation::{message_of, number};
 use coap_bind::{CoapBind, CoapNext};
-use crate::datagrams::LONGEST_BODY;
 use coap_msg::{Endpoint, LONGEST_DATAGRAM, LONGEST_MESSAGE};
 use std::alloc::{AllocError, Global};
 use std::fmt::Write;

@@ -19,7 +19,9 @@ use wot_json::Bytes;
 
 /// 2.04, 2.05 and 2.31.
 const CHANGED: u8 = 68;
+
 const CONTENT: u8 = 69;
+
 const CONTINUE: u8 = 95;
 
 /// Whether a step is one of these.
@@ -132,14 +134,22 @@ fn is_given(
     ensures { server.new.exchanges.moment ≤ origin.now }
 {
     let mut text = String::new(alloc);
-    let value = number.saturating_mul(16).saturating_add(usize::from(cut.szx));
+    let value = number
+        .saturating_mul(16)
+        .saturating_add(usize::from(cut.szx));
     write!(text, "NON GET {number} - /a Block2={value}")?;
     let datagram = message_of(alloc, text.as_str())?;
     let outcome = Outcome::Description(Bytes::copy_of(alloc, cut.body)?, true);
     let mut room = [0u8; LONGEST_MESSAGE];
     let size = replied(server, origin, datagram.as_slice(), &outcome, &mut room);
     let reply = room.get(..size).unwrap_or(b"");
-    Ok(is_reply(reply, CONTENT, BLOCK2, block_at(cut, number), piece(cut, number)))
+    Ok(is_reply(
+        reply,
+        CONTENT,
+        BLOCK2,
+        block_at(cut, number),
+        piece(cut, number),
+    ))
 }
 
 /// Whether all blocks are.
@@ -160,7 +170,13 @@ fn are_given(
 }
 
 /// What comes of a datagram with a block of a request.
-fn taken(server: &mut CoapBind, origin: Origin, datagram: &[u8], cut: Cut<'_>, number: usize) -> Came
+fn taken(
+    server: &mut CoapBind,
+    origin: Origin,
+    datagram: &[u8],
+    cut: Cut<'_>,
+    number: usize,
+) -> Came
     requires { server.old.exchanges.moment ≤ origin.now }
     ensures { server.new.exchanges.moment ≤ origin.now }
 {
@@ -205,7 +221,10 @@ fn written(
 {
     let mut text = String::new(alloc);
     let more = if goes_on(cut, number) { 8 } else { 0 };
-    let value = number.saturating_mul(16).saturating_add(more).saturating_add(usize::from(cut.szx));
+    let value = number
+        .saturating_mul(16)
+        .saturating_add(more)
+        .saturating_add(usize::from(cut.szx));
     write!(text, "NON PUT {number} - /a Block1={value} ")?;
     for byte in piece(cut, number) {
         text.push(char::from(*byte))?;
@@ -226,7 +245,11 @@ fn are_joined(
 {
     let mut right = true;
     for number in 0..count_of(cut) {
-        let wanted = if goes_on(cut, number) { Came::GoesOn } else { Came::Joined };
+        let wanted = if goes_on(cut, number) {
+            Came::GoesOn
+        } else {
+            Came::Joined
+        };
         right = written(alloc, server, origin, cut, number)? == wanted && right;
     }
     Ok(right)
@@ -258,7 +281,11 @@ fn put_transfer(
         return text.push_str(if right { "joined" } else { "refused" });
     }
     let right = are_given(alloc, server, origin, cut)?;
-    text.push_str(if right { "each as it should be" } else { "not as they should be" })
+    text.push_str(if right {
+        "each as it should be"
+    } else {
+        "not as they should be"
+    })
 }
 
 /// Does a step, and writes what comes of it.

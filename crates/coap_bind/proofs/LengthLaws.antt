@@ -327,7 +327,6 @@ both_written (Ok u) (Err e) os ps a b c first second fits =
     absurd (omega arith)
 both_written (Err e) q os ps a b c first second fits = let l = longer 0 (a.list ++ os) ps in absurd (omega arith)
 
-
 pub options_written : (result : Result (Unit {0}) NoRoom) (os : List CoapOption) (old new : WrittenOptions) → PutsOptions os result old new
     → length (options_spelling 0 (old.list ++ os)) ≤ old.room → IsOk result × (new.list ≡ old.list ++ os)
 options_written (Ok u) os old new puts fits = (refl, ap (λ (w : WrittenOptions). w.list) puts)

@@ -43,7 +43,7 @@ use Rattle.coap_bind.proofs.TellingLaws.{tells_nothing, tells_send}
 abbrev wanted_at : ℕ → PlainAsk → Wanted
 wanted_at code what = wanted_of code (observing_of code what.observe) what
 
-wanted_is : (arrived : Arrived) (request : OpenRequest) (what : PlainAsk) (m : CoapMessage) (w : Wanted) → IsReadOf arrived request what m → wanted_at arrived.code what ≡ w → wanted_in m ≡ w
+pub wanted_is : (arrived : Arrived) (request : OpenRequest) (what : PlainAsk) (m : CoapMessage) (w : Wanted) → IsReadOf arrived request what m → wanted_at arrived.code what ≡ w → wanted_in m ≡ w
 wanted_is arrived request what m w r is = sym (λ i. wanted_at (r.code i) (r.what_is i)) ∙ is
 
 -- what is open of a request that wants an act
@@ -56,7 +56,7 @@ asked_open arrived request what = record {
 }
 
 pub treat_asks : (arrived : Arrived) (request : OpenRequest) (what : PlainAsk) (ticket : OpenAsk) (m : CoapMessage) (s : Server) → IsReadOf arrived request what m
-    → wanted_at arrived.code what ≡ wanted.Act → ticket ≡ asked_open arrived request what → Reads arrived.from arrived.now m arrived.slot (asked what ticket) s s
+    → wanted_in m ≡ wanted.Act → ticket ≡ asked_open arrived request what → Reads arrived.from arrived.now m arrived.slot (asked what ticket) s s
 treat_asks arrived request what ticket m s r act is =
     let which : ticket ≡ opened_ask arrived.from arrived.now m arrived.slot =
     is ∙ (λ i. record {
@@ -65,7 +65,7 @@ treat_asks arrived request what ticket m s r act is =
       observing = observing_of (r.code i) (r.what_is i).observe;
       blocks = use_of arrived.now (r.code i) (observing_of (r.code i) (r.what_is i).observe) (r.what_is i);
     }) in
-    asks r.faultless (wanted_is arrived request what m wanted.Act r act) (λ i. asked (r.what_is i) (which i)) refl
+    asks r.faultless act (λ i. asked (r.what_is i) (which i)) refl
 
 pub treat_out_of_memory : (arrived : Arrived) (request : OpenRequest) (what : PlainAsk) (m : CoapMessage) (n : ℕ) (old new : List ℕ) (s t : Server) → IsReadOf arrived request what m
     → RepliesAs (reply_of Memory) request n old new s t → ReadsAs arrived.from arrived.now m arrived.slot (read.Done (Some n)) old new s t
@@ -85,10 +85,6 @@ treat_later arrived request what m b n old new s t r later h =
     (later_block b r.faultless (wanted_is arrived request what m (wanted.LaterBlock b) r later) refl refl)
     (subst (λ (x : OpenRequest). RepliesAs (later_of arrived b (what_is_asked m) s) x n old new s t) r.request_is
     (subst (λ (x : PlainAsk). RepliesAs (later_of arrived b x s) request n old new s t) r.what_is h))
-
-pub wants_joining : (arrived : Arrived) (request : OpenRequest) (what : PlainAsk) (m : CoapMessage) (b : Block) → IsReadOf arrived request what m → wanted_at arrived.code what ≡ wanted.Joining b
-    → wanted_in m ≡ wanted.Joining b
-wants_joining arrived request what m b r is = wanted_is arrived request what m (wanted.Joining b) r is
 
 -- ---- joining
 

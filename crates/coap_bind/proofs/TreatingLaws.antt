@@ -174,7 +174,7 @@ treated_answered : (from : Endpoint) (bytes : List ℕ) (now : ℕ) (act : Optio
     → IsMet from bytes now m (Fresh slot) s u → v.watchers ≡ u.watchers → v.exchanges ≡ u.exchanges → v.next_id ≡ u.next_id → ask.request ≡ opened m slot
     → Answers ask a.outcome a.target reply v t
     → ((observe : Option ℕ) → Watches (effect_of ask.observing a.outcome a.target) ask.from m.token s.watchers observe t.watchers
-      → IsReplied from now m act (observed observe (answer_reply ask.blocks a.outcome)) s.watchers t.watchers)
+    → IsReplied from now m act (observed observe (answer_reply ask.blocks a.outcome)) s.watchers t.watchers)
     → back ≡ reply ∷ [] → IsTreated from bytes now act back s t
 treated_answered from bytes now act back s v u t a m slot ask reply met watchers exchanges id request answer why is =
     let r : Reply = observed answer.observe (answer_reply ask.blocks a.outcome) in

@@ -43,6 +43,7 @@ mod answering;
 mod bind;
 mod blocks;
 mod head;
+mod joining;
 mod laws;
 mod next;
 mod observing;

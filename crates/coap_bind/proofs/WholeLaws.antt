@@ -1,5 +1,5 @@
 -- The bodies of requests that came in blocks, and their paths, are no longer than they may be.
-use Rattle.std.proofs.Common.{◌≡◌, ◌+◌, ◌≤◌, ◌<◌, ◌∙◌, ℕ, suc, Bool, true, false, not, List, [], ◌∷◌, ◌++◌, length, set, remove, slice_get, Option, Some, None, refl, ap, sym, subst, arith, length-append}
+use Rattle.std.proofs.Common.{◌≡◌, ◌+◌, ◌-◌, ◌≤◌, ◌<◌, ◌∙◌, ℕ, suc, Bool, true, false, not, List, [], ◌∷◌, ◌++◌, length, set, remove, slice_get, Option, Some, None, refl, ap, sym, subst, arith, length-append}
 use Rattle.std.specs.Prelude.{◌==◌, nat_lt, map, IfSome, if◌then◌else◌}
 use Rattle.std.specs.List.{filter}
 use Rattle.std.proofs.lemmas.List.{length-set, get_or-set_same}
@@ -83,14 +83,11 @@ option_more last o = omega (arith, length-append (extended (o.0 - last) ++ exten
 
 path_at : (last number : ℕ) (os : List CoapOption) → path_size (values_under number os) ≤ length (options_spelling last os)
 path_at last number [] = omega arith
-path_at last number (o ∷ os) = by_test (o.0 == number)
+path_at last number (o ∷ os) = by_test (o.0 == number) (path_at o.0 number os)
   where
-    rest : path_size (values_under number os) ≤ length (options_spelling o.0 os)
-    rest = path_at o.0 number os
-
-    by_test : (b : Bool) → path_size (map (λ (x : CoapOption). x.1) (if b then o ∷ filter (λ x. x.0 == number) os else filter (λ x. x.0 == number) os)) ≤ length (options_spelling last (o ∷ os))
-    by_test true = let one = option_more last o in let more = rest in omega (arith, length-append (option_spelling last o) (options_spelling o.0 os))
-    by_test false = let more = rest in omega (arith, length-append (option_spelling last o) (options_spelling o.0 os))
+    by_test : (b : Bool) → path_size (values_under number os) ≤ length (options_spelling o.0 os) → path_size (map (λ (x : CoapOption). x.1) (if b then o ∷ filter (λ x. x.0 == number) os else filter (λ x. x.0 == number) os)) ≤ length (options_spelling last (o ∷ os))
+    by_test true more = let one = option_more last o in omega (arith, length-append (option_spelling last o) (options_spelling o.0 os))
+    by_test false more = omega (arith, length-append (option_spelling last o) (options_spelling o.0 os))
 
 -- the path of a request is no larger than its datagram
 pub path_is_short : (m : CoapMessage) (bytes : List ℕ) (n number : ℕ) → Spells m bytes → length bytes ≤ n → path_size (values_under number m.options) ≤ n
@@ -103,3 +100,8 @@ path_is_short m bytes n number spells few =
       length-append m.token (options_spelling 0 m.options ++ payload_spelling m.payload),
       length-append (options_spelling 0 m.options) (payload_spelling m.payload),
     )
+
+-- what is short enough for less room is for more
+pub short_in_room : (o : Option Part) (n m : ℕ) → n ≤ m → IfSome o (λ p. length p.bytes ≤ n) → IfSome o (λ p. length p.bytes ≤ m)
+short_in_room None n m more short = tt
+short_in_room (Some p) n m more short = omega arith

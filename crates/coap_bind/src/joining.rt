@@ -60,15 +60,18 @@ impl Server {
             ReadsAs arrived.from arrived.now m arrived.slot result out.old out.new self.old self.new }
         ensures open { IsOpenAfter result self.new }
     {
-        let (from, code) = (arrived.from, arrived.code);
-        let (path, body) = (&ask.request.path, ask.request.body);
-        match self.parts.add(from, code, path, block, body, arrived.now) {
+        let path = &ask.request.path;
+        let body = ask.request.body;
+        match self
+            .parts
+            .add(arrived.from, arrived.code, path, block, body, arrived.now)
+        {
             Added::Continue => Read::Done(Some(self.go_on(&request, block, out))),
             Added::Complete(place) => {
                 let open = OpenAsk {
                     request,
-                    from,
-                    observing: observing_of(code, ask.observe),
+                    from: arrived.from,
+                    observing: observing_of(arrived.code, ask.observe),
                     blocks: BlockUse::Joined(block),
                 };
                 Read::AsksWhole(ask, Ticket::of(open), place)

@@ -48,7 +48,7 @@ impl Server {
         out: &mut [u8; LONGEST_MESSAGE],
     ) -> Settled<'a>
         requires { self.old.exchanges.moment ≤ now }
-        ensures ok { SettlesOrAdmits from bytes.now now result out.old out.new self.old self.new }
+        ensures { SettlesOrAdmits from bytes.now now result out.old out.new self.old self.new }
     {
         let message = match decode(bytes) {
             Ok(message) => message,

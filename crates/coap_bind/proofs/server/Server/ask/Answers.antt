@@ -28,5 +28,5 @@ returns-in-Ok-clause-open c =
     open_ticket c.of.result _ c.args.self.now c.of.ensures c.requires.slot c.requires.token
     (subst IsUse (sym c.in-Ok.ensures) (use_fits c.args.arrived.now c.args.arrived.code c.observing_of-observing.result (plain_ask c.args.ask) c.requires.blocks c.requires.path))
 
-pub returns-in-Err-clause-ok : goal.returns-in-Err-clause-ok
-returns-in-Err-clause-ok c = λ m r act. treat_out_of_memory c.args.arrived c.args.request (plain_ask c.args.ask) m c.refuse_out_of_memory.result _ _ _ _ r c.refuse_out_of_memory.ensures
+pub returns-clause-ok : goal.returns-clause-ok
+returns-clause-ok c = λ m r act. treat_out_of_memory c.args.arrived c.args.request (plain_ask c.args.ask) m c.refuse_out_of_memory.result _ _ _ _ r c.refuse_out_of_memory.ensures

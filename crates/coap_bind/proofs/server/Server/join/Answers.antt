@@ -3,6 +3,7 @@ use Rattle.std.proofs.Common.{◌∙◌, ap, refl, sym, subst}
 use Rattle.coap_opts.specs.PlainAsk.{plain_ask}
 use Rattle.coap_blocks.specs.Parts.{living}
 use Rattle.coap_blocks.specs.declared.added.Added.TheVariants as answer
+use Rattle.coap_bind.specs.declared.blocks.BlockUse.TheVariants.{Joined}
 use Rattle.coap_bind.specs.declared.head.OpenAsk.{OpenAsk}
 use Rattle.coap_bind.specs.declared.observing.Observing.{Observing}
 use Rattle.coap_bind.proofs.TreatLaws.{block_of, open_ticket, treat_added, treat_whole}
@@ -21,25 +22,25 @@ returns-in-BadBlock-clause-ok c =
 
 pub returns-in-Incomplete-clause-ok : goal.returns-in-Incomplete-clause-ok
 returns-in-Incomplete-clause-ok c =
-    λ m r joining. treat_added c.args.arrived c.args.request (plain_ask c.args.ask) m c.args.block answer.Incomplete _ c.add.new.self c.refuse-2.result _ _ c.args.self.now _ refl
-    c.in-Incomplete.ensures.joined c.refuse-2.ensures r joining
+    λ m r joining. treat_added c.args.arrived c.args.request (plain_ask c.args.ask) m c.args.block answer.Incomplete _ c.add.new.self c.refuse-in-Incomplete.result _ _ c.args.self.now _ refl
+    c.in-Incomplete.ensures.joined c.refuse-in-Incomplete.ensures r joining
 
 pub returns-in-TooLarge-clause-ok : goal.returns-in-TooLarge-clause-ok
 returns-in-TooLarge-clause-ok c =
-    λ m r joining. treat_added c.args.arrived c.args.request (plain_ask c.args.ask) m c.args.block answer.TooLarge _ c.add.new.self c.refuse-3.result _ _ c.args.self.now _ refl
-    c.in-TooLarge.ensures.joined c.refuse-3.ensures r joining
+    λ m r joining. treat_added c.args.arrived c.args.request (plain_ask c.args.ask) m c.args.block answer.TooLarge _ c.add.new.self c.refuse-in-TooLarge.result _ _ c.args.self.now _ refl
+    c.in-TooLarge.ensures.joined c.refuse-in-TooLarge.ensures r joining
 
-pub returns-in-Full-clause-ok : goal.returns-in-Full-clause-ok
-returns-in-Full-clause-ok c =
-    λ m r joining. treat_added c.args.arrived c.args.request (plain_ask c.args.ask) m c.args.block answer.Full _ c.add.new.self c.refuse-4.result _ _ c.args.self.now _ refl
-    c.in-Full.ensures.joined c.refuse-4.ensures r joining
+pub returns-clause-ok : goal.returns-clause-ok
+returns-clause-ok c =
+    λ m r joining. treat_added c.args.arrived c.args.request (plain_ask c.args.ask) m c.args.block answer.Full _ c.add.new.self c.refuse-in-Full.result _ _ c.args.self.now _ refl
+    c.in-Full.ensures.joined c.refuse-in-Full.ensures r joining
 
 pub returns-in-Complete-clause-ok : goal.returns-in-Complete-clause-ok
 returns-in-Complete-clause-ok c =
     let what = plain_ask c.args.ask in
     let a = c.args.arrived in
     let short = whole_is_short (block_of a c.args.block what) (living a.now c.args.self.now.parts) c.add.new.self c.in-Complete.place c.in-Complete.ensures.joined in
-    let ticket = c.of.ensures ∙ ap (λ (o : Observing). let x : OpenAsk = record { request = c.args.request; from = a.from; observing = o; blocks = _ } in x) c.observing_of.ensures in
+    let ticket = c.of.ensures ∙ ap (λ (o : Observing). let x : OpenAsk = record { request = c.args.request; from = a.from; observing = o; blocks = Joined c.args.block } in x) c.observing_of.ensures in
     λ m r joining. (
       treat_whole a c.args.request what c.of.result m c.args.block c.in-Complete.place c.add.new.self c.args.self.now c.in-Complete.ensures.joined
           (c.in-Complete.ensures.place c.in-Complete.place refl) short ticket r joining,

@@ -29,8 +29,8 @@ pub join-requires-clause-block : goal.join-requires-clause-block
 join-requires-clause-block c =
     joining_is_block c.args.arrived.code c.observing_of-observing.result (plain_ask c.args.ask) c.in-Joining.block c.requires.blocks (sym c.in-Joining.ensures)
 
-pub returns-in-Joining-clause-ok : goal.returns-in-Joining-clause-ok
-returns-in-Joining-clause-ok c =
+pub returns-clause-ok : goal.returns-clause-ok
+returns-clause-ok c =
     let what = plain_ask c.args.ask in
     let a = c.args.arrived in
     let joining = ap (λ (o : Observing). wanted_of a.code o what) (sym c.observing_of-observing.ensures) ∙ sym c.in-Joining.ensures in

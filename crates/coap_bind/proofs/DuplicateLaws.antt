@@ -339,11 +339,11 @@ repeats Confirmable NonConfirmable reply = refl
 repeats NonConfirmable other reply = refl
 
 pub duplicates_get_the_first_reply : DuplicatesGetTheFirstReply
-duplicates_get_the_first_reply capacity history later s t u v request reply from bytes now m heard did replied since early spells of_m again hears =
+duplicates_get_the_first_reply capacity history later s t u v request reply from bytes now m heard did was since early spells of_m again hears =
     let alive : lives now request ≡ true = (both (lives now request) (is_same_exchange (arrival from now m) request) again).0 in
-    let first = replied_keeps request reply s t replied in
+    let first = replied_keeps request reply s t was in
     let kept = keeps_moment now first.0 request (kept_reply request.kind reply) u.exchanges alive (keeps_from t later u now first.0 request reply since early alive first.1) in
-    let order = tidy_moment now u.exchanges (tidy_from t later u since (tidy_replied request reply s t replied (tidy capacity history s did))) in
+    let order = tidy_moment now u.exchanges (tidy_from t later u since (tidy_replied request reply s t was (tidy capacity history s did))) in
     let there = duplicated_in (arrival from now m) (at_moment now u.exchanges).exchanges first.0 kept.exchange order.distinct kept.there
     (ap (is_duplicate_of (arrival from now m)) kept.arrival_is ∙ again) in
     let gets = gets_reply_of from bytes now m heard u v kept.exchange spells of_m there hears in

@@ -128,7 +128,7 @@ KeepsNone t = (slot : ℕ) (e : Exchange) (reply : List ℕ) → exchange_in slo
 
 -- it was replied to at this step
 now_replied : (before : Server) (history : List Arrival) (request : Arrival) (reply : List ℕ) (s t : Server) → DidFrom before history s → IsRepliedTo request reply s t → WasRepliedTo before request reply t
-now_replied before history request reply s t did replied = record { history = history; later = []; s = s; t = t; did = did; replied = replied; since = nothing }
+now_replied before history request reply s t did was = record { history = history; later = []; s = s; t = t; did = did; replied = was; since = nothing }
 
 heard_was : (before : Server) (past new : List Arrival) (r t : Server) (from : Endpoint) (bytes : List ℕ) (now : ℕ) (heard : Heard) (slot : ℕ) (reply : List ℕ) (e : Exchange) → DidFrom before past r
     → r.exchanges.moment ≤ now → Hears from bytes now heard r t → AreArrivals from bytes now new → WasHeard slot e reply r t
@@ -136,7 +136,7 @@ heard_was : (before : Server) (past new : List Arrival) (r t : Server) (from : E
 heard_was before past new r t from bytes now heard slot reply e did later hears are (inl found) rest =
     let w = rest found in
     record { history = w.history; later = w.later ++ new; s = w.s; t = w.t; did = w.did; replied = w.replied; since = heard_of w.later new r t from bytes now heard w.since later hears are }
-heard_was before past new r t from bytes now heard slot reply e did later hears are (inr replied) rest = now_replied before past e.arrival reply r t did replied
+heard_was before past new r t from bytes now heard slot reply e did later hears are (inr was) rest = now_replied before past e.arrival reply r t did was
 
 answered_was : (before : Server) (past : List Arrival) (r t : Server) (ask : OpenAsk) (o : Outcome) (target : Option ℕ) (bytes : List ℕ) (slot : ℕ) (reply : List ℕ) (e : Exchange) → DidFrom before past r
     → (waiting : IsOpen ask r) → Answers ask o target bytes r t → WasThere slot bytes waiting.exchange.arrival reply r.exchanges e

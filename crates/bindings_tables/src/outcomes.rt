@@ -76,6 +76,7 @@ fn plain(name: &str, carried: &str) -> Outcome
         "Format" => Outcome::Format,
         "BadValue" => Outcome::BadValue,
         "TooLarge" => Outcome::TooLarge,
+        "PreconditionFailed" => Outcome::PreconditionFailed,
         "Refused" => Outcome::Refused(number_in(carried)),
         "DeviceFault" => Outcome::DeviceFault(number_in(carried)),
         "BadAnswer" => Outcome::BadAnswer,
@@ -91,7 +92,10 @@ pub fn outcome_of(alloc: Global, word: &str) -> Result<Outcome, AllocError>
 {
     let (name, carried) = word.split_once(':').unwrap_or((word, ""));
     match name {
-        "Content" => Ok(Outcome::Content(copied(alloc, carried)?)),
+        "Content" => Ok(Outcome::Content {
+            text: copied(alloc, carried)?,
+            tag: None,
+        }),
         "Output" => Ok(Outcome::Output(copied(alloc, carried)?)),
         "Td" => Ok(Outcome::Description(copied(alloc, carried)?, true)),
         "Description" => Ok(Outcome::Description(copied(alloc, carried)?, false)),

@@ -92,7 +92,10 @@ fn perform_on_value(request: &Request<'_>, talk: &mut Talk) -> Result<Outcome, A
             } else {
                 request.query
             };
-            Ok(Outcome::Content(Bytes::copy_of(talk.alloc, text)?))
+            Ok(Outcome::Content {
+                text: Bytes::copy_of(talk.alloc, text)?,
+                tag: None,
+            })
         }
         Verb::Put => {
             talk.write(request.body)?;

@@ -98,7 +98,8 @@ server_error : (n : ℕ) → n < 32 → IsResponse (160 + n)
 server_error n low = record { small = omega arith; class = inr (inr (omega arith)) }
 
 whole_code : (o : Outcome) → HasCode o → IsResponse (whole_reply o).code
-whole_code (outcome.Content value) c = success 5 (omega arith)
+whole_code (outcome.Content value tag) c = success 5 (omega arith)
+whole_code (outcome.NotModified tag) c = success 3 (omega arith)
 whole_code (outcome.Description description td) c = success 5 (omega arith)
 whole_code outcome.Empty c = success 5 (omega arith)
 whole_code outcome.Changed c = success 4 (omega arith)
@@ -114,6 +115,7 @@ whole_code outcome.NotAcceptable c = client_error 6 (omega arith)
 whole_code outcome.Format c = client_error 15 (omega arith)
 whole_code outcome.BadValue c = client_error 0 (omega arith)
 whole_code outcome.TooLarge c = client_error 13 (omega arith)
+whole_code outcome.PreconditionFailed c = client_error 12 (omega arith)
 whole_code (outcome.Refused n) c = client_error 3 (omega arith)
 whole_code (outcome.DeviceFault n) c = server_error 0 (omega arith)
 whole_code outcome.BadAnswer c = server_error 0 (omega arith)

@@ -22,7 +22,7 @@ observing_of code observe = if code == GET then observing_at observe else observ
 
 -- The response may be a notification: it says a value, or that there is none yet, and isn't too long to be sent.
 abbrev pub may_notify : Outcome → Bool
-may_notify (outcome.Content value) = nat_le (length value) LONGEST_PAYLOAD
+may_notify (outcome.Content value tag) = nat_le (length value) LONGEST_PAYLOAD
 may_notify outcome.Empty = true
 may_notify _ = false
 

@@ -79,7 +79,7 @@ fn may_notify(outcome: &Outcome) -> bool
     ensures { result ≡ may_notify outcome.now }
 {
     match outcome {
-        Outcome::Content(value) => value.len() <= LONGEST_PAYLOAD,
+        Outcome::Content { text, .. } => text.len() <= LONGEST_PAYLOAD,
         Outcome::Empty => true,
         _ => false,
     }

@@ -12,6 +12,7 @@ use Rattle.thing_ops.specs.declared.verb.Verb.TheVariants as verb
 use Rattle.thing_ops.specs.declared.request.Accept.{Accept}
 use Rattle.thing_ops.specs.declared.request.Format.{Format}
 use Rattle.thing_ops.specs.declared.request.Format.TheVariants as format
+use Rattle.thing_ops.specs.Conditions.{no_conditions}
 use Rattle.thing_ops.specs.Requests.{PlainRequest}
 use Rattle.coap_opts.specs.declared.fault.AskFault.{AskFault}
 use Rattle.coap_opts.specs.declared.fault.AskFault.TheVariants as fault
@@ -108,7 +109,7 @@ pub record PlainAsk : Type 0 where
   pub block2 : Option Block
 
 -- What a message of class 0 asks for, if nothing is wrong with its options. Its path is the values of Uri-Path, and
--- Uri-Query isn't read.
+-- Uri-Query isn't read; nor are the options that ask for a version of a property, for the time being.
 abbrev pub asked : CoapMessage → PlainAsk
 asked m = record {
   request = record {
@@ -118,6 +119,7 @@ asked m = record {
     accept = accept_of (number_under accept m.options);
     format = format_of (number_under content_format m.options);
     body = m.payload;
+    conditions = no_conditions;
   };
   observe = number_under observe m.options;
   block1 = block_under block1 m.options;

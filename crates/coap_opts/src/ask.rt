@@ -11,7 +11,7 @@ use crate::known::{ACCEPT, CONTENT_FORMAT, OBSERVE};
 use crate::values::{block_under, numeric};
 use coap_msg::{Block, DELETE, GET, JSON, Message, POST, PUT, TD_JSON};
 use std::alloc::Global;
-use thing_ops::{Accept, Format, Request, Segments, Verb};
+use thing_ops::{Accept, Conditions, Format, Request, Segments, Verb};
 
 /// What a CoAP request asks for. It borrows the body from the message.
 #[derive(Debug, Drop)]
@@ -60,6 +60,7 @@ pub fn request_of<'a>(alloc: Global, message: &Message<'a>) -> Result<CoapAsk<'a
         accept: accept(numeric(ACCEPT, found.accept)),
         format: format(numeric(CONTENT_FORMAT, found.format)),
         body: message.payload,
+        conditions: Conditions::none(alloc),
     };
     Ok(CoapAsk {
         request,

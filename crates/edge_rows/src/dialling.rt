@@ -1,60 +1,109 @@
 //! Connections that are opened from here.
 
-use crate::listening::{listen_on_free_ports, next};
-use servient_edge::{Dialled, Event, Found, MioNet, Net, Next, What};
+use crate::listening::{event, expect, listen_on_free_ports};
+use servient_edge::{Dialled, Found, MioNet, Net, What};
 use std::net::TcpListener;
 use std::test::Fail;
 
 /// How many events are taken at most until the one that is awaited comes.
 const PATIENCE: u32 = 20;
 
-#[test]
-fn a_name_with_two_addresses_is_reached_and_may_end(rt: HostRuntime) -> Result<(), Fail> {
-    let listener = TcpListener::bind(&rt, "127.0.0.1:0")?;
-    let port = listener.local_addr()?.port();
-    let mut net = MioNet::new(rt.clone()?);
+/// What comes of dialling. For the prover: it has no clause, as `event` has none.
+fn dialled(rt: &HostRuntime, net: &mut MioNet<HostRuntime>, host: &str, port: u16) -> Dialled {
+    net.dial(rt.alloc(), host, port)
+}
+
+/// Whether a connection that was dialled ends before much else comes.
+fn ends(net: &mut MioNet<HostRuntime>, c: u32) -> bool {
     let mut buffer = [0; 4096];
-    assert_eq!(rt; net.next(&mut buffer), Next::Failed);
-    assert_eq!(rt;
-        net.dial(rt.alloc(), "localhost", port),
-        Dialled::Connected(0)
-    );
-    net.send(0, b"unread", b"");
-    let (peer, _from) = listener.accept()?;
-    // Its peer has bytes that it hasn't read, so the system resets the connection.
-    drop(peer);
     for _ in 0..PATIENCE {
-        if let Next::Got(
-            Event {
-                what: What::Ended(0),
-                ..
-            },
-        ) = net.next(&mut buffer)
-        {
-            drop(listener);
-            assert_eq!(rt; net.dial(rt.alloc(), "localhost", port), Dialled::Failed);
-            return Ok(());
+        if event(net, &mut buffer) == Some(What::Ended(c)) {
+            return true;
         }
     }
-    Err("the connection doesn't end")?
+    false
+}
+
+/// A peer that has bytes that it hasn't read when it goes, so that the system resets the connection.
+fn accept_and_go(listener: &TcpListener) -> Result<(), Fail> {
+    let (_peer, _from) = listener.accept()?;
+    Ok(())
+}
+
+/// Dials a peer that listens, and ends it.
+fn dial_and_end(
+    rt: &HostRuntime,
+    net: &mut MioNet<HostRuntime>,
+    listener: &TcpListener,
+    port: u16,
+) -> Result<(), Fail> {
+    let mut buffer = [0; 4096];
+    if event(net, &mut buffer).is_some() {
+        return Err("something comes before it dials")?;
+    }
+    if dialled(rt, net, "localhost", port) != Dialled::Connected(0) {
+        return Err("it isn't connected")?;
+    }
+    net.send(0, b"unread", b"");
+    accept_and_go(listener)?;
+    if !ends(net, 0) {
+        return Err("the connection doesn't end")?;
+    }
+    Ok(())
+}
+
+/// Dials a peer by its name, which listens no longer afterwards.
+fn dial_by_name(rt: &HostRuntime, net: &mut MioNet<HostRuntime>) -> Result<u16, Fail> {
+    let listener = TcpListener::bind(rt, "127.0.0.1:0")?;
+    let port = listener.local_addr()?.port();
+    dial_and_end(rt, net, &listener, port)?;
+    Ok(port)
+}
+
+fn dial_twice(rt: &HostRuntime, net: &mut MioNet<HostRuntime>) -> Result<(), Fail> {
+    let port = dial_by_name(rt, net)?;
+    if dialled(rt, net, "localhost", port) != Dialled::Failed {
+        return Err("nobody listens there")?;
+    }
+    Ok(())
+}
+
+#[test]
+fn a_name_with_two_addresses_is_reached_and_may_end(rt: HostRuntime) -> Result<(), Fail> {
+    let mut net = MioNet::new(rt.clone()?);
+    dial_twice(&rt, &mut net)
 }
 
 /// How many connections wait at a listener at most, with those that the system lets wait besides.
 const WAITING: u32 = 192;
 
-#[test]
-fn a_peer_that_never_accepts_fails_after_ten_seconds(rt: HostRuntime) -> Result<(), Fail> {
-    let listener = TcpListener::bind(&rt, "127.0.0.1:0")?;
-    let port = listener.local_addr()?.port();
-    let mut nets = Vec::new(rt.alloc());
-    for count in 0..WAITING {
-        if count % 64 == 0 {
-            nets.push(MioNet::new(rt.clone()?))?;
-        }
-        let Some(net) = nets.last_mut() else {
-            return Err("there is a network")?;
-        };
-        match net.dial(rt.alloc(), "127.0.0.1", port) {
+/// How many connections a network has.
+const NUMBERS: u32 = 64;
+
+/// Dials once more: from a network that has a number left, if so many dialled before.
+fn dial_once_more(
+    rt: &HostRuntime,
+    nets: &mut Vec<MioNet<HostRuntime>>,
+    before: u32,
+    port: u16,
+) -> Result<Dialled, Fail> {
+    if before % NUMBERS == 0 {
+        nets.push(MioNet::new(rt.clone()?))?;
+    }
+    match nets.last_mut() {
+        Some(net) => Ok(dialled(rt, net, "127.0.0.1", port)),
+        None => Err("there is a network")?,
+    }
+}
+
+/// Dials until it fails.
+fn dial_until_it_fails(
+    rt: &HostRuntime,
+    nets: &mut Vec<MioNet<HostRuntime>>,
+    port: u16,
+) -> Result<(), Fail> {
+    for before in 0..WAITING {
+        match dial_once_more(rt, nets, before, port)? {
             Dialled::Connected(_) => {}
             Dialled::NoMemory => return Err("out of memory")?,
             Dialled::Failed => return Ok(()),
@@ -64,29 +113,38 @@ fn a_peer_that_never_accepts_fails_after_ten_seconds(rt: HostRuntime) -> Result<
 }
 
 #[test]
-fn it_may_listen_after_it_has_looked_up_and_dialled(rt: HostRuntime) -> Result<(), Fail> {
+fn a_peer_that_never_accepts_fails_after_ten_seconds(rt: HostRuntime) -> Result<(), Fail> {
     let listener = TcpListener::bind(&rt, "127.0.0.1:0")?;
     let port = listener.local_addr()?.port();
-    let mut net = MioNet::new(rt.clone()?);
+    let mut nets = Vec::new(rt.alloc());
+    dial_until_it_fails(&rt, &mut nets, port)
+}
+
+/// Looks a host up, and dials: its second has begun, and there is no end without listening.
+fn find_and_dial(rt: &HostRuntime, net: &mut MioNet<HostRuntime>, port: u16) -> Result<(), Fail> {
     let mut buffer = [0; 4096];
     let Found::At(_) = net.find(rt.alloc(), "localhost", port) else {
         return Err("the host isn't found")?;
     };
-    // Its second has begun, and there is no end without listening.
-    let Next::Got(
-        Event {
-            what: What::Tick,
-            ..
-        },
-    ) = net.next(&mut buffer)
-    else {
+    if event(net, &mut buffer) != Some(What::Tick) {
         return Err("no tick came")?;
-    };
-    assert_eq!(rt;
-        net.dial(rt.alloc(), "127.0.0.1", port),
-        Dialled::Connected(0)
-    );
-    let _place = listen_on_free_ports(&rt, &mut net, 500)?;
-    assert_eq!(rt; next(&mut net, &mut buffer)?, What::Stop);
+    }
+    if dialled(rt, net, "127.0.0.1", port) != Dialled::Connected(0) {
+        return Err("it isn't connected")?;
+    }
     Ok(())
+}
+
+fn listen_after_dialling(rt: &HostRuntime, net: &mut MioNet<HostRuntime>) -> Result<(), Fail> {
+    let listener = TcpListener::bind(rt, "127.0.0.1:0")?;
+    let port = listener.local_addr()?.port();
+    find_and_dial(rt, net, port)?;
+    let _ports = listen_on_free_ports(rt, net, 500)?;
+    expect(net, What::Stop)
+}
+
+#[test]
+fn it_may_listen_after_it_has_looked_up_and_dialled(rt: HostRuntime) -> Result<(), Fail> {
+    let mut net = MioNet::new(rt.clone()?);
+    listen_after_dialling(&rt, &mut net)
 }

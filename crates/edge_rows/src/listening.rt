@@ -1,6 +1,7 @@
-//! A network that listens at ports that were free, and what comes of it.
+//! Networks that listen at ports that were free, and what comes of them. Whoever makes a network lends it to what is tried
+//! with it: a function that owns one is dear to prove where it may end early.
 
-use servient_edge::{Event, Listened, MioNet, Net, Next, Place, What};
+use servient_edge::{Listened, MioNet, Net, Next, Place, What};
 use std::net::{TcpListener, TcpStream, UdpSocket};
 use std::test::Fail;
 use wot_json::Text;
@@ -11,86 +12,121 @@ const PATIENCE: u32 = 20;
 /// How many pairs of ports are tried.
 const TRIES: u32 = 5;
 
-/// A network that listens, and the port of each of its addresses.
-#[derive(Drop)]
-pub struct Listening {
-    pub net: MioNet<HostRuntime>,
+/// The ports at which a network listens.
+#[derive(Clone, Copy)]
+pub struct Ports {
     pub http: u16,
     pub coap: u16,
 }
 
-/// A network that listens at two ports that were free, and stops after n milliseconds without traffic.
-pub fn on_free_ports(rt: &HostRuntime, idle: u64) -> Result<Listening, Fail> {
-    let mut net = MioNet::new(rt.clone()?);
-    let place = listen_on_free_ports(rt, &mut net, idle)?;
-    if net.listen(rt.alloc(), &place) != Listened::Failed {
-        return Err("it listens twice")?;
-    }
-    Ok(Listening {
-        net,
-        http: place.http_port,
-        coap: place.coap_port,
-    })
-}
-
-/// Has a network listen at two ports that were free. They may be taken meanwhile, and then two others are tried.
+/// Has a network listen at two ports that were free, and stop after n milliseconds without traffic. They may be taken
+/// meanwhile, and then two others are tried.
 pub fn listen_on_free_ports(
     rt: &HostRuntime,
     net: &mut MioNet<HostRuntime>,
     idle: u64,
-) -> Result<Place, Fail> {
+) -> Result<Ports, Fail> {
     for _ in 0..TRIES {
-        let place = free_place(rt, idle)?;
-        if net.listen(rt.alloc(), &place) == Listened::Ready {
-            return Ok(place);
+        let ports = free_ports(rt)?;
+        if listens_at(rt, net, ports, idle)? {
+            return Ok(ports);
         }
     }
     Err("it doesn't listen")?
 }
 
-/// A place with two ports that are free.
-fn free_place(rt: &HostRuntime, idle: u64) -> Result<Place, Fail> {
-    let http_port = TcpListener::bind(rt, "127.0.0.1:0")?.local_addr()?.port();
-    let coap_port = UdpSocket::bind(rt, "127.0.0.1:0")?.local_addr()?.port();
-    Ok(Place {
+/// Two ports that are free.
+fn free_ports(rt: &HostRuntime) -> Result<Ports, Fail> {
+    let http = TcpListener::bind(rt, "127.0.0.1:0")?.local_addr()?.port();
+    let coap = UdpSocket::bind(rt, "127.0.0.1:0")?.local_addr()?.port();
+    Ok(Ports { http, coap })
+}
+
+/// Has a network listen at these ports, if they are still free.
+fn listens_at(
+    rt: &HostRuntime,
+    net: &mut MioNet<HostRuntime>,
+    ports: Ports,
+    idle: u64,
+) -> Result<bool, Fail> {
+    let place = Place {
         http_host: Text::copy_of(rt.alloc(), "127.0.0.1")?,
-        http_port,
+        http_port: ports.http,
         coap_host: Text::copy_of(rt.alloc(), "localhost")?,
-        coap_port,
+        coap_port: ports.coap,
         idle,
-    })
+    };
+    listens_once(rt, net, &place)
+}
+
+/// Whether it listens there. It doesn't twice.
+fn listens_once(
+    rt: &HostRuntime,
+    net: &mut MioNet<HostRuntime>,
+    place: &Place,
+) -> Result<bool, Fail> {
+    if net.listen(rt.alloc(), place) != Listened::Ready {
+        return Ok(false);
+    }
+    if net.listen(rt.alloc(), place) != Listened::Failed {
+        return Err("it listens twice")?;
+    }
+    Ok(true)
+}
+
+/// What comes next, if the network doesn't fail. For the prover: it has no clause, so that its callers are proved without
+/// those of `next` on numbers, at which they don't look.
+pub fn event(net: &mut MioNet<HostRuntime>, buffer: &mut [u8; 4096]) -> Option<What> {
+    match net.next(buffer) {
+        Next::Got(event) => Some(event.what),
+        Next::Failed => None,
+    }
 }
 
 /// What comes next but ticks.
 pub fn next(net: &mut MioNet<HostRuntime>, buffer: &mut [u8; 4096]) -> Result<What, Fail> {
     for _ in 0..PATIENCE {
-        match net.next(buffer) {
-            Next::Got(
-                Event {
-                    what: What::Tick,
-                    ..
-                },
-            ) => {}
-            Next::Got(event) => return Ok(event.what),
-            Next::Failed => return Err("the network failed")?,
+        match event(net, buffer) {
+            Some(What::Tick) => {}
+            Some(what) => return Ok(what),
+            None => return Err("the network failed")?,
         }
     }
     Err("nothing came")?
 }
 
+/// What comes next but ticks is this.
+pub fn expect(net: &mut MioNet<HostRuntime>, what: What) -> Result<(), Fail> {
+    let mut buffer = [0; 4096];
+    if next(net, &mut buffer)? != what {
+        return Err("something else came")?;
+    }
+    Ok(())
+}
+
+/// One more connection, which has this number.
+pub fn connected_as(
+    rt: &HostRuntime,
+    net: &mut MioNet<HostRuntime>,
+    ports: Ports,
+    c: u32,
+) -> Result<TcpStream, Fail> {
+    let peer = TcpStream::connect(rt, ("127.0.0.1", ports.http))?;
+    expect(net, What::Opened(c))?;
+    Ok(peer)
+}
+
 /// So many connections, which have the numbers from 0 on.
 pub fn connected(
     rt: &HostRuntime,
-    listening: &mut Listening,
+    net: &mut MioNet<HostRuntime>,
+    ports: Ports,
     count: u32,
 ) -> Result<Vec<TcpStream>, Fail> {
-    let mut buffer = [0; 4096];
     let mut peers = Vec::new(rt.alloc());
     for c in 0..count {
-        peers.push(TcpStream::connect(rt, ("127.0.0.1", listening.http))?)?;
-        if next(&mut listening.net, &mut buffer)? != What::Opened(c) {
-            return Err("another number was opened")?;
-        }
+        let peer = connected_as(rt, net, ports, c)?;
+        peers.push(peer)?;
     }
     Ok(peers)
 }

@@ -1,7 +1,7 @@
 //! What is sent on many connections, and after a pause, comes whole, in order and on its own connection.
 
-use crate::listening::{connected, next, on_free_ports};
-use servient_edge::{Event, MioNet, Net, Next, What};
+use crate::listening::{Ports, connected, connected_as, event, listen_on_free_ports, next};
+use servient_edge::{MioNet, Net, What};
 use std::io::{Read, Write};
 use std::net::TcpStream;
 use std::test::Fail;
@@ -17,27 +17,51 @@ fn answer(net: &mut MioNet<HostRuntime>) -> Result<(), Fail> {
     Ok(())
 }
 
-#[test]
-fn each_of_64_connections_has_its_own_reply(rt: HostRuntime) -> Result<(), Fail> {
-    let mut listening = on_free_ports(&rt, 0)?;
-    let mut peers = connected(&rt, &mut listening, 64)?;
+/// Each peer sends its number.
+fn send_numbers(peers: &mut Vec<TcpStream>) -> Result<(), Fail> {
     let mut number: u8 = 0;
     for peer in peers.iter_mut() {
         peer.write_all(&[number])?;
         number = number.wrapping_add(1);
     }
-    for _ in 0..64 {
-        answer(&mut listening.net)?;
-    }
+    Ok(())
+}
+
+/// Each peer gets what was sent in answer to its number.
+fn get_answers(rt: &HostRuntime, peers: &mut Vec<TcpStream>) -> Result<(), Fail> {
     let mut number: u8 = 0;
     for peer in peers.iter_mut() {
         let mut reply = [0; 5];
         peer.set_read_timeout(Some(Duration::from_secs(10)))?;
         peer.read_exact(&mut reply)?;
-        assert_eq!(rt; reply, [number, number, 0, 0, 0]);
+        if reply != [number, number, 0, 0, 0] {
+            return Err("another reply came")?;
+        }
         number = number.wrapping_add(1);
     }
     Ok(())
+}
+
+/// Answers each peer.
+fn answer_all(net: &mut MioNet<HostRuntime>, count: u32) -> Result<(), Fail> {
+    for _ in 0..count {
+        answer(net)?;
+    }
+    Ok(())
+}
+
+fn send_and_answer(rt: &HostRuntime, net: &mut MioNet<HostRuntime>) -> Result<(), Fail> {
+    let ports = listen_on_free_ports(rt, net, 0)?;
+    let mut peers = connected(rt, net, ports, 64)?;
+    send_numbers(&mut peers)?;
+    answer_all(net, 64)?;
+    get_answers(rt, &mut peers)
+}
+
+#[test]
+fn each_of_64_connections_has_its_own_reply(rt: HostRuntime) -> Result<(), Fail> {
+    let mut net = MioNet::new(rt.clone()?);
+    send_and_answer(&rt, &mut net)
 }
 
 /// What is sent: 96 pieces of 65,536 bytes, each of which is its number. Over the loopback a socket takes some 2.5 to 4.3
@@ -102,33 +126,41 @@ fn read_pieces(
 fn pause(net: &mut MioNet<HostRuntime>) -> Result<(), Fail> {
     let mut buffer = [0; 4096];
     for _ in 0..PAUSE {
-        let Next::Got(
-            Event {
-                what: What::Tick,
-                ..
-            },
-        ) = net.next(&mut buffer)
-        else {
+        if event(net, &mut buffer) != Some(What::Tick) {
             return Err("something came")?;
-        };
+        }
     }
     Ok(())
 }
 
+/// Reads after a pause all that was sent before it.
+fn read_after_pause(
+    rt: &HostRuntime,
+    net: &mut MioNet<HostRuntime>,
+    peer: &mut TcpStream,
+    other: &mut TcpStream,
+) -> Result<(), Fail> {
+    send_pieces(rt, net, 0)?;
+    net.close(0);
+    pause(net)?;
+    peer.set_read_timeout(Some(Duration::from_millis(20)))?;
+    if read_pieces(net, peer, other)? != WHOLE {
+        return Err("not all came")?;
+    }
+    Ok(())
+}
+
+fn connect_and_pause(rt: &HostRuntime, net: &mut MioNet<HostRuntime>) -> Result<(), Fail> {
+    let ports = listen_on_free_ports(rt, net, 0)?;
+    let mut peer = connected_as(rt, net, ports, 0)?;
+    let mut other = connected_as(rt, net, ports, 1)?;
+    read_after_pause(rt, net, &mut peer, &mut other)
+}
+
 #[test]
 fn a_peer_that_pauses_gets_all_that_was_kept(rt: HostRuntime) -> Result<(), Fail> {
-    let mut listening = on_free_ports(&rt, 0)?;
-    let mut peers = connected(&rt, &mut listening, 2)?;
-    send_pieces(&rt, &mut listening.net, 0)?;
-    listening.net.close(0);
-    pause(&mut listening.net)?;
-    let (Some(mut other), Some(mut peer)) = (peers.pop(), peers.pop()) else {
-        return Err("there are two peers")?;
-    };
-    peer.set_read_timeout(Some(Duration::from_millis(20)))?;
-    let count = read_pieces(&mut listening.net, &mut peer, &mut other)?;
-    assert_eq!(rt; count, WHOLE);
-    Ok(())
+    let mut net = MioNet::new(rt.clone()?);
+    connect_and_pause(&rt, &mut net)
 }
 
 /// The reply comes, and then the end of what is sent.
@@ -142,25 +174,33 @@ fn hear_to_the_end(peer: &mut TcpStream) -> Result<(), Fail> {
     Ok(())
 }
 
-#[test]
-fn a_closed_connection_waits_two_seconds_for_its_peer(rt: HostRuntime) -> Result<(), Fail> {
-    let mut listening = on_free_ports(&rt, 0)?;
-    let mut peers = connected(&rt, &mut listening, 1)?;
-    let mut buffer = [0; 4096];
-    listening.net.send(0, b"reply", b"");
-    listening.net.close(0);
-    let Some(mut peer) = peers.pop() else {
-        return Err("there is one peer")?;
-    };
+/// A connection that is closed has its number until its peer had two seconds.
+fn connect_again(
+    rt: &HostRuntime,
+    net: &mut MioNet<HostRuntime>,
+    ports: Ports,
+) -> Result<(), Fail> {
+    let _second = connected_as(rt, net, ports, 1)?;
+    pause(net)?;
+    let _third = connected_as(rt, net, ports, 0)?;
+    Ok(())
+}
+
+fn connect_and_close(rt: &HostRuntime, net: &mut MioNet<HostRuntime>) -> Result<(), Fail> {
+    let ports = listen_on_free_ports(rt, net, 0)?;
+    let mut peer = connected_as(rt, net, ports, 0)?;
+    net.send(0, b"reply", b"");
+    net.close(0);
     hear_to_the_end(&mut peer)?;
     // It is read no further than to be dropped, and nothing comes of it.
     peer.write_all(b"more")?;
-    let _second = TcpStream::connect(&rt, ("127.0.0.1", listening.http))?;
-    assert_eq!(rt; next(&mut listening.net, &mut buffer)?, What::Opened(1));
-    pause(&mut listening.net)?;
-    let _third = TcpStream::connect(&rt, ("127.0.0.1", listening.http))?;
-    assert_eq!(rt; next(&mut listening.net, &mut buffer)?, What::Opened(0));
-    Ok(())
+    connect_again(rt, net, ports)
+}
+
+#[test]
+fn a_closed_connection_waits_two_seconds_for_its_peer(rt: HostRuntime) -> Result<(), Fail> {
+    let mut net = MioNet::new(rt.clone()?);
+    connect_and_close(&rt, &mut net)
 }
 
 /// Reads until nothing comes for the time that the peer waits, or the end. Each byte must be that of its place, and the
@@ -177,27 +217,55 @@ fn read_on(peer: &mut TcpStream, place: u64) -> Result<u64, Fail> {
     Ok(place)
 }
 
+/// Ends the run, and gives the milliseconds that this took.
+fn finish(rt: &HostRuntime, net: &mut MioNet<HostRuntime>) -> Result<u128, Fail> {
+    let begin = Instant::now(rt)?;
+    net.finish();
+    Ok(Instant::now(rt)?.duration_since(begin).as_millis())
+}
+
+/// A peer that reads gets all, while another never reads.
+fn read_to_the_end(
+    rt: &HostRuntime,
+    net: &mut MioNet<HostRuntime>,
+    peer: &mut TcpStream,
+) -> Result<(), Fail> {
+    peer.set_read_timeout(Some(Duration::from_millis(100)))?;
+    let before = read_on(peer, 0)?;
+    if before >= WHOLE {
+        return Err("nothing was kept")?;
+    }
+    let passed = finish(rt, net)?;
+    if passed < 1900 || passed >= 5000 {
+        return Err("it didn't take two seconds")?;
+    }
+    peer.set_read_timeout(Some(Duration::from_secs(10)))?;
+    if read_on(peer, before)? != WHOLE {
+        return Err("not all came")?;
+    }
+    Ok(())
+}
+
+fn connect_and_finish(rt: &HostRuntime, net: &mut MioNet<HostRuntime>) -> Result<(), Fail> {
+    let ports = listen_on_free_ports(rt, net, 0)?;
+    let mut peer = connected_as(rt, net, ports, 0)?;
+    let _other = connected_as(rt, net, ports, 1)?;
+    send_pieces(rt, net, 0)?;
+    send_pieces(rt, net, 1)?;
+    read_to_the_end(rt, net, &mut peer)
+}
+
+fn finish_and_ask(rt: &HostRuntime, net: &mut MioNet<HostRuntime>) -> Result<(), Fail> {
+    let mut buffer = [0; 4096];
+    connect_and_finish(rt, net)?;
+    if event(net, &mut buffer).is_some() {
+        return Err("something comes after the end")?;
+    }
+    Ok(())
+}
+
 #[test]
 fn what_is_kept_is_written_at_the_end_for_two_seconds(rt: HostRuntime) -> Result<(), Fail> {
-    let mut listening = on_free_ports(&rt, 0)?;
-    let mut peers = connected(&rt, &mut listening, 2)?;
-    send_pieces(&rt, &mut listening.net, 0)?;
-    send_pieces(&rt, &mut listening.net, 1)?;
-    // The second peer never reads.
-    let (Some(_other), Some(mut peer)) = (peers.pop(), peers.pop()) else {
-        return Err("there are two peers")?;
-    };
-    peer.set_read_timeout(Some(Duration::from_millis(100)))?;
-    let before = read_on(&mut peer, 0)?;
-    assert!(rt; before < WHOLE);
-    let begin = Instant::now(&rt)?;
-    listening.net.finish();
-    let passed = Instant::now(&rt)?.duration_since(begin).as_millis();
-    assert!(rt; passed >= 1900);
-    assert!(rt; passed < 5000);
-    peer.set_read_timeout(Some(Duration::from_secs(10)))?;
-    assert_eq!(rt; read_on(&mut peer, before)?, WHOLE);
-    let mut buffer = [0; 4096];
-    assert_eq!(rt; listening.net.next(&mut buffer), Next::Failed);
-    Ok(())
+    let mut net = MioNet::new(rt.clone()?);
+    finish_and_ask(&rt, &mut net)
 }

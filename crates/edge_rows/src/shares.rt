@@ -1,7 +1,7 @@
 //! Everybody has a share: ticks, connections and datagrams.
 
-use crate::listening::{Listening, connected, on_free_ports};
-use servient_edge::{Event, Net, Next, What};
+use crate::listening::{connected, connected_as, event, listen_on_free_ports};
+use servient_edge::{MioNet, What};
 use std::io::Write;
 use std::net::{TcpStream, UdpSocket};
 use std::test::Fail;
@@ -22,64 +22,85 @@ const SLOW: u64 = 1500;
 /// Takes an event and serves it: a tick slowly, and to all else its peer sends something more.
 fn serve(
     rt: &HostRuntime,
-    listening: &mut Listening,
+    net: &mut MioNet<HostRuntime>,
     stream: &mut TcpStream,
     socket: &UdpSocket,
     counts: &mut Counts,
 ) -> Result<(), Fail> {
     let mut buffer = [0; 4096];
-    let Next::Got(Event { what, .. }) = listening.net.next(&mut buffer) else {
-        return Err("the network failed")?;
-    };
-    match what {
-        What::Tick => {
+    match event(net, &mut buffer) {
+        None => return Err("the network failed")?,
+        Some(What::Tick) => {
             counts.ticks = counts.ticks.saturating_add(1);
             sleep(rt, Duration::from_millis(SLOW));
         }
-        What::Bytes(_, _) => {
+        Some(What::Bytes(_, _)) => {
             counts.bytes = counts.bytes.saturating_add(1);
             stream.write_all(b"x")?;
         }
         _ => {
             counts.datagrams = counts.datagrams.saturating_add(1);
-            socket.send_to(b"x", ("127.0.0.1", listening.coap))?;
+            socket.send(b"x")?;
         }
     }
     Ok(())
 }
 
-#[test]
-fn slow_ticks_leave_room_for_all_else(rt: HostRuntime) -> Result<(), Fail> {
-    let mut listening = on_free_ports(&rt, 0)?;
-    let mut peers = connected(&rt, &mut listening, 1)?;
-    let Some(mut stream) = peers.pop() else {
-        return Err("there is one peer")?;
-    };
-    let socket = UdpSocket::bind(&rt, "127.0.0.1:0")?;
+/// A socket whose datagrams go to this port.
+fn socket_to(rt: &HostRuntime, coap: u16) -> Result<UdpSocket, Fail> {
+    let socket = UdpSocket::bind(rt, "127.0.0.1:0")?;
+    socket.connect(("127.0.0.1", coap))?;
+    Ok(socket)
+}
+
+/// Serves until three ticks came. After each of them something else comes.
+fn serve_three_ticks(
+    rt: &HostRuntime,
+    net: &mut MioNet<HostRuntime>,
+    stream: &mut TcpStream,
+    socket: &UdpSocket,
+    counts: &mut Counts,
+) -> Result<(), Fail> {
+    for _ in 0..600 {
+        let before = counts.ticks;
+        serve(rt, net, stream, socket, counts)?;
+        if counts.ticks == before {
+            sleep(rt, Duration::from_millis(10));
+        } else {
+            serve(rt, net, stream, socket, counts)?;
+            if counts.ticks != before.saturating_add(1) {
+                return Err("two ticks came in a row")?;
+            }
+        }
+        if counts.ticks == 3 {
+            return Ok(());
+        }
+    }
+    Err("three ticks didn't come")?
+}
+
+fn serve_slowly(rt: &HostRuntime, net: &mut MioNet<HostRuntime>) -> Result<(), Fail> {
+    let ports = listen_on_free_ports(rt, net, 0)?;
+    let mut stream = connected_as(rt, net, ports, 0)?;
+    let socket = socket_to(rt, ports.coap)?;
     let mut counts = Counts {
         ticks: 0,
         bytes: 0,
         datagrams: 0,
     };
     stream.write_all(b"x")?;
-    socket.send_to(b"x", ("127.0.0.1", listening.coap))?;
-    for _ in 0..600 {
-        let before = counts.ticks;
-        serve(&rt, &mut listening, &mut stream, &socket, &mut counts)?;
-        if counts.ticks == before {
-            sleep(&rt, Duration::from_millis(10));
-        } else {
-            serve(&rt, &mut listening, &mut stream, &socket, &mut counts)?;
-            assert_eq!(rt; counts.ticks, before.saturating_add(1));
-        }
-        if counts.ticks == 3 {
-            break;
-        }
+    socket.send(b"x")?;
+    serve_three_ticks(rt, net, &mut stream, &socket, &mut counts)?;
+    if counts.bytes <= 20 || counts.datagrams <= 20 {
+        return Err("too little came beside the ticks")?;
     }
-    assert_eq!(rt; counts.ticks, 3);
-    assert!(rt; counts.bytes > 20);
-    assert!(rt; counts.datagrams > 20);
     Ok(())
+}
+
+#[test]
+fn slow_ticks_leave_room_for_all_else(rt: HostRuntime) -> Result<(), Fail> {
+    let mut net = MioNet::new(rt.clone()?);
+    serve_slowly(&rt, &mut net)
 }
 
 /// How many connections have something, beside a flood.
@@ -88,34 +109,57 @@ const OTHERS: u32 = 20;
 /// How many events are taken at most until each of them was heard: 8 datagrams before each. Nobody waits for a second.
 const EVENTS: u32 = 200;
 
-#[test]
-fn a_flood_of_datagrams_holds_nobody_up(rt: HostRuntime) -> Result<(), Fail> {
-    let mut listening = on_free_ports(&rt, 0)?;
-    let mut peers = connected(&rt, &mut listening, OTHERS)?;
-    let socket = UdpSocket::bind(&rt, "127.0.0.1:0")?;
+/// Each peer sends a byte.
+fn write_to_all(peers: &mut Vec<TcpStream>) -> Result<(), Fail> {
     for peer in peers.iter_mut() {
         peer.write_all(b"x")?;
     }
-    for _ in 0..100 {
-        socket.send_to(b"x", ("127.0.0.1", listening.coap))?;
-    }
+    Ok(())
+}
+
+/// How many connections were heard while a datagram came before each event.
+fn heard_beside(net: &mut MioNet<HostRuntime>, socket: &UdpSocket) -> Result<u32, Fail> {
     let mut buffer = [0; 4096];
     let mut heard: u32 = 0;
-    let begin = Instant::now(&rt)?;
     for _ in 0..EVENTS {
-        socket.send_to(b"x", ("127.0.0.1", listening.coap))?;
-        if let Next::Got(
-            Event {
-                what: What::Bytes(_, _),
-                ..
-            },
-        ) = listening.net.next(&mut buffer)
-        {
+        socket.send(b"x")?;
+        if let Some(What::Bytes(_, _)) = event(net, &mut buffer) {
             heard = heard.saturating_add(1);
         }
     }
-    assert_eq!(rt; heard, OTHERS);
-    let passed = Instant::now(&rt)?.duration_since(begin).as_millis();
-    assert!(rt; passed < 1000);
+    Ok(heard)
+}
+
+/// All are heard within a second.
+fn hear_all(
+    rt: &HostRuntime,
+    net: &mut MioNet<HostRuntime>,
+    socket: &UdpSocket,
+) -> Result<(), Fail> {
+    let begin = Instant::now(rt)?;
+    if heard_beside(net, socket)? != OTHERS {
+        return Err("not all were heard")?;
+    }
+    let passed = Instant::now(rt)?.duration_since(begin).as_millis();
+    if passed >= 1000 {
+        return Err("somebody waited for a second")?;
+    }
     Ok(())
+}
+
+fn flood(rt: &HostRuntime, net: &mut MioNet<HostRuntime>) -> Result<(), Fail> {
+    let ports = listen_on_free_ports(rt, net, 0)?;
+    let mut peers = connected(rt, net, ports, OTHERS)?;
+    let socket = socket_to(rt, ports.coap)?;
+    write_to_all(&mut peers)?;
+    for _ in 0..100 {
+        socket.send(b"x")?;
+    }
+    hear_all(rt, net, &socket)
+}
+
+#[test]
+fn a_flood_of_datagrams_holds_nobody_up(rt: HostRuntime) -> Result<(), Fail> {
+    let mut net = MioNet::new(rt.clone()?);
+    flood(&rt, &mut net)
 }

@@ -18,18 +18,20 @@ phrase_short status =
     (phrase_by (status == 200) (codes "200 OK") _ (omega arith)
     (phrase_by (status == 201) (codes "201 Created") _ (omega arith)
     (phrase_by (status == 204) (codes "204 No Content") _ (omega arith)
+    (phrase_by (status == 304) (codes "304 Not Modified") _ (omega arith)
     (phrase_by (status == 400) (codes "400 Bad Request") _ (omega arith)
     (phrase_by (status == 403) (codes "403 Forbidden") _ (omega arith)
     (phrase_by (status == 404) (codes "404 Not Found") _ (omega arith)
     (phrase_by (status == 405) (codes "405 Method Not Allowed") _ (omega arith)
     (phrase_by (status == 406) (codes "406 Not Acceptable") _ (omega arith)
+    (phrase_by (status == 412) (codes "412 Precondition Failed") _ (omega arith)
     (phrase_by (status == 413) (codes "413 Content Too Large") _ (omega arith)
     (phrase_by (status == 415) (codes "415 Unsupported Media Type") _ (omega arith)
     (phrase_by (status == 431) (codes "431 Request Header Fields Too Large") _ (omega arith)
     (phrase_by (status == 500) (codes "500 Internal Server Error") _ (omega arith)
     (phrase_by (status == 501) (codes "501 Not Implemented") _ (omega arith)
     (phrase_by (status == 503) (codes "503 Service Unavailable") _ (omega arith)
-    (phrase_by (status == 507) (codes "507 Insufficient Storage") None (omega arith) (omega arith))))))))))))))))
+    (phrase_by (status == 507) (codes "507 Insufficient Storage") None (omega arith) (omega arith))))))))))))))))))
 
 field_short : (name : List ℕ) (o : Option (List ℕ)) → length name ≤ 64 → IfSome o (λ t. length t ≤ 64) → length (field_line name o) ≤ 130
 field_short name None few short = omega arith
@@ -80,5 +82,5 @@ short_reply r short =
     (field_short (codes "Content-Type: ") r.content_type (omega arith) short.content_type)
     (field_short (codes "Location: ") r.location (omega arith) (subst (λ (o : Option (List ℕ)). IfSome o (λ t. length t ≤ 64)) (sym short.location) tt))
     (field_short (codes "Allow: ") r.allow (omega arith) short.allow)
-    (field_short (codes "Content-Length: ") (option_map decimal (written_length r)) (omega arith) (size_short ((r.status == 100) || (r.status == 204)) r.size short.size))
+    (field_short (codes "Content-Length: ") (option_map decimal (written_length r)) (omega arith) (size_short ((r.status == 100) || (r.status == 204) || (r.status == 304)) r.size short.size))
     (field_short (codes "Connection: ") (closing r.close) (omega arith) (closing_short r.close)))

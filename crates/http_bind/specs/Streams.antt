@@ -211,7 +211,7 @@ pub data Answers (c : ℕ) (o : Outcome) (now : ℕ) (sent : Option (List ℕ ×
 
 -- what a request that waits is replied: the text that was emitted, or that there was none
 abbrev pub woken_by : Option (List ℕ) → Outcome
-woken_by (Some text) = outcome.Content text
+woken_by (Some text) = outcome.Content text None
 woken_by None = outcome.Empty
 
 -- a request that waits is replied

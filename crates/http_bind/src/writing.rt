@@ -233,11 +233,15 @@ fn media_type(outcome: &Outcome) -> Option<&'static str>
     match outcome {
         Outcome::Description(_, true) => Some("application/td+json"),
         Outcome::Description(_, false)
-        | Outcome::Content(_)
+        | Outcome::Content { .. }
         | Outcome::Output(_)
         | Outcome::Started(_, _)
         | Outcome::Listed(_) => Some(JSON),
-        Outcome::Empty | Outcome::Changed | Outcome::Deleted | Outcome::Created(_) => None,
+        Outcome::NotModified(_)
+        | Outcome::Empty
+        | Outcome::Changed
+        | Outcome::Deleted
+        | Outcome::Created(_) => None,
         Outcome::Wait(_)
         | Outcome::NotFound
         | Outcome::NotAllowed(_)
@@ -245,6 +249,7 @@ fn media_type(outcome: &Outcome) -> Option<&'static str>
         | Outcome::Format
         | Outcome::BadValue
         | Outcome::TooLarge
+        | Outcome::PreconditionFailed
         | Outcome::Refused(_)
         | Outcome::DeviceFault(_)
         | Outcome::BadAnswer

@@ -3,6 +3,7 @@ use Rattle.std.specs.Prelude.{◌≡◌, ◌≤◌, ℕ, ◌+◌, List, take, dr
 use Rattle.std.specs.Str.{bytes_eq}
 use Rattle.thing_ops.specs.declared.verb.Verb.{Verb}
 use Rattle.thing_ops.specs.declared.verb.Verb.TheVariants as verb
+use Rattle.thing_ops.specs.Conditions.{no_conditions}
 use Rattle.thing_ops.specs.Requests.{PlainRequest}
 use Rattle.http_wire.specs.declared.request.RequestParts.{RequestParts}
 use Rattle.http_wire.specs.Judging.{longest_body}
@@ -24,7 +25,7 @@ verb_of method =
 abbrev pub query_of : List ℕ → List ℕ
 query_of target = drop (query_place target) target
 
--- the request of a message whose target has this path
+-- the request of a message whose target has this path; its conditions aren't read yet
 abbrev pub request_at : PlainHead → List ℕ → List (List ℕ) → PlainRequest
 request_at h body path = record {
   verb = verb_of h.method;
@@ -33,6 +34,7 @@ request_at h body path = record {
   accept = h.accept;
   format = h.format;
   body = body;
+  conditions = no_conditions;
 }
 
 -- The request of a message with this head and this decoded body; there is none where its target isn't taken.
@@ -50,6 +52,7 @@ request_in p room = record {
   accept = p.accept;
   format = p.format;
   body = take p.body_length (drop p.query_length room);
+  conditions = p.conditions;
 }
 
 -- the parts are those of this request, whose query is no longer than a head, and its body no longer than a body may be

@@ -19,11 +19,13 @@ phrase_of status =
     else if status == 200 then Some (codes "200 OK")
     else if status == 201 then Some (codes "201 Created")
     else if status == 204 then Some (codes "204 No Content")
+    else if status == 304 then Some (codes "304 Not Modified")
     else if status == 400 then Some (codes "400 Bad Request")
     else if status == 403 then Some (codes "403 Forbidden")
     else if status == 404 then Some (codes "404 Not Found")
     else if status == 405 then Some (codes "405 Method Not Allowed")
     else if status == 406 then Some (codes "406 Not Acceptable")
+    else if status == 412 then Some (codes "412 Precondition Failed")
     else if status == 413 then Some (codes "413 Content Too Large")
     else if status == 415 then Some (codes "415 Unsupported Media Type")
     else if status == 431 then Some (codes "431 Request Header Fields Too Large")
@@ -43,9 +45,9 @@ abbrev pub field_line : List ℕ → Option (List ℕ) → List ℕ
 field_line name None = []
 field_line name (Some value) = name ++ (value ++ line_end)
 
--- the length that is written: none in 100 and 204, which have no body (RFC 9110, section 8.6)
+-- the length that is written: none in 100, 204 and 304, which have no body (RFC 9110, sections 8.6 and 15.4.5)
 abbrev pub written_length : PlainReply → Option ℕ
-written_length r = if (r.status == 100) || (r.status == 204) then None else r.size
+written_length r = if (r.status == 100) || (r.status == 204) || (r.status == 304) then None else r.size
 
 -- `close`, or nothing
 abbrev pub closing : Bool → Option (List ℕ)

@@ -22,7 +22,7 @@ pub struct Reply<'a> {
     pub location: Option<&'a [u8]>,
     /// The verbs that are taken.
     pub allow: Option<&'a str>,
-    /// How many bytes the payload has. It isn't written in 100 and 204.
+    /// How many bytes the payload has. It isn't written in 100, 204 and 304.
     pub length: Option<usize>,
     /// The connection is closed after the reply.
     pub close: bool,
@@ -147,7 +147,7 @@ fn decimal_of<'a>(number: Option<usize>, digits: &'a mut Buffer) -> Option<&'a [
 fn length_of(reply: &Reply<'_>) -> Option<usize>
     ensures { result ≡ written_length (plain_reply reply.now) }
 {
-    if reply.status == 100 || reply.status == 204 {
+    if reply.status == 100 || reply.status == 204 || reply.status == 304 {
         None
     } else {
         reply.length
@@ -170,11 +170,13 @@ fn phrase(status: u16) -> Option<&'static [u8]>
         200 => Some(b"200 OK"),
         201 => Some(b"201 Created"),
         204 => Some(b"204 No Content"),
+        304 => Some(b"304 Not Modified"),
         400 => Some(b"400 Bad Request"),
         403 => Some(b"403 Forbidden"),
         404 => Some(b"404 Not Found"),
         405 => Some(b"405 Method Not Allowed"),
         406 => Some(b"406 Not Acceptable"),
+        412 => Some(b"412 Precondition Failed"),
         413 => Some(b"413 Content Too Large"),
         415 => Some(b"415 Unsupported Media Type"),
         431 => Some(b"431 Request Header Fields Too Large"),

@@ -11,7 +11,7 @@ ghost use Rattle.http_wire.specs.declared.target.TargetFault.TheVariants.{BadTar
 use crate::target::segments;
 use crate::{Body, Head, TargetFault};
 use std::alloc::Global;
-use thing_ops::{Accept, Format, Request, Segments, Verb};
+use thing_ops::{Accept, Conditions, Format, Request, Segments, Verb};
 
 /// The parts of a request, but for its query and its body, which lie in a buffer, one after the other.
 #[derive(Drop)]
@@ -24,6 +24,8 @@ pub struct RequestParts {
     pub accept: Accept,
     /// The format of its body.
     pub format: Format,
+    /// What it asks of the version of a property: nothing, since no field that does is read yet.
+    pub conditions: Conditions,
     /// How many bytes its query has.
     pub query_length: usize,
     /// How many bytes its body has.
@@ -52,6 +54,7 @@ pub fn request_of(
         path,
         accept: head.accept,
         format: head.format,
+        conditions: Conditions::none(alloc),
         query_length,
         body_length,
     })
@@ -111,6 +114,7 @@ impl RequestParts {
             path,
             accept,
             format,
+            conditions,
             query_length,
             body_length,
         } = self;
@@ -122,6 +126,7 @@ impl RequestParts {
             accept,
             format,
             body: &behind[..body_length],
+            conditions,
         }
     }
 }

@@ -13,7 +13,7 @@ use Rattle.servient_outside.specs.Network.{Happening, heard, did, broke, NetCall
 use Rattle.servient_outside.specs.Told.{Continues}
 use Rattle.servient_outside.specs.Ending.{with_stop}
 use Rattle.servient_base.specs.Moves.{Refines}
-use Rattle.servient_core.specs.declared.parts.Parts.{Parts}
+use Rattle.servient_core.specs.declared.layers.Layers.{Layers}
 use Rattle.servient_core.specs.declared.serving.Served.{Served}
 use Rattle.servient_core.specs.declared.serving.Served.TheVariants as served
 use Rattle.servient_core.specs.Trace.{Sighting, happened_in, calls_in, Outside, Shows, happening_in}
@@ -286,7 +286,7 @@ printed whole shown acts turns same is = is ∙ ap (λ (made : List Act). print_
 -- ---- from the clause of serving
 
 -- what the run of a script is, where serving began on a network that knows the script
-pub run_of : (events : List EventWithBytes) (budget : ℕ) (result : Served) (site : Site) (s : State) (kept later : Parts) (w v : Outside) → StandsFor kept s → Refines StandsFor Shows (Serves site budget result) kept later w v → StopsAtEnd events → w.net.left ≡ Some (with_stop events)
+pub run_of : (events : List EventWithBytes) (budget : ℕ) (result : Served) (site : Site) (s : State) (kept later : Layers) (w v : Outside) → StandsFor kept s → Refines StandsFor Shows (Serves site budget result) kept later w v → StopsAtEnd events → w.net.left ≡ Some (with_stop events)
     → (t : State) × (seen : List Sighting) × IsServed events budget result site s t seen × Shows w v seen
 run_of events budget result site s kept later w v stands refines ends known =
     let made = refines s stands in

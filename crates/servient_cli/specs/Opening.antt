@@ -7,7 +7,7 @@ use Rattle.thing_site.specs.Exposing.{IsFirst}
 use Rattle.thing_site.specs.declared.fault.ExposeFault.{ExposeFault}
 use Rattle.thing_site.specs.declared.fault.ExposeFault.TheVariants.{NoMemory}
 use Rattle.servient_core.specs.Machine.{Site}
-use Rattle.servient_core.specs.declared.parts.Parts.{Parts}
+use Rattle.servient_core.specs.declared.layers.Layers.{Layers}
 use Rattle.servient_cli.specs.declared.derivation.Planned.{Planned}
 use Rattle.servient_cli.specs.declared.ending.Ended.{Ended}
 use Rattle.servient_cli.specs.Lines.{input_line}
@@ -30,6 +30,6 @@ Opens name kinds p = AndThen (Derives p) (Exposes name kinds p.plan.slots)
 -- ---- how the code's answers are read
 
 -- the Things of a servient that was made
-abbrev pub site_in : Result Parts Ended → Result Site Ended
+abbrev pub site_in : Result Layers Ended → Result Site Ended
 site_in (Ok servient) = Ok servient.exposed.site
 site_in (Err ended) = Err ended

@@ -31,7 +31,7 @@ use Rattle.servient_core.specs.Machine.{State, OnHttp, Does, PerformsByHttp, Del
 use Rattle.servient_core.specs.Serving.{StandsFor, IsReady}
 use Rattle.servient_core.specs.Keeping.{OthersKeep}
 use Rattle.servient_core.specs.Connections.{IsOn, SendsAnswer, SendsContinue, SendsRefusal, StaysDry, acts_of_answer}
-use Rattle.servient_core.specs.declared.parts.Parts.{Parts}
+use Rattle.servient_core.specs.declared.layers.Layers.{Layers}
 use Rattle.servient_core.proofs.TraceLaws.{shows_in_order}
 use Rattle.servient_core.proofs.PartLaws.{refines_http, refines_act, refines_nothing, passing_moves, then_moves}
 use Rattle.servient_core.proofs.LoopLaws.{leaves_same, others_all, others_then}
@@ -46,7 +46,7 @@ pub no_calls : (acts : List Act) → calls_in (map (λ a. at_network (did a)) ac
 no_calls [] = refl
 no_calls (a ∷ acts) = no_calls acts
 
-pub refines_acts : (k : Parts) (n m : NetSeen) (slots : List Seen) (acts : List Act) → NetShows n m (map did acts)
+pub refines_acts : (k : Layers) (n m : NetSeen) (slots : List Seen) (acts : List Act) → NetShows n m (map did acts)
     → Refines StandsFor Shows (Does acts) k k (outside n slots) (outside m slots)
 refines_acts k n m slots acts shows = λ s stands. (
   s,
@@ -76,22 +76,22 @@ shows_kept c bytes close n m stays sent = subst (λ (b : Bool). NetShows n m (ma
 -- ---- one message
 
 -- the reply is sent, if there is one
-sends_if_any : (c : ℕ) (k : Parts) (n m : NetSeen) (slots : List Seen) (reply : Option (List ℕ × Bool)) → NetShows n m (map did (acts_of_answer c reply))
+sends_if_any : (c : ℕ) (k : Layers) (n m : NetSeen) (slots : List Seen) (reply : Option (List ℕ × Bool)) → NetShows n m (map did (acts_of_answer c reply))
     → Refines StandsFor Shows (SendsIfAny c reply) k k (outside n slots) (outside m slots)
 sends_if_any c k n m slots None shows = refines_acts k n m slots [] shows
 sends_if_any c k n m slots (Some reply) shows = refines_acts k n m slots (acts_of_reply c reply) shows
 
 -- a request is taken, done and answered, and what is emitted is delivered
-pub takes_request : (site : Site) (c : ℕ) (q : PlainRequest) (done : Done) (o : Outcome) (k l : Parts) (b d : Slots) (e : Kept) (f : Contents) (n m : NetSeen) (before after : List Seen) (v : Outside)
+pub takes_request : (site : Site) (c : ℕ) (q : PlainRequest) (done : Done) (o : Outcome) (k l : Layers) (b d : Slots) (e : Kept) (f : Contents) (n m : NetSeen) (before after : List Seen) (v : Outside)
     → Leads (Takes c (asks q)) k.http b
     → Refines StandsFor Shows (PerformsByHttp site q done) (record k { http = b }) (record k { http = b; exposed = e; directory = f }) (outside n before) (outside n after)
     → done.outcome ≡ o → SendsAnswer c o k.moment b d n m
     → Refines StandsFor Shows (DeliversEach done.emissions) (record k { http = d; exposed = e; directory = f }) l (outside m after) v
     → Refines StandsFor Shows (TakesNextMessage site c) k l (outside n before) v
 takes_request site c q done o k l b d e f n m before after v leads performs comes sends delivers =
-    let one : Parts = record k { http = b } in
-    let two : Parts = record k { http = b; exposed = e; directory = f } in
-    let three : Parts = record k { http = d; exposed = e; directory = f } in
+    let one : Layers = record k { http = b } in
+    let two : Layers = record k { http = b; exposed = e; directory = f } in
+    let three : Layers = record k { http = d; exposed = e; directory = f } in
     let answers = subst (λ (x : Outcome). Leads (Answers c x k.moment sends.reply) b d) (sym comes) sends.leads in
     passing_moves (λ taken. OnHttp (λ now. Takes c taken)) (AnswersTaken site c) (asks q) k one l (outside n before) (outside n before) v
     (refines_http (λ now. Takes c (asks q)) k b (outside n before) leads)
@@ -105,7 +105,7 @@ takes_request site c q done o k l b d e f n m before after v leads performs come
     delivers))
 
 -- reading it is out of memory: nothing is done, neither by the directory nor by the Things
-unread : (site : Site) (q : PlainRequest) (k : Parts) (w : Outside) → Refines StandsFor Shows (PerformsByHttp site q (only outcome.Memory)) k k w w
+unread : (site : Site) (q : PlainRequest) (k : Layers) (w : Outside) → Refines StandsFor Shows (PerformsByHttp site q (only outcome.Memory)) k k w w
 unread site q k w = either (is_of_directory (route_of q.path)) refl
   where
     either : (b : Bool) → is_of_directory (route_of q.path) ≡ b → Refines StandsFor Shows (PerformsByHttp site q (only outcome.Memory)) k k w w
@@ -120,7 +120,7 @@ unread site q k w = either (is_of_directory (route_of q.path)) refl
       record { seen = []; move = inr (isnt, (s.thing, [], has_no_memory (refl, record { next = refl; saw = refl }), record { next = refl; saw = refl })); shows = shows_in_order.none w },
     )
 
-pub takes_unread : (site : Site) (c : ℕ) (q : PlainRequest) (k : Parts) (b d : Slots) (n m : NetSeen) (slots : List Seen)
+pub takes_unread : (site : Site) (c : ℕ) (q : PlainRequest) (k : Layers) (b d : Slots) (n m : NetSeen) (slots : List Seen)
     → Leads (Takes c (asks q)) k.http b → SendsAnswer c outcome.Memory k.moment b d n m
     → Refines StandsFor Shows (TakesNextMessage site c) k (record k { http = d }) (outside n slots) (outside m slots)
 takes_unread site c q k b d n m slots leads sends =
@@ -129,22 +129,22 @@ takes_unread site c q k b d n m slots leads sends =
     (refines_nothing (record k { http = d }) (outside m slots))
 
 -- bytes came behind a request that waits, and the connection is closed
-pub takes_interruption : (site : Site) (c : ℕ) (k : Parts) (b : Slots) (n m : NetSeen) (slots : List Seen)
+pub takes_interruption : (site : Site) (c : ℕ) (k : Layers) (b : Slots) (n m : NetSeen) (slots : List Seen)
     → Leads (Takes c interrupts) k.http b → NetShows n m (did (act.Closed c) ∷ [])
     → Refines StandsFor Shows (TakesNextMessage site c) k (record k { http = b }) (outside n slots) (outside m slots)
 takes_interruption site c k b n m slots leads shows =
-    let one : Parts = record k { http = b } in
+    let one : Layers = record k { http = b } in
     passing_moves (λ taken. OnHttp (λ now. Takes c taken)) (AnswersTaken site c) interrupts k one one (outside n slots) (outside n slots) (outside m slots)
     (refines_http (λ now. Takes c interrupts) k b (outside n slots) leads)
     (refines_act one n m slots (act.Closed c) shows)
 
 -- the 100 reply is sent
-pub takes_continue : (site : Site) (c : ℕ) (k : Parts) (b d : Slots) (n m : NetSeen) (slots : List Seen)
+pub takes_continue : (site : Site) (c : ℕ) (k : Layers) (b d : Slots) (n m : NetSeen) (slots : List Seen)
     → Leads (Takes c wants_continue) k.http b → SendsContinue c b d n m
     → Refines StandsFor Shows (TakesNextMessage site c) k (record k { http = d }) (outside n slots) (outside m slots)
 takes_continue site c k b d n m slots leads sends =
-    let one : Parts = record k { http = b } in
-    let two : Parts = record k { http = d } in
+    let one : Layers = record k { http = b } in
+    let two : Layers = record k { http = d } in
     let w = outside n slots in
     passing_moves (λ taken. OnHttp (λ now. Takes c taken)) (AnswersTaken site c) wants_continue k one two w w (outside m slots)
     (refines_http (λ now. Takes c wants_continue) k b w leads)
@@ -164,12 +164,12 @@ isnt_100 status word = either (status == 100) (eqb-true status 100)
         none some = cc
 
 -- a fault is refused
-pub takes_fault : (site : Site) (c status : ℕ) (k : Parts) (b d : Slots) (n m : NetSeen) (slots : List Seen)
+pub takes_fault : (site : Site) (c status : ℕ) (k : Layers) (b d : Slots) (n m : NetSeen) (slots : List Seen)
     → Leads (Takes c (is_faulty status)) k.http b → SendsRefusal c status b d n m
     → Refines StandsFor Shows (TakesNextMessage site c) k (record k { http = d }) (outside n slots) (outside m slots)
 takes_fault site c status k b d n m slots leads sends =
-    let one : Parts = record k { http = b } in
-    let two : Parts = record k { http = d } in
+    let one : Layers = record k { http = b } in
+    let two : Layers = record k { http = d } in
     let w = outside n slots in
     passing_moves (λ taken. OnHttp (λ now. Takes c taken)) (AnswersTaken site c) (is_faulty status) k one two w w (outside m slots)
     (refines_http (λ now. Takes c (is_faulty status)) k b w leads)
@@ -178,7 +178,7 @@ takes_fault site c status k b d n m slots leads sends =
     (refines_acts two n m slots (acts_of_reply c (sends.bytes, true)) sends.shows))
 
 -- nothing can be taken
-pub takes_nothing : (c : ℕ) (k : Parts) (d : Slots) (w : Outside) → Leads (StreamStaysDry c) k.http d → Refines StandsFor Shows (StaysDry c) k (record k { http = d }) w w
+pub takes_nothing : (c : ℕ) (k : Layers) (d : Slots) (w : Outside) → Leads (StreamStaysDry c) k.http d → Refines StandsFor Shows (StaysDry c) k (record k { http = d }) w w
 takes_nothing c k d w leads = λ s stands.
     let to = leads s.http stands.http in (
       s,
@@ -189,17 +189,17 @@ takes_nothing c k d w leads = λ s stands.
 -- ---- one message after another
 
 -- what holds while messages are taken: all that is taken from here on, was taken since the first
-pub record Taking (c : ℕ) (first k : Parts) (w v : Outside) : Type 0 where
-  pub onward : (e : Parts) (x : Outside) → Refines StandsFor Shows (TakesEveryMessage first.exposed.site c) k e v x
+pub record Taking (c : ℕ) (first k : Layers) (w v : Outside) : Type 0 where
+  pub onward : (e : Layers) (x : Outside) → Refines StandsFor Shows (TakesEveryMessage first.exposed.site c) k e v x
       → Refines StandsFor Shows (TakesEveryMessage first.exposed.site c) first e w x
   pub on : IsOn c k v.slots
   pub left : OthersKeep c first.http k.http
   pub site : k.exposed.site ≡ first.exposed.site
 
-pub taking_begins : (c : ℕ) (k : Parts) (w : Outside) → IsOn c k w.slots → Taking c k k w w
+pub taking_begins : (c : ℕ) (k : Layers) (w : Outside) → IsOn c k w.slots → Taking c k k w w
 taking_begins c k w on = record { onward = λ e x rest. rest; on = on; left = others_all c k.http k.http (leaves_same k.http); site = refl }
 
-pub taking_more : (c : ℕ) (first k l : Parts) (w v u : Outside) → Taking c first k w v → Refines StandsFor Shows (TakesNextMessage k.exposed.site c) k l v u
+pub taking_more : (c : ℕ) (first k l : Layers) (w v u : Outside) → Taking c first k w v → Refines StandsFor Shows (TakesNextMessage k.exposed.site c) k l v u
     → IsOn c l u.slots → OthersKeep c k.http l.http → l.exposed.site ≡ k.exposed.site → Taking c first l w u
 taking_more c first k l w v u t step on left same = record {
   onward = λ e x rest. t.onward e x
@@ -210,7 +210,7 @@ taking_more c first k l w v u t step on left same = record {
   site = same ∙ t.site;
 }
 
-pub taking_ends : (c : ℕ) (first k l : Parts) (w v u : Outside) → Taking c first k w v → Refines StandsFor Shows (StaysDry c) k l v u
+pub taking_ends : (c : ℕ) (first k l : Layers) (w v u : Outside) → Taking c first k w v → Refines StandsFor Shows (StaysDry c) k l v u
     → Refines StandsFor Shows (TakesEveryMessage first.exposed.site c) first l w u
 taking_ends c first k l w v u t step = t.onward l u (λ s stands.
     let a = step s stands in
@@ -218,35 +218,35 @@ taking_ends c first k l w v u t step = t.onward l u (λ s stands.
 
 -- ---- idle connections
 
-pub closes_one : (c : ℕ) (k : Parts) (d : Slots) (n m : NetSeen) (slots : List Seen) → ((s : Streams) → ConnectionsStandFor k.http s → IsIdle c k.moment s)
+pub closes_one : (c : ℕ) (k : Layers) (d : Slots) (n m : NetSeen) (slots : List Seen) → ((s : Streams) → ConnectionsStandFor k.http s → IsIdle c k.moment s)
     → Leads (Ended c) k.http d → NetShows n m (did (act.Closed c) ∷ [])
     → Refines StandsFor Shows ClosesIdle k (record k { http = d }) (outside n slots) (outside m slots)
 closes_one c k d n m slots idle leads shows =
-    let two : Parts = record k { http = d } in
+    let two : Layers = record k { http = d } in
     passing_moves (λ x. OnHttp (λ now h j. IsIdle x now h × Closes x h j)) (λ x. Does (act.Closed x ∷ [])) c k two two (outside n slots) (outside n slots) (outside m slots)
     (refines_http (λ now h j. IsIdle c now h × Closes c h j) k d (outside n slots)
     (λ s stands. let to = leads s stands in (to.0, to.1, (idle s stands, to.2))))
     (refines_act two n m slots (act.Closed c) shows)
 
 -- what holds while they are closed
-pub record Closing (first k : Parts) (n m : NetSeen) : Type 0 where
-  pub onward : (e : Parts) (l : NetSeen) (slots : List Seen) → Refines StandsFor Shows ClosesAllIdle k e (outside m slots) (outside l slots)
+pub record Closing (first k : Layers) (n m : NetSeen) : Type 0 where
+  pub onward : (e : Layers) (l : NetSeen) (slots : List Seen) → Refines StandsFor Shows ClosesAllIdle k e (outside m slots) (outside l slots)
       → Refines StandsFor Shows ClosesAllIdle first e (outside n slots) (outside l slots)
   pub exposed : k.exposed ≡ first.exposed
   pub coap : k.coap ≡ first.coap
   pub moment : k.moment ≡ first.moment
 
-pub closing_begins : (k : Parts) (n : NetSeen) → Closing k k n n
+pub closing_begins : (k : Layers) (n : NetSeen) → Closing k k n n
 closing_begins k n = record { onward = λ e l slots rest. rest; exposed = refl; coap = refl; moment = refl }
 
-pub closing_ready : (first k : Parts) (n m : NetSeen) → Closing first k n m → IsReady first → ((c : ℕ) → HasRoom c k.http) → IsReady k
+pub closing_ready : (first k : Layers) (n m : NetSeen) → Closing first k n m → IsReady first → ((c : ℕ) → HasRoom c k.http) → IsReady k
 closing_ready first k n m t ready room = record {
   pending = ap (λ (x : Kept). x.pending) t.exposed ∙ ready.pending;
   moment = omega (arith, ap (λ (x : Server). x.exchanges.moment) t.coap, t.moment, ready.moment);
   room = room;
 }
 
-pub closing_more : (c : ℕ) (first k : Parts) (d : Slots) (n m l : NetSeen) → Closing first k n m → ((s : Streams) → ConnectionsStandFor k.http s → IsIdle c k.moment s)
+pub closing_more : (c : ℕ) (first k : Layers) (d : Slots) (n m l : NetSeen) → Closing first k n m → ((s : Streams) → ConnectionsStandFor k.http s → IsIdle c k.moment s)
     → Leads (Ended c) k.http d → NetShows m l (did (act.Closed c) ∷ []) → Closing first (record k { http = d }) n l
 closing_more c first k d n m l t idle leads shows = record {
   onward = λ e j slots rest. t.onward e j slots
@@ -257,7 +257,7 @@ closing_more c first k d n m l t idle leads shows = record {
   moment = t.moment;
 }
 
-pub closing_ends : (first k : Parts) (n m : NetSeen) (slots : List Seen) → Closing first k n m → ((s : Streams) → ConnectionsStandFor k.http s → NoneIdle k.moment s)
+pub closing_ends : (first k : Layers) (n m : NetSeen) (slots : List Seen) → Closing first k n m → ((s : Streams) → ConnectionsStandFor k.http s → NoneIdle k.moment s)
     → Refines StandsFor Shows ClosesAllIdle first k (outside n slots) (outside m slots)
 closing_ends first k n m slots t none =
     t.onward k m slots (refines_is_done StandsFor Shows shows_in_order ClosesIdle (λ (s : State). NoneIdle s.moment s.http) k (outside m slots)

@@ -23,7 +23,7 @@ use Rattle.servient_core.specs.Trace.{Outside, outside, Shows}
 use Rattle.servient_core.specs.Machine.{State, Move, OnHttp, OnThing, Sends, acts_of_reply, RepliesToWait, AnswersWait, AnswersWaits, AnswersLateWait, MarksWatchers, Delivers, DeliversEach, PollsAndDelivers}
 use Rattle.servient_core.specs.Serving.{StandsFor, IsReady}
 use Rattle.servient_core.specs.Keeping.{DoesQuietly, DoesMove, LeavesNoMore, OnlyDelivers, SendsToWait, PollsOne, polls, ends}
-use Rattle.servient_core.specs.declared.parts.Parts.{Parts}
+use Rattle.servient_core.specs.declared.layers.Layers.{Layers}
 use Rattle.servient_core.proofs.TraceLaws.{shows_in_order}
 use Rattle.servient_core.proofs.PartLaws.{refines_http, refines_coap, refines_thing, refines_from, passing_moves, then_moves, fits_after}
 use Rattle.servient_core.proofs.ConnectionLaws.{refines_acts}
@@ -32,16 +32,16 @@ use Rattle.servient_core.proofs.LoopLaws.{Repeating, repeating_begins, repeating
 -- ---- one that waits
 
 -- a connection that waits is replied to
-pub replies_to_wait : (c : ℕ) (text : Option (List ℕ)) (k : Parts) (d : Slots) (n m : NetSeen) (slots : List Seen) → SendsToWait c text k.moment k.http d n m
+pub replies_to_wait : (c : ℕ) (text : Option (List ℕ)) (k : Layers) (d : Slots) (n m : NetSeen) (slots : List Seen) → SendsToWait c text k.moment k.http d n m
     → Refines StandsFor Shows (RepliesToWait c text) k (record k { http = d }) (outside n slots) (outside m slots)
 replies_to_wait c text k d n m slots sends =
-    let two : Parts = record k { http = d } in
+    let two : Layers = record k { http = d } in
     passing_moves (λ (reply : List ℕ × Bool). OnHttp (λ now. Wakes c text now reply.0 reply.1)) (Sends c) sends.reply k two two (outside n slots) (outside n slots) (outside m slots)
     (refines_http (λ now. Wakes c text now sends.reply.0 sends.reply.1) k d (outside n slots) sends.leads)
     (refines_acts two n m slots (acts_of_reply c sends.reply) sends.shows)
 
 -- the oldest that waits for a target gets its last value
-pub answers_wait : (c target : ℕ) (k : Parts) (d : Slots) (n m : NetSeen) (slots : List Seen) → oldest_for target k.http.waits ≡ Some c
+pub answers_wait : (c target : ℕ) (k : Layers) (d : Slots) (n m : NetSeen) (slots : List Seen) → oldest_for target k.http.waits ≡ Some c
     → SendsToWait c (last_of target k.exposed.state.last) k.moment k.http d n m
     → Refines StandsFor Shows (AnswersWait target) k (record k { http = d }) (outside n slots) (outside m slots)
 answers_wait c target k d n m slots oldest sends = λ s stands.
@@ -60,7 +60,7 @@ answers_wait c target k d n m slots oldest sends = λ s stands.
     )
 
 -- the oldest that waited too long is told so
-pub answers_late_wait : (c : ℕ) (k : Parts) (d : Slots) (n m : NetSeen) (slots : List Seen) → oldest_late k.moment k.http.waits ≡ Some c
+pub answers_late_wait : (c : ℕ) (k : Layers) (d : Slots) (n m : NetSeen) (slots : List Seen) → oldest_late k.moment k.http.waits ≡ Some c
     → SendsToWait c None k.moment k.http d n m
     → Refines StandsFor Shows AnswersLateWait k (record k { http = d }) (outside n slots) (outside m slots)
 answers_late_wait c k d n m slots oldest sends = λ s stands.
@@ -82,31 +82,31 @@ answers_late_wait c k d n m slots oldest sends = λ s stands.
 -- ---- all that wait, one after another
 
 -- what holds while they are answered
-pub record Answering (P : Move) (IsDone : State → Type 0) (first k : Parts) (n m : NetSeen) : Type 0 where
+pub record Answering (P : Move) (IsDone : State → Type 0) (first k : Layers) (n m : NetSeen) : Type 0 where
   pub repeats : (slots : List Seen) → Repeating P IsDone first k (outside n slots) (outside m slots)
   pub rest : k ≡ record first { http = k.http }
   pub left : LeavesNoMore first.http k.http
 
-pub answering_begins : (P : Move) (IsDone : State → Type 0) (k : Parts) (n : NetSeen) → Answering P IsDone k k n n
+pub answering_begins : (P : Move) (IsDone : State → Type 0) (k : Layers) (n : NetSeen) → Answering P IsDone k k n n
 answering_begins P IsDone k n = record { repeats = λ slots. repeating_begins P IsDone k (outside n slots); rest = refl; left = leaves_same k.http }
 
-pub answering_more : (P : Move) (IsDone : State → Type 0) (first k : Parts) (d : Slots) (n m l : NetSeen) → Answering P IsDone first k n m
+pub answering_more : (P : Move) (IsDone : State → Type 0) (first k : Layers) (d : Slots) (n m l : NetSeen) → Answering P IsDone first k n m
     → ((slots : List Seen) → Refines StandsFor Shows P k (record k { http = d }) (outside m slots) (outside l slots)) → LeavesNoMore k.http d
     → Answering P IsDone first (record k { http = d }) n l
 answering_more P IsDone first k d n m l a step less = record {
   repeats = λ slots. repeating_more P IsDone first k (record k { http = d }) (outside n slots) (outside m slots) (outside l slots) (a.repeats slots) (step slots);
-  rest = ap (λ (x : Parts). record x { http = d }) a.rest;
+  rest = ap (λ (x : Layers). record x { http = d }) a.rest;
   left = leaves_then first.http k.http d a.left less;
 }
 
-pub answering_ends : (P : Move) (IsDone : State → Type 0) (first k : Parts) (n m : NetSeen) → Answering P IsDone first k n m
+pub answering_ends : (P : Move) (IsDone : State → Type 0) (first k : Layers) (n m : NetSeen) → Answering P IsDone first k n m
     → ((s : State) → StandsFor k s → IsDone s) → DoesQuietly (Until P IsDone) first k n m
 answering_ends P IsDone first k n m a done = λ slots. repeating_ends P IsDone first k (outside n slots) (outside m slots) (a.repeats slots) done
 
-pub none_waits : (target : ℕ) (k : Parts) → oldest_for target k.http.waits ≡ None → (s : State) → StandsFor k s → oldest_for target s.http.waits ≡ None
+pub none_waits : (target : ℕ) (k : Layers) → oldest_for target k.http.waits ≡ None → (s : State) → StandsFor k s → oldest_for target s.http.waits ≡ None
 none_waits target k none s stands = subst (λ (waits : List Wait). oldest_for target waits ≡ None) stands.http.waits none
 
-pub none_late : (k : Parts) → oldest_late k.moment k.http.waits ≡ None → (s : State) → StandsFor k s → oldest_late s.moment s.http.waits ≡ None
+pub none_late : (k : Layers) → oldest_late k.moment k.http.waits ≡ None → (s : State) → StandsFor k s → oldest_late s.moment s.http.waits ≡ None
 none_late k none s stands =
     subst (λ (now : ℕ). oldest_late now s.http.waits ≡ None) (sym stands.moment)
     (subst (λ (waits : List Wait). oldest_late k.moment waits ≡ None) stands.http.waits none)
@@ -114,13 +114,13 @@ none_late k none s stands =
 -- ---- one new value after another
 
 -- what holds while they are delivered: those so far were, and the rest waits to be handed out
-pub record Delivering (first k : Parts) (n m : NetSeen) : Type 0 where
+pub record Delivering (first k : Layers) (n m : NetSeen) : Type 0 where
   pub done : List ℕ
   pub made : DoesQuietly (Each Delivers done) first k n m
   pub pending : done ++ k.exposed.pending ≡ first.exposed.pending
   pub only : OnlyDelivers first k
 
-pub delivering_begins : (k : Parts) (n : NetSeen) → Delivering k k n n
+pub delivering_begins : (k : Layers) (n : NetSeen) → Delivering k k n n
 delivering_begins k n = record {
   done = [];
   made = λ slots. refines_each_none StandsFor Shows shows_in_order Delivers k (outside n slots);
@@ -129,22 +129,22 @@ delivering_begins k n = record {
 }
 
 -- one is
-pub delivers_one : (target : ℕ) (k l : Parts) (c : Server) (n m : NetSeen) → DoesQuietly (AnswersWaits target) k l n m → c ≡ with_emitted target l.coap
+pub delivers_one : (target : ℕ) (k l : Layers) (c : Server) (n m : NetSeen) → DoesQuietly (AnswersWaits target) k l n m → c ≡ with_emitted target l.coap
     → DoesQuietly (Delivers target) k (record l { coap = c }) n m
 delivers_one target k l c n m answers marks = λ slots.
     then_moves (AnswersWaits target) (MarksWatchers target) k l (record l { coap = c }) (outside n slots) (outside m slots) (outside m slots) (answers slots)
     (refines_coap (λ now before after. after ≡ with_emitted target before) l c (outside m slots) marks)
 
-pub only_delivers : (target : ℕ) (k l : Parts) (c : Server) → l ≡ record k { http = l.http } → LeavesNoMore k.http l.http → c ≡ with_emitted target l.coap
+pub only_delivers : (target : ℕ) (k l : Layers) (c : Server) → l ≡ record k { http = l.http } → LeavesNoMore k.http l.http → c ≡ with_emitted target l.coap
     → OnlyDelivers k (record l { coap = c })
 only_delivers target k l c rest less marks = record {
-  moment = ap (λ (x : Parts). x.moment) rest;
-  site = ap (λ (x : Parts). x.exposed.site) rest;
-  exchanges = ap (λ (x : Server). x.exchanges) marks ∙ ap (λ (x : Parts). x.coap.exchanges) rest;
+  moment = ap (λ (x : Layers). x.moment) rest;
+  site = ap (λ (x : Layers). x.exposed.site) rest;
+  exchanges = ap (λ (x : Server). x.exchanges) marks ∙ ap (λ (x : Layers). x.coap.exchanges) rest;
   left = less;
 }
 
-pub delivering_more : (target : ℕ) (first k l : Parts) (e : Kept) (n m o : NetSeen) → Delivering first k n m
+pub delivering_more : (target : ℕ) (first k l : Layers) (e : Kept) (n m o : NetSeen) → Delivering first k n m
     → k.exposed.pending ≡ target ∷ e.pending → e.state ≡ k.exposed.state → e.site ≡ k.exposed.site
     → DoesQuietly (Delivers target) (record k { exposed = e }) l m o → l.exposed ≡ e → OnlyDelivers (record k { exposed = e }) l → Delivering first l n o
 delivering_more target first k l e n m o d first_is state site delivered same only = record {
@@ -165,14 +165,14 @@ delivering_more target first k l e n m o d first_is state site delivered same on
 }
 
 -- none is left
-pub delivering_ends : (first k : Parts) (e : Kept) (n m : NetSeen) → Delivering first k n m → k.exposed.pending ≡ [] → e.state ≡ k.exposed.state
+pub delivering_ends : (first k : Layers) (e : Kept) (n m : NetSeen) → Delivering first k n m → k.exposed.pending ≡ [] → e.state ≡ k.exposed.state
     → DoesQuietly (Each Delivers first.exposed.pending) first (record k { exposed = e }) n m
 delivering_ends first k e n m d none state = λ slots s stands.
     let all : d.done ≡ first.exposed.pending = sym (append-nil d.done) ∙ ap (λ (ts : List ℕ). d.done ++ ts) (sym none) ∙ d.pending in
     let a = subst (λ (ts : List ℕ). Refines StandsFor Shows (Each Delivers ts) first k (outside n slots) (outside m slots)) all (d.made slots) s stands in
     (a.0, record { moment = a.1.moment; http = a.1.http; coap = a.1.coap; thing = a.1.thing ∙ sym state; directory = a.1.directory }, a.2)
 
-pub ready_after : (old new : Parts) → ((c : ℕ) → HasRoom c old.http) → old.coap.exchanges.moment ≤ old.moment → OnlyDelivers old new → new.exposed.pending ≡ []
+pub ready_after : (old new : Layers) → ((c : ℕ) → HasRoom c old.http) → old.coap.exchanges.moment ≤ old.moment → OnlyDelivers old new → new.exposed.pending ≡ []
     → IsReady new
 ready_after old new room early only none = record {
   pending = none;
@@ -183,7 +183,7 @@ ready_after old new room early only none = record {
 -- ---- polls
 
 -- one event affordance is polled, and what it emits is delivered
-pub polls_and_delivers : (p : Placed) (k l : Parts) (e : Kept) (n m : NetSeen) (before after : List Seen) → MakesPoll p k.exposed e before after
+pub polls_and_delivers : (p : Placed) (k l : Layers) (e : Kept) (n m : NetSeen) (before after : List Seen) → MakesPoll p k.exposed e before after
     → DoesQuietly (Each Delivers e.pending) (record k { exposed = e }) l n m
     → Refines StandsFor Shows (PollsAndDelivers p) k l (outside n before) (outside m after)
 polls_and_delivers p k l e n m before after made delivered =
@@ -192,7 +192,7 @@ polls_and_delivers p k l e n m before after made delivered =
     (subst (λ (ts : List ℕ). Refines StandsFor Shows (Each Delivers ts) (record k { exposed = e }) l (outside n after) (outside m after)) made.pending (delivered after))
 
 -- what holds in a round of polls: those so far were polled, and the rest is left
-pub record Polling (first k : Parts) (round : Round) (w v : Outside) : Type 0 where
+pub record Polling (first k : Layers) (round : Round) (w v : Outside) : Type 0 where
   pub done : List Placed
   pub made : Refines StandsFor Shows (Each PollsAndDelivers done) first k w v
   pub left : done ++ events_left round first.exposed.site ≡ events_of first.exposed.site
@@ -200,7 +200,7 @@ pub record Polling (first k : Parts) (round : Round) (w v : Outside) : Type 0 wh
   pub site : k.exposed.site ≡ first.exposed.site
   pub fits : Fits k.exposed.site v.slots
 
-pub polling_begins : (k : Parts) (round : Round) (w : Outside) → events_left round k.exposed.site ≡ events_of k.exposed.site → IsReady k → Fits k.exposed.site w.slots
+pub polling_begins : (k : Layers) (round : Round) (w : Outside) → events_left round k.exposed.site ≡ events_of k.exposed.site → IsReady k → Fits k.exposed.site w.slots
     → Polling k k round w w
 polling_begins k round w all ready fits = record {
   done = [];
@@ -211,7 +211,7 @@ polling_begins k round w all ready fits = record {
   fits = fits;
 }
 
-pub polling_more : (first k l : Parts) (round later : Round) (w v u : Outside) → Polling first k round w v → PollsOne later k l v u true round → IsReady l
+pub polling_more : (first k l : Layers) (round later : Round) (w v u : Outside) → Polling first k round w v → PollsOne later k l v u true round → IsReady l
     → l.exposed.site ≡ k.exposed.site → Fits l.exposed.site u.slots → Polling first l later w u
 polling_more first k l round later w v u t (polls round' p is step) ready same fits = record {
   done = t.done ++ p ∷ [];
@@ -224,11 +224,11 @@ polling_more first k l round later w v u t (polls round' p is step) ready same f
   fits = fits;
 }
 
-pub polling_smaller : (k l : Parts) (round later : Round) (v u : Outside) → PollsOne later k l v u true round
+pub polling_smaller : (k l : Layers) (round later : Round) (v u : Outside) → PollsOne later k l v u true round
     → length (events_left later k.exposed.site) < length (events_left round k.exposed.site)
 polling_smaller k l round later v u (polls round' p is step) = omega (arith, ap length is)
 
-pub polling_ends : (first k l : Parts) (round later : Round) (w v u : Outside) → Polling first k round w v → PollsOne later k l v u false round
+pub polling_ends : (first k l : Layers) (round later : Round) (w v u : Outside) → Polling first k round w v → PollsOne later k l v u false round
     → DoesMove (Each PollsAndDelivers (events_of first.exposed.site)) first l w u
 polling_ends first k l round later w v u t (ends round' none same unseen) =
     let all : t.done ≡ events_of first.exposed.site =
@@ -237,23 +237,23 @@ polling_ends first k l round later w v u t (ends round' none same unseen) =
     ∙ t.left in
     record {
       refines = subst (λ (x : Outside). Refines StandsFor Shows (Each PollsAndDelivers (events_of first.exposed.site)) first l w x) (sym unseen)
-          (subst (λ (x : Parts). Refines StandsFor Shows (Each PollsAndDelivers (events_of first.exposed.site)) first x w v) (sym same)
+          (subst (λ (x : Layers). Refines StandsFor Shows (Each PollsAndDelivers (events_of first.exposed.site)) first x w v) (sym same)
           (subst (λ (ps : List Placed). Refines StandsFor Shows (Each PollsAndDelivers ps) first k w v) all t.made));
       ready = subst IsReady (sym same) t.ready;
-      site = ap (λ (x : Parts). x.exposed.site) same ∙ t.site;
+      site = ap (λ (x : Layers). x.exposed.site) same ∙ t.site;
     }
 
-pub none_polled : (k : Parts) (e : Kept) (round later : Round) (n : NetSeen) (before after : List Seen) → PollsNext false round later k.exposed e before after
+pub none_polled : (k : Layers) (e : Kept) (round later : Round) (n : NetSeen) (before after : List Seen) → PollsNext false round later k.exposed e before after
     → PollsOne later k (record k { exposed = e }) (outside n before) (outside n after) false round
 none_polled k e round later n before after p =
     ends round p.0 (ap (λ (x : Kept). record k { exposed = x }) p.1) (ap (λ (x : List Seen). outside n x) p.2)
 
-pub one_polled : (k l : Parts) (e : Kept) (round later : Round) (n m : NetSeen) (before after : List Seen) → PollsNext true round later k.exposed e before after
+pub one_polled : (k l : Layers) (e : Kept) (round later : Round) (n m : NetSeen) (before after : List Seen) → PollsNext true round later k.exposed e before after
     → DoesQuietly (Each Delivers e.pending) (record k { exposed = e }) l n m → PollsOne later k l (outside n before) (outside m after) true round
 one_polled k l e round later n m before after p delivered = polls round p.0 p.1 (polls_and_delivers p.0 k l e n m before after p.2 delivered)
 
 -- the rack fits after it
-pub poll_fits : (k l : Parts) (e : Kept) (round later : Round) (n m : NetSeen) (before after : List Seen) → PollsNext true round later k.exposed e before after
+pub poll_fits : (k l : Layers) (e : Kept) (round later : Round) (n m : NetSeen) (before after : List Seen) → PollsNext true round later k.exposed e before after
     → DoesQuietly (Each Delivers e.pending) (record k { exposed = e }) l n m → OnlyDelivers (record k { exposed = e }) l → Fits k.exposed.site before
     → Fits l.exposed.site after
 poll_fits k l e round later n m before after p delivered only fits =

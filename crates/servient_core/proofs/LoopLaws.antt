@@ -9,24 +9,24 @@ use Rattle.servient_core.specs.Trace.{Outside, Shows}
 use Rattle.servient_core.specs.Machine.{State, Move}
 use Rattle.servient_core.specs.Serving.{StandsFor}
 use Rattle.servient_core.specs.Keeping.{LeavesNoMore, OthersKeep}
-use Rattle.servient_core.specs.declared.parts.Parts.{Parts}
+use Rattle.servient_core.specs.declared.layers.Layers.{Layers}
 use Rattle.servient_core.proofs.TraceLaws.{shows_in_order}
 
 -- ---- again and again
 
 -- what holds while a move is made again and again: all that is done from here on, was done since the first
-pub record Repeating (P : Move) (IsDone : State → Type 0) (first k : Parts) (w v : Outside) : Type 0 where
-  pub onward : (e : Parts) (x : Outside) → Refines StandsFor Shows (Until P IsDone) k e v x → Refines StandsFor Shows (Until P IsDone) first e w x
+pub record Repeating (P : Move) (IsDone : State → Type 0) (first k : Layers) (w v : Outside) : Type 0 where
+  pub onward : (e : Layers) (x : Outside) → Refines StandsFor Shows (Until P IsDone) k e v x → Refines StandsFor Shows (Until P IsDone) first e w x
 
-pub repeating_begins : (P : Move) (IsDone : State → Type 0) (k : Parts) (w : Outside) → Repeating P IsDone k k w w
+pub repeating_begins : (P : Move) (IsDone : State → Type 0) (k : Layers) (w : Outside) → Repeating P IsDone k k w w
 repeating_begins P IsDone k w = record { onward = λ e x rest. rest }
 
-pub repeating_more : (P : Move) (IsDone : State → Type 0) (first k l : Parts) (w v u : Outside) → Repeating P IsDone first k w v
+pub repeating_more : (P : Move) (IsDone : State → Type 0) (first k l : Layers) (w v u : Outside) → Repeating P IsDone first k w v
     → Refines StandsFor Shows P k l v u → Repeating P IsDone first l w u
 repeating_more P IsDone first k l w v u t step =
     record { onward = λ e x rest. t.onward e x (refines_goes_on StandsFor Shows shows_in_order P IsDone k l e v u x step rest) }
 
-pub repeating_ends : (P : Move) (IsDone : State → Type 0) (first k : Parts) (w v : Outside) → Repeating P IsDone first k w v
+pub repeating_ends : (P : Move) (IsDone : State → Type 0) (first k : Layers) (w v : Outside) → Repeating P IsDone first k w v
     → ((s : State) → StandsFor k s → IsDone s) → Refines StandsFor Shows (Until P IsDone) first k w v
 repeating_ends P IsDone first k w v t done = t.onward k v (refines_is_done StandsFor Shows shows_in_order P IsDone k v done)
 

@@ -13,9 +13,10 @@ use Rattle.thing_handler.specs.Turns.{RunTurn, HandlerCall, turns_in, AreNumbere
 use Rattle.thing_handler.proofs.TurnLaws.{numbered_then}
 use Rattle.thing_site.specs.Site.{Placed, Site}
 use Rattle.thing_core.specs.State.{State, Status, running, completed, Emission}
-use Rattle.thing_site.specs.Places.{Act, describes, reads_all, writes_many, reads, writes, invokes, queries, cancels, reads_event, waits}
+use Rattle.thing_site.specs.declared.place.Act.{Act}
+use Rattle.thing_site.specs.declared.place.Act.TheVariants.{Describes as describes, ReadsAll as reads_all, WritesMany as writes_many, Reads as reads, Writes as writes, Invokes as invokes, Queries as queries, Cancels as cancels, ReadsEvent as reads_event, Waits as waits}
 use Rattle.thing_site.specs.Refusals.{Input}
-use Rattle.thing_core.specs.Thing.{Done, Called, no_number, no_memory, gives, failure_of, ReadsValue, ReadsEach, WritesEach, IfDone, Emits, emissions_of_write, Stops, Calls, IsInvoked, IsQueried, Queries, IsCancelled, Cancels, PollsEvent, Performs, Acts, refuses, has_no_memory, performs, readable}
+use Rattle.thing_core.specs.Thing.{Done, Called, no_number, no_memory, gives, failure_of, ReadsValue, with_value, ReadsEach, WritesEach, IfDone, SeesWritten, emissions_of_write, Stops, Calls, IsInvoked, IsQueried, Queries, IsCancelled, Cancels, PollsEvent, Performs, Acts, refuses, has_no_memory, performs, readable}
 use Rattle.thing_core.proofs.ReadLaws.{AfterValue}
 
 -- The turns are numbered on from those that the state has, and are counted.
@@ -50,11 +51,16 @@ call_counts slot what (gives a) s calls t k =
 
 -- ---- properties
 
+-- what is seen is no turn
+seen_counts : (p : Placed) (r : Result Json Outcome) (s : State) (calls : List HandlerCall) (t : State) → Becomes (with_value p r s) [] calls t → Counts s calls t
+seen_counts p (Ok value) s calls t b = counts_quiet s _ t calls refl b
+seen_counts p (Err o) s calls t b = counts_stays s t calls b
+
 value_counts : (p : Placed) (r : Result Json Outcome) (s : State) (calls : List HandlerCall) (t : State) → ReadsValue p r s calls t → Counts s calls t
 value_counts p r s calls t v =
     let both = v.1 in
     counts_then s both.mid t both.first both.second calls (call_counts p.slot call.Read v.0 s both.first both.mid both.one)
-    (counts_stays both.mid t both.second both.other.1) both.whole
+    (seen_counts p r both.mid both.second t both.other.1) both.whole
 
 after_counts : (p : Placed) (ps : List Placed) (got : List (List ℕ × Json)) (done : Done) (r : Result Json Outcome) (s : State) (calls : List HandlerCall) (t : State)
     → ((value : Json) → ReadsEach ps (got ++ (p.affordance.name, value) ∷ []) done s calls t → Counts s calls t) → AfterValue p ps got done r s calls t → Counts s calls t
@@ -73,7 +79,7 @@ each_counts (p ∷ ps) got done s calls t r =
 
 done_counts : (i : Input) (inputs : List Input) (emitted : List Emission) (done : Done) (c : Called) (s : State) (calls : List HandlerCall) (t : State)
     → ((u : State) (after : List HandlerCall) → WritesEach inputs (emitted ++ emissions_of_write i) done u after t → Counts u after t)
-    → IfDone c (Then (Emits (emissions_of_write i)) (WritesEach inputs (emitted ++ emissions_of_write i) done)) (Stops (failure_of c) emitted done) s calls t
+    → IfDone c (Then (SeesWritten i) (WritesEach inputs (emitted ++ emissions_of_write i) done)) (Stops (failure_of c) emitted done) s calls t
     → Counts s calls t
 done_counts i inputs emitted done (gives answer.Done) s calls t further r =
     counts_then s r.mid t r.first r.second calls (counts_quiet s _ r.mid r.first refl r.one) (further r.mid r.second r.other) r.whole

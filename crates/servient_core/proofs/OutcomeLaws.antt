@@ -1,5 +1,5 @@
 -- The outcome of a request can be sent by CoAP.
-use Rattle.std.proofs.Common.{◌≡◌, ℕ, ◌<◌, ◌≤◌, ◌^◌, List, [], ◌∷◌, ◌++◌, length, refl, sym, ap, subst, ◌∙◌, arith, inl, inr, length-append}
+use Rattle.std.proofs.Common.{◌≡◌, ℕ, ◌<◌, ◌≤◌, ◌^◌, Bool, true, false, cond, List, [], ◌∷◌, ◌++◌, length, refl, sym, ap, subst, ◌∙◌, arith, inl, inr, length-append}
 use Rattle.std.specs.Prelude.{Option, Some, None, Result, Ok, Err, decimal, codes}
 use Rattle.std.specs.List.{All}
 use Rattle.std.proofs.lemmas.List.Elements.{All-append}
@@ -8,17 +8,20 @@ use Rattle.servient_base.specs.Moves.{Then}
 use Rattle.wot_json.specs.Tree.{Json, object, members_of}
 use Rattle.wot_json.specs.Json.{text_of}
 use Rattle.wot_json.specs.Meaning.{json_of}
+use Rattle.thing_ops.specs.declared.conditions.Conditions.{Conditions}
+use Rattle.thing_ops.specs.Conditions.{fails, has}
 use Rattle.thing_ops.specs.declared.outcome.Outcome.{Outcome}
 use Rattle.thing_ops.specs.declared.outcome.Outcome.TheVariants as outcome
 use Rattle.thing_ops.specs.Requests.{PlainRequest}
 use Rattle.thing_handler.specs.declared.handler.Answer.TheVariants as answer
 use Rattle.thing_handler.specs.Turns.{HandlerCall}
 use Rattle.thing_site.specs.Site.{Placed, Site}
-use Rattle.thing_core.specs.State.{State, Status, running, completed, Emission, status_text, last_of}
-use Rattle.thing_site.specs.Places.{Act, describes, reads_all, writes_many, reads, writes, invokes, queries, cancels, reads_event, waits}
-use Rattle.thing_site.specs.Refusals.{Input, Refusal, nothing_there, verb_not_taken, answer_not_acceptable, format_not_taken, body_not_as_wanted, value_too_large, refused_by_schema, no_invocation_left, IsFirst}
+use Rattle.thing_core.specs.State.{State, Status, running, completed, Emission, status_text, last_of, version_of}
+use Rattle.thing_site.specs.declared.place.Act.{Act}
+use Rattle.thing_site.specs.declared.place.Act.TheVariants.{Describes as describes, ReadsAll as reads_all, WritesMany as writes_many, Reads as reads, Writes as writes, Invokes as invokes, Queries as queries, Cancels as cancels, ReadsEvent as reads_event, Waits as waits}
+use Rattle.thing_site.specs.Refusals.{Input, Refusal, nothing_there, verb_not_taken, answer_not_acceptable, format_not_taken, body_not_as_wanted, value_too_large, refused_by_schema, condition_failed, no_invocation_left, IsFirst}
 use Rattle.thing_core.specs.Refusals.{Asked, refusals, Stands, IsAnsweredWith}
-use Rattle.thing_core.specs.Thing.{Done, only, Called, no_number, no_memory, gives, failure_of, GivesValue, ReadsValue, ReadsEach, WritesEach, IfDone, Emits, emissions_of_write, Stops, IsInvoked, place_of_invocation, IsQueried, Queries, IsCancelled, Cancels, event_outcome, content_of, readable, Performs, Acts, refuses, has_no_memory, performs}
+use Rattle.thing_core.specs.Thing.{Done, only, Called, no_number, no_memory, gives, failure_of, GivesValue, ReadsValue, ReadsEach, WritesEach, IfDone, SeesWritten, emissions_of_write, Stops, IsInvoked, place_of_invocation, IsQueried, Queries, IsCancelled, Cancels, event_outcome, outcome_of_read, read_outcome, readable, Performs, Acts, refuses, has_no_memory, performs}
 use Rattle.thing_core.proofs.ReadLaws.{AfterValue}
 use Rattle.servient_core.specs.Keeping.{IsSendable}
 use Rattle.servient_core.proofs.ActionPaths.{IsShortPath, ShortIfInvoked, short_if_invoked}
@@ -54,6 +57,7 @@ refusal_sendable format_not_taken a o is = sendable_as o outcome.Format is (refl
 refusal_sendable body_not_as_wanted a o is = sendable_as o outcome.BadValue is (refl, tt)
 refusal_sendable value_too_large a o is = sendable_as o outcome.TooLarge is (refl, tt)
 refusal_sendable refused_by_schema a o is = sendable_as o outcome.BadValue is (refl, tt)
+refusal_sendable condition_failed a o is = sendable_as o outcome.PreconditionFailed is (refl, tt)
 refusal_sendable no_invocation_left a o is = sendable_as o outcome.InvocationsFull is (refl, tt)
 
 first_sendable : (S : Refusal → Type 0) (a : Asked) (rs : List Refusal) (o : Outcome) → IsFirst S (λ r. IsAnsweredWith r a) rs o → IsSendable o
@@ -94,10 +98,18 @@ read_sendable p r s seen t v o is =
     no_value_sendable p.affordance.output v.0 r o is v.1.other.0
 
 -- a property is read
-reads_sendable : (p : Placed) (done : Done) (r : Result Json Outcome) (s : State) (seen : List HandlerCall) (t : State) → ReadsValue p r s seen t
-    → done ≡ only (content_of r) → IsSendable done.outcome
-reads_sendable p done (Ok value) s seen t v is = outcome_is done (outcome.Content (text_of value)) is (refl, tt)
-reads_sendable p done (Err o) s seen t v is = outcome_is done o is (read_sendable p (Err o) s seen t v o refl)
+judged_sendable : (c : Conditions) (version : ℕ) (text : List ℕ) → IsSendable (read_outcome c version text)
+judged_sendable c version text = by_test (fails c version) (has c.known version)
+  where
+    by_test : (b d : Bool) → IsSendable (cond b outcome.PreconditionFailed (cond d (outcome.NotModified version) (outcome.Content text (Some version))))
+    by_test true d = (refl, tt)
+    by_test false true = (refl, tt)
+    by_test false false = (refl, tt)
+
+reads_sendable : (p : Placed) (c : Conditions) (version : ℕ) (done : Done) (r : Result Json Outcome) (s : State) (seen : List HandlerCall) (t : State) → ReadsValue p r s seen t
+    → done ≡ only (outcome_of_read c version r) → IsSendable done.outcome
+reads_sendable p c version done (Ok value) s seen t v is = outcome_is done (read_outcome c version (text_of value)) is (judged_sendable c version (text_of value))
+reads_sendable p c version done (Err o) s seen t v is = outcome_is done o is (read_sendable p (Err o) s seen t v o refl)
 
 -- several are
 after_sendable : (p : Placed) (ps : List Placed) (got : List (List ℕ × Json)) (done : Done) (r : Result Json Outcome) (s m t : State) (first second : List HandlerCall)
@@ -108,7 +120,7 @@ after_sendable p ps got done (Err o) s m t first second further v rest = outcome
 
 each_sendable : (ps : List Placed) (got : List (List ℕ × Json)) (done : Done) (s : State) (seen : List HandlerCall) (t : State) → ReadsEach ps got done s seen t
     → IsSendable done.outcome
-each_sendable [] got done s seen t r = outcome_is done (outcome.Content (text_of (object (members_of got)))) r.0 (refl, tt)
+each_sendable [] got done s seen t r = outcome_is done (outcome.Content (text_of (object (members_of got))) None) r.0 (refl, tt)
 each_sendable (p ∷ ps) got done s seen t r =
     after_sendable p ps got done r.0 s r.1.mid t r.1.first r.1.second
     (λ value rest. each_sendable ps (got ++ (p.affordance.name, value) ∷ []) done r.1.mid r.1.second t rest) r.1.one r.1.other
@@ -121,7 +133,7 @@ stops_sendable o emitted done s seen t stops sendable = sendable_as done.outcome
 
 written_sendable : (i : Input) (inputs : List Input) (emitted : List Emission) (done : Done) (c : Called) (s : State) (seen : List HandlerCall) (t : State)
     → ((u : State) (after : List HandlerCall) → WritesEach inputs (emitted ++ emissions_of_write i) done u after t → IsSendable done.outcome)
-    → IfDone c (Then (Emits (emissions_of_write i)) (WritesEach inputs (emitted ++ emissions_of_write i) done)) (Stops (failure_of c) emitted done) s seen t
+    → IfDone c (Then (SeesWritten i) (WritesEach inputs (emitted ++ emissions_of_write i) done)) (Stops (failure_of c) emitted done) s seen t
     → IsSendable done.outcome
 written_sendable i inputs emitted done (gives answer.Done) s seen t further r = further r.mid r.second r.other
 written_sendable i inputs emitted done no_number s seen t further r = stops_sendable _ emitted done s seen t r (failure_sendable no_number)
@@ -228,7 +240,7 @@ performs_sendable : (act : Act) (q : PlainRequest) (inputs : List Input) (done :
 performs_sendable (describes thing) q inputs done s seen t short few r = outcome_is done _ r.0 (refl, tt)
 performs_sendable (reads_all thing) q inputs done s seen t short few r = each_sendable (readable thing) [] done s seen t r
 performs_sendable (writes_many thing) q inputs done s seen t short few r = writes_sendable inputs [] done s seen t r
-performs_sendable (reads p) q inputs done s seen t short few r = reads_sendable p done r.0 s seen t r.2 r.1
+performs_sendable (reads p) q inputs done s seen t short few r = reads_sendable p q.conditions (version_of p.slot t.versions) done r.0 s seen t r.2 r.1
 performs_sendable (writes p) q inputs done s seen t short few r = writes_sendable inputs [] done s seen t r
 performs_sendable (invokes p) q inputs done s seen t short few r =
     let both = r.2.1 in

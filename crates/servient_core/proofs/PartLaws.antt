@@ -33,7 +33,7 @@ use Rattle.servient_core.specs.Trace.{at_network, at_handler, happened_in, calls
 use Rattle.servient_core.specs.Machine.{State, Move, OnHttp, OnCoap, OnThing, Does, Performs, PerformsOnDirectory, PerformsByHttp, Delivers, DeliversEach, observed_target, AnswersAsk, AnswersDatagram, HearsDatagram, Follows, Step, EndsEvent}
 use Rattle.servient_core.specs.Serving.{StandsFor}
 use Rattle.servient_core.specs.Keeping.{LeavesNoMore, OthersKeep, MakesByHttp}
-use Rattle.servient_core.specs.declared.parts.Parts.{Parts}
+use Rattle.servient_core.specs.declared.layers.Layers.{Layers}
 use Rattle.servient_core.proofs.TraceLaws.{shows_in_order, shows_at_network}
 
 -- ---- what is seen of calls alone
@@ -56,17 +56,17 @@ shows_calls net before after calls shows = record {
 -- ---- moves of one part
 
 -- nothing is done
-pub refines_nothing : (k : Parts) (w : Outside) → Refines StandsFor Shows (λ (s : State). Stays s) k k w w
+pub refines_nothing : (k : Layers) (w : Outside) → Refines StandsFor Shows (λ (s : State). Stays s) k k w w
 refines_nothing k w = refines_stays StandsFor Shows shows_in_order k w
 
 -- one act
-pub refines_act : (k : Parts) (n m : NetSeen) (slots : List Seen) (a : Act) → NetShows n m (did a ∷ [])
+pub refines_act : (k : Layers) (n m : NetSeen) (slots : List Seen) (a : Act) → NetShows n m (did a ∷ [])
     → Refines StandsFor Shows (Does (a ∷ [])) k k (outside n slots) (outside m slots)
 refines_act k n m slots a shows = λ s stands.
     (s, stands, record { seen = at_network (did a) ∷ []; move = record { next = refl; saw = refl }; shows = shows_at_network n m slots (did a) shows })
 
 -- the CoAP server changes
-pub refines_coap : (Change : ℕ → Server → Server → Type 0) (k : Parts) (c : Server) (w : Outside) → Change k.moment k.coap c
+pub refines_coap : (Change : ℕ → Server → Server → Type 0) (k : Layers) (c : Server) (w : Outside) → Change k.moment k.coap c
     → Refines StandsFor Shows (OnCoap Change) k (record k { coap = c }) w w
 refines_coap Change k c w change = λ s stands. (
   record s { coap = c },
@@ -83,7 +83,7 @@ refines_coap Change k c w change = λ s stands. (
 )
 
 -- the connections change
-pub refines_http : (Change : ℕ → Streams → Streams → Type 0) (k : Parts) (h : Slots) (w : Outside) → Leads (Change k.moment) k.http h
+pub refines_http : (Change : ℕ → Streams → Streams → Type 0) (k : Layers) (h : Slots) (w : Outside) → Leads (Change k.moment) k.http h
     → Refines StandsFor Shows (OnHttp Change) k (record k { http = h }) w w
 refines_http Change k h w leads = λ s stands.
     let to = leads s.http stands.http in (
@@ -97,7 +97,7 @@ refines_http Change k h w leads = λ s stands.
     )
 
 -- a move of the Things
-pub refines_thing : (M : ThingMove) (k : Parts) (e : Kept) (net : NetSeen) (before after : List Seen)
+pub refines_thing : (M : ThingMove) (k : Layers) (e : Kept) (net : NetSeen) (before after : List Seen)
     → Makes RackShows M k.exposed.state e.state before after
     → Refines StandsFor Shows (OnThing M) k (record k { exposed = e }) (outside net before) (outside net after)
 refines_thing M k e net before after made = λ s stands. (
@@ -111,7 +111,7 @@ refines_thing M k e net before after made = λ s stands. (
 )
 
 -- the directory is asked
-refines_directory : (q : PlainRequest) (done : Done) (k : Parts) (d : Contents) (w : Outside) → DirectoryActs q done.outcome k.directory d → done.emissions ≡ []
+refines_directory : (q : PlainRequest) (done : Done) (k : Layers) (d : Contents) (w : Outside) → DirectoryActs q done.outcome k.directory d → done.emissions ≡ []
     → Refines StandsFor Shows (PerformsOnDirectory q done) k (record k { directory = d }) w w
 refines_directory q done k d w acts quiet = λ s stands. (
   record s { directory = d },
@@ -124,7 +124,7 @@ refines_directory q done k d w acts quiet = λ s stands. (
 )
 
 -- a request by HTTP is performed, by the directory or by the Things
-pub refines_by_http : (site : Site) (q : PlainRequest) (o : Outcome) (k : Parts) (e : Kept) (d : Contents) (net : NetSeen) (before after : List Seen)
+pub refines_by_http : (site : Site) (q : PlainRequest) (o : Outcome) (k : Layers) (e : Kept) (d : Contents) (net : NetSeen) (before after : List Seen)
     (made : MakesByHttp k.exposed e k.directory d q o before after) → k.exposed.site ≡ site
     → Refines StandsFor Shows (PerformsByHttp site q made.done) k (record k { exposed = e; directory = d }) (outside net before) (outside net after)
 refines_by_http site q o k e d net before after made at_site = elim made.move as (λ _. Refines StandsFor Shows (PerformsByHttp site q made.done) k (record k { exposed = e; directory = d }) (outside net before) (outside net after)) [
@@ -141,24 +141,24 @@ refines_by_http site q o k e d net before after made at_site = elim made.move as
 
 -- ---- moves together, of this machine
 
-pub then_moves : (P Q : Move) (k l m : Parts) (w v u : Outside) → Refines StandsFor Shows P k l w v → Refines StandsFor Shows Q l m v u
+pub then_moves : (P Q : Move) (k l m : Layers) (w v u : Outside) → Refines StandsFor Shows P k l w v → Refines StandsFor Shows Q l m v u
     → Refines StandsFor Shows (Then P Q) k m w u
 then_moves P Q k l m w v u p q = refines_then StandsFor Shows shows_in_order P Q k l m w v u p q
 
-pub passing_moves : {A : Type 0} (P Q : A → Move) (a : A) (k l m : Parts) (w v u : Outside) → Refines StandsFor Shows (P a) k l w v
+pub passing_moves : {A : Type 0} (P Q : A → Move) (a : A) (k l m : Layers) (w v u : Outside) → Refines StandsFor Shows (P a) k l w v
     → Refines StandsFor Shows (Q a) l m v u → Refines StandsFor Shows (Passing P Q) k m w u
 passing_moves P Q a k l m w v u p q = refines_passing StandsFor Shows shows_in_order P Q a k l m w v u p q
 
 -- ---- datagrams
 
 -- one that is too long
-pub receives_long : (site : Site) (from : Endpoint) (bytes : List ℕ) (k : Parts) (w : Outside) → LONGEST_DATAGRAM < length bytes
+pub receives_long : (site : Site) (from : Endpoint) (bytes : List ℕ) (k : Layers) (w : Outside) → LONGEST_DATAGRAM < length bytes
     → Refines StandsFor Shows (HearsDatagram site from bytes) k k w w
 receives_long site from bytes k w long =
     refines_as StandsFor Shows (λ (s : State). Stays s) (HearsDatagram site from bytes) k k w w (λ s seen t stays. inl (long, stays)) (refines_nothing k w)
 
 -- one that is heard
-pub receives_heard : (site : Site) (from : Endpoint) (bytes : List ℕ) (k l : Parts) (c : Server) (w v : Outside) (h : Heard)
+pub receives_heard : (site : Site) (from : Endpoint) (bytes : List ℕ) (k l : Layers) (c : Server) (w v : Outside) (h : Heard)
     → length bytes ≤ LONGEST_DATAGRAM → Hears from bytes k.moment h k.coap c
     → Refines StandsFor Shows (AnswersDatagram site from h) (record k { coap = c }) l w v
     → Refines StandsFor Shows (HearsDatagram site from bytes) k l w v
@@ -169,14 +169,14 @@ receives_heard site from bytes k l c w v h short hears responds =
     (refines_coap (λ now. Hears from bytes now h) k c w hears) responds)
 
 -- nothing is done
-pub heard_nothing : (site : Site) (from : Endpoint) (bytes : List ℕ) (k : Parts) (c : Server) (w : Outside) (h : Heard) → length bytes ≤ LONGEST_DATAGRAM
+pub heard_nothing : (site : Site) (from : Endpoint) (bytes : List ℕ) (k : Layers) (c : Server) (w : Outside) (h : Heard) → length bytes ≤ LONGEST_DATAGRAM
     → Hears from bytes k.moment h k.coap c → h ≡ ignored → Refines StandsFor Shows (HearsDatagram site from bytes) k (record k { coap = c }) w w
 heard_nothing site from bytes k c w h short hears is =
     receives_heard site from bytes k (record k { coap = c }) c w w h short hears
     (subst (λ (x : Heard). Refines StandsFor Shows (AnswersDatagram site from x) (record k { coap = c }) (record k { coap = c }) w w) (sym is) (refines_nothing (record k { coap = c }) w))
 
 -- bytes are sent back at once
-pub heard_at_once : (site : Site) (from : Endpoint) (bytes sent : List ℕ) (k : Parts) (c : Server) (n m : NetSeen) (slots : List Seen) (h : Heard) → length bytes ≤ LONGEST_DATAGRAM
+pub heard_at_once : (site : Site) (from : Endpoint) (bytes sent : List ℕ) (k : Layers) (c : Server) (n m : NetSeen) (slots : List Seen) (h : Heard) → length bytes ≤ LONGEST_DATAGRAM
     → Hears from bytes k.moment h k.coap c → h ≡ answered_at_once sent → NetShows n m (did (act.Datagram from sent) ∷ [])
     → Refines StandsFor Shows (HearsDatagram site from bytes) k (record k { coap = c }) (outside n slots) (outside m slots)
 heard_at_once site from bytes sent k c n m slots h short hears is shows =
@@ -185,7 +185,7 @@ heard_at_once site from bytes sent k c n m slots h short hears is shows =
     (refines_act (record k { coap = c }) n m slots (act.Datagram from sent) shows))
 
 -- what was asked is answered
-answers_ask : (site : Site) (from : Endpoint) (ask : PlainAsk) (request : OpenAsk) (sent : List ℕ) (k : Parts) (c : Server) (done : Done) (n m : NetSeen) (slots : List Seen)
+answers_ask : (site : Site) (from : Endpoint) (ask : PlainAsk) (request : OpenAsk) (sent : List ℕ) (k : Layers) (c : Server) (done : Done) (n m : NetSeen) (slots : List Seen)
     → Answers request done.outcome (observed_target site k.exposed.state ask) sent k.coap c → NetShows n m (did (act.Datagram from sent) ∷ [])
     → Refines StandsFor Shows (AnswersAsk site from ask request done) k (record k { coap = c }) (outside n slots) (outside m slots)
 answers_ask site from ask request sent k c done n m slots answers shows = λ s stands.
@@ -204,7 +204,7 @@ answers_ask site from ask request sent k c done n m slots answers shows = λ s s
     )
 
 -- what is asked is done and answered, and what is emitted is delivered
-responds_asked : (site : Site) (from : Endpoint) (ask : PlainAsk) (request : OpenAsk) (sent : List ℕ) (k l : Parts) (e : Kept) (c : Server) (done : Done) (n m : NetSeen) (before after : List Seen) (v : Outside)
+responds_asked : (site : Site) (from : Endpoint) (ask : PlainAsk) (request : OpenAsk) (sent : List ℕ) (k l : Layers) (e : Kept) (c : Server) (done : Done) (n m : NetSeen) (before after : List Seen) (v : Outside)
     → Makes RackShows (Acts site ask.request done) k.exposed.state e.state before after
     → Answers request done.outcome (observed_target site e.state ask) sent k.coap c → NetShows n m (did (act.Datagram from sent) ∷ [])
     → Refines StandsFor Shows (DeliversEach done.emissions) (record k { exposed = e; coap = c }) l (outside m after) v
@@ -216,7 +216,7 @@ responds_asked site from ask request sent k l e c done n m before after v made a
     (then_moves (AnswersAsk site from ask request done) (DeliversEach done.emissions) (record k { exposed = e }) (record k { exposed = e; coap = c }) l (outside n after) (outside m after) v
     (answers_ask site from ask request sent (record k { exposed = e }) c done n m after answers shows) delivers)
 
-pub heard_asked : (site : Site) (from : Endpoint) (bytes sent : List ℕ) (ask : PlainAsk) (request : OpenAsk) (o : Outcome) (k l : Parts) (e : Kept) (b c : Server)
+pub heard_asked : (site : Site) (from : Endpoint) (bytes sent : List ℕ) (ask : PlainAsk) (request : OpenAsk) (o : Outcome) (k l : Layers) (e : Kept) (b c : Server)
     (n m : NetSeen) (before after : List Seen) (v : Outside) (h : Heard) (made : MakesAct k.exposed e ask.request o before after) → length bytes ≤ LONGEST_DATAGRAM → Hears from bytes k.moment h k.coap b
     → h ≡ asked ask request → k.exposed.site ≡ site → Answers request o (observed_target e.site e.state ask) sent b c → NetShows n m (did (act.Datagram from sent) ∷ [])
     → Refines StandsFor Shows (Each Delivers e.pending) (record k { exposed = e; coap = c }) l (outside m after) v
@@ -234,7 +234,7 @@ heard_asked site from bytes sent ask request o k l e b c n m before after v h ma
 -- ---- steps
 
 -- moves at the greater moment are the step on an event
-pub steps : (site : Site) (e : EventWithBytes) (k l m : Parts) (moment : ℕ) (w v u : Outside) → moment ≡ max k.moment e.event.moment
+pub steps : (site : Site) (e : EventWithBytes) (k l m : Layers) (moment : ℕ) (w v u : Outside) → moment ≡ max k.moment e.event.moment
     → Refines StandsFor Shows (Follows site e.event.what e.bytes) (record k { moment = moment }) l w v → Refines StandsFor Shows EndsEvent l m v u
     → Refines StandsFor Shows (Step site e) k m w u
 steps site e k l m moment w v u greater follows ends = λ s stands.
@@ -267,7 +267,7 @@ hold_streams [] = tt
 hold_streams (h ∷ hs) = (holds_stream h, hold_streams hs)
 
 -- what the code keeps stands for some state
-pub stands_for_some : (kept : Parts) → (s : State) × StandsFor kept s
+pub stands_for_some : (kept : Layers) → (s : State) × StandsFor kept s
 unfolding streams_of
 stands_for_some kept = (
   record { moment = kept.moment; http = streams_of kept.http; coap = kept.coap; thing = kept.exposed.state; directory = kept.directory },
@@ -275,7 +275,7 @@ stands_for_some kept = (
 )
 
 -- what stands for a state does so too where only what waits to be handed out is another
-pub refines_from : (P : Move) (k l m : Parts) (w v : Outside) → l.moment ≡ k.moment → l.http ≡ k.http → l.coap ≡ k.coap → l.exposed.state ≡ k.exposed.state → l.directory ≡ k.directory
+pub refines_from : (P : Move) (k l m : Layers) (w v : Outside) → l.moment ≡ k.moment → l.http ≡ k.http → l.coap ≡ k.coap → l.exposed.state ≡ k.exposed.state → l.directory ≡ k.directory
     → Refines StandsFor Shows P l m w v → Refines StandsFor Shows P k m w v
 refines_from P k l m w v moment http coap state directory p = λ s stands. p s (record {
   moment = stands.moment ∙ sym moment;
@@ -286,7 +286,7 @@ refines_from P k l m w v moment http coap state directory p = λ s stands. p s (
 })
 
 -- a rack that fits before a move fits after it
-pub fits_after : (P : Move) (k l : Parts) (site : Site) (w v : Outside) → Refines StandsFor Shows P k l w v → Fits site w.slots → Fits site v.slots
+pub fits_after : (P : Move) (k l : Layers) (site : Site) (w v : Outside) → Refines StandsFor Shows P k l w v → Fits site w.slots → Fits site v.slots
 fits_after P k l site w v p fits =
     let from = stands_for_some k in
     let a = p from.0 from.1 in

@@ -10,11 +10,11 @@ use Rattle.http_bind.specs.Slots.{Slots, Leads}
 use Rattle.servient_outside.specs.declared.net.Act.{Act}
 use Rattle.servient_outside.specs.Network.{NetSeen, NetShows, did}
 use Rattle.servient_core.specs.Machine.{Move, TakesNextMessage, acts_of_reply}
-use Rattle.servient_core.specs.declared.parts.Parts.{Parts}
+use Rattle.servient_core.specs.declared.layers.Layers.{Layers}
 
 -- While the messages of a connection are taken: no emission waits to be handed out, the exchanges are at no later
 -- moment, and the rack is the Things'.
-pub record IsOn (c : ℕ) (kept : Parts) (slots : List Seen) : Type 0 where
+pub record IsOn (c : ℕ) (kept : Layers) (slots : List Seen) : Type 0 where
   pub connection : c < 64
   pub pending : kept.exposed.pending ≡ []
   pub moment : kept.coap.exchanges.moment ≤ kept.moment

@@ -1,4 +1,4 @@
--- What the functions of a servient's parts say of one another.
+-- What the functions over the layers of a servient say of one another.
 use Rattle.std.specs.Prelude.{◌≡◌, ◌⊎◌, ◌≤◌, ℕ, List, [], ◌∷◌, map, Bool, true, false, Option}
 use Rattle.servient_base.specs.Moves.{Makes, Refines}
 use Rattle.thing_ops.specs.declared.outcome.Outcome.{Outcome}
@@ -23,10 +23,10 @@ use Rattle.servient_outside.specs.Network.{NetSeen, NetShows, did}
 use Rattle.servient_core.specs.Trace.{Outside, outside, Shows}
 use Rattle.servient_core.specs.Machine.{Move, PollsAndDelivers, acts_of_reply}
 use Rattle.servient_core.specs.Serving.{StandsFor, IsReady}
-use Rattle.servient_core.specs.declared.parts.Parts.{Parts}
+use Rattle.servient_core.specs.declared.layers.Layers.{Layers}
 
 -- Code makes this move, from every state that it stands for, and is ready for another.
-pub record DoesMove (move : Move) (old new : Parts) (before after : Outside) : Type 0 where
+pub record DoesMove (move : Move) (old new : Layers) (before after : Outside) : Type 0 where
   pub refines : Refines StandsFor Shows move old new before after
   pub ready : IsReady new
   pub site : new.exposed.site ≡ old.exposed.site
@@ -58,12 +58,12 @@ abbrev pub OthersKeep : ℕ → Slots → Slots → Type 0
 OthersKeep c b d = (x : ℕ) → (x ≡ c → ⊥) → left_at x d ≤ left_at x b
 
 -- Code makes this move without a call of a handler, from every state that it stands for.
-abbrev pub DoesQuietly : Move → Parts → Parts → NetSeen → NetSeen → Type 0
+abbrev pub DoesQuietly : Move → Layers → Layers → NetSeen → NetSeen → Type 0
 DoesQuietly move old new n m = (slots : List Seen) → Refines StandsFor Shows move old new (outside n slots) (outside m slots)
 
 -- What stays when new values are delivered: the moment, the Things, the exchanges; and no connection has more left to
 -- take.
-pub record OnlyDelivers (old new : Parts) : Type 0 where
+pub record OnlyDelivers (old new : Layers) : Type 0 where
   pub moment : new.moment ≡ old.moment
   pub site : new.exposed.site ≡ old.exposed.site
   pub exchanges : new.coap.exchanges ≡ old.coap.exchanges
@@ -77,7 +77,7 @@ pub record SendsToWait (c : ℕ) (text : Option (List ℕ)) (moment : ℕ) (b d 
 
 -- What follows on an ask for the next poll of a round: the first event that is left was polled, and what it emits was
 -- delivered; or none is left, and nothing was done.
-pub data PollsOne (later : Round) (old new : Parts) (before after : Outside) : Bool → Round → Type 0 where
+pub data PollsOne (later : Round) (old new : Layers) (before after : Outside) : Bool → Round → Type 0 where
   polls : (round : Round) (p : Placed) → events_left round old.exposed.site ≡ p ∷ events_left later old.exposed.site
       → Refines StandsFor Shows (PollsAndDelivers p) old new before after → PollsOne later old new before after true round
   ends : (round : Round) → events_left round old.exposed.site ≡ [] → new ≡ old → after ≡ before → PollsOne later old new before after false round

@@ -9,22 +9,22 @@ use Rattle.thing_site.specs.Exposing.{IsFirst}
 use Rattle.http_bind.specs.Slots.{StandsFor as ConnectionsStandFor, HasRoom}
 use Rattle.servient_core.specs.Trace.{Sighting, at_network}
 use Rattle.servient_core.specs.Machine.{Site, State, Run}
-use Rattle.servient_core.specs.declared.parts.Parts.{Parts}
+use Rattle.servient_core.specs.declared.layers.Layers.{Layers}
 use Rattle.servient_core.specs.declared.servient.OpenFault.{OpenFault}
 use Rattle.servient_core.specs.declared.servient.OpenFault.TheVariants.{Expose, NoMemory}
 use Rattle.servient_core.specs.declared.serving.Served.{Served}
 use Rattle.servient_core.specs.declared.serving.Served.TheVariants as served
 
--- What the code of a servient keeps is `Parts` of src/parts.rt: a part for each layer, of which contracts
+-- What the code of a servient keeps is `Layers` of src/layers.rt: a part for each layer, of which contracts
 -- see each by its own view.
 
 -- the Things that it exposes
-abbrev pub site_of_parts : Parts → Site
+abbrev pub site_of_parts : Layers → Site
 site_of_parts kept = kept.exposed.site
 
 -- What is kept stands for a state: each part for that of its layer, and what is held of a
 -- connection for its whole stream.
-pub record StandsFor (kept : Parts) (s : State) : Type 0 where
+pub record StandsFor (kept : Layers) (s : State) : Type 0 where
   pub moment : s.moment ≡ kept.moment
   pub http : ConnectionsStandFor kept.http s.http
   pub coap : s.coap ≡ kept.coap
@@ -33,7 +33,7 @@ pub record StandsFor (kept : Parts) (s : State) : Type 0 where
 
 -- Between two events: no emission waits to be handed out, the exchanges are at no later moment, and each connection has
 -- room for another piece. It is an invariant of `Servient`, so that `step` and `serve` ask only that the rack fits.
-pub record IsReady (kept : Parts) : Type 0 where
+pub record IsReady (kept : Layers) : Type 0 where
   pub pending : kept.exposed.pending ≡ []
   pub moment : kept.coap.exchanges.moment ≤ kept.moment
   pub room : (c : ℕ) → HasRoom c kept.http

@@ -14,7 +14,7 @@ ghost use Rattle.servient_core.specs.Keeping.{DoesMove, LeavesNoMore, OthersKeep
 ghost use Rattle.servient_core.specs.Connections.{IsOn, TakesOne, SendsAnswer, SendsContinue, SendsRefusal, acts_of_answer};
 
 use crate::Net;
-use crate::parts::Parts;
+use crate::layers::Layers;
 use crate::performing::perform_by_http;
 use http_bind::{HttpBind, HttpNext, HttpOut, NoMemory, ROOM};
 use std::alloc::Global;
@@ -60,7 +60,7 @@ impl Rooms {
     }
 }
 
-impl Parts {
+impl Layers {
     /// Bytes came on a connection: its messages that are whole now are taken, and each is answered before the next is.
     pub fn piece<N: Net, R: Handlers>(
         &mut self,

@@ -12,11 +12,11 @@ ghost use Rattle.servient_core.specs.Keeping.{DoesMove, DoesQuietly, LeavesNoMor
 
 use crate::Net;
 use crate::connections::ReplyRoom;
-use crate::parts::Parts;
+use crate::layers::Layers;
 use thing_core::Round;
 use thing_handler::Handlers;
 
-impl Parts {
+impl Layers {
     /// Delivers what was emitted, in order: to those that wait for its target, and to its watchers.
     pub fn deliver<N: Net>(&mut self, net: &mut N, room: &mut ReplyRoom)
         ensures delivered { DoesQuietly (Each Delivers self.old.exposed.pending) self.old self.new (N.seen net.old) (N.seen net.new) }

@@ -11,11 +11,11 @@ ghost use Rattle.servient_core.specs.Keeping.{DoesQuietly, LeavesNoMore};
 
 use crate::Net;
 use crate::connections::ReplyRoom;
-use crate::parts::Parts;
+use crate::layers::Layers;
 use coap_msg::LONGEST_MESSAGE;
 use coap_observe::Notice;
 
-impl Parts {
+impl Layers {
     /// Does what ends each event.
     pub fn end_event<N: Net>(&mut self, net: &mut N, room: &mut ReplyRoom)
         requires { IsReady self.old }

@@ -15,7 +15,7 @@ ghost use Rattle.servient_core.specs.Serving.{Serves, BreaksAtEnd, StandsFor};
 ghost use Rattle.servient_core.specs.Promises.{DuplicatesActOnNothing, FullTableActsOnNothing};
 ghost use Rattle.servient_core.specs.Meaning.{Message, IsWritten, HaveOneMeaning, AsksDirectoryAlone, FindsNoDirectory};
 ghost use Rattle.servient_core.specs.Runs.{EachRunHasAHistory, ServingHasAHistory, MissesAreCounted};
-ghost use Rattle.servient_core.specs.declared.parts.Parts.{Parts};
+ghost use Rattle.servient_core.specs.declared.layers.Layers.{Layers};
 
 /// Serving answers `Failed` exactly where the network broke, which it did at the end and nowhere before.
 pub fn failing_is_exact()
@@ -33,7 +33,7 @@ pub fn turns_are_numbered()
 
 /// All that a servient keeps stands for some state of the machine.
 pub fn each_stands_for_a_state()
-    ensures { (kept : Parts) → (s : State) × StandsFor kept s }
+    ensures { (kept : Layers) → (s : State) × StandsFor kept s }
 {}
 
 /// A duplicate of a request that was admitted and lives makes no turn and changes nothing of the Things

@@ -23,7 +23,7 @@ mod connections;
 mod delivering;
 mod ending;
 mod laws;
-mod parts;
+mod layers;
 mod performing;
 mod servient;
 mod serving;

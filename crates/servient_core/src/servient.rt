@@ -14,7 +14,7 @@ ghost use Rattle.servient_core.specs.Serving.{StandsFor, IsOpenFault};
 
 use crate::capacity::MOST_WATCHERS;
 use crate::connections::Rooms;
-use crate::parts::Parts;
+use crate::layers::Layers;
 use crate::{Event, Net, Plan};
 use coap_bind::CoapBind;
 use directory_requests::DirectoryServer;
@@ -26,11 +26,11 @@ use thing_handler::Handlers;
 use thiserror::Error;
 use wot_terms::Things;
 
-/// The servient of a plan. Contracts see its parts (`Parts`), and which states of the machine they stand for
+/// The servient of a plan. Contracts see what it keeps (`Layers`), and which states of the machine they stand for
 /// (`StandsFor` of `specs/Serving.antt`).
 #[derive(Drop)]
 pub struct Servient {
-    parts: Parts,
+    layers: Layers,
     /// Room for messages of HTTP and their replies.
     rooms: Box<Rooms>,
 }
@@ -39,16 +39,16 @@ impl Model for Servient {
     ghost use Rattle.std.specs.Coded.{codes};
     ghost use Rattle.thing_core.specs.Kept.{kept_code};
     ghost use Rattle.wot_directory.specs.Contents.{contents_code};
-    ghost use Rattle.servient_core.specs.declared.parts.Parts.{Parts};
+    ghost use Rattle.servient_core.specs.declared.layers.Layers.{Layers};
     ghost use Rattle.servient_core.specs.Serving.{IsReady};
 
-    ghost Value = { Parts };
+    ghost Value = { Layers };
 
     ghost coded = { Prim.hlevel (codes, kept_code, contents_code) };
 
-    ghost view = { λ s. s.parts };
+    ghost view = { λ s. s.layers };
 
-    ghost invariant = { λ s. IsReady s.parts };
+    ghost invariant = { λ s. IsReady s.layers };
 }
 
 /// Why a servient can't be made.
@@ -99,7 +99,7 @@ impl Servient {
             Err(fault) => return Err(OpenFault::Expose(fault)),
         };
         Ok(Servient {
-            parts: Parts {
+            layers: Layers {
                 moment: 0,
                 exposed,
                 directory: DirectoryServer::new(alloc),
@@ -127,8 +127,8 @@ impl Servient {
         ensures site { self.new.exposed.site ≡ self.old.exposed.site }
         ensures fits { Fits self.new.exposed.site (R.slots rack.new) }
     {
-        self.parts.moment = self.parts.moment.max(event.moment);
-        self.parts.follow(net, rack, event, bytes, &mut self.rooms);
-        self.parts.end_event(net, &mut self.rooms.reply);
+        self.layers.moment = self.layers.moment.max(event.moment);
+        self.layers.follow(net, rack, event, bytes, &mut self.rooms);
+        self.layers.end_event(net, &mut self.rooms.reply);
     }
 }

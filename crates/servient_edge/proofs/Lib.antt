@@ -1,3 +1,4 @@
 pub mod BytesInTurns
 pub mod SendingLaws
 pub mod NamingLaws
+pub mod ConnectionLaws

@@ -13,6 +13,14 @@ TookAt closed took.Nothing = Unit {0}
 TookAt closed took.Ended = closed ≡ false
 TookAt closed took.Over = closed ≡ true
 
+-- it is the end of a connection
+abbrev pub IsEnd : Took → Type 0
+IsEnd (took.Bytes count) = ⊥
+IsEnd took.Unwanted = ⊥
+IsEnd took.Nothing = ⊥
+IsEnd took.Ended = Unit {0}
+IsEnd took.Over = Unit {0}
+
 -- of what was kept, and then a message, a front has gone, and the rest is kept
 abbrev pub KeepsRest : List ℕ → List ℕ → List ℕ → Type 0
 KeepsRest kept message kept_after = (front : List ℕ) × (kept ++ message ≡ front ++ kept_after)
@@ -20,3 +28,11 @@ KeepsRest kept message kept_after = (front : List ℕ) × (kept ++ message ≡ f
 -- what is sent of a message: nothing where the connection is closed
 abbrev pub sent_by : Connection → List ℕ → List ℕ
 sent_by connection message = if is_some connection.closed then [] else message
+
+-- What a turn leaves of what is kept, where the connection goes on: a front has gone, and the rest is kept.
+abbrev pub Leaves : List ℕ → Took → List ℕ → Type 0
+Leaves before (took.Bytes count) after = KeepsRest before [] after
+Leaves before took.Unwanted after = KeepsRest before [] after
+Leaves before took.Nothing after = KeepsRest before [] after
+Leaves before took.Ended after = Unit {0}
+Leaves before took.Over after = Unit {0}

@@ -6,3 +6,4 @@ pub mod Numbers
 pub mod Naming
 pub mod FilesReal
 pub mod OutReal
+pub mod Turns

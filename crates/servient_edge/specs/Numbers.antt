@@ -1,5 +1,5 @@
 -- What the numbers of connections stand for, and which of them an event names.
-use Rattle.std.specs.Prelude.{◌≡◌, ◌≤◌, ◌⊎◌, ℕ, Option, Some, None, is_some, slice_index_or, slice_set, if◌then◌else◌}
+use Rattle.std.specs.Prelude.{◌≡◌, ◌≤◌, ◌⊎◌, ℕ, List, Option, Some, None, is_some, slice_index_or, slice_set, if◌then◌else◌}
 use Rattle.servient_outside.specs.declared.net.What.{What}
 use Rattle.servient_outside.specs.declared.net.What.TheVariants as what
 use Rattle.servient_edge.specs.declared.number.Number.{Number}
@@ -7,6 +7,7 @@ use Rattle.servient_edge.specs.declared.number.Number.TheVariants as number
 use Rattle.servient_edge.specs.declared.numbers.Numbers.{Numbers}
 use Rattle.servient_edge.specs.declared.turns.Took.{Took}
 use Rattle.servient_edge.specs.declared.turns.Took.TheVariants as took
+use Rattle.servient_edge.specs.Connection.{KeepsRest, Leaves, sent_by}
 
 -- what a number stands for: nothing, a connection that is open, one that is closed and not over yet, or one that was
 -- given up and whose end is still to be given
@@ -76,3 +77,19 @@ Gives before (Some what.Stop) after = ⊥
 -- which number an event names that comes of some turns, all but the last of which gave none
 abbrev pub Comes : Numbers → Option What → Numbers → Type 0
 Comes before came after = (settled : Numbers) × Settles before settled × Gives settled came after
+
+-- what a turn leaves of what is kept, where a connection goes on: what the socket didn't take
+abbrev pub LeavesAt : Number → Took → Number → Type 0
+LeavesAt (number.Used before) result (number.Used after) = Leaves before.kept result after.kept
+LeavesAt (number.Used before) result number.Free = Unit {0}
+LeavesAt (number.Used before) result number.GivenUp = Unit {0}
+LeavesAt number.Free result after = Unit {0}
+LeavesAt number.GivenUp result after = Unit {0}
+
+-- what sending leaves, where a connection goes on: of what was kept, and then the message, what the socket didn't take
+abbrev pub SendsAt : Number → List ℕ → Number → Type 0
+SendsAt (number.Used before) message (number.Used after) = KeepsRest before.kept (sent_by before message) after.kept
+SendsAt (number.Used before) message number.Free = Unit {0}
+SendsAt (number.Used before) message number.GivenUp = Unit {0}
+SendsAt number.Free message after = Unit {0}
+SendsAt number.GivenUp message after = Unit {0}

@@ -1,7 +1,7 @@
 //! One connection: its socket, and what the socket hasn't taken yet.
 
 ghost use Rattle.std.specs.Prelude.{◌≡◌, ◌≤◌, ◌++◌, [], true, false, None, IsSome, IfOk, OnErr, is_some, length};
-ghost use Rattle.servient_edge.specs.Connection.{TookAt, KeepsRest, sent_by};
+ghost use Rattle.servient_edge.specs.Connection.{TookAt, IsEnd, KeepsRest, Leaves, sent_by};
 
 use crate::kept::Kept;
 use crate::sending::{flush, send};
@@ -58,10 +58,12 @@ impl Connection {
 
     /// Writes what is kept, and reads once. As long as something is kept, an open connection isn't read, so that a peer
     /// that doesn't read is served no further.
+    #[tactic(auto, using(crate::proofs::ConnectionLaws::leaves_at_end))]
     pub fn turn(&mut self, buffer: &mut [u8], moment: u64) -> Took
         requires { length buffer.old ≡ 4096 }
         ensures took { TookAt (is_some self.old.closed) result }
         ensures closed { is_some self.new.closed ≡ is_some self.old.closed }
+        ensures kept { Leaves self.old.kept result self.new.kept }
     {
         if self.flush(moment).is_err() {
             return self.gone();
@@ -101,7 +103,8 @@ impl Connection {
 
     /// What the end of the connection means.
     fn gone(&self) -> Took
-        ensures { TookAt (is_some self.now.closed) result }
+        ensures took { TookAt (is_some self.now.closed) result }
+        ensures end { IsEnd result }
     {
         match self.closed {
             Some(_) => Took::Over,

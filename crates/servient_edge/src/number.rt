@@ -1,6 +1,6 @@
 //! What a number of a connection stands for.
 
-ghost use Rattle.std.specs.Prelude.{◌≡◌, length};
+ghost use Rattle.std.specs.Prelude.{◌≡◌, ◌++◌, length};
 
 use crate::connection::Connection;
 use crate::turns::Took;
@@ -15,12 +15,13 @@ pub enum Number {
 }
 
 impl Number {
-    ghost use Rattle.servient_edge.specs.Numbers.{TakesFrom, SendsOn, IsSilent, Settled, standing};
+    ghost use Rattle.servient_edge.specs.Numbers.{TakesFrom, SendsOn, IsSilent, Settled, LeavesAt, SendsAt, standing};
 
     /// A turn of what has a number, which is free afterwards where it has ended.
     pub fn turn(&mut self, buffer: &mut [u8], moment: u64) -> Took
         requires { length buffer.old ≡ 4096 }
-        ensures { TakesFrom (standing self.old) result (standing self.new) }
+        ensures stands { TakesFrom (standing self.old) result (standing self.new) }
+        ensures kept { LeavesAt self.old result self.new }
     {
         match self {
             Number::Free => Took::Nothing,
@@ -46,7 +47,8 @@ impl Number {
 
     /// Sends on what has a number, if it is open. Whether it can't send any more; then it is given up.
     pub fn send(&mut self, head: &[u8], body: &[u8]) -> bool
-        ensures { SendsOn (standing self.old) (standing self.new) }
+        ensures stands { SendsOn (standing self.old) (standing self.new) }
+        ensures kept { SendsAt self.old (head.now ++ body.now) self.new }
     {
         match self {
             Number::Free | Number::GivenUp => false,

@@ -1,6 +1,6 @@
 //! The numbers of connections, from 0 to 63, and what each stands for.
 
-ghost use Rattle.std.specs.Prelude.{◌≡◌, ◌<◌, IfSome, None, length, vec_len};
+ghost use Rattle.std.specs.Prelude.{◌≡◌, ◌<◌, ◌++◌, IfSome, None, length, vec_len};
 
 use crate::connection::Connection;
 use crate::number::Number;
@@ -15,7 +15,7 @@ pub struct Numbers {
 }
 
 impl Numbers {
-    ghost use Rattle.servient_edge.specs.Numbers.{ChangesAt, TakesFrom, SendsOn, IsSilent, Settled, Settles, standing_at};
+    ghost use Rattle.servient_edge.specs.Numbers.{ChangesAt, TakesFrom, SendsOn, IsSilent, Settled, Settles, LeavesAt, SendsAt, number_at, standing_at};
     ghost use Rattle.servient_edge.specs.Numbers.{vacant, connected};
 
     /// All are free.
@@ -53,7 +53,8 @@ impl Numbers {
     pub fn turn(&mut self, c: u32, buffer: &mut [u8], moment: u64) -> Took
         requires bound { c < 64 }
         requires room { length buffer.old ≡ 4096 }
-        ensures { ChangesAt (λ before after. TakesFrom before result after) c self.old self.new }
+        ensures stands { ChangesAt (λ before after. TakesFrom before result after) c self.old self.new }
+        ensures kept { LeavesAt (number_at c self.old) result (number_at c self.new) }
     {
         self.list[c as usize].turn(buffer, moment)
     }
@@ -61,7 +62,8 @@ impl Numbers {
     /// Sends on a connection, if it is open. Whether it can't send any more; then it is given up.
     pub fn send(&mut self, c: u32, head: &[u8], body: &[u8]) -> bool
         requires { c < 64 }
-        ensures { ChangesAt SendsOn c self.old self.new }
+        ensures stands { ChangesAt SendsOn c self.old self.new }
+        ensures kept { SendsAt (number_at c self.old) (head.now ++ body.now) (number_at c self.new) }
     {
         self.list[c as usize].send(head, body)
     }

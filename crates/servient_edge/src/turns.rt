@@ -1,7 +1,8 @@
 //! Whose turn it is, and what a turn of a connection gives: the connections and the listener wait in a circle, each at
 //! most once.
 
-ghost use Rattle.std.specs.Prelude.{◌<◌, IfSome};
+ghost use Rattle.std.specs.Prelude.{◌≡◌, ◌<◌, IfSome, slice_set, true};
+ghost use Rattle.servient_edge.specs.Turns.{first_of, next_of, without, last_after, none_of};
 
 /// How many connections there are at most.
 pub const CONNECTIONS: usize = 64;
@@ -43,29 +44,51 @@ impl Turns {
     }
 
     /// This one waits, if there is one of this number.
-    pub fn add(&mut self, place: usize) {
-        if let Some(waiting) = self.waiting.get_mut(place) {
-            *waiting = true;
+    pub fn add(&mut self, place: usize)
+        ensures waits { self.new.waiting ≡ slice_set self.old.waiting place true }
+        ensures last { self.new.last ≡ self.old.last }
+    {
+        if place < PLACES {
+            self.waiting[place] = true;
         }
     }
 
     /// The next that waits, in the circle. It waits no longer.
     pub fn next(&mut self) -> Option<usize>
-        ensures { IfSome result (λ place. place < 65) }
+        ensures bound { IfSome result (λ place. place < 65) }
+        ensures place { result ≡ next_of self.old.last self.old.waiting }
+        ensures others { self.new.waiting ≡ without result self.old.waiting }
+        ensures last { self.new.last ≡ last_after result self.old.last }
     {
-        for step in 1..=PLACES {
-            let place = (self.last + step) % PLACES;
-            if self.waiting[place] {
-                self.waiting[place] = false;
-                self.last = place;
-                return Some(place);
-            }
+        let place = self.place()?;
+        self.waiting[place] = false;
+        self.last = place;
+        Some(place)
+    }
+
+    /// The next that waits, in the circle.
+    fn place(&self) -> Option<usize>
+        ensures bound { IfSome result (λ place. place < 65) }
+        ensures place { result ≡ next_of self.now.last self.now.waiting }
+    {
+        let next = self.last + 1;
+        match first(&self.waiting[next..]) {
+            Some(step) => Some(next + step),
+            None => first(&self.waiting),
         }
-        None
     }
 
     /// None waits.
-    pub fn is_empty(&self) -> bool {
-        !self.waiting.contains(&true)
+    pub fn is_empty(&self) -> bool
+        ensures { result ≡ none_of self.now.waiting }
+    {
+        first(&self.waiting).is_none()
     }
+}
+
+/// The first that waits.
+fn first(waiting: &[bool]) -> Option<usize>
+    ensures { result ≡ first_of waiting.now }
+{
+    waiting.iter().position(|waits| *waits)
 }

@@ -11,7 +11,9 @@ use Rattle.thing_ops.specs.declared.routing.RouteKind.{RouteKind}
 use Rattle.thing_ops.specs.declared.routing.RouteKind.TheVariants as route
 use Rattle.thing_ops.specs.Routes.{route_of}
 use Rattle.thing_site.specs.Site.{Placed, ExposedThing, Site, affordance_named, thing_named, is_kind, is_emitter, emitters_of, emitters_of_thing}
-use Rattle.thing_site.specs.Places.{Place, description, all_properties, property, observed, action, invocation, event, subscribed, affordance_in, thing_in, place_at, where_observable, target_at}
+use Rattle.thing_site.specs.Places.{affordance_in, thing_in, place_at, where_observable, target_at}
+use Rattle.thing_site.specs.declared.place.Place.{Place}
+use Rattle.thing_site.specs.declared.place.Place.TheVariants.{Description as description, AllProperties as all_properties, Property as property, Observed as observed, Action as action, Invocation as invocation, Event as event, Subscribed as subscribed}
 use Rattle.thing_core.specs.State.{State as ThingState, Invocation, invocation_named, silent}
 use Rattle.thing_core.specs.Places.{where_stands, place_of, target_of}
 use Rattle.thing_core.proofs.Handed.{came_of, made_of, named_has}

@@ -13,9 +13,10 @@ use Rattle.thing_handler.specs.declared.handler.Answer.TheVariants as answer
 use Rattle.thing_handler.specs.Turns.{HandlerCall}
 use Rattle.thing_site.specs.Site.{Placed, Site}
 use Rattle.thing_core.specs.State.{Status, running, completed, Invocation, State, Emission, Latest, last_after, renewed}
-use Rattle.thing_site.specs.Places.{Act, describes, reads_all, writes_many, reads, writes, invokes, queries, cancels, reads_event, waits}
+use Rattle.thing_site.specs.declared.place.Act.{Act}
+use Rattle.thing_site.specs.declared.place.Act.TheVariants.{Describes as describes, ReadsAll as reads_all, WritesMany as writes_many, Reads as reads, Writes as writes, Invokes as invokes, Queries as queries, Cancels as cancels, ReadsEvent as reads_event, Waits as waits}
 use Rattle.thing_site.specs.Refusals.{Input}
-use Rattle.thing_core.specs.Thing.{Move, Done, Called, no_number, no_memory, gives, failure_of, only, Calls, ReadsValue, ReadsEach, Emits, emissions_of_write, Stops, IfDone, WritesEach, IsInvoked, IsQueried, Queries, IsCancelled, Cancels, Performs, Acts, refuses, has_no_memory, performs, PollsEvent, readable, Decides, with_id_used, with_invocations, Completes}
+use Rattle.thing_core.specs.Thing.{Move, Done, Called, no_number, no_memory, gives, failure_of, only, Calls, ReadsValue, with_value, ReadsEach, Emits, SeesWritten, emissions_of_write, Stops, IfDone, WritesEach, IsInvoked, IsQueried, Queries, IsCancelled, Cancels, Performs, Acts, refuses, has_no_memory, performs, PollsEvent, readable, Decides, with_id_used, with_invocations, Completes}
 use Rattle.thing_core.proofs.ReadLaws.{AfterValue}
 
 -- as many ids of invocations are used as turns were made, at most
@@ -83,8 +84,16 @@ plain_after done s m t one two = record { nothing = two.nothing; emits = none_th
 
 -- ---- reads
 
+-- what is seen emits nothing
+seen_emits : (p : Placed) (r : Result Json Outcome) (s t : State) → t ≡ with_value p r s → Emitted [] s t
+seen_emits p (Ok value) s t e = record {
+  last = ap (λ (x : State). x.last) e;
+  counted = λ c. same_counted s t (ap (λ (x : State). x.next_invocation) e) (ap (λ (x : State). x.turns) e) c;
+}
+seen_emits p (Err o) s t e = emitted_none s t e
+
 value_emits : (p : Placed) (r : Result Json Outcome) (s : State) (seen : List HandlerCall) (t : State) → ReadsValue p r s seen t → Emitted [] s t
-value_emits p r s seen t q = none_then s q.1.mid t (call_emits p.slot call.Read q.0 s q.1.first q.1.mid q.1.one) (emitted_none q.1.mid t q.1.other.1.next)
+value_emits p r s seen t q = none_then s q.1.mid t (call_emits p.slot call.Read q.0 s q.1.first q.1.mid q.1.one) (seen_emits p r q.1.mid t q.1.other.1.next)
 
 each_plain : (ps : List Placed) (got : List (List ℕ × Json)) (done : Done) (s : State) (seen : List HandlerCall) (t : State) → ReadsEach ps got done s seen t → IsPlain done s t
 each_plain [] got done s seen t q = plain_is done _ s t q.0 q.1.next
@@ -112,6 +121,12 @@ emits_these es s seen t b = record {
   counted = λ c. same_counted s t (ap (λ (x : State). x.next_invocation) b.next) (ap (λ (x : State). x.turns) b.next) c;
 }
 
+written_emits : (i : Input) (s : State) (seen : List HandlerCall) (t : State) → SeesWritten i s seen t → Emitted (emissions_of_write i) s t
+written_emits i s seen t b = record {
+  last = ap (λ (x : State). x.last) b.next;
+  counted = λ c. same_counted s t (ap (λ (x : State). x.next_invocation) b.next) (ap (λ (x : State). x.turns) b.next) c;
+}
+
 if_done : (called : Called) (F O : Move) (s : State) (seen : List HandlerCall) (t : State) (K : Type 0) → (F s seen t → K) → (O s seen t → K) → IfDone called F O s seen t → K
 if_done (gives answer.Done) F O s seen t K f o x = f x
 if_done called F O s seen t K f o x = o x
@@ -126,8 +141,8 @@ writes_more : (is : List Input) (before : List Emission) (done : Done) (s : Stat
 writes_more [] before done s seen t q = stops_more _ before done s seen t q
 writes_more (i ∷ is) before done s seen t q =
     none_before before done s q.2.1.mid t (call_emits i.affordance.slot (call.Write q.0) q.2.0 s q.2.1.first q.2.1.mid q.2.1.one)
-    (if_done q.2.0 (Then (Emits (emissions_of_write i)) (WritesEach is (before ++ emissions_of_write i) done)) (Stops (failure_of q.2.0) before done) q.2.1.mid q.2.1.second t (EmitsMore before done q.2.1.mid t)
-    (λ x. more_after (emissions_of_write i) before done q.2.1.mid x.mid t (emits_these (emissions_of_write i) q.2.1.mid x.first x.mid x.one)
+    (if_done q.2.0 (Then (SeesWritten i) (WritesEach is (before ++ emissions_of_write i) done)) (Stops (failure_of q.2.0) before done) q.2.1.mid q.2.1.second t (EmitsMore before done q.2.1.mid t)
+    (λ x. more_after (emissions_of_write i) before done q.2.1.mid x.mid t (written_emits i q.2.1.mid x.first x.mid x.one)
     (writes_more is (before ++ emissions_of_write i) done x.mid x.second t x.other))
     (λ x. stops_more (failure_of q.2.0) before done q.2.1.mid q.2.1.second t x) q.2.1.other)
 

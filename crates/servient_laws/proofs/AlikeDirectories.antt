@@ -11,7 +11,7 @@ use Rattle.wot_terms.specs.declared.fault.TdFault.{TdFault}
 use Rattle.thing_ops.specs.declared.outcome.Outcome.{Outcome}
 use Rattle.thing_ops.specs.declared.outcome.Outcome.TheVariants as outcome
 use Rattle.thing_ops.specs.Requests.{PlainRequest}
-use Rattle.thing_site.specs.Refusals.{Refusal, nothing_there, verb_not_taken, answer_not_acceptable, format_not_taken, body_not_as_wanted, value_too_large, refused_by_schema, no_invocation_left, IsFirst}
+use Rattle.thing_site.specs.Refusals.{Refusal, nothing_there, verb_not_taken, answer_not_acceptable, format_not_taken, body_not_as_wanted, value_too_large, refused_by_schema, condition_failed, no_invocation_left, IsFirst}
 use Rattle.thing_core.proofs.CompleteLaws.{none_is_first}
 use Rattle.thing_core.proofs.DeterminedLaws.{same_verbs}
 use Rattle.wot_directory.specs.Contents.{Contents, Entries, most_entries}
@@ -241,6 +241,7 @@ one_answer format_not_taken q o p a b = a ∙ sym b
 one_answer body_not_as_wanted q o p a b = a ∙ sym b
 one_answer value_too_large q o p a b = a ∙ sym b
 one_answer refused_by_schema q o p a b = a ∙ sym b
+one_answer condition_failed q o p a b = a ∙ sym b
 one_answer no_invocation_left q o p a b = a ∙ sym b
 
 one_refusal : (q : PlainRequest) (rs : List Refusal) (o p : Outcome) → IsFirst (λ r. Stands r q) (λ r. IsAnsweredWith r q) rs o → IsFirst (λ r. Stands r q) (λ r. IsAnsweredWith r q) rs p → o ≡ p

@@ -18,12 +18,13 @@ use Rattle.thing_handler.specs.declared.handler.CallKind.TheVariants as call
 use Rattle.thing_handler.specs.declared.handler.Answer.TheVariants as answer
 use Rattle.thing_handler.specs.Turns.{HandlerCall}
 use Rattle.thing_site.specs.Site.{Placed, ExposedThing, Site, affordance_named, is_kind, of_kind, those_of}
-use Rattle.thing_site.specs.Places.{Act, describes, reads_all, writes_many, reads, writes, invokes, queries, cancels, reads_event, waits}
+use Rattle.thing_site.specs.declared.place.Act.{Act}
+use Rattle.thing_site.specs.declared.place.Act.TheVariants.{Describes as describes, ReadsAll as reads_all, WritesMany as writes_many, Reads as reads, Writes as writes, Invokes as invokes, Queries as queries, Cancels as cancels, ReadsEvent as reads_event, Waits as waits}
 use Rattle.thing_site.specs.Refusals.{Input, inputs_of, only_input, member_inputs, object_inputs, invoke_inputs, no_inputs, written_property, unless_read_only, longest_value, Holding, IsLong, IsRefusedBySchema, SomeInput}
 use Rattle.thing_core.specs.State.{State, Emission, Status, running, completed}
 use Rattle.thing_core.specs.Refusals.{Asked, act_asked}
 use Rattle.thing_core.specs.Performing.{affordances_of_act}
-use Rattle.thing_core.specs.Thing.{Done, Called, no_number, no_memory, gives, failure_of, Calls, ReadsValue, readable, is_readable, ReadsEach, Emits, emissions_of_write, Stops, IfDone, WritesEach, IsHandedIn, IsInvoked, IsQueried, Queries, IsCancelled, Cancels, Performs, Acts, refuses, has_no_memory, performs, PollsEvent}
+use Rattle.thing_core.specs.Thing.{Done, Called, no_number, no_memory, gives, failure_of, Calls, ReadsValue, readable, is_readable, ReadsEach, SeesWritten, emissions_of_write, Stops, IfDone, WritesEach, IsHandedIn, IsInvoked, IsQueried, Queries, IsCancelled, Cancels, Performs, Acts, refuses, has_no_memory, performs, PollsEvent}
 use Rattle.thing_core.proofs.ReadLaws.{AfterValue}
 use Rattle.thing_core.proofs.Handed.{came_of, made_of, InputsHave, handed_have}
 use Rattle.thing_core.proofs.SlotLaws.{asked_have}
@@ -157,7 +158,7 @@ its_own P p body inputs has e = handed_have P (invokes p) body inputs (has, tt) 
 
 written_fit : (site : Site) (i : Input) (inputs : List Input) (emitted : List Emission) (done : Done) (c : Called) (s : State) (calls : List HandlerCall) (t : State)
     → ((u : State) (after : List HandlerCall) → WritesEach inputs (emitted ++ emissions_of_write i) done u after t → AreFit site after)
-    → IfDone c (Then (Emits (emissions_of_write i)) (WritesEach inputs (emitted ++ emissions_of_write i) done)) (Stops (failure_of c) emitted done) s calls t
+    → IfDone c (Then (SeesWritten i) (WritesEach inputs (emitted ++ emissions_of_write i) done)) (Stops (failure_of c) emitted done) s calls t
     → AreFit site calls
 written_fit site i inputs emitted done (gives answer.Done) s calls t further r = fit_then site r.first r.second calls (fit_none site r.first r.one.saw) (further r.mid r.second r.other) r.whole
 written_fit site i inputs emitted done no_number s calls t further r = fit_none site calls r.1.saw

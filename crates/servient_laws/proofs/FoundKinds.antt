@@ -14,7 +14,11 @@ use Rattle.thing_ops.specs.declared.verb.Verb.TheVariants as verb
 use Rattle.thing_ops.specs.Routes.{route_of}
 use Rattle.thing_ops.specs.Verbs.{verbs_of}
 use Rattle.thing_site.specs.Site.{Placed, ExposedThing, Site, affordance_named, is_kind}
-use Rattle.thing_site.specs.Places.{Place, description, all_properties, property, observed, action, invocation, event, subscribed, affordance_in, thing_in, place_at, where_observable, Act, reads, writes, invokes, queries, cancels, act_of, act_at, flags_of, is_listed}
+use Rattle.thing_site.specs.Places.{affordance_in, thing_in, place_at, where_observable, act_of, act_at, flags_of, is_listed}
+use Rattle.thing_site.specs.declared.place.Place.{Place}
+use Rattle.thing_site.specs.declared.place.Act.{Act}
+use Rattle.thing_site.specs.declared.place.Place.TheVariants.{Description as description, AllProperties as all_properties, Property as property, Observed as observed, Action as action, Invocation as invocation, Event as event, Subscribed as subscribed}
+use Rattle.thing_site.specs.declared.place.Act.TheVariants.{Reads as reads, Writes as writes, Invokes as invokes, Queries as queries, Cancels as cancels}
 use Rattle.thing_core.specs.Places.{where_stands}
 use Rattle.thing_core.specs.State.{Invocation, invocation_named}
 use Rattle.thing_core.specs.Refusals.{Asked, act_asked, place_asked}

@@ -1,9 +1,11 @@
 -- Where a request was out of memory.
-use Rattle.std.proofs.Common.{◌≡◌, ℕ, List, [], ◌∷◌, ◌++◌, Bool, refl, sym, ap, ap₂, ◌∙◌, append_assoc, inl, inr}
+use Rattle.std.proofs.Common.{◌≡◌, ℕ, List, [], ◌∷◌, ◌++◌, Bool, true, false, cond, refl, sym, ap, ap₂, ◌∙◌, append_assoc, inl, inr}
 use Rattle.std.specs.Prelude.{Option, Some, None, Result, Ok, Err}
 use Rattle.servient_base.specs.Moves.{Then}
 use Rattle.wot_json.specs.Tree.{Json}
 use Rattle.wot_json.specs.Meaning.{json_of}
+use Rattle.thing_ops.specs.declared.conditions.Conditions.{Conditions}
+use Rattle.thing_ops.specs.Conditions.{fails, has}
 use Rattle.thing_ops.specs.declared.outcome.Outcome.{Outcome}
 use Rattle.thing_ops.specs.declared.outcome.Outcome.TheVariants as outcome
 use Rattle.thing_ops.specs.Requests.{PlainRequest}
@@ -12,11 +14,12 @@ use Rattle.thing_handler.specs.declared.handler.CallKind.TheVariants as call
 use Rattle.thing_handler.specs.declared.handler.Answer.TheVariants as answer
 use Rattle.thing_handler.specs.Turns.{HandlerCall, missed}
 use Rattle.thing_site.specs.Site.{Placed}
-use Rattle.thing_site.specs.Places.{Act, describes, reads_all, writes_many, reads, writes, invokes, queries, cancels, reads_event, waits}
+use Rattle.thing_site.specs.declared.place.Act.{Act}
+use Rattle.thing_site.specs.declared.place.Act.TheVariants.{Describes as describes, ReadsAll as reads_all, WritesMany as writes_many, Reads as reads, Writes as writes, Invokes as invokes, Queries as queries, Cancels as cancels, ReadsEvent as reads_event, Waits as waits}
 use Rattle.thing_site.specs.Refusals.{Input}
 use Rattle.thing_core.specs.State.{State, Emission, Status, running, completed, last_of}
 use Rattle.thing_core.specs.Refusals.{Asked, refusals, IsRefusedBy}
-use Rattle.thing_core.specs.Thing.{Done, only, Called, no_number, no_memory, gives, failure_of, Calls, GivesValue, ReadsValue, readable, ReadsEach, Emits, emissions_of_write, Stops, IfDone, WritesEach, IsInvoked, IsQueried, Queries, IsCancelled, Cancels, event_outcome, Performs, refuses, has_no_memory, performs}
+use Rattle.thing_core.specs.Thing.{Done, only, Called, no_number, no_memory, gives, failure_of, Calls, GivesValue, ReadsValue, readable, ReadsEach, SeesWritten, emissions_of_write, Stops, IfDone, WritesEach, IsInvoked, IsQueried, Queries, IsCancelled, Cancels, event_outcome, read_outcome, Performs, refuses, has_no_memory, performs}
 use Rattle.thing_core.proofs.ReadLaws.{AfterValue}
 use Rattle.servient_laws.specs.Memory.{EndsInMiss, MemoryIsSeen}
 
@@ -59,8 +62,16 @@ failure_in (Err o) = o
 failed : (r : Result Json Outcome) (o p : Outcome) → r ≡ Err o → r ≡ Err p → o ≡ p
 failed r o p one other = sym (ap failure_in one) ∙ ap failure_in other
 
-no_content : (text : List ℕ) → outcome.Content text ≡ outcome.Memory → ⊥
+no_content : (text : List ℕ) → outcome.Content text None ≡ outcome.Memory → ⊥
 no_content text e = cc
+
+no_read : (c : Conditions) (version : ℕ) (text : List ℕ) → read_outcome c version text ≡ outcome.Memory → ⊥
+no_read c version text e = by_test (fails c version) (has c.known version) e
+  where
+    by_test : (b d : Bool) → cond b outcome.PreconditionFailed (cond d (outcome.NotModified version) (outcome.Content text (Some version))) ≡ outcome.Memory → ⊥
+    by_test true d x = cc
+    by_test false true x = cc
+    by_test false false x = cc
 
 never_bad : outcome.BadAnswer ≡ outcome.Memory → ⊥
 never_bad e = cc
@@ -115,7 +126,7 @@ changed_differs e = cc
 
 written_missed : (i : Input) (inputs : List Input) (emitted : List Emission) (done : Done) (slot : ℕ) (what : CallKind) (c : Called) (s m t : State) (first second seen : List HandlerCall)
     → done.outcome ≡ outcome.Memory → Calls slot what c s first m
-    → IfDone c (Then (Emits (emissions_of_write i)) (WritesEach inputs (emitted ++ emissions_of_write i) done)) (Stops (failure_of c) emitted done) m second t
+    → IfDone c (Then (SeesWritten i) (WritesEach inputs (emitted ++ emissions_of_write i) done)) (Stops (failure_of c) emitted done) m second t
     → seen ≡ first ++ second → ((u : State) (rest : List HandlerCall) → WritesEach inputs (emitted ++ emissions_of_write i) done u rest t → EndsInMiss rest) → EndsInMiss seen
 written_missed i inputs emitted done slot what (gives answer.Done) s m t first second seen memory called r whole further =
     after first second seen (after r.first r.second second (further r.mid r.second r.other) r.whole) whole
@@ -247,7 +258,7 @@ performs_missed : (act : Act) (q : PlainRequest) (inputs : List Input) (done : D
 performs_missed (describes thing) q inputs done s seen t memory r = absurd (no_description _ _ (outcome_of done _ r.0 memory))
 performs_missed (reads_all thing) q inputs done s seen t memory r = each_missed (readable thing) [] done s seen t memory r
 performs_missed (writes_many thing) q inputs done s seen t memory r = writes_missed inputs [] done s seen t memory r
-performs_missed (reads p) q inputs done s seen t memory (Ok value, is, read) = absurd (no_content _ (outcome_of done _ is memory))
+performs_missed (reads p) q inputs done s seen t memory (Ok value, is, read) = absurd (no_read _ _ _ (outcome_of done _ is memory))
 performs_missed (reads p) q inputs done s seen t memory (Err o, is, read) = value_missed p (Err o) s seen t (ap (λ (x : Outcome). Err x) (outcome_of done o is memory)) read
 performs_missed (writes p) q inputs done s seen t memory r = writes_missed inputs [] done s seen t memory r
 performs_missed (invokes p) q inputs done s seen t memory r =
@@ -291,9 +302,13 @@ never_refused a o (inr (n1, inr (n2, inr (n3, inr (n4, inr (n5, inr (n6, inl bad
     differ x = cc
 never_refused a o (inr (n1, inr (n2, inr (n3, inr (n4, inr (n5, inr (n6, inr (n7, inl bad)))))))) e = absurd (differ (sym bad.1 ∙ e))
   where
+    differ : outcome.PreconditionFailed ≡ outcome.Memory → ⊥
+    differ x = cc
+never_refused a o (inr (n1, inr (n2, inr (n3, inr (n4, inr (n5, inr (n6, inr (n7, inr (n8, inl bad))))))))) e = absurd (differ (sym bad.1 ∙ e))
+  where
     differ : outcome.InvocationsFull ≡ outcome.Memory → ⊥
     differ x = cc
-never_refused a o (inr (n1, inr (n2, inr (n3, inr (n4, inr (n5, inr (n6, inr (n7, inr (n8, none))))))))) e = none
+never_refused a o (inr (n1, inr (n2, inr (n3, inr (n4, inr (n5, inr (n6, inr (n7, inr (n8, inr (n9, none)))))))))) e = none
 
 pub memory_is_seen : MemoryIsSeen
 memory_is_seen site q done s t seen (refuses o refused answers) memory =

@@ -13,6 +13,8 @@ use Rattle.thing_ops.specs.declared.verb.Verb.TheVariants as verb
 use Rattle.thing_ops.specs.declared.request.Accept.{Accept}
 use Rattle.thing_ops.specs.declared.request.Format.{Format}
 use Rattle.thing_ops.specs.declared.request.Format.TheVariants as format
+use Rattle.thing_ops.specs.declared.conditions.Conditions.{Conditions}
+use Rattle.thing_ops.specs.Conditions.{no_conditions}
 use Rattle.thing_ops.specs.Requests.{PlainRequest}
 use Rattle.servient_laws.specs.Spoken.{code_of, format_options, accept_options, IsReadByCoap, IsSpeakable}
 
@@ -146,12 +148,12 @@ has_code verb.Other is = absurd cc
 class_of : (n : ℕ) → n < 32 → n / 32 ≡ 0
 class_of n small = omega arith
 
-same_request : (q : PlainRequest) (v : Verb) (path : List (List ℕ)) (a : Accept) (f : Format) → v ≡ q.verb → path ≡ q.path → q.query ≡ [] → a ≡ q.accept → f ≡ q.format
-    → record { verb = v; path = path; query = []; accept = a; format = f; body = q.body } ≡ q
-same_request q v path a f one two three four five =
-    ap₂ (λ (x : Verb) (p : List (List ℕ)). record { verb = x; path = p; query = []; accept = a; format = f; body = q.body }) one two
-    ∙ ap₂ (λ (y : List ℕ) (x : Accept). record { verb = q.verb; path = q.path; query = y; accept = x; format = f; body = q.body }) (sym three) four
-    ∙ ap (λ (x : Format). record { verb = q.verb; path = q.path; query = q.query; accept = q.accept; format = x; body = q.body }) five
+same_request : (q : PlainRequest) (v : Verb) (path : List (List ℕ)) (a : Accept) (f : Format) → v ≡ q.verb → path ≡ q.path → q.query ≡ [] → a ≡ q.accept → f ≡ q.format → q.conditions ≡ no_conditions
+    → record { verb = v; path = path; query = []; accept = a; format = f; body = q.body; conditions = no_conditions } ≡ q
+same_request q v path a f one two three four five six =
+    ap₂ (λ (x : Verb) (p : List (List ℕ)). record { verb = x; path = p; query = []; accept = a; format = f; body = q.body; conditions = no_conditions }) one two
+    ∙ ap₂ (λ (y : List ℕ) (x : Accept). record { verb = q.verb; path = q.path; query = y; accept = x; format = f; body = q.body; conditions = no_conditions }) (sym three) four
+    ∙ ap₂ (λ (x : Format) (c : Conditions). record { verb = q.verb; path = q.path; query = q.query; accept = q.accept; format = x; body = q.body; conditions = c }) five (sym six)
 
 pub read_by_coap : (q : PlainRequest) → IsSpeakable q → IsReadByCoap q
 read_by_coap q can =
@@ -179,7 +181,7 @@ read_by_coap q can =
           (accept_of (number_under accept (segment_options URI_PATH q.path ++ os))) (format_of (number_under content_format (segment_options URI_PATH q.path ++ os)))
           code.back (path_values q.path os rest.path) can.query
           (ap (λ (vs : List (List ℕ)). accept_of (option_and_then (number_within accept) (slice_get vs 0))) (other_values ACCEPT q.path os refl) ∙ rest.accept_is)
-          (ap (λ (vs : List (List ℕ)). format_of (option_and_then (number_within content_format) (slice_get vs 0))) (other_values CONTENT_FORMAT q.path os refl) ∙ rest.format_is can.format);
+          (ap (λ (vs : List (List ℕ)). format_of (option_and_then (number_within content_format) (slice_get vs 0))) (other_values CONTENT_FORMAT q.path os refl) ∙ rest.format_is can.format) can.conditions;
     }
   where
     is_asked : (n : ℕ) → 0 < n → n < 32 → (nat_lt 0 n && nat_lt n 32) ≡ true

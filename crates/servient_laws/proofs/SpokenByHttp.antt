@@ -21,6 +21,8 @@ use Rattle.thing_ops.specs.declared.verb.Verb.{Verb}
 use Rattle.thing_ops.specs.declared.verb.Verb.TheVariants as verb
 use Rattle.thing_ops.specs.declared.request.Accept.{Accept}
 use Rattle.thing_ops.specs.declared.request.Format.{Format}
+use Rattle.thing_ops.specs.declared.conditions.Conditions.{Conditions}
+use Rattle.thing_ops.specs.Conditions.{no_conditions}
 use Rattle.thing_ops.specs.Requests.{PlainRequest}
 use Rattle.servient_laws.specs.Spoken.{method_of, target_of, http_head, http_message, IsReadByHttp, IsSpeakable}
 use Rattle.servient_laws.proofs.HeadLines.{AreLines, printed, lines_end, feeds_of_lines, lines_paired}
@@ -111,16 +113,17 @@ verb_back verb.Patch = refl
 verb_back verb.Delete = refl
 verb_back verb.Other = refl
 
-request_is : (q : PlainRequest) → AllByRecursion (AllByRecursion (λ b. b < 256)) q.path → q.query ≡ [] → request_at (plain_head_of (http_head q)) q.body q.path ≡ q
-request_is q bytes query =
+request_is : (q : PlainRequest) → AllByRecursion (AllByRecursion (λ b. b < 256)) q.path → q.query ≡ [] → q.conditions ≡ no_conditions → request_at (plain_head_of (http_head q)) q.body q.path ≡ q
+request_is q bytes query asks_nothing =
     let say = said q in
-    ap₂ (λ (v : Verb) (x : List ℕ). record { verb = v; path = q.path; query = x; accept = accept_of (said_by (lines_of (http_head q))).accept; format = format_of (said_by (lines_of (http_head q))).content_type; body = q.body })
+    ap₂ (λ (v : Verb) (x : List ℕ). record { verb = v; path = q.path; query = x; accept = accept_of (said_by (lines_of (http_head q))).accept; format = format_of (said_by (lines_of (http_head q))).content_type; body = q.body; conditions = no_conditions })
     (verb_back q.verb) (no_query (target_of q.path) (target_bytes q.path bytes) ∙ sym query)
-    ∙ ap₂ (λ (a : Accept) (f : Format). record { verb = q.verb; path = q.path; query = q.query; accept = a; format = f; body = q.body }) say.accept_is say.format_is
+    ∙ ap₂ (λ (a : Accept) (f : Format). record { verb = q.verb; path = q.path; query = q.query; accept = a; format = f; body = q.body; conditions = no_conditions }) say.accept_is say.format_is
+    ∙ ap (λ (c : Conditions). record q { conditions = c }) (sym asks_nothing)
 
-asked_is : (q : PlainRequest) → AllByRecursion (AllByRecursion (λ b. b < 256)) q.path → q.path ≢ [] ∷ [] → q.query ≡ [] → asked (plain_head_of (http_head q)) q.body ≡ Some q
-asked_is q bytes isnt query =
-    ap (option_map (request_at (plain_head_of (http_head q)) q.body)) (path_is_read q.path bytes isnt) ∙ ap Some (request_is q bytes query)
+asked_is : (q : PlainRequest) → AllByRecursion (AllByRecursion (λ b. b < 256)) q.path → q.path ≢ [] ∷ [] → q.query ≡ [] → q.conditions ≡ no_conditions → asked (plain_head_of (http_head q)) q.body ≡ Some q
+asked_is q bytes isnt query asks_nothing =
+    ap (option_map (request_at (plain_head_of (http_head q)) q.body)) (path_is_read q.path bytes isnt) ∙ ap Some (request_is q bytes query asks_nothing)
 
 whole_is : (body : List ℕ) → stated_body (length body) body ≡ whole body (length body)
 whole_is body = rw fits (ap (λ (x : List ℕ). whole x (length body)) (take_all (length body) body (omega arith)))
@@ -132,12 +135,12 @@ no_continue : (b c : Bool) → c ≡ false → (b && c) ≡ false
 no_continue true c isnt = isnt
 no_continue false c isnt = refl
 
-taken : (q : PlainRequest) (m : ℕ) → AllByRecursion (AllByRecursion (λ b. b < 256)) q.path → q.path ≢ [] ∷ [] → q.query ≡ [] → to_take false (with_head m (Ok (framed_head q)) q.body) ≡ Some (asks q)
-taken q m bytes isnt query =
+taken : (q : PlainRequest) (m : ℕ) → AllByRecursion (AllByRecursion (λ b. b < 256)) q.path → q.path ≢ [] ∷ [] → q.query ≡ [] → q.conditions ≡ no_conditions → to_take false (with_head m (Ok (framed_head q)) q.body) ≡ Some (asks q)
+taken q m bytes isnt query asks_nothing =
     let say = said q in
     ap₂ (λ (e : Bool) (b : BodyFront). to_take false (with_body (http_head q) m e b))
     (no_continue (is_newer (http_head q) && has_body (framing.Stated (length q.body))) (said_by (lines_of (http_head q))).continues say.continues) (whole_is q.body)
-    ∙ ap (λ (o : Option PlainRequest). Some (read_as o)) (asked_is q bytes isnt query)
+    ∙ ap (λ (o : Option PlainRequest). Some (read_as o)) (asked_is q bytes isnt query asks_nothing)
 
 pub read_by_http : (q : PlainRequest) → IsSpeakable q → IsReadByHttp q
 read_by_http q can =
@@ -159,7 +162,7 @@ read_by_http q can =
       front,
       subst (λ (x : List ℕ). IsFront x front) (sym message) (subst (λ (x : List ℕ). IsFrontAfter before x front) (sym none_skipped) is_front),
       ap (λ (x : List ℕ). to_take false (with_head (before + length head) (Ok (framed_head q)) x)) (drop-append_seam head q.body)
-          ∙ taken q (before + length head) can.bytes can.path_is can.query,
+          ∙ taken q (before + length head) can.bytes can.path_is can.query can.conditions,
     )
   where
     parted : (n : ℕ) → n ≤ longest_head → longest_head ≡ n + (longest_head - n)

@@ -15,6 +15,7 @@ use Rattle.thing_ops.specs.declared.verb.Verb.{Verb}
 use Rattle.thing_ops.specs.declared.verb.Verb.TheVariants as verb
 use Rattle.thing_ops.specs.declared.request.Format.{Format}
 use Rattle.thing_ops.specs.declared.request.Format.TheVariants as format
+use Rattle.thing_ops.specs.Conditions.{no_conditions}
 use Rattle.thing_ops.specs.Requests.{PlainRequest}
 use Rattle.http_wire.specs.Judging.{longest_body}
 use Rattle.http_wire.specs.Stream.{Front, IsFront, longest_head}
@@ -122,10 +123,12 @@ IsReadByHttp q = (f : Front) × IsFront (http_message q) f × (to_take false f �
 -- ---- the law
 
 -- Both bindings can say a request: it has no query, its verb has a code, its format isn't that of a merge patch, its
--- path is one of segments of at most 255 bytes, and isn't the one empty segment; and it fits into messages of both.
+-- path is one of segments of at most 255 bytes, and isn't the one empty segment; it asks nothing of versions, which
+-- neither binding reads yet; and it fits into messages of both.
 pub record IsSpeakable (q : PlainRequest) : Type 0 where
   pub verb : IsSome (code_of q.verb)
   pub query : q.query ≡ []
+  pub conditions : q.conditions ≡ no_conditions
   pub format : q.format ≢ format.Patch
   pub path : AllByRecursion (λ s. length s ≤ LONGEST_SEGMENT) q.path
   pub bytes : AllByRecursion (AllByRecursion (λ b. b < 256)) q.path

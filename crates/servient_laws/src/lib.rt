@@ -14,7 +14,7 @@
 //!   `runs_are_determined`.
 //! - Nothing before the word: no event is taken by a command that didn't serve, `faults_take_no_event`, and no handler
 //!   is called by one that calls none, `handlers_stay`.
-//! - Memory alone: over files and an output in memory nothing fails but for want of memory, `nothing_fails_in_memory`.
+//! - Memory alone: over files and an output in memory nothing fails but memory, `nothing_fails_in_memory`.
 #![tactic(auto)]
 
 mod laws;

@@ -15,7 +15,7 @@ use Rattle.coap_client.specs.Asking.{Asking, MayAsk, message_for}
 use Rattle.coap_client.specs.Exchange.{at_moment, Asks, IsRefused, is_registration, request_for, token_for, ComesDue, Delivers}
 use Rattle.thing_handler.specs.Handler.{Seen}
 use Rattle.servient_core.specs.Machine.{Site}
-use Rattle.servient_core.specs.declared.parts.Parts.{Parts}
+use Rattle.servient_core.specs.declared.layers.Layers.{Layers}
 use Rattle.servient_world.specs.World.{WorldState, Datagram, AskEnd as AskEndInWorld, answered, observed, reset, timed_out, client_place, server_place, copy_of, other, latest, with_sent, sent_now, may_come, end_by, taken_by, ClientAsks, sends_ask, refuses_ask, skips_ask, ClientDoesDue, retransmits, gives_up, waits, ClientTakes}
 use Rattle.servient_ends.specs.Ends.{Turn, asks_next, does_due, delivers, passes, to_client, too_late, Takes}
 use Rattle.servient_rehearsal.specs.declared.notes.Notes.{Notes}
@@ -37,14 +37,14 @@ abbrev pub with_world : Played → WorldState → Played
 with_world p w = record p { ends = record p.ends { world = w } }
 
 -- what was said of the client that is kept, at the moment that is noted, holds in the world
-in_world : (P : ClientState → Type 0) (s : Parts) (client : ClientState) (notes : Notes) (p : Played) → AreNoted (kept s client notes) p
+in_world : (P : ClientState → Type 0) (s : Layers) (client : ClientState) (notes : Notes) (p : Played) → AreNoted (kept s client notes) p
     → P (at_moment notes.world.moment client) → P (at_moment p.ends.world.moment p.ends.world.client)
 in_world P s client notes p are holds =
     subst (λ (c : ClientState). P (at_moment p.ends.world.moment c)) (sym are.left.client) (subst (λ (m : ℕ). P (at_moment m client)) are.shown.moment holds)
 
 -- ---- asking
 
-pub asked_turn : (site : Site) (s : Parts) (slots : List Seen) (a : Asking) (client t : ClientState) (notes : Notes) (n : ℕ) (old new : List ℕ)
+pub asked_turn : (site : Site) (s : Layers) (slots : List Seen) (a : Asking) (client t : ClientState) (notes : Notes) (n : ℕ) (old new : List ℕ)
     → MayAsk a → Asks (at_moment notes.world.moment client) server_place a n old new t
     → Turns site (asks_next a) (kept s client notes) s t slots slots (with_ask (take n new) (noted_of notes.world)) (number_after (is_registration a.observe) (length notes.world.asks.items) notes.registered)
 asked_turn site s slots a client t notes n old new may asks_kept = λ p are.
@@ -70,7 +70,7 @@ asked_turn site s slots a client t notes n old new may asks_kept = λ p are.
     }
 
 -- nothing that is noted changes
-pub refused_turn : (site : Site) (s : Parts) (slots : List Seen) (a : Asking) (client t : ClientState) (notes : Notes) (f : ClientFault)
+pub refused_turn : (site : Site) (s : Layers) (slots : List Seen) (a : Asking) (client t : ClientState) (notes : Notes) (f : ClientFault)
     → IsRefused (at_moment notes.world.moment client) server_place a f → t ≡ at_moment notes.world.moment client
     → Turns site (asks_next a) (kept s client notes) s t slots slots (noted_of notes.world) notes.registered
 refused_turn site s slots a client t notes f refused is = λ p are.
@@ -92,7 +92,7 @@ refused_turn site s slots a client t notes f refused is = λ p are.
       registered = are.registered;
     }
 
-pub skipped_turn : (site : Site) (s : Parts) (slots : List Seen) (a : Asking) (client : ClientState) (notes : Notes) → ¬ (MayAsk a)
+pub skipped_turn : (site : Site) (s : Layers) (slots : List Seen) (a : Asking) (client : ClientState) (notes : Notes) → ¬ (MayAsk a)
     → Turns site (asks_next a) (kept s client notes) s client slots slots (noted_of notes.world) notes.registered
 skipped_turn site s slots a client notes may_not = λ p are. record {
   next = p;
@@ -107,7 +107,7 @@ skipped_turn site s slots a client notes may_not = λ p are. record {
 
 -- ---- what is due
 
-pub retransmitted_turn : (site : Site) (s : Parts) (slots : List Seen) (client t : ClientState) (notes : Notes) (n : ℕ) (old new : List ℕ)
+pub retransmitted_turn : (site : Site) (s : Layers) (slots : List Seen) (client t : ClientState) (notes : Notes) (n : ℕ) (old new : List ℕ)
     → ComesDue (at_moment notes.world.moment client) (what.Send n) old new t
     → Turns site does_due (kept s client notes) s t slots slots (with_datagram client_place server_place (take n new) (noted_of notes.world)) notes.registered
 retransmitted_turn site s slots client t notes n old new comes = λ p are.
@@ -132,7 +132,7 @@ retransmitted_turn site s slots client t notes n old new comes = λ p are.
       registered = are.registered;
     }
 
-pub given_up_turn : (site : Site) (s : Parts) (slots : List Seen) (client t : ClientState) (notes : Notes) (old new : List ℕ)
+pub given_up_turn : (site : Site) (s : Layers) (slots : List Seen) (client t : ClientState) (notes : Notes) (old new : List ℕ)
     → ComesDue (at_moment notes.world.moment client) what.TimedOut old new t
     → Turns site does_due (kept s client notes) s t slots slots (with_end end.TimedOut (noted_of notes.world)) notes.registered
 given_up_turn site s slots client t notes old new comes = λ p are.
@@ -157,7 +157,7 @@ given_up_turn site s slots client t notes old new comes = λ p are.
       registered = are.registered;
     }
 
-pub waited_turn : (site : Site) (s : Parts) (slots : List Seen) (client t : ClientState) (notes : Notes) (old new : List ℕ)
+pub waited_turn : (site : Site) (s : Layers) (slots : List Seen) (client t : ClientState) (notes : Notes) (old new : List ℕ)
     → ComesDue (at_moment notes.world.moment client) what.Nothing old new t
     → Turns site does_due (kept s client notes) s t slots slots (noted_of notes.world) notes.registered
 waited_turn site s slots client t notes old new comes = λ p are. record {
@@ -238,7 +238,7 @@ reply_shown : (to : Endpoint) (reply : Option (List ℕ)) (n : Noted) (sent : Li
 reply_shown to None n sent moment is same = is ∙ ap (map shown_datagram) (sym (append-nil sent))
 reply_shown to (Some bytes) n sent moment is same = datagram_shown n.sent sent n.moment moment client_place to other bytes is same
 
-pub taken_turn : (site : Site) (s : Parts) (slots : List Seen) (i : ℕ) (e : SentDatagram) (client t : ClientState) (notes : Notes) (told : Delivered) (old new : List ℕ)
+pub taken_turn : (site : Site) (s : Layers) (slots : List Seen) (i : ℕ) (e : SentDatagram) (client t : ClientState) (notes : Notes) (told : Delivered) (old new : List ℕ)
     → slice_get notes.world.sent.items i ≡ Some e → may_come_now notes.world.moment e ≡ true → e.to ≡ client_place
     → Delivers (at_moment notes.world.moment client) e.from e.bytes told old new t
     → Turns site (delivers i) (kept s client notes) s t slots slots (with_reply e.from (option_map (λ (n : ℕ). take n new) told.reply) (with_news told.news (is_some client.outstanding && not (is_some t.outstanding)) notes.registered (noted_of notes.world))) notes.registered
@@ -298,7 +298,7 @@ taken_turn site s slots i e client t notes told old new at may to delivered = λ
 -- ---- nothing comes
 
 -- no datagram comes, or it comes too late
-nobody_by : (site : Site) (s : Parts) (slots : List Seen) (i : ℕ) (client : ClientState) (notes : Notes) (o : Option SentDatagram) → slice_get notes.world.sent.items i ≡ o → ComesTooLate o notes.world.moment
+nobody_by : (site : Site) (s : Layers) (slots : List Seen) (i : ℕ) (client : ClientState) (notes : Notes) (o : Option SentDatagram) → slice_get notes.world.sent.items i ≡ o → ComesTooLate o notes.world.moment
     → Turns site (delivers i) (kept s client notes) s client slots slots (noted_of notes.world) notes.registered
 nobody_by site s slots i client notes None at late = λ p are. record {
   next = p;
@@ -325,12 +325,12 @@ nobody_by site s slots i client notes (Some e) at late = λ p are.
       registered = are.registered;
     }
 
-pub nobody_turn : (site : Site) (s : Parts) (slots : List Seen) (i : ℕ) (client : ClientState) (notes : Notes) → ComesTooLate (slice_get notes.world.sent.items i) notes.world.moment
+pub nobody_turn : (site : Site) (s : Layers) (slots : List Seen) (i : ℕ) (client : ClientState) (notes : Notes) → ComesTooLate (slice_get notes.world.sent.items i) notes.world.moment
     → Turns site (delivers i) (kept s client notes) s client slots slots (noted_of notes.world) notes.registered
 nobody_turn site s slots i client notes late = nobody_by site s slots i client notes (slice_get notes.world.sent.items i) refl late
 
 -- time passes
-pub passed_turn : (site : Site) (s : Parts) (slots : List Seen) (time : ℕ) (client : ClientState) (notes : Notes)
+pub passed_turn : (site : Site) (s : Layers) (slots : List Seen) (time : ℕ) (client : ClientState) (notes : Notes)
     → Turns site (passes time) (kept s client notes) s client slots slots (record (noted_of notes.world) { moment = notes.world.moment + time }) notes.registered
 passed_turn site s slots time client notes = λ p are. record {
   next = with_world p (record p.ends.world { moment = p.ends.world.moment + time });

@@ -23,7 +23,7 @@ use Rattle.servient_outside.specs.Network.{byte_count, MayCome, Happening, heard
 use Rattle.servient_core.specs.Trace.{Sighting, at_network, at_handler, happened_in, calls_in, outside, Shows}
 use Rattle.servient_core.specs.Machine.{Site, State, Step, EventAndStep, HearsDatagram, EndsEvent}
 use Rattle.servient_core.specs.Serving.{StandsFor}
-use Rattle.servient_core.specs.declared.parts.Parts.{Parts}
+use Rattle.servient_core.specs.declared.layers.Layers.{Layers}
 use Rattle.servient_core.proofs.MachineLaws.{Keeps, run_keeps}
 use Rattle.servient_world.specs.World.{WorldState, Datagram, Purpose, client_place, server_place, is_end, other, purpose_back, acts_for, id_used, with_sent, may_come}
 use Rattle.servient_ends.specs.Ends.{EndsState, Turn, delivers, passes, happens, act_of, back_of, emitted_by_datagram, emitted_by, notices_in, with_emissions, with_notices, notice_of, event_at, ServientHears, ServientDoes, to_servient, FromElsewhere, comes_from_elsewhere, is_of_an_end as is_of_one, Besides, datagrams_of, datagrams_at, datagrams_in}
@@ -93,7 +93,7 @@ rest_of [] = []
 rest_of (e ∷ es) = es
 
 -- whatever the network records, a step was made
-abbrev pub stepped : (site : Site) (e : EventWithBytes) (old new : Parts) (before after : List Seen) (was now : NetSeen) → Refines StandsFor Shows (Step site e) old new (outside was before) (outside now after)
+abbrev pub stepped : (site : Site) (e : EventWithBytes) (old new : Layers) (before after : List Seen) (was now : NetSeen) → Refines StandsFor Shows (Step site e) old new (outside was before) (outside now after)
     → (s : State) → StandsFor old s → StepsFrom site e s new before after
 stepped site e old new before after was now refines s stands =
     let r = refines s stands in
@@ -106,7 +106,7 @@ stepped site e old new before after was now refines s stands =
     }
 
 -- where it recorded all, the datagrams that were sent are those among its acts
-pub heard_all : (site : Site) (e : EventWithBytes) (old new : Parts) (before after : List Seen) (was now : NetSeen) (first : List EventWithBytes) (acts : List Act) (noted then_noted : Noted)
+pub heard_all : (site : Site) (e : EventWithBytes) (old new : Layers) (before after : List Seen) (was now : NetSeen) (first : List EventWithBytes) (acts : List Act) (noted then_noted : Noted)
     → was.history ≡ Some [] → was.left ≡ Some first → Refines StandsFor Shows (Step site e) old new (outside was before) (outside now after)
     → (IsSome now.left → IsSome now.history) → IfSome now.history (λ all. acts_in all ≡ acts)
     → then_noted ≡ with_datagrams (datagrams_among acts) noted → HearsAndNotes site e old new before after noted then_noted
@@ -126,7 +126,7 @@ heard_all site e old new before after was now first acts noted then_noted histor
 -- ---- a datagram that is cut
 
 -- what is known of a step, whatever bytes came
-record StepsLike (site : Site) (e : EventWithBytes) (s : State) (new : Parts) (before after : List Seen) (sent : List (Endpoint × List ℕ)) : Type 0 where
+record StepsLike (site : Site) (e : EventWithBytes) (s : State) (new : Layers) (before after : List Seen) (sent : List (Endpoint × List ℕ)) : Type 0 where
   steps : StepsFrom site e s new before after
   same : datagrams_in steps.seen ≡ sent
 
@@ -136,7 +136,7 @@ long_hears : (site : Site) (from : Endpoint) (bytes : List ℕ) (s : State) (see
 long_hears site from bytes s seen t long short (inl stays) = inl (omega arith, stays.1)
 long_hears site from bytes s seen t long short (inr hears) = absurd (let low = hears.0 in omega arith)
 
-uncut_long : (site : Site) (now : ℕ) (from : Endpoint) (bytes : List ℕ) (s : State) (new : Parts) (before after : List Seen) → 2048 < length bytes → length (take 2048 bytes) ≡ 2048
+uncut_long : (site : Site) (now : ℕ) (from : Endpoint) (bytes : List ℕ) (s : State) (new : Layers) (before after : List Seen) → 2048 < length bytes → length (take 2048 bytes) ≡ 2048
     → (steps : StepsFrom site (event_at now (what.Datagram from 2048) (take 2048 bytes)) s new before after)
     → StepsLike site (event_at now (what.Datagram from (length bytes)) bytes) s new before after (datagrams_in steps.seen)
 uncut_long site now from bytes s new before after long short steps =
@@ -170,12 +170,12 @@ uncut_long site now from bytes s new before after long short steps =
     }
 
 -- the same of the bytes that a network gives of it: the first 2,048
-abbrev Uncuts : (site : Site) (now : ℕ) (from : Endpoint) (bytes : List ℕ) (s : State) (new : Parts) (before after : List Seen) (n : ℕ) (given : List ℕ) → Type 0
+abbrev Uncuts : (site : Site) (now : ℕ) (from : Endpoint) (bytes : List ℕ) (s : State) (new : Layers) (before after : List Seen) (n : ℕ) (given : List ℕ) → Type 0
 Uncuts site now from bytes s new before after n given =
     (steps : StepsFrom site (event_at now (what.Datagram from n) given) s new before after)
     → StepsLike site (event_at now (what.Datagram from (length bytes)) bytes) s new before after (datagrams_in steps.seen)
 
-uncut : (site : Site) (now : ℕ) (from : Endpoint) (bytes : List ℕ) (s : State) (new : Parts) (before after : List Seen) (n : ℕ) (given : List ℕ) → n ≡ min (length bytes) 2048 → given ≡ take n bytes
+uncut : (site : Site) (now : ℕ) (from : Endpoint) (bytes : List ℕ) (s : State) (new : Layers) (before after : List Seen) (n : ℕ) (given : List ℕ) → n ≡ min (length bytes) 2048 → given ≡ take n bytes
     → Uncuts site now from bytes s new before after n given
 uncut site now from bytes s new before after n given size cut = elim (cases_lt 2048 (length bytes)) [
   | inl long ↦
@@ -212,12 +212,12 @@ done_world site w bytes p t seen step =
     (record p.world { server = t.coap }))
 
 -- whatever both ends were, a step on this event is this turn
-abbrev pub StepsTurn : Site → Turn → EventWithBytes → Parts → Parts → ClientState → Notes → List Seen → List Seen → Type 0
+abbrev pub StepsTurn : Site → Turn → EventWithBytes → Layers → Layers → ClientState → Notes → List Seen → List Seen → Type 0
 StepsTurn site m e old new client notes before after =
     (p : Played) → AreNoted (kept old client notes) p → (steps : StepsFrom site e p.ends.servient new before after)
     → Turned site m p new client before after (with_datagrams (datagrams_in steps.seen) (noted_of notes.world)) notes.registered
 
-pub steps_play : (site : Site) (m : Turn) (e : EventWithBytes) (old new : Parts) (client : ClientState) (notes after : Notes) (slots shown : List Seen) → StepsTurn site m e old new client notes slots shown
+pub steps_play : (site : Site) (m : Turn) (e : EventWithBytes) (old new : Layers) (client : ClientState) (notes after : Notes) (slots shown : List Seen) → StepsTurn site m e old new client notes slots shown
     → HearsAndNotes site e old new slots shown (noted_of notes.world) (noted_of after.world) → after.registered ≡ notes.registered
     → PlaysTurn site m (kept old client notes) (kept new client after) slots shown
 steps_play site m e old new client notes after slots shown steps_turn hears registered = λ p are.
@@ -232,7 +232,7 @@ steps_play site m e old new client notes after slots shown steps_turn hears regi
       record { seen = t.seen; move = t.turn; shows = t.shows },
     )
 
-pub steps_at_most : (site : Site) (m : Turn) (e : EventWithBytes) (old new : Parts) (client : ClientState) (notes after : Notes) (slots shown : List Seen) → StepsTurn site m e old new client notes slots shown
+pub steps_at_most : (site : Site) (m : Turn) (e : EventWithBytes) (old new : Layers) (client : ClientState) (notes after : Notes) (slots shown : List Seen) → StepsTurn site m e old new client notes slots shown
     → HearsAtMost site e old new slots shown → PlaysTurnAtMost site m (kept old client notes) (kept new client after) slots shown
 steps_at_most site m e old new client notes after slots shown steps_turn (inl hears) = λ p are.
     let t = steps_turn p are (hears p.ends.servient are.left.servient) in (
@@ -243,7 +243,7 @@ steps_at_most site m e old new client notes after slots shown steps_turn (inl he
 steps_at_most site m e old new client notes after slots shown steps_turn (inr none) = nothing_done site m old new client notes after slots shown none.0 none.1
 
 -- a datagram, whatever it was sent for, and whichever turn that is
-heard_turned : (site : Site) (m : Turn) (from : Endpoint) (size : ℕ) (bytes : List ℕ) (purpose : Purpose) (p : Played) (old new : Parts) (client : ClientState) (notes : Notes) (before after : List Seen)
+heard_turned : (site : Site) (m : Turn) (from : Endpoint) (size : ℕ) (bytes : List ℕ) (purpose : Purpose) (p : Played) (old new : Layers) (client : ClientState) (notes : Notes) (before after : List Seen)
     (said : List (Endpoint × List ℕ)) → AreNoted (kept old client notes) p
     → (steps : StepsFrom site (event_at p.ends.world.moment (what.Datagram from size) bytes) p.ends.servient new before after) → datagrams_in steps.seen ≡ said
     → ((q : Played) → q.values ≡ p.values → (hears : ServientHears site from size bytes purpose p.ends q.ends) → TakesTurn site m p hears.seen q)
@@ -278,7 +278,7 @@ heard_turned site m from size bytes purpose p old new client notes before after 
     }
 
 -- anything else
-done_turned : (site : Site) (m : Turn) (x : What) (bytes : List ℕ) (p : Played) (old new : Parts) (client : ClientState) (notes : Notes) (before after : List Seen)
+done_turned : (site : Site) (m : Turn) (x : What) (bytes : List ℕ) (p : Played) (old new : Layers) (client : ClientState) (notes : Notes) (before after : List Seen)
     → IsNoDatagram x → AreNoted (kept old client notes) p
     → (steps : StepsFrom site (event_at p.ends.world.moment x bytes) p.ends.servient new before after)
     → ((q : Played) → q.values ≡ p.values → (does : ServientDoes site x bytes p.ends q.ends) → TakesTurn site m p does.seen q)
@@ -309,7 +309,7 @@ done_turned site m x bytes p old new client notes before after plain are steps t
 
 -- ---- a datagram that was sent
 
-sent_turned : (site : Site) (i : ℕ) (e : SentDatagram) (n : ℕ) (given : List ℕ) (old new : Parts) (client : ClientState) (notes : Notes) (before after : List Seen) (p : Played) → AreNoted (kept old client notes) p
+sent_turned : (site : Site) (i : ℕ) (e : SentDatagram) (n : ℕ) (given : List ℕ) (old new : Layers) (client : ClientState) (notes : Notes) (before after : List Seen) (p : Played) → AreNoted (kept old client notes) p
     → (steps : StepsFrom site (event_at p.ends.world.moment (what.Datagram e.from n) given) p.ends.servient new before after) → (d : Datagram) → slice_get p.ends.world.sent i ≡ Some d → shown_datagram d ≡ e
     → may_come p.ends.world.moment d ≡ true → d.to ≡ server_place → n ≡ min (length e.bytes) 2048 → given ≡ take n e.bytes
     → Turned site (delivers i) p new client before after (with_datagrams (datagrams_in steps.seen) (noted_of notes.world)) notes.registered
@@ -321,11 +321,11 @@ sent_turned site i e n given old new client notes before after p are steps d at 
     (λ q values hears. arrives_turn site i p hears.seen q (Some d) at (record { comes = to_servient may to hears; saw = refl; values = values ∙ sym (append-nil p.values) }))
 
 -- what was said at the moment that is noted holds at that of the world
-abbrev AtMoment : (site : Site) (w : What) (bytes : List ℕ) (new : Parts) (before after : List Seen) (p : Played) (m : Turn) (client : ClientState) (notes : Notes) (moment : ℕ) → Type 0
+abbrev AtMoment : (site : Site) (w : What) (bytes : List ℕ) (new : Layers) (before after : List Seen) (p : Played) (m : Turn) (client : ClientState) (notes : Notes) (moment : ℕ) → Type 0
 AtMoment site w bytes new before after p m client notes moment =
     (steps : StepsFrom site (event_at moment w bytes) p.ends.servient new before after) → Turned site m p new client before after (with_datagrams (datagrams_in steps.seen) (noted_of notes.world)) notes.registered
 
-pub sent_turns : (site : Site) (i : ℕ) (e : SentDatagram) (n : ℕ) (given : List ℕ) (old new : Parts) (client : ClientState) (notes : Notes) (before after : List Seen)
+pub sent_turns : (site : Site) (i : ℕ) (e : SentDatagram) (n : ℕ) (given : List ℕ) (old new : Layers) (client : ClientState) (notes : Notes) (before after : List Seen)
     → slice_get notes.world.sent.items i ≡ Some e → may_come_now notes.world.moment e ≡ true → e.to ≡ server_place → n ≡ min (length e.bytes) 2048 → given ≡ take n e.bytes
     → StepsTurn site (delivers i) (event_at notes.world.moment (what.Datagram e.from n) given) old new client notes before after
 sent_turns site i e n given old new client notes before after at may to size cut = λ p are.
@@ -338,14 +338,14 @@ sent_turns site i e n given old new client notes before after at may to size cut
 -- ---- what comes besides
 
 -- a datagram of elsewhere
-elsewhere_turned : (site : Site) (from : Endpoint) (size : ℕ) (bytes : List ℕ) (old new : Parts) (client : ClientState) (notes : Notes) (before after : List Seen) (p : Played) → AreNoted (kept old client notes) p
+elsewhere_turned : (site : Site) (from : Endpoint) (size : ℕ) (bytes : List ℕ) (old new : Layers) (client : ClientState) (notes : Notes) (before after : List Seen) (p : Played) → AreNoted (kept old client notes) p
     → is_end from ≡ false → (steps : StepsFrom site (event_at p.ends.world.moment (what.Datagram from size) bytes) p.ends.servient new before after)
     → Turned site (happens (what.Datagram from size) bytes) p new client before after (with_datagrams (datagrams_in steps.seen) (noted_of notes.world)) notes.registered
 elsewhere_turned site from size bytes old new client notes before after p are apart steps =
     heard_turned site (happens (what.Datagram from size) bytes) from size bytes other p old new client notes before after (datagrams_in steps.seen) are steps refl
     (λ q values hears. record { takes = comes_from_elsewhere apart hears; saw = refl; values = values ∙ sym (append-nil p.values) })
 
-besides_turned : (site : Site) (x : What) (bytes : List ℕ) (old new : Parts) (client : ClientState) (notes : Notes) (before after : List Seen) (p : Played) → AreNoted (kept old client notes) p
+besides_turned : (site : Site) (x : What) (bytes : List ℕ) (old new : Layers) (client : ClientState) (notes : Notes) (before after : List Seen) (p : Played) → AreNoted (kept old client notes) p
     → is_of_an_end x ≡ false → (steps : StepsFrom site (event_at p.ends.world.moment x bytes) p.ends.servient new before after)
     → Turned site (happens x bytes) p new client before after (with_datagrams (datagrams_in steps.seen) (noted_of notes.world)) notes.registered
 besides_turned site (what.Datagram from size) bytes old new client notes before after p are apart steps = elsewhere_turned site from size bytes old new client notes before after p are apart steps
@@ -365,19 +365,19 @@ besides_turned site what.Stop bytes old new client notes before after p are apar
     done_turned site (happens what.Stop bytes) what.Stop bytes p old new client notes before after tt are steps
     (λ q values does. record { takes = does; saw = refl; values = values ∙ sym (append-nil p.values) })
 
-given_turns : (site : Site) (b : Bool) (x : What) (bytes : List ℕ) (old new : Parts) (client : ClientState) (notes : Notes) (before after : List Seen) → b ≡ true → is_of_an_end x ≡ false
+given_turns : (site : Site) (b : Bool) (x : What) (bytes : List ℕ) (old new : Layers) (client : ClientState) (notes : Notes) (before after : List Seen) → b ≡ true → is_of_an_end x ≡ false
     → StepsTurn site (cond b (happens x bytes) (passes 0)) (event_at notes.world.moment x bytes) old new client notes before after
 given_turns site true x bytes old new client notes before after given apart = λ p are.
     subst (AtMoment site x bytes new before after p (happens x bytes) client notes) (sym are.shown.moment)
     (λ steps. besides_turned site x bytes old new client notes before after p are apart steps)
 given_turns site false x bytes old new client notes before after given apart = absurd (cc)
 
-pub besides_turns : (site : Site) (x : What) (bytes : List ℕ) (old new : Parts) (client : ClientState) (notes : Notes) (before after : List Seen) → is_given x bytes ≡ true → is_of_an_end x ≡ false
+pub besides_turns : (site : Site) (x : What) (bytes : List ℕ) (old new : Layers) (client : ClientState) (notes : Notes) (before after : List Seen) → is_given x bytes ≡ true → is_of_an_end x ≡ false
     → StepsTurn site (turn_besides x bytes) (event_at notes.world.moment x bytes) old new client notes before after
 besides_turns site x bytes old new client notes before after given apart = given_turns site (is_given x bytes) x bytes old new client notes before after given apart
 
 -- where no network gives that, nothing happens
-none_by : (site : Site) (b : Bool) (x : What) (bytes : List ℕ) (s : Parts) (client : ClientState) (notes : Notes) (slots : List Seen) → b ≡ false
+none_by : (site : Site) (b : Bool) (x : What) (bytes : List ℕ) (s : Layers) (client : ClientState) (notes : Notes) (slots : List Seen) → b ≡ false
     → Turns site (cond b (happens x bytes) (passes 0)) (kept s client notes) s client slots slots (noted_of notes.world) notes.registered
 none_by site true x bytes s client notes slots not_given = absurd (cc)
 none_by site false x bytes s client notes slots not_given =
@@ -387,7 +387,7 @@ none_by site false x bytes s client notes slots not_given =
     none_later : (n : ℕ) → n + 0 ≡ n
     none_later n = omega arith
 
-pub not_given_turn : (site : Site) (x : What) (bytes : List ℕ) (s : Parts) (client : ClientState) (notes : Notes) (slots : List Seen) → is_given x bytes ≡ false
+pub not_given_turn : (site : Site) (x : What) (bytes : List ℕ) (s : Layers) (client : ClientState) (notes : Notes) (slots : List Seen) → is_given x bytes ≡ false
     → Turns site (turn_besides x bytes) (kept s client notes) s client slots slots (noted_of notes.world) notes.registered
 not_given_turn site x bytes s client notes slots not_given = none_by site (is_given x bytes) x bytes s client notes slots not_given
 
@@ -400,7 +400,7 @@ end_skips site (what.Ended c) bytes p is = absurd (cc)
 end_skips site what.Tick bytes p is = absurd (cc)
 end_skips site what.Stop bytes p is = absurd (cc)
 
-end_by_test : (site : Site) (b : Bool) (x : What) (bytes : List ℕ) (s : Parts) (client : ClientState) (notes : Notes) (slots : List Seen) → b ≡ true → is_of_an_end x ≡ true
+end_by_test : (site : Site) (b : Bool) (x : What) (bytes : List ℕ) (s : Layers) (client : ClientState) (notes : Notes) (slots : List Seen) → b ≡ true → is_of_an_end x ≡ true
     → Turns site (cond b (happens x bytes) (passes 0)) (kept s client notes) s client slots slots (noted_of notes.world) notes.registered
 end_by_test site true x bytes s client notes slots given is = λ p are. record {
   next = p;
@@ -414,7 +414,7 @@ end_by_test site true x bytes s client notes slots given is = λ p are. record {
 }
 end_by_test site false x bytes s client notes slots given is = absurd (cc)
 
-pub end_turn : (site : Site) (x : What) (bytes : List ℕ) (s : Parts) (client : ClientState) (notes : Notes) (slots : List Seen) → is_given x bytes ≡ true → is_of_an_end x ≡ true
+pub end_turn : (site : Site) (x : What) (bytes : List ℕ) (s : Layers) (client : ClientState) (notes : Notes) (slots : List Seen) → is_given x bytes ≡ true → is_of_an_end x ≡ true
     → Turns site (turn_besides x bytes) (kept s client notes) s client slots slots (noted_of notes.world) notes.registered
 end_turn site x bytes s client notes slots given is = end_by_test site (is_given x bytes) x bytes s client notes slots given is
 

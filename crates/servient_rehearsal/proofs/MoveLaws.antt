@@ -9,7 +9,7 @@ use Rattle.thing_handler.specs.Handler.{Seen}
 use Rattle.servient_core.specs.declared.capacity.TheConstants.{MOST_WATCHERS}
 use Rattle.servient_core.specs.Machine.{Site, start}
 use Rattle.servient_core.specs.Serving.{StandsFor}
-use Rattle.servient_core.specs.declared.parts.Parts.{Parts}
+use Rattle.servient_core.specs.declared.layers.Layers.{Layers}
 use Rattle.servient_world.specs.World.{AskEnd as AskEndInWorld, End as EndInWorld, answered, observed, reset, timed_out}
 use Rattle.servient_ends.specs.Ends.{IsBeginning}
 use Rattle.servient_ends.proofs.EndsLaws.{servient_acts_once, servient_answers_once, servient_observes_once, servient_values_never_go_back, servient_values_have_a_source}
@@ -57,7 +57,7 @@ begins site exchanges client new = record {
   servient = refl;
 }
 
-begins_noted : (servient : Parts) (exchanges : ℕ) (client : ClientState) (notes : Notes) → StandsFor servient (start servient.exposed.site exchanges) → noted_of notes.world ≡ nothing_noted → notes.registered ≡ 0
+begins_noted : (servient : Layers) (exchanges : ℕ) (client : ClientState) (notes : Notes) → StandsFor servient (start servient.exposed.site exchanges) → noted_of notes.world ≡ nothing_noted → notes.registered ≡ 0
     → AreNoted (kept servient client notes) (beginning_of servient.exposed.site exchanges client)
 begins_noted servient exchanges client notes stands noted registered = record {
   left = record { servient = stands; client = refl };
@@ -108,7 +108,7 @@ ended_in_world ends k e x back has =
 few_asks : (w : World) (p : Played) → IsShown (noted_of w) p → length w.asks.items ≤ 65536 → length p.ends.world.asks ≤ 65536
 few_asks w p shown few = let count = ap length shown.asks ∙ as_many_shown 0 p.ends.world.asks in omega arith
 
-pub rehearsed : (servient after : Parts) (exchanges : ℕ) (client t : ClientState) (moves : List Move) (notes then_notes : Notes) (before shown : List Seen)
+pub rehearsed : (servient after : Layers) (exchanges : ℕ) (client t : ClientState) (moves : List Move) (notes then_notes : Notes) (before shown : List Seen)
     → StandsFor servient (start servient.exposed.site exchanges) → IsNew client.next_id client → noted_of notes.world ≡ nothing_noted → notes.registered ≡ 0
     → PlaysMoves servient.exposed.site moves (kept servient client notes) (kept after t then_notes) before shown
     → Rehearses servient.exposed.site moves servient after client t before shown then_notes.world
@@ -150,7 +150,7 @@ rehearsed servient after exchanges client t moves notes then_notes before shown 
       order = λ low ids. servient_values_never_go_back site client.next_id exchanges (map turn_of moves) from.ends a.0.ends begin all (few low) ids;
     }
 
-pub rehearsed_some : (servient after : Parts) (exchanges : ℕ) (client t : ClientState) (moves : List Move) (notes then_notes : Notes) (before shown : List Seen)
+pub rehearsed_some : (servient after : Layers) (exchanges : ℕ) (client t : ClientState) (moves : List Move) (notes then_notes : Notes) (before shown : List Seen)
     → StandsFor servient (start servient.exposed.site exchanges) → IsNew client.next_id client → noted_of notes.world ≡ nothing_noted → notes.registered ≡ 0
     → PlaysSomeMoves servient.exposed.site moves (kept servient client notes) (kept after t then_notes) before shown
     → RehearsesSome servient.exposed.site moves servient after client t before shown

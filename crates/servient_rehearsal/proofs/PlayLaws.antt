@@ -10,7 +10,7 @@ use Rattle.coap_client.specs.declared.state.State.{State as ClientState}
 use Rattle.thing_handler.specs.Handler.{Seen}
 use Rattle.servient_outside.specs.declared.net.EventWithBytes.{EventWithBytes}
 use Rattle.servient_core.specs.Machine.{Site}
-use Rattle.servient_core.specs.declared.parts.Parts.{Parts}
+use Rattle.servient_core.specs.declared.layers.Layers.{Layers}
 use Rattle.servient_core.proofs.PartLaws.{stands_for_some}
 use Rattle.servient_world.specs.World.{client_place}
 use Rattle.servient_ends.specs.Ends.{Turn, delivers}
@@ -33,7 +33,7 @@ on_error (Err e) p = p
 
 -- whatever the servient is, the client's turn makes this of what is noted
 abbrev pub ClientTurns : Turn → ClientState → ClientState → Notes → Noted → ℕ → Type 0
-ClientTurns m old new before now last = (site : Site) (s : Parts) (slots : List Seen) → Turns site m (kept s old before) s new slots slots now last
+ClientTurns m old new before now last = (site : Site) (s : Layers) (slots : List Seen) → Turns site m (kept s old before) s new slots slots now last
 
 pub client_played : (m : Turn) (old new : ClientState) (before after : Notes) (now : Noted) (last : ℕ)
     → ClientTurns m old new before now last → noted_of after.world ≡ now → after.registered ≡ last → ClientPlays m old new before after
@@ -91,23 +91,23 @@ no_reply_noted told new from ends b k n now is same one =
 -- ---- the servient steps
 
 -- whatever the client is, a step on this event is this turn
-abbrev pub ServientTurns : Site → Turn → EventWithBytes → Parts → Parts → Notes → List Seen → List Seen → Type 0
+abbrev pub ServientTurns : Site → Turn → EventWithBytes → Layers → Layers → Notes → List Seen → List Seen → Type 0
 ServientTurns site m e old new notes slots shown = (client : ClientState) → StepsTurn site m e old new client notes slots shown
 
-pub servient_plays : {T E : Type 0} (r : Result T E) (site : Site) (m : Turn) (e : EventWithBytes) (old new : Parts) (notes after : Notes) (slots shown : List Seen) → ServientTurns site m e old new notes slots shown
+pub servient_plays : {T E : Type 0} (r : Result T E) (site : Site) (m : Turn) (e : EventWithBytes) (old new : Layers) (notes after : Notes) (slots shown : List Seen) → ServientTurns site m e old new notes slots shown
     → OnOk r (HearsAndNotes site e old new slots shown (noted_of notes.world) (noted_of after.world)) → after.registered ≡ notes.registered → OnOk r (ServientPlays site m old new notes after slots shown)
 servient_plays (Ok x) site m e old new notes after slots shown turns hears registered =
     λ client. steps_play site m e old new client notes after slots shown (turns client) hears registered
 servient_plays (Err f) site m e old new notes after slots shown turns hears registered = tt
 
-pub servient_plays_at_most : {T E : Type 0} (r : Result T E) (site : Site) (m : Turn) (e : EventWithBytes) (old new : Parts) (notes : Notes) (slots shown : List Seen) → ServientTurns site m e old new notes slots shown
+pub servient_plays_at_most : {T E : Type 0} (r : Result T E) (site : Site) (m : Turn) (e : EventWithBytes) (old new : Layers) (notes : Notes) (slots shown : List Seen) → ServientTurns site m e old new notes slots shown
     → OnErr r (HearsAtMost site e old new slots shown) → OnErr r (ServientPlaysAtMost site m old new notes slots shown)
 servient_plays_at_most (Ok x) site m e old new notes slots shown turns hears = tt
 servient_plays_at_most (Err f) site m e old new notes slots shown turns hears =
     λ client after. steps_at_most site m e old new client notes after slots shown (turns client) hears
 
 -- a turn in which nothing is heard
-pub servient_played : (site : Site) (m : Turn) (s : Parts) (notes : Notes) (slots : List Seen)
+pub servient_played : (site : Site) (m : Turn) (s : Layers) (notes : Notes) (slots : List Seen)
     → ((client : ClientState) → Turns site m (kept s client notes) s client slots slots (noted_of notes.world) notes.registered) → ServientPlays site m s s notes notes slots slots
 servient_played site m s notes slots turns =
     λ client. turns_play site m (kept s client notes) s client notes slots slots (noted_of notes.world) notes.registered (turns client) refl refl
@@ -125,7 +125,7 @@ goes_on_so client old new now notes =
     let count = ap length notes.asks in
     record { client = omega arith; moment = omega arith; asks = omega arith }
 
-pub hears_go_on : (site : Site) (e : EventWithBytes) (old new : Parts) (notes after : Notes) (slots shown : List Seen) → HearsAndNotes site e old new slots shown (noted_of notes.world) (noted_of after.world) → NotesGoOn notes after
+pub hears_go_on : (site : Site) (e : EventWithBytes) (old new : Layers) (notes after : Notes) (slots shown : List Seen) → HearsAndNotes site e old new slots shown (noted_of notes.world) (noted_of after.world) → NotesGoOn notes after
 hears_go_on site e old new notes after slots shown hears =
     let some = stands_for_some old in
     let noted = (hears some.0 some.1).1 in

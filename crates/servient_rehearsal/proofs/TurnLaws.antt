@@ -12,7 +12,7 @@ use Rattle.thing_handler.proofs.RackLaws.{rack_shows_none, rack_shows_then}
 use Rattle.servient_core.specs.Trace.{Sighting, call_in, calls_in}
 use Rattle.servient_core.specs.Machine.{Site}
 use Rattle.servient_core.specs.Serving.{StandsFor}
-use Rattle.servient_core.specs.declared.parts.Parts.{Parts}
+use Rattle.servient_core.specs.declared.layers.Layers.{Layers}
 use Rattle.servient_world.specs.World.{Datagram}
 use Rattle.servient_ends.specs.Ends.{Turn, delivers, ArrivesIfSent, TakesAll}
 use Rattle.servient_rehearsal.specs.declared.moves.Move.{Move}
@@ -45,7 +45,7 @@ arrives_turn site i p seen q o e a =
 -- ---- one turn
 
 -- both ends after a turn, from where they were: this is what is to be noted, and the last ask that registered
-pub record Turned (site : Site) (m : Turn) (p : Played) (servient : Parts) (client : ClientState) (before after : List Seen) (now : Noted) (last : ℕ) : Type 0 where
+pub record Turned (site : Site) (m : Turn) (p : Played) (servient : Layers) (client : ClientState) (before after : List Seen) (now : Noted) (last : ℕ) : Type 0 where
   pub next : Played
   pub stands : StandsFor servient next.ends.servient
   pub same_client : next.ends.world.client ≡ client
@@ -56,11 +56,11 @@ pub record Turned (site : Site) (m : Turn) (p : Played) (servient : Parts) (clie
   pub registered : last ≡ last_registration next.ends.world.asks
 
 -- whatever both ends were, of which this was noted
-abbrev pub Turns : Site → Turn → Kept → Parts → ClientState → List Seen → List Seen → Noted → ℕ → Type 0
+abbrev pub Turns : Site → Turn → Kept → Layers → ClientState → List Seen → List Seen → Noted → ℕ → Type 0
 Turns site m c servient client before after now last = (p : Played) → AreNoted c p → Turned site m p servient client before after now last
 
 -- where all was noted, the turn was played
-pub turns_play : (site : Site) (m : Turn) (c : Kept) (servient : Parts) (client : ClientState) (after : Notes) (slots shown : List Seen) (now : Noted) (last : ℕ)
+pub turns_play : (site : Site) (m : Turn) (c : Kept) (servient : Layers) (client : ClientState) (after : Notes) (slots shown : List Seen) (now : Noted) (last : ℕ)
     → Turns site m c servient client slots shown now last → noted_of after.world ≡ now → after.registered ≡ last → PlaysTurn site m c (kept servient client after) slots shown
 turns_play site m c servient client after slots shown now last turns noted registered = λ p are.
     let t = turns p are in (
@@ -74,7 +74,7 @@ turns_play site m c servient client after slots shown now last turns noted regis
     )
 
 -- and whatever was noted, it was played at most
-pub turns_at_most : (site : Site) (m : Turn) (c : Kept) (servient : Parts) (client : ClientState) (after : Notes) (slots shown : List Seen) (now : Noted) (last : ℕ)
+pub turns_at_most : (site : Site) (m : Turn) (c : Kept) (servient : Layers) (client : ClientState) (after : Notes) (slots shown : List Seen) (now : Noted) (last : ℕ)
     → Turns site m c servient client slots shown now last → PlaysTurnAtMost site m c (kept servient client after) slots shown
 turns_at_most site m c servient client after slots shown now last turns = λ p are.
     let t = turns p are in (
@@ -84,11 +84,11 @@ turns_at_most site m c servient client after slots shown now last turns = λ p a
     )
 
 -- where nothing was done, too
-pub nothing_done : (site : Site) (m : Turn) (old new : Parts) (client : ClientState) (notes after : Notes) (slots shown : List Seen) → new ≡ old → shown ≡ slots
+pub nothing_done : (site : Site) (m : Turn) (old new : Layers) (client : ClientState) (notes after : Notes) (slots shown : List Seen) → new ≡ old → shown ≡ slots
     → PlaysTurnAtMost site m (kept old client notes) (kept new client after) slots shown
 nothing_done site m old new client notes after slots shown same none = λ p are. (
   p,
-  record { servient = subst (λ (x : Parts). StandsFor x p.ends.servient) (sym same) are.left.servient; client = are.left.client },
+  record { servient = subst (λ (x : Layers). StandsFor x p.ends.servient) (sym same) are.left.servient; client = are.left.client },
   record { seen = []; move = inr (record { next = refl; saw = refl }); shows = subst (λ (l : List Seen). ShowsCalls slots l []) (sym none) (shows_none slots) },
 )
 

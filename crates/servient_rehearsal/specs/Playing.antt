@@ -11,7 +11,7 @@ use Rattle.servient_outside.specs.declared.net.EventWithBytes.{EventWithBytes}
 use Rattle.servient_core.specs.Trace.{Sighting, calls_in}
 use Rattle.servient_core.specs.Machine.{Site, State, EventAndStep}
 use Rattle.servient_core.specs.Serving.{StandsFor}
-use Rattle.servient_core.specs.declared.parts.Parts.{Parts}
+use Rattle.servient_core.specs.declared.layers.Layers.{Layers}
 use Rattle.servient_world.specs.declared.network.TheConstants.{MAX_LATENCY}
 use Rattle.servient_world.specs.World.{client_place, server_place}
 use Rattle.servient_ends.specs.Ends.{Turn, datagrams_of, datagrams_in}
@@ -29,11 +29,11 @@ use Rattle.servient_rehearsal.specs.Turns.{Played, TakesTurn}
 
 -- the servient, the client and what is noted, at one time
 pub record Kept : Type 0 where
-  pub servient : Parts
+  pub servient : Layers
   pub client : ClientState
   pub notes : Notes
 
-abbrev pub kept : Parts → ClientState → Notes → Kept
+abbrev pub kept : Layers → ClientState → Notes → Kept
 kept servient client notes = record { servient = servient; client = client; notes = notes }
 
 -- this is what is seen of both ends
@@ -77,16 +77,16 @@ PlaysTurnAtMost site m = LeadsTo AreLeft (AtMost (TakesTurn site m))
 
 -- the client alone plays a turn, whatever the servient is
 abbrev pub ClientPlays : Turn → ClientState → ClientState → Notes → Notes → Type 0
-ClientPlays m old new before after = (site : Site) (s : Parts) (slots : List Seen) → PlaysTurn site m (kept s old before) (kept s new after) slots slots
+ClientPlays m old new before after = (site : Site) (s : Layers) (slots : List Seen) → PlaysTurn site m (kept s old before) (kept s new after) slots slots
 
 abbrev pub ClientPlaysAtMost : Turn → ClientState → ClientState → Notes → Type 0
-ClientPlaysAtMost m old new before = (site : Site) (s : Parts) (after : Notes) (slots : List Seen) → PlaysTurnAtMost site m (kept s old before) (kept s new after) slots slots
+ClientPlaysAtMost m old new before = (site : Site) (s : Layers) (after : Notes) (slots : List Seen) → PlaysTurnAtMost site m (kept s old before) (kept s new after) slots slots
 
 -- the servient alone plays a turn, whatever the client is
-abbrev pub ServientPlays : Site → Turn → Parts → Parts → Notes → Notes → List Seen → List Seen → Type 0
+abbrev pub ServientPlays : Site → Turn → Layers → Layers → Notes → Notes → List Seen → List Seen → Type 0
 ServientPlays site m old new before after slots shown = (c : ClientState) → PlaysTurn site m (kept old c before) (kept new c after) slots shown
 
-abbrev pub ServientPlaysAtMost : Site → Turn → Parts → Parts → Notes → List Seen → List Seen → Type 0
+abbrev pub ServientPlaysAtMost : Site → Turn → Layers → Layers → Notes → List Seen → List Seen → Type 0
 ServientPlaysAtMost site m old new before slots shown = (c : ClientState) (after : Notes) → PlaysTurnAtMost site m (kept old c before) (kept new c after) slots shown
 
 -- moves are played, one after another
@@ -149,7 +149,7 @@ datagrams_among [] = []
 datagrams_among (a ∷ acts) = datagrams_of a ++ datagrams_among acts
 
 -- A step from this state: the state afterwards, what was seen, and what the rack shows of that.
-pub record StepsFrom (site : Site) (e : EventWithBytes) (s : State) (new : Parts) (before after : List Seen) : Type 0 where
+pub record StepsFrom (site : Site) (e : EventWithBytes) (s : State) (new : Layers) (before after : List Seen) : Type 0 where
   pub state : State
   pub stands : StandsFor new state
   pub seen : List Sighting
@@ -157,11 +157,11 @@ pub record StepsFrom (site : Site) (e : EventWithBytes) (s : State) (new : Parts
   pub rack : ShowsCalls before after seen
 
 -- Whatever state the servient stood for, it made a step from there, and the datagrams that it sent were noted.
-abbrev pub HearsAndNotes : Site → EventWithBytes → Parts → Parts → List Seen → List Seen → Noted → Noted → Type 0
+abbrev pub HearsAndNotes : Site → EventWithBytes → Layers → Layers → List Seen → List Seen → Noted → Noted → Type 0
 HearsAndNotes site e old new before after noted now =
     (s : State) → StandsFor old s → (steps : StepsFrom site e s new before after) × (now ≡ with_datagrams (datagrams_in steps.seen) noted)
 
 -- It did, or nothing was done.
-abbrev pub HearsAtMost : Site → EventWithBytes → Parts → Parts → List Seen → List Seen → Type 0
+abbrev pub HearsAtMost : Site → EventWithBytes → Layers → Layers → List Seen → List Seen → Type 0
 HearsAtMost site e old new before after =
     ((s : State) → StandsFor old s → StepsFrom site e s new before after) ⊎ ((new ≡ old) × (after ≡ before))

@@ -8,7 +8,7 @@ use Rattle.thing_handler.specs.Turns.{RackShows}
 use Rattle.servient_core.specs.Trace.{Sighting, calls_in}
 use Rattle.servient_core.specs.Machine.{Site, start}
 use Rattle.servient_core.specs.Serving.{StandsFor}
-use Rattle.servient_core.specs.declared.parts.Parts.{Parts}
+use Rattle.servient_core.specs.declared.layers.Layers.{Layers}
 use Rattle.servient_world.specs.World.{Act}
 use Rattle.servient_world.specs.Laws.{AreForDifferentAsks, IsExcuse, IsAnsweredBy, NeverGoBack, HaveASource}
 use Rattle.servient_ends.specs.Ends.{IsBeginning}
@@ -21,12 +21,12 @@ use Rattle.servient_rehearsal.specs.Turns.{Played, TakesTurn}
 use Rattle.servient_rehearsal.specs.Playing.{IsShown}
 
 -- a servient as it was made
-abbrev pub IsUnused : Parts → Type 0
+abbrev pub IsUnused : Layers → Type 0
 IsUnused servient = (exchanges : ℕ) × StandsFor servient (start servient.exposed.site exchanges)
 
 -- A run by these moves, from a new world which the real objects stood for, to one that they stand for as they are left. What the
 -- rack shows are the calls of handlers that are seen of it.
-pub record IsRun (site : Site) (moves : List Move) (old_servient servient : Parts) (old new : ClientState) (before after : List Seen) : Type 0 where
+pub record IsRun (site : Site) (moves : List Move) (old_servient servient : Layers) (old new : ClientState) (before after : List Seen) : Type 0 where
   pub first_id : ℕ
   pub exchanges : ℕ
   pub from : Played
@@ -42,7 +42,7 @@ pub record IsRun (site : Site) (moves : List Move) (old_servient servient : Part
   pub rack : RackShows before after (calls_in seen)
 
 -- What came of the moves is seen of such a run, and more holds of it.
-pub record Rehearses (site : Site) (moves : List Move) (old_servient servient : Parts) (old new : ClientState) (before after : List Seen) (w : World) : Type 0 where
+pub record Rehearses (site : Site) (moves : List Move) (old_servient servient : Layers) (old new : ClientState) (before after : List Seen) (w : World) : Type 0 where
   pub run : IsRun site moves old_servient servient old new before after
   pub shown : IsShown (noted_of w) run.to
   -- For each ask the servient made at most one act.
@@ -62,6 +62,6 @@ pub record Rehearses (site : Site) (moves : List Move) (old_servient servient : 
   pub order : length w.asks.items ≤ 65536 → run.to.ends.world.ids ≤ 65536 → NeverGoBack run.to.ends.world.taken
 
 -- Out of memory: both ends are left as a run by a first part of the moves leaves them.
-abbrev pub RehearsesSome : Site → List Move → Parts → Parts → ClientState → ClientState → List Seen → List Seen → Type 0
+abbrev pub RehearsesSome : Site → List Move → Layers → Layers → ClientState → ClientState → List Seen → List Seen → Type 0
 RehearsesSome site moves old_servient servient old new before after =
     (some rest : List Move) × (moves ≡ some ++ rest) × IsRun site some old_servient servient old new before after

@@ -6,8 +6,10 @@ use Rattle.std.proofs.lemmas.List.{append-nil}
 use Rattle.std.proofs.lemmas.Option.{same_Some}
 use Rattle.servient_base.specs.Moves.{Then}
 use Rattle.wot_json.specs.Tree.{Json}
+use Rattle.wot_json.specs.Json.{text_of}
 use Rattle.wot_json.specs.declared.tree.Tree.{Tree}
 use Rattle.wot_terms.specs.declared.kind.Kind.TheVariants as kind
+use Rattle.thing_ops.specs.declared.conditions.Conditions.{Conditions}
 use Rattle.thing_ops.specs.declared.outcome.Outcome.{Outcome}
 use Rattle.thing_ops.specs.declared.outcome.Outcome.TheVariants as outcome
 use Rattle.thing_ops.specs.Requests.{PlainRequest}
@@ -16,13 +18,14 @@ use Rattle.thing_handler.specs.declared.handler.CallKind.TheVariants as call
 use Rattle.thing_handler.specs.declared.handler.Answer.TheVariants as answer
 use Rattle.thing_handler.specs.Turns.{HandlerCall, answered, missed}
 use Rattle.thing_site.specs.Site.{Placed, Site, those_of, of_kind}
-use Rattle.thing_core.specs.State.{Status, running, completed, State, Emission, last_of}
-use Rattle.thing_site.specs.Places.{Act, describes, reads_all, writes_many, reads, writes, invokes, queries, cancels, reads_event, waits}
+use Rattle.thing_core.specs.State.{Status, running, completed, State, Emission, last_of, version_of}
+use Rattle.thing_site.specs.declared.place.Act.{Act}
+use Rattle.thing_site.specs.declared.place.Act.TheVariants.{Describes as describes, ReadsAll as reads_all, WritesMany as writes_many, Reads as reads, Writes as writes, Invokes as invokes, Queries as queries, Cancels as cancels, ReadsEvent as reads_event, Waits as waits}
 use Rattle.thing_site.specs.Refusals.{Refusal, Input, inputs_of, IsFirst, IsNone}
 use Rattle.thing_core.specs.Refusals.{Asked, refusals, Stands, IsAnsweredWith}
-use Rattle.thing_core.specs.Thing.{Move, Done, content_of, Called, no_number, no_memory, gives, failure_of, only, Calls, GivesValue, ReadsValue, is_readable, readable, ReadsEach, Emits, emissions_of_write, Stops, IfDone, WritesEach, IsInvoked, IsQueried, Queries, IsCancelled, Cancels, event_outcome, Performs, refuses, has_no_memory, performs}
+use Rattle.thing_core.specs.Thing.{Move, Done, outcome_of_read, Called, no_number, no_memory, gives, failure_of, only, Calls, GivesValue, ReadsValue, with_value, is_readable, readable, ReadsEach, SeesWritten, emissions_of_write, Stops, IfDone, WritesEach, IsInvoked, IsQueried, Queries, IsCancelled, Cancels, event_outcome, Performs, refuses, has_no_memory, performs}
 use Rattle.thing_core.specs.Performing.{affordances_of_act}
-use Rattle.thing_core.specs.Completeness.{IsInKind, AnswersInKind, IsContent, IsInvocation, IsSuccess, Succeeds, succeeds, lacks_memory, lacks_numbers, IsComplete}
+use Rattle.thing_core.specs.Completeness.{IsInKind, AnswersInKind, IsContent, IsRead, IsInvocation, IsSuccess, Succeeds, succeeds, lacks_memory, lacks_numbers, IsComplete}
 use Rattle.thing_core.proofs.PlacedLists.{filter_has}
 use Rattle.thing_core.proofs.ReadLaws.{AfterValue}
 use Rattle.thing_core.proofs.Handed.{InputsHave, handed_have}
@@ -60,8 +63,8 @@ called_in_kind p what (gives a) s mid first rest made h =
 outcome_is : (done : Done) (o : Outcome) → done ≡ only o → done.outcome ≡ o
 outcome_is done o e = ap (λ (d : Done). d.outcome) e
 
-is_content : (done : Done) (text : List ℕ) (t : State) → done ≡ only (outcome.Content text) → Succeeds IsContent done.outcome t
-is_content done text t e = succeeds (text, outcome_is done (outcome.Content text) e)
+is_content : (done : Done) (text : List ℕ) (t : State) → done ≡ only (outcome.Content text None) → Succeeds IsContent done.outcome t
+is_content done text t e = succeeds (text, outcome_is done (outcome.Content text None) e)
 
 -- ---- properties
 
@@ -71,20 +74,25 @@ ValueSucceeds (Ok value) t = Unit {0}
 ValueSucceeds (Err o) t = Succeeds (λ _. ⊥) o t
 
 given_in_kind : (p : Placed) (called : Called) (r : Result Json Outcome) (s mid t : State) (first : List HandlerCall) → Calls p.slot call.Read called s first mid → CalledInKind p call.Read called
-    → GivesValue p.affordance.output called r → t ≡ mid → ValueSucceeds r t
+    → GivesValue p.affordance.output called r → t.turns ≡ mid.turns → ValueSucceeds r t
 given_in_kind p no_number r s mid t first made well given after =
-    subst (λ (x : Result Json Outcome). ValueSucceeds x t) (sym given) (lacks_numbers refl (ap (λ (x : State). x.turns) (after ∙ made.1.next) ∙ made.0))
+    subst (λ (x : Result Json Outcome). ValueSucceeds x t) (sym given) (lacks_numbers refl (after ∙ ap (λ (x : State). x.turns) made.1.next ∙ made.0))
 given_in_kind p no_memory r s mid t first made well given after = subst (λ (x : Result Json Outcome). ValueSucceeds x t) (sym given) (lacks_memory refl)
 given_in_kind p (gives (answer.Value tree)) r s mid t first made well (inl given) after = subst (λ (x : Result Json Outcome). ValueSucceeds x t) (sym given.1) tt
 given_in_kind p (gives (answer.Value tree)) r s mid t first made well (inr given) after = absurd (given.0 well)
 given_in_kind p (gives a) r s mid t first made well given after = absurd well
+
+-- what is seen is no turn
+turns_stay : (p : Placed) (r : Result Json Outcome) (s t : State) → t ≡ with_value p r s → t.turns ≡ s.turns
+turns_stay p (Ok value) s t e = ap (λ (x : State). x.turns) e
+turns_stay p (Err o) s t e = ap (λ (x : State). x.turns) e
 
 value_succeeds : (p : Placed) (r : Result Json Outcome) (s t : State) (seen rest : List HandlerCall) → ReadsValue p r s seen t → AnswersInKind (seen ++ rest) p → ValueSucceeds r t
 value_succeeds p r s t seen rest q h =
     let whole : seen ≡ q.1.first = q.1.whole ∙ ap (λ (l : List HandlerCall). q.1.first ++ l) q.1.other.1.saw ∙ append-nil q.1.first in
     given_in_kind p q.0 r s q.1.mid t q.1.first q.1.one
     (called_in_kind p call.Read q.0 s q.1.mid q.1.first rest q.1.one (subst (λ (l : List HandlerCall). AnswersInKind (l ++ rest) p) whole h))
-    q.1.other.0 q.1.other.1.next
+    q.1.other.0 (turns_stay p r q.1.mid t q.1.other.1.next)
 
 -- the reason that there is no value is that of the whole
 stops_there : (S : Outcome → Type 0) (o : Outcome) (done : Done) (mid t : State) → Succeeds (λ _. ⊥) o mid → done ≡ only o → t ≡ mid → Succeeds S done.outcome t
@@ -107,9 +115,10 @@ each_read (p ∷ ps) got done s t seen q all =
     after further (Err o) well x = stops_there IsContent o done q.1.mid t well x.0 x.1.next
 
 -- one property
-one_read : (r : Result Json Outcome) (done : Done) (t : State) → ValueSucceeds r t → done ≡ only (content_of r) → Succeeds IsContent done.outcome t
-one_read (Ok value) done t well e = is_content done _ t e
-one_read (Err o) done t well e = stops_there IsContent o done t t well e refl
+one_read : (c : Conditions) (version : ℕ) (r : Result Json Outcome) (done : Done) (t : State) → ValueSucceeds r t → done ≡ only (outcome_of_read c version r)
+    → Succeeds (IsRead c) done.outcome t
+one_read c version (Ok value) done t well e = succeeds (version, text_of value, outcome_is done _ e)
+one_read c version (Err o) done t well e = stops_there (IsRead c) o done t t well e refl
 
 abbrev IsChanged : Outcome → Type 0
 IsChanged o = o ≡ outcome.Changed
@@ -131,7 +140,7 @@ each_written (i ∷ is) emitted done s t seen q all =
     let step = q.2.1 in
     let whole : InputsHave (AnswersInKind (step.first ++ step.second)) (i ∷ is) =
     subst (λ (l : List HandlerCall). InputsHave (AnswersInKind l) (i ∷ is)) step.whole all in
-    one_write i q.0 q.2.0 (Then (Emits (emissions_of_write i)) (WritesEach is (emitted ++ emissions_of_write i) done)) emitted done s step.mid t step.first step.second step.one
+    one_write i q.0 q.2.0 (Then (SeesWritten i) (WritesEach is (emitted ++ emissions_of_write i) done)) emitted done s step.mid t step.first step.second step.one
     (called_in_kind i.affordance (call.Write q.0) q.2.0 s step.mid step.first step.second step.one whole.0)
     (λ x. each_written is (emitted ++ emissions_of_write i) done x.mid t x.second x.other
     (inputs_rest x.first x.second is (subst (λ (l : List HandlerCall). InputsHave (AnswersInKind l) is) x.whole (inputs_rest step.first step.second is whole.1))))
@@ -199,7 +208,7 @@ act_succeeds (reads_all thing) q inputs done s t seen x given all =
 act_succeeds (writes_many thing) q inputs done s t seen x given all =
     each_written inputs [] done s t seen x (handed_have (AnswersInKind seen) (writes_many thing) q.body inputs all given)
 act_succeeds (reads p) q inputs done s t seen x given all =
-    one_read x.0 done t (value_succeeds p x.0 s t seen [] x.2 (subst (λ (l : List HandlerCall). AnswersInKind l p) (sym (append-nil seen)) all.0)) x.1
+    one_read q.conditions (version_of p.slot t.versions) x.0 done t (value_succeeds p x.0 s t seen [] x.2 (subst (λ (l : List HandlerCall). AnswersInKind l p) (sym (append-nil seen)) all.0)) x.1
 act_succeeds (writes p) q inputs done s t seen x given all =
     each_written inputs [] done s t seen x (handed_have (AnswersInKind seen) (writes p) q.body inputs all given)
 act_succeeds (invokes p) q inputs done s t seen x given all =

@@ -12,6 +12,7 @@ use Rattle.wot_json.proofs.EqualTrees.{listed_lem, listed_members_lem}
 use Rattle.thing_ops.specs.declared.verb.Verb.{Verb}
 use Rattle.thing_ops.specs.declared.verb.Verb.TheVariants as verb
 use Rattle.thing_ops.specs.declared.allow.Allow.{Allow}
+use Rattle.thing_ops.specs.declared.conditions.Conditions.{Conditions}
 use Rattle.thing_ops.specs.declared.outcome.Outcome.{Outcome}
 use Rattle.thing_ops.specs.declared.outcome.Outcome.TheVariants as outcome
 use Rattle.thing_ops.specs.Requests.{PlainRequest}
@@ -23,11 +24,14 @@ use Rattle.thing_handler.specs.declared.handler.Answer.{Answer}
 use Rattle.thing_handler.specs.declared.handler.Answer.TheVariants as answer
 use Rattle.thing_handler.specs.Turns.{HandlerCall, answered, missed}
 use Rattle.thing_site.specs.Site.{Placed, Site}
-use Rattle.thing_core.specs.State.{Status, running, completed, Invocation, State, Emission}
-use Rattle.thing_site.specs.Places.{Place, flags_of, Act, describes, reads_all, writes_many, reads, writes, invokes, queries, cancels, reads_event, waits}
-use Rattle.thing_site.specs.Refusals.{Refusal, nothing_there, verb_not_taken, answer_not_acceptable, format_not_taken, body_not_as_wanted, value_too_large, refused_by_schema, no_invocation_left, Input, Holding, IsFirst, inputs_of}
+use Rattle.thing_core.specs.State.{Status, running, completed, Invocation, State, Emission, version_of}
+use Rattle.thing_site.specs.Places.{flags_of}
+use Rattle.thing_site.specs.declared.place.Place.{Place}
+use Rattle.thing_site.specs.declared.place.Act.{Act}
+use Rattle.thing_site.specs.declared.place.Act.TheVariants.{Describes as describes, ReadsAll as reads_all, WritesMany as writes_many, Reads as reads, Writes as writes, Invokes as invokes, Queries as queries, Cancels as cancels, ReadsEvent as reads_event, Waits as waits}
+use Rattle.thing_site.specs.Refusals.{Refusal, nothing_there, verb_not_taken, answer_not_acceptable, format_not_taken, body_not_as_wanted, value_too_large, refused_by_schema, condition_failed, no_invocation_left, Input, Holding, IsFirst, inputs_of}
 use Rattle.thing_core.specs.Refusals.{Asked, place_asked, refusals, Stands, IsAnsweredWith, NoneStands}
-use Rattle.thing_core.specs.Thing.{Move, Done, content_of, Called, no_number, no_memory, gives, failure_of, Decides, IsTaken, only, Calls, GivesValue, ReadsValue, Reads, readable, ReadsEach, Emits, emissions_of_write, Stops, IfDone, WritesEach, IsHandedIn, IsInvoked, Invokes, IsQueried, Queries, IsCancelled, Cancels, OnInvocation, Answers, Performs, Acts, refuses, has_no_memory, performs}
+use Rattle.thing_core.specs.Thing.{Move, Done, outcome_of_read, Called, no_number, no_memory, gives, failure_of, Decides, IsTaken, only, Calls, GivesValue, ReadsValue, with_value, Reads, readable, ReadsEach, SeesWritten, emissions_of_write, Stops, IfDone, WritesEach, IsHandedIn, IsInvoked, Invokes, IsQueried, Queries, IsCancelled, Cancels, OnInvocation, Answers, Performs, Acts, refuses, has_no_memory, performs}
 use Rattle.thing_core.specs.Determined.{AreAnsweredBy, HadMemory, IsDetermined}
 use Rattle.thing_core.proofs.ReadLaws.{AfterValue}
 use Rattle.thing_core.proofs.CompleteLaws.{none_is_first}
@@ -159,14 +163,19 @@ one_value schema (gives (answer.Value tree)) r v p q = one_decision (IsTaken sch
 one_value schema c r v p q = p ∙ sym q
 
 abbrev GivenValue : Placed → Result Json Outcome → Called → Move
-GivenValue p r c s seen t = GivesValue p.affordance.output c r × Stays s seen t
+GivenValue p r c s seen t = GivesValue p.affordance.output c r × Becomes (with_value p r s) [] seen t
 
 value_determined : (answers : ℕ → Answer) (p : Placed) (s : State) → Determined answers HasValue (ReadsValue p) s
 value_determined answers p s =
     determined_call answers HasValue p.slot call.Read (GivenValue p) s
     (λ r m t calls k had. subst HasValue k.0 had refl)
     (λ c m r v calls more t u k l on_calls on_more well_r well_v.
-    record { result = one_value p.affordance.output c r v k.0 l.0; seen = k.1.saw ∙ sym l.1.saw; state = k.1.next ∙ sym l.1.next })
+    let same : r ≡ v = one_value p.affordance.output c r v k.0 l.0 in
+    record {
+      result = same;
+      seen = k.1.saw ∙ sym l.1.saw;
+      state = k.1.next ∙ ap (λ (x : Result Json Outcome). with_value p x m) same ∙ sym l.1.next;
+    })
 
 after_value_well : (p : Placed) (ps : List Placed) (got : List (List ℕ × Json)) (done : Done) (r : Result Json Outcome) (m t : State) (calls : List HandlerCall)
     → AfterValue p ps got done r m calls t → HadMemory done → HasValue r
@@ -185,21 +194,24 @@ each_determined answers (p ∷ ps) got s =
     determined_then answers HadMemory HasValue (ReadsValue p) (AfterValue p ps got) s (value_determined answers p s) (after_value_well p ps got)
     (λ r m. after_value answers p ps got r m (λ value. each_determined answers ps (got ++ (p.affordance.name, value) ∷ []) m))
 
-content_well : (r : Result Json Outcome) (done : Done) → done ≡ only (content_of r) → HadMemory done → HasValue r
-content_well (Ok value) done is had = tt
-content_well (Err o) done is had = λ out. had (ap (λ (d : Done). d.outcome) is ∙ out)
+read_well : (c : Conditions) (version : ℕ) (r : Result Json Outcome) (done : Done) → done ≡ only (outcome_of_read c version r) → HadMemory done → HasValue r
+read_well c version (Ok value) done is had = tt
+read_well c version (Err o) done is had = λ out. had (ap (λ (d : Done). d.outcome) is ∙ out)
 
-read_determined : (answers : ℕ → Answer) (p : Placed) (s : State) → Determined answers HadMemory (Reads p) s
-read_determined answers p s a b calls more t u k l on_calls on_more well_a well_b =
-    let one = value_determined answers p s k.0 l.0 calls more t u k.2 l.2 on_calls on_more (content_well k.0 a k.1 well_a) (content_well l.0 b l.1 well_b) in
-    record { result = k.1 ∙ ap (λ (r : Result Json Outcome). only (content_of r)) one.result ∙ sym l.1; seen = one.seen; state = one.state }
+read_determined : (answers : ℕ → Answer) (p : Placed) (c : Conditions) (s : State) → Determined answers HadMemory (Reads p c) s
+read_determined answers p c s a b calls more t u k l on_calls on_more well_a well_b =
+    let one = value_determined answers p s k.0 l.0 calls more t u k.2 l.2 on_calls on_more
+    (read_well c (version_of p.slot t.versions) k.0 a k.1 well_a) (read_well c (version_of p.slot u.versions) l.0 b l.1 well_b) in
+    let outcomes : outcome_of_read c (version_of p.slot t.versions) k.0 ≡ outcome_of_read c (version_of p.slot u.versions) l.0 =
+    ap₂ (λ (x : State) (r : Result Json Outcome). outcome_of_read c (version_of p.slot x.versions) r) one.state one.result in
+    record { result = k.1 ∙ ap only outcomes ∙ sym l.1; seen = one.seen; state = one.state }
 
 -- ---- writes
 
--- what is emitted, and then another move
-emits_determined : (answers : ℕ → Answer) (emissions : List Emission) (F : Done → Move) (m : State) → ((n : State) → Determined answers HadMemory F n)
-    → Determined answers HadMemory (λ done. Then (Emits emissions) (F done)) m
-emits_determined answers emissions F m further a b calls more t u k l on_calls on_more well_a well_b =
+-- what was written is seen, and then another move
+sees_determined : (answers : ℕ → Answer) (i : Input) (F : Done → Move) (m : State) → ((n : State) → Determined answers HadMemory F n)
+    → Determined answers HadMemory (λ done. Then (SeesWritten i) (F done)) m
+sees_determined answers i F m further a b calls more t u k l on_calls on_more well_a well_b =
     let mids : k.mid ≡ l.mid = k.one.next ∙ sym l.one.next in
     let firsts : k.first ≡ l.first = k.one.saw ∙ sym l.one.saw in
     let rest : Same a b k.second l.second t u =
@@ -210,12 +222,12 @@ emits_determined answers emissions F m further a b calls more t u k l on_calls o
 
 abbrev AfterWrite : Input → List Input → List Emission → Done → Called → Move
 AfterWrite i is emitted done c =
-    IfDone c (Then (Emits (emissions_of_write i)) (WritesEach is (emitted ++ emissions_of_write i) done)) (Stops (failure_of c) emitted done)
+    IfDone c (Then (SeesWritten i) (WritesEach is (emitted ++ emissions_of_write i) done)) (Stops (failure_of c) emitted done)
 
 after_write : (answers : ℕ → Answer) (i : Input) (is : List Input) (emitted : List Emission) (c : Called) (m : State)
     → ((n : State) → Determined answers HadMemory (WritesEach is (emitted ++ emissions_of_write i)) n)
     → Determined answers HadMemory (λ done. AfterWrite i is emitted done c) m
-after_write answers i is emitted (gives answer.Done) m further = emits_determined answers (emissions_of_write i) (WritesEach is (emitted ++ emissions_of_write i)) m further
+after_write answers i is emitted (gives answer.Done) m further = sees_determined answers i (WritesEach is (emitted ++ emissions_of_write i)) m further
 after_write answers i is emitted c m further = λ a b calls more t u k l on_calls on_more well_a well_b. fixed _ a b m [] calls more t u k.0 l.0 k.1 l.1
 
 written_determined : (answers : ℕ → Answer) (is : List Input) (emitted : List Emission) (s : State) → Determined answers HadMemory (WritesEach is emitted) s
@@ -293,7 +305,7 @@ act_determined : (answers : ℕ → Answer) (act : Act) (q : PlainRequest) (is :
 act_determined answers (describes thing) q is s = answer_determined answers _ s
 act_determined answers (reads_all thing) q is s = each_determined answers (readable thing) [] s
 act_determined answers (writes_many thing) q is s = written_determined answers is [] s
-act_determined answers (reads p) q is s = read_determined answers p s
+act_determined answers (reads p) q is s = read_determined answers p q.conditions s
 act_determined answers (writes p) q is s = written_determined answers is [] s
 act_determined answers (invokes p) q is s = invokes_determined answers p q.path is s
 act_determined answers (queries p id) q is s = on_invocation answers p id (Queries p id) s (λ status. queries_determined answers p id status s)
@@ -340,6 +352,7 @@ one_answer format_not_taken x o p k l = k ∙ sym l
 one_answer body_not_as_wanted x o p k l = k ∙ sym l
 one_answer value_too_large x o p k l = k ∙ sym l
 one_answer refused_by_schema x o p k l = k ∙ sym l
+one_answer condition_failed x o p k l = k ∙ sym l
 one_answer no_invocation_left x o p k l = k ∙ sym l
 
 one_refusal : (S : Refusal → Type 0) (x : Asked) (rs : List Refusal) (o p : Outcome) → IsFirst S (λ r. IsAnsweredWith r x) rs o → IsFirst S (λ r. IsAnsweredWith r x) rs p → o ≡ p

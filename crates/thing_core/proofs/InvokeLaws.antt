@@ -55,7 +55,7 @@ cancel_done p id i called o c d e a b found runs k is pending =
 
 -- one that runs no more is asked about, or goes, without a call
 pub told_done : (p : Placed) (id : ℕ) (i : Invocation) (output : Option (List ℕ)) (o : Outcome) (c : Course) (a : List Seen) → invocation_named p.slot id c.state.invocations ≡ Some i
-    → i.status ≡ completed output → o ≡ outcome.Content (status_text id (completed output)) → MakesDone (OnInvocation p id (Queries p id)) o c c a a
+    → i.status ≡ completed output → o ≡ outcome.Content (status_text id (completed output)) None → MakesDone (OnInvocation p id (Queries p id)) o c c a a
 told_done p id i output o c a found stands is =
     done_alone (OnInvocation p id (Queries p id)) o c c a a
     (made_unseen (OnInvocation p id (Queries p id) (only o)) c.state c.state a

@@ -12,9 +12,10 @@ use Rattle.thing_handler.specs.declared.handler.Answer.TheVariants as answer
 use Rattle.thing_handler.specs.Turns.{HandlerCall}
 use Rattle.thing_site.specs.Site.{Placed}
 use Rattle.thing_core.specs.State.{Status, running, completed, State, Emission, Latest, last_after, renewed}
-use Rattle.thing_site.specs.Places.{Act, describes, reads_all, writes_many, reads, writes, invokes, queries, cancels, reads_event, waits}
+use Rattle.thing_site.specs.declared.place.Act.{Act}
+use Rattle.thing_site.specs.declared.place.Act.TheVariants.{Describes as describes, ReadsAll as reads_all, WritesMany as writes_many, Reads as reads, Writes as writes, Invokes as invokes, Queries as queries, Cancels as cancels, ReadsEvent as reads_event, Waits as waits}
 use Rattle.thing_site.specs.Refusals.{Input}
-use Rattle.thing_core.specs.Thing.{Move, Done, Called, no_number, no_memory, gives, failure_of, Calls, ReadsValue, ReadsEach, Emits, emissions_of_write, Stops, IfDone, WritesEach, IsInvoked, IsQueried, Queries, IsCancelled, Cancels, Performs, PollsEach}
+use Rattle.thing_core.specs.Thing.{Move, Done, Called, no_number, no_memory, gives, failure_of, Calls, ReadsValue, with_value, ReadsEach, SeesWritten, emissions_of_write, Stops, IfDone, WritesEach, IsInvoked, IsQueried, Queries, IsCancelled, Cancels, Performs, PollsEach}
 use Rattle.thing_core.specs.Performing.{OrMemory}
 use Rattle.thing_core.proofs.ReadLaws.{AfterValue}
 
@@ -30,8 +31,12 @@ calls_keep slot what no_number s seen t p = same_count s t p.1.next
 calls_keep slot what no_memory s seen t p = same_count s t p.1.next
 calls_keep slot what (gives a) s seen t p = ap (λ (x : State). length x.last) p.1.next
 
+seen_keep : (p : Placed) (r : Result Json Outcome) (s t : State) → t ≡ with_value p r s → Keeps s t
+seen_keep p (Ok value) s t e = ap (λ (x : State). length x.last) e
+seen_keep p (Err o) s t e = same_count s t e
+
 value_keeps : (p : Placed) (r : Result Json Outcome) (s : State) (seen : List HandlerCall) (t : State) → ReadsValue p r s seen t → Keeps s t
-value_keeps p r s seen t q = same_count q.1.mid t q.1.other.1.next ∙ calls_keep p.slot call.Read q.0 s q.1.first q.1.mid q.1.one
+value_keeps p r s seen t q = seen_keep p r q.1.mid t q.1.other.1.next ∙ calls_keep p.slot call.Read q.0 s q.1.first q.1.mid q.1.one
 
 reads_keep : (ps : List Placed) (got : List (List ℕ × Json)) (done : Done) (s : State) (seen : List HandlerCall) (t : State) → ReadsEach ps got done s seen t → Keeps s t
 reads_keep [] got done s seen t q = same_count s t q.1.next
@@ -49,6 +54,9 @@ emitted_keep (e ∷ es) last = emitted_keep es (map (renewed e) last) ∙ length
 emits_keep : (es : List Emission) (s t : State) → t ≡ record s { last = last_after es s.last } → Keeps s t
 emits_keep es s t e = ap (λ (x : State). length x.last) e ∙ emitted_keep es s.last
 
+written_keep : (i : Input) (s t : State) (seen : List HandlerCall) → SeesWritten i s seen t → Keeps s t
+written_keep i s t seen x = ap (λ (y : State). length y.last) x.next ∙ emitted_keep (emissions_of_write i) s.last
+
 if_done : (called : Called) (F O : Move) (s : State) (seen : List HandlerCall) (t : State) (K : Type 0) → (F s seen t → K) → (O s seen t → K) → IfDone called F O s seen t → K
 if_done (gives answer.Done) F O s seen t K f o x = f x
 if_done called F O s seen t K f o x = o x
@@ -56,8 +64,8 @@ if_done called F O s seen t K f o x = o x
 writes_keep : (is : List Input) (emitted : List Emission) (done : Done) (s : State) (seen : List HandlerCall) (t : State) → WritesEach is emitted done s seen t → Keeps s t
 writes_keep [] emitted done s seen t q = same_count s t q.1.next
 writes_keep (i ∷ is) emitted done s seen t q =
-    if_done q.2.0 (Then (Emits (emissions_of_write i)) (WritesEach is (emitted ++ emissions_of_write i) done)) (Stops (failure_of q.2.0) emitted done) q.2.1.mid q.2.1.second t (Keeps q.2.1.mid t)
-    (λ x. writes_keep is (emitted ++ emissions_of_write i) done x.mid x.second t x.other ∙ emits_keep (emissions_of_write i) q.2.1.mid x.mid x.one.next)
+    if_done q.2.0 (Then (SeesWritten i) (WritesEach is (emitted ++ emissions_of_write i) done)) (Stops (failure_of q.2.0) emitted done) q.2.1.mid q.2.1.second t (Keeps q.2.1.mid t)
+    (λ x. writes_keep is (emitted ++ emissions_of_write i) done x.mid x.second t x.other ∙ written_keep i q.2.1.mid x.mid x.first x.one)
     (λ x. same_count q.2.1.mid t x.1.next) q.2.1.other
     ∙ calls_keep i.affordance.slot (call.Write q.0) q.2.0 s q.2.1.first q.2.1.mid q.2.1.one
 

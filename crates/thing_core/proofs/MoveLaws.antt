@@ -16,8 +16,8 @@ use Rattle.thing_handler.proofs.RackLaws.{rack_shows_in_order, rack_shows_answer
 use Rattle.thing_site.specs.Site.{Placed}
 use Rattle.thing_core.specs.State.{State}
 use Rattle.thing_core.specs.Course.{Course}
-use Rattle.thing_core.specs.Thing.{Move, Done, Called, no_number, no_memory, gives, only, most_turns, Calls, GivesValue, ReadsValue}
-use Rattle.thing_core.specs.Performing.{CallsFor, ComesAs, IsOrMemory, Leads, MakesCall, MakesDone, OrMemory}
+use Rattle.thing_core.specs.Thing.{Move, Done, Called, no_number, no_memory, gives, only, most_turns, Calls, GivesValue, ReadsValue, with_value}
+use Rattle.thing_core.specs.Performing.{CallsFor, ComesAs, HasRoomAfter, IsOrMemory, Leads, MakesCall, MakesDone, OrMemory}
 
 -- ---- a call
 
@@ -60,8 +60,8 @@ call_answered c d before after slot what a room made is = record {
 }
 
 -- a call, and what holds of what came of it
-pub calls_for : (P : Called → Type 0) (slot : ℕ) (what : CallKind) (called : Called) (c d : Course) (a b : List Seen) → P called → MakesCall slot what called c d a b → CallsFor P slot what c d a b
-calls_for P slot what called c d a b comes k = record { called = called; comes = comes; made = k.made; pending = k.pending; room = k.room; slots = k.slots }
+pub calls_for : (P : Called → Type 0) (slot : ℕ) (what : CallKind) (called : Called) (c d : Course) (a b : List Seen) → P called → HasRoomAfter called d.state → MakesCall slot what called c d a b → CallsFor P slot what c d a b
+calls_for P slot what called c d a b comes room k = record { called = called; comes = comes; versions = room; made = k.made; pending = k.pending; room = k.room; slots = k.slots }
 
 pub makes_call : (P : Called → Type 0) (n slot : ℕ) (what : CallKind) (c d : Course) (a b : List Seen) → n ≡ slot → (k : CallsFor P n what c d a b) → MakesCall slot what k.called c d a b
 makes_call P n slot what c d a b same k =
@@ -117,17 +117,17 @@ leads_call {I} K slot what called c d a b k = record {
       (called, record { mid = d.state; first = k.made.seen; second = later; one = k.made.move; other = p; whole = refl });
 }
 
--- a call for a value, and then what comes of the value
-pub leads_value : {I : Type 0} (K : I → Result Json Outcome → Move) (p : Placed) (called : Called) (r : Result Json Outcome) (c d : Course) (a b : List Seen)
-    → MakesCall p.slot call.Read called c d a b → GivesValue p.affordance.output called r
-    → Leads (λ i. K i r) (λ i. Passing (ReadsValue p) (K i)) c.state d.state a b
-leads_value {I} K p called r c d a b k given = record {
+-- a call for a value, which is seen, and then what comes of the value
+pub leads_value : {I : Type 0} (K : I → Result Json Outcome → Move) (p : Placed) (called : Called) (r : Result Json Outcome) (c d e : Course) (a b : List Seen)
+    → MakesCall p.slot call.Read called c d a b → GivesValue p.affordance.output called r → e.state ≡ with_value p r d.state
+    → Leads (λ i. K i r) (λ i. Passing (ReadsValue p) (K i)) c.state e.state a b
+leads_value {I} K p called r c d e a b k given sees = record {
   seen = k.made.seen;
   shows = k.made.shows;
   leads = λ (i : I) (later : List HandlerCall) (t : State) q. (
     r,
     record {
-      mid = d.state;
+      mid = e.state;
       first = k.made.seen;
       second = later;
       one = (
@@ -137,7 +137,7 @@ leads_value {I} K p called r c d a b k given = record {
           first = k.made.seen;
           second = [];
           one = k.made.move;
-          other = (given, record { next = refl; saw = refl });
+          other = (given, record { next = sees; saw = refl });
           whole = sym (append-nil k.made.seen);
         },
       );

@@ -13,7 +13,7 @@ use Rattle.wot_terms.specs.declared.kind.Kind.TheVariants as kind
 use Rattle.thing_site.specs.Site.{Placed, Site, those_of, events_of, is_emitter, is_kind, of_kind, emitters_of, emitters_of_thing}
 use Rattle.thing_core.specs.Course.{Course}
 use Rattle.thing_core.specs.State.{Emission}
-use Rattle.thing_site.specs.Places.{Act}
+use Rattle.thing_site.specs.declared.place.Act.{Act}
 use Rattle.thing_site.specs.Refusals.{Input, inputs_of}
 use Rattle.thing_core.specs.Refusals.{act_asked, refusals, IsRefusedBy, NoneStands}
 use Rattle.thing_core.specs.Thing.{only, Performs, PollsEach, Acts, refuses, has_no_memory, performs}

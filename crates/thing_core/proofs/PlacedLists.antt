@@ -7,7 +7,7 @@ use Rattle.std.proofs.lemmas.List.{at_drop_all, append-nil}
 use Rattle.std.proofs.lemmas.List.Elements.{filter-append}
 use Rattle.std.proofs.lemmas.Option.{same_Some, slice_get_cases}
 use Rattle.wot_terms.specs.declared.kind.Kind.{Kind}
-use Rattle.thing_core.specs.State.{Latest}
+use Rattle.thing_core.specs.State.{Latest, Version, unseen}
 use Rattle.wot_terms.specs.declared.kind.Kind.TheVariants as kind
 use Rattle.thing_site.specs.Site.{Placed, affordance_named, is_emitter, is_kind, of_kind}
 use Rattle.thing_core.specs.Thing.{is_readable}
@@ -47,6 +47,22 @@ silent_more last new p ps grown = by_test (is_emitter p) refl
         rw (e, one) (sym (append_assoc last (silent p ∷ []) (map silent (filter is_emitter ps))))
     by_test false e =
         let same : new ≡ last = grown ∙ rw e (append-nil last) in
+        rw (e, same) refl
+
+-- one after another among the properties
+abbrev pub properties_among : List Placed → List Placed
+properties_among ps = filter (of_kind kind.Property) ps
+
+pub unseen_more : (versions new : List Version) (p : Placed) (ps : List Placed) → new ≡ versions ++ map unseen (properties_among (p ∷ []))
+    → versions ++ map unseen (properties_among (p ∷ ps)) ≡ new ++ map unseen (properties_among ps)
+unseen_more versions new p ps grown = by_test (of_kind kind.Property p) refl
+  where
+    by_test : (b : Bool) → of_kind kind.Property p ≡ b → versions ++ map unseen (properties_among (p ∷ ps)) ≡ new ++ map unseen (properties_among ps)
+    by_test true e =
+        let one : new ≡ versions ++ unseen p ∷ [] = grown ∙ rw e refl in
+        rw (e, one) (sym (append_assoc versions (unseen p ∷ []) (map unseen (properties_among ps))))
+    by_test false e =
+        let same : new ≡ versions = grown ∙ rw e (append-nil versions) in
         rw (e, same) refl
 
 -- ---- those that are read, and those that are polled

@@ -8,6 +8,7 @@ use Rattle.wot_json.specs.Tree.{Json, members_of}
 use Rattle.wot_json.specs.Json.{text_of, more_members_text, json_string}
 use Rattle.wot_json.specs.Meaning.{json_of}
 use Rattle.wot_json.specs.declared.tree.Tree.{Tree}
+use Rattle.thing_ops.specs.declared.conditions.Conditions.{Conditions}
 use Rattle.thing_ops.specs.declared.outcome.Outcome.{Outcome}
 use Rattle.thing_ops.specs.declared.outcome.Outcome.TheVariants as outcome
 use Rattle.thing_handler.specs.declared.handler.CallKind.TheVariants as call
@@ -15,8 +16,9 @@ use Rattle.thing_handler.specs.declared.handler.Answer.TheVariants as answer
 use Rattle.thing_handler.specs.Handler.{Seen}
 use Rattle.thing_handler.specs.Turns.{RackShows}
 use Rattle.thing_site.specs.Site.{Placed}
+use Rattle.thing_core.specs.State.{version_of}
 use Rattle.thing_core.specs.Course.{Course}
-use Rattle.thing_core.specs.Thing.{Move, Done, Called, no_number, no_memory, gives, only, IsTaken, GivesValue, content_of, Reads, ReadsEach}
+use Rattle.thing_core.specs.Thing.{Move, Done, Called, no_number, no_memory, gives, only, IsTaken, GivesValue, outcome_of_read, with_value, Reads, ReadsEach}
 use Rattle.thing_core.specs.Performing.{IsUnanswered, IsValueOf, MakesCall, MakesDone, OrMemory, Leads, open_object, with_member}
 use Rattle.thing_core.proofs.MoveLaws.{done_alone, or_memory, leads_value, leads_end, made_unseen}
 
@@ -34,11 +36,12 @@ unanswered_value no_memory o e = λ schema. ap Err e
 unanswered_value (gives answer) o e = absurd e
 
 -- a property is read by one call
-pub read_done : (p : Placed) (called : Called) (r : Result Json Outcome) (o : Outcome) (c d : Course) (a b : List Seen) → MakesCall p.slot call.Read called c d a b
-    → GivesValue p.affordance.output called r → o ≡ content_of r → MakesDone (OrMemory (Reads p)) o c d a b
-read_done p called r o c d a b k given is =
-    or_memory (Reads p) o c d a b
-    (done_alone (Reads p) o c d a b
+pub read_done : (p : Placed) (q : Conditions) (called : Called) (r : Result Json Outcome) (o : Outcome) (c d e : Course) (a b : List Seen) → MakesCall p.slot call.Read called c d a b
+    → GivesValue p.affordance.output called r → e.state ≡ with_value p r d.state → e.pending ≡ d.pending → o ≡ outcome_of_read q (version_of p.slot e.state.versions) r
+    → MakesDone (OrMemory (Reads p q)) o c e a b
+read_done p q called r o c d e a b k given sees pending is =
+    or_memory (Reads p q) o c e a b
+    (done_alone (Reads p q) o c e a b
     (record {
       seen = k.made.seen;
       move = (
@@ -51,13 +54,13 @@ read_done p called r o c d a b k given is =
             first = k.made.seen;
             second = [];
             one = k.made.move;
-            other = (given, record { next = refl; saw = refl });
+            other = (given, record { next = sees; saw = refl });
             whole = sym (append-nil k.made.seen);
           },
         ),
       );
       shows = k.made.shows;
-    }) k.pending)
+    }) (pending ∙ k.pending))
 
 -- ---- several
 
@@ -70,17 +73,17 @@ AfterValue p ps got done r =
     ]
 
 -- the next one is given
-pub read_goes_on : (p : Placed) (ps : List Placed) (got : List (List ℕ × Json)) (called : Called) (value : Json) (c d : Course) (a b : List Seen) → MakesCall p.slot call.Read called c d a b
-    → GivesValue p.affordance.output called (Ok value)
-    → Leads (ReadsEach ps (got ++ (p.affordance.name, value) ∷ [])) (ReadsEach (p ∷ ps) got) c.state d.state a b
-read_goes_on p ps got called value c d a b k given = leads_value (AfterValue p ps got) p called (Ok value) c d a b k given
+pub read_goes_on : (p : Placed) (ps : List Placed) (got : List (List ℕ × Json)) (called : Called) (value : Json) (c d e : Course) (a b : List Seen) → MakesCall p.slot call.Read called c d a b
+    → GivesValue p.affordance.output called (Ok value) → e.state ≡ with_value p (Ok value) d.state
+    → Leads (ReadsEach ps (got ++ (p.affordance.name, value) ∷ [])) (ReadsEach (p ∷ ps) got) c.state e.state a b
+read_goes_on p ps got called value c d e a b k given sees = leads_value (AfterValue p ps got) p called (Ok value) c d e a b k given sees
 
 -- it isn't, and all stops there
 pub read_stops : (p : Placed) (ps : List Placed) (got : List (List ℕ × Json)) (called : Called) (o : Outcome) (c d : Course) (a b : List Seen) → MakesCall p.slot call.Read called c d a b
     → GivesValue p.affordance.output called (Err o) → Makes RackShows (ReadsEach (p ∷ ps) got (only o)) c.state d.state a b
 read_stops p ps got called o c d a b k given =
     leads_end (λ (done : Done). AfterValue p ps got done (Err o)) (ReadsEach (p ∷ ps) got) (only o) c.state d.state d.state a b b
-    (leads_value (AfterValue p ps got) p called (Err o) c d a b k given)
+    (leads_value (AfterValue p ps got) p called (Err o) c d d a b k given refl)
     (made_unseen (AfterValue p ps got (only o) (Err o)) d.state d.state b (refl, record { next = refl; saw = refl }))
 
 -- ---- the text of an object, member by member

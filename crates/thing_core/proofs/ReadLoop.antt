@@ -41,12 +41,12 @@ one_fails all left p o text later c d e a b x far one pending =
     (leads_end (ReadsEach (p ∷ left) far.members) (ReadsEach all []) (only o) c.state d.state e.state a b x far.leads (one left far.members)) (pending ∙ far.pending)
 
 pub all_read : (all : List Placed) (text whole : List ℕ) (c d : Course) (a b : List Seen) → ReadSoFar all [] text c d a b → whole ≡ text ++ codes "}"
-    → MakesDone (ReadsEach all []) (outcome.Content whole) c d a b
+    → MakesDone (ReadsEach all []) (outcome.Content whole None) c d a b
 all_read all text whole c d a b far is =
     let written : whole ≡ open_object far.members ++ codes "}" = is ∙ ap (λ (l : List ℕ). l ++ codes "}") far.written in
-    done_alone (ReadsEach all []) (outcome.Content whole) c d a b
-    (leads_end (ReadsEach [] far.members) (ReadsEach all []) (only (outcome.Content whole)) c.state d.state d.state a b b far.leads
-    (made_unseen (ReadsEach [] far.members (only (outcome.Content whole))) d.state d.state b (ap (λ (l : List ℕ). only (outcome.Content l)) written, record { next = refl; saw = refl })))
+    done_alone (ReadsEach all []) (outcome.Content whole None) c d a b
+    (leads_end (ReadsEach [] far.members) (ReadsEach all []) (only (outcome.Content whole None)) c.state d.state d.state a b b far.leads
+    (made_unseen (ReadsEach [] far.members (only (outcome.Content whole None))) d.state d.state b (ap (λ (l : List ℕ). only (outcome.Content l None)) written, record { next = refl; saw = refl })))
     far.pending
 
 pub two_or_more : (fields : List Placed) → 2 ≤ room_of_all fields

@@ -9,23 +9,32 @@ use Rattle.thing_ops.specs.Requests.{PlainRequest}
 use Rattle.thing_ops.specs.Routes.{route_of}
 use Rattle.thing_ops.specs.Verbs.{verbs_in, verbs_of}
 use Rattle.thing_site.specs.Refusals.{Input}
-use Rattle.thing_site.specs.Places.{Place, Act, act_at, flags_of}
-use Rattle.thing_site.specs.Refusals.{Refusal, no_invocation_left, refusals_by_request, Holding, StandsByRequest, IsAnswer, IsFirst, IsNone}
+use Rattle.thing_site.specs.Places.{act_at, flags_of}
+use Rattle.thing_site.specs.declared.place.Place.{Place}
+use Rattle.thing_site.specs.declared.place.Act.{Act}
+use Rattle.thing_site.specs.Refusals.{Refusal, condition_failed, no_invocation_left, refusals_by_request, Holding, StandsByRequest, IsAnswer, IsFirst, IsNone}
 use Rattle.thing_site.specs.HandedIn.{IsRefusedByRequest, IsUnrefused}
 use Rattle.thing_core.specs.State.{State, Invocation}
 use Rattle.thing_core.specs.Places.{place_of}
-use Rattle.thing_core.specs.Refusals.{Asked, act_asked, place_asked, refusals, refusals_of_acts, HasNoInvocationLeft, IsRefusedBy, NoneStands, StandsAgainst}
+use Rattle.thing_core.specs.Refusals.{Asked, act_asked, place_asked, refusals, refusals_of_acts, HasFailedCondition, HasNoInvocationLeft, IsRefusedBy, NoneStands, StandsAgainst}
 use Rattle.thing_core.specs.Performing.{IsActRefused, IsFree}
 
 -- ---- from the request alone to the state
 
 -- none holds of an act that needs no state
-pub act_is_free : (act : Act) (s : State) (q : PlainRequest) (inputs : List Input) → IsUnrefused act q inputs → ¬ (HasNoInvocationLeft s act) → IsFree act s q inputs
-act_is_free act s q inputs given free = (given.0, (given.1.0, (given.1.1.0, (given.1.1.1.0, (given.1.1.1.1.0, (given.1.1.1.1.1.0, (free, tt)))))))
+pub act_is_free : (act : Act) (s : State) (q : PlainRequest) (inputs : List Input) → IsUnrefused act q inputs → ¬ (HasFailedCondition s q.conditions act) → ¬ (HasNoInvocationLeft s act)
+    → IsFree act s q inputs
+act_is_free act s q inputs given met free = (given.0, (given.1.0, (given.1.1.0, (given.1.1.1.0, (given.1.1.1.1.0, (given.1.1.1.1.1.0, (met, (free, tt))))))))
 
-pub act_is_full : (act : Act) (s : State) (q : PlainRequest) (inputs : List Input) → IsUnrefused act q inputs → HasNoInvocationLeft s act → IsActRefused act s q outcome.InvocationsFull
-act_is_full act s q inputs given full =
-    inr (inr (given.1.0, inr (given.1.1.0, inr (given.1.1.1.0, inr (given.1.1.1.1.0, inr (given.1.1.1.1.1.0, inl (full, refl)))))))
+pub act_is_failed : (act : Act) (s : State) (q : PlainRequest) (inputs : List Input) → IsUnrefused act q inputs → HasFailedCondition s q.conditions act
+    → IsActRefused act s q outcome.PreconditionFailed
+act_is_failed act s q inputs given failed =
+    inr (inr (given.1.0, inr (given.1.1.0, inr (given.1.1.1.0, inr (given.1.1.1.1.0, inr (given.1.1.1.1.1.0, inl (failed, refl)))))))
+
+pub act_is_full : (act : Act) (s : State) (q : PlainRequest) (inputs : List Input) → IsUnrefused act q inputs → ¬ (HasFailedCondition s q.conditions act) → HasNoInvocationLeft s act
+    → IsActRefused act s q outcome.InvocationsFull
+act_is_full act s q inputs given met full =
+    inr (inr (given.1.0, inr (given.1.1.0, inr (given.1.1.1.0, inr (given.1.1.1.1.0, inr (given.1.1.1.1.1.0, inr (met, inl (full, refl))))))))
 
 -- two conditions are the same of these
 abbrev Alike : (Refusal → Type 0) → (Refusal → Type 0) → List Refusal → Type 0
@@ -41,7 +50,7 @@ first_of_more S T (r ∷ rs) more o alike (inr further) = inr (λ stands. furthe
 pub act_is_refused : (act : Act) (s : State) (q : PlainRequest) (o : Outcome) → IsRefusedByRequest act q o → IsActRefused act s q o
 act_is_refused act s q o (inl out) = inl out
 act_is_refused act s q o (inr first) =
-    inr (first_of_more (λ r. StandsByRequest r act q) (λ r. StandsAgainst r act s q) refusals_by_request (no_invocation_left ∷ []) o
+    inr (first_of_more (λ r. StandsByRequest r act q) (λ r. StandsAgainst r act s q) refusals_by_request (condition_failed ∷ no_invocation_left ∷ []) o
     ((λ h. h, λ h. h), ((λ h. h, λ h. h), ((λ h. h, λ h. h), ((λ h. h, λ h. h), ((λ h. h, λ h. h), tt))))) first)
 
 -- ---- a request that asks for an act

@@ -18,7 +18,11 @@ use Rattle.thing_handler.specs.Handler.{Seen}
 use Rattle.thing_site.specs.Refusals.{Input}
 use Rattle.thing_site.specs.Site.{Placed, ExposedThing, Site, affordance_named, thing_named, events_of, those_of}
 use Rattle.thing_core.specs.State.{State, Invocation, invocation_named, running_count, most_invocations}
-use Rattle.thing_site.specs.Places.{Place, description, all_properties, property, observed, action, invocation, event, subscribed, thing_in, affordance_in, place_at, where_observable, Act, invokes, queries, cancels, act_at, act_of, flags_of, is_listed}
+use Rattle.thing_site.specs.Places.{thing_in, affordance_in, place_at, where_observable, act_at, act_of, flags_of, is_listed}
+use Rattle.thing_site.specs.declared.place.Place.{Place}
+use Rattle.thing_site.specs.declared.place.Act.{Act}
+use Rattle.thing_site.specs.declared.place.Place.TheVariants.{Description as description, AllProperties as all_properties, Property as property, Observed as observed, Action as action, Invocation as invocation, Event as event, Subscribed as subscribed}
+use Rattle.thing_site.specs.declared.place.Act.TheVariants.{Invokes as invokes, Queries as queries, Cancels as cancels}
 use Rattle.thing_core.specs.Places.{where_stands}
 use Rattle.thing_site.specs.Refusals.{Input, inputs_of, longest_value, IsLong, SomeInput, Holding}
 use Rattle.thing_core.specs.Refusals.{Asked, act_asked, place_asked, refusals, HasNoInvocationLeft, NoneStands}
@@ -224,7 +228,7 @@ done_by_act count s act stands free = tt
 pub may_be_done : (count : ℕ) (a : Asked) (act : Act) → SiteStands count a.site → act_asked a ≡ Some act → NoneStands refusals a → MayBeDone act a.state
 may_be_done count a act all e none =
     done_by_act count a.state act (asked_stands (λ p. p.slot < count) a act all e)
-    (λ full. none.1.1.1.1.1.1.1.0 (subst (λ (x : Option Act). Holding (HasNoInvocationLeft a.state) x) (sym e) full))
+    (λ full. none.1.1.1.1.1.1.1.1.0 (subst (λ (x : Option Act). Holding (HasNoInvocationLeft a.state) x) (sym e) full))
 
 -- ---- inputs
 

@@ -3,6 +3,7 @@ use Rattle.std.proofs.Common.{◌≡◌, ℕ, List, [], ◌∷◌, ◌++◌, map
 use Rattle.std.specs.Prelude.{Some, None}
 use Rattle.std.proofs.lemmas.List.{append-nil, map-append}
 use Rattle.servient_base.specs.Moves.{Makes, Then}
+use Rattle.wot_json.specs.Json.{text_of}
 use Rattle.wot_json.specs.Meaning.{json_of}
 use Rattle.wot_json.specs.declared.tree.Tree.{Tree}
 use Rattle.thing_ops.specs.declared.outcome.Outcome.{Outcome}
@@ -11,10 +12,10 @@ use Rattle.thing_handler.specs.declared.handler.CallKind.TheVariants as call
 use Rattle.thing_handler.specs.declared.handler.Answer.TheVariants as answer
 use Rattle.thing_handler.specs.Handler.{Seen}
 use Rattle.thing_handler.specs.Turns.{HandlerCall, RackShows}
-use Rattle.thing_core.specs.State.{State, Emission, last_after}
+use Rattle.thing_core.specs.State.{State, Emission, last_after, versions_after}
 use Rattle.thing_core.specs.Course.{Course}
 use Rattle.thing_site.specs.Refusals.{Input}
-use Rattle.thing_core.specs.Thing.{Move, Done, Called, no_number, no_memory, gives, failure_of, Emits, emissions_of_write, IfDone, Stops, WritesEach}
+use Rattle.thing_core.specs.Thing.{Move, Done, Called, no_number, no_memory, gives, failure_of, SeesWritten, emissions_of_write, IfDone, Stops, WritesEach}
 use Rattle.thing_core.specs.Performing.{IsUnanswered, Leads, MakesCall, MakesDone, WritesOne, is_done}
 use Rattle.thing_core.proofs.MoveLaws.{leads_none, leads_then, leads_end, made_unseen}
 
@@ -35,13 +36,13 @@ if_not_done (gives answer.Done) further otherwise s seen t e p = absurd cc
 if_not_done called further otherwise s seen t e p = p
 
 pub write_goes_on : (i : Input) (tree : Tree) (called : Called) (c d e : Course) (a b : List Seen) → json_of tree ≡ i.value → MakesCall i.affordance.slot (call.Write tree) called c d a b
-    → is_done called ≡ true → e.state ≡ record d.state { last = last_after (emissions_of_write i) d.state.last } → (inputs : List Input) (emitted : List Emission)
+    → is_done called ≡ true → e.state ≡ record d.state { versions = versions_after i.affordance.slot (text_of i.value) d.state.versions; last = last_after (emissions_of_write i) d.state.last } → (inputs : List Input) (emitted : List Emission)
     → Leads (WritesEach inputs (emitted ++ emissions_of_write i)) (WritesEach (i ∷ inputs) emitted) c.state e.state a b
 write_goes_on i tree called c d e a b value k is state inputs emitted = record {
   seen = k.made.seen;
   shows = k.made.shows;
   leads = λ (done : Done) (later : List HandlerCall) (t : State) p.
-      let further : Move = Then (Emits (emissions_of_write i)) (WritesEach inputs (emitted ++ emissions_of_write i) done) in (
+      let further : Move = Then (SeesWritten i) (WritesEach inputs (emitted ++ emissions_of_write i) done) in (
         tree,
         value,
         (
@@ -64,7 +65,7 @@ pub write_stops : (i : Input) (tree : Tree) (called : Called) (o : Outcome) (c d
     → Makes RackShows (WritesEach (i ∷ inputs) emitted (record { outcome = o; emissions = emitted })) c.state d.state a b
 write_stops i tree called o c d a b value k isnt is inputs emitted =
     let done : Done = record { outcome = o; emissions = emitted } in
-    let further : Move = Then (Emits (emissions_of_write i)) (WritesEach inputs (emitted ++ emissions_of_write i) done) in
+    let further : Move = Then (SeesWritten i) (WritesEach inputs (emitted ++ emissions_of_write i) done) in
     record {
       seen = k.made.seen;
       move = (

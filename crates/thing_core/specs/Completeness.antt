@@ -7,6 +7,7 @@ use Rattle.wot_json.specs.Meaning.{json_of}
 use Rattle.wot_json.specs.declared.tree.Tree.{Tree}
 use Rattle.thing_ops.specs.declared.outcome.Outcome.{Outcome}
 use Rattle.thing_ops.specs.declared.outcome.Outcome.TheVariants as outcome
+use Rattle.thing_ops.specs.declared.conditions.Conditions.{Conditions}
 use Rattle.thing_ops.specs.Requests.{PlainRequest}
 use Rattle.thing_handler.specs.declared.handler.CallKind.{CallKind}
 use Rattle.thing_handler.specs.declared.handler.CallKind.TheVariants as call
@@ -15,9 +16,10 @@ use Rattle.thing_handler.specs.declared.handler.Answer.TheVariants as answer
 use Rattle.thing_handler.specs.Turns.{HandlerCall, answered, missed}
 use Rattle.thing_site.specs.Site.{Placed, Site}
 use Rattle.thing_core.specs.State.{State}
-use Rattle.thing_site.specs.Places.{Act, describes, reads_all, writes_many, reads, writes, invokes, queries, cancels, reads_event, waits}
+use Rattle.thing_site.specs.declared.place.Act.{Act}
+use Rattle.thing_site.specs.declared.place.Act.TheVariants as act
 use Rattle.thing_core.specs.Refusals.{act_asked, refusals, NoneStands}
-use Rattle.thing_core.specs.Thing.{Done, IsTaken, Acts, most_turns}
+use Rattle.thing_core.specs.Thing.{Done, IsTaken, Acts, most_turns, read_outcome}
 use Rattle.thing_core.specs.Performing.{affordances_of_act}
 
 -- ---- answers in kind
@@ -48,8 +50,14 @@ AnswersInKind (missed slot ∷ calls) p = AnswersInKind calls p
 
 -- ---- successes
 
+-- a value that has no version of its own
 abbrev pub IsContent : Outcome → Type 0
-IsContent o = (text : List ℕ) × (o ≡ outcome.Content text)
+IsContent o = (text : List ℕ) × (o ≡ outcome.Content text None)
+
+-- one property was read, and judged by some version: its value with that version, or its sender has it, or it isn't what
+-- the request asks for
+abbrev pub IsRead : Conditions → Outcome → Type 0
+IsRead c o = (version : ℕ) × (text : List ℕ) × (o ≡ read_outcome c version text)
 
 -- an action is finished, without an output or with one, or runs
 abbrev pub IsInvocation : Outcome → Type 0
@@ -59,16 +67,16 @@ IsInvocation o =
 
 -- the outcome of each act where it succeeds, by the table of acts
 abbrev pub IsSuccess : Act → PlainRequest → Outcome → Type 0
-IsSuccess (describes thing) q o = o ≡ outcome.Description (text_of thing.description) q.accept.td
-IsSuccess (reads_all thing) q o = IsContent o
-IsSuccess (writes_many thing) q o = o ≡ outcome.Changed
-IsSuccess (reads p) q o = IsContent o
-IsSuccess (writes p) q o = o ≡ outcome.Changed
-IsSuccess (invokes p) q o = IsInvocation o
-IsSuccess (queries p id) q o = IsContent o
-IsSuccess (cancels p id) q o = o ≡ outcome.Deleted
-IsSuccess (reads_event p) q o = (o ≡ outcome.Empty) ⊎ IsContent o
-IsSuccess (waits p) q o = o ≡ outcome.Wait p.slot
+IsSuccess (act.Describes thing) q o = o ≡ outcome.Description (text_of thing.description) q.accept.td
+IsSuccess (act.ReadsAll thing) q o = IsContent o
+IsSuccess (act.WritesMany thing) q o = o ≡ outcome.Changed
+IsSuccess (act.Reads p) q o = IsRead q.conditions o
+IsSuccess (act.Writes p) q o = o ≡ outcome.Changed
+IsSuccess (act.Invokes p) q o = IsInvocation o
+IsSuccess (act.Queries p id) q o = IsContent o
+IsSuccess (act.Cancels p id) q o = o ≡ outcome.Deleted
+IsSuccess (act.ReadsEvent p) q o = (o ≡ outcome.Empty) ⊎ IsContent o
+IsSuccess (act.Waits p) q o = o ≡ outcome.Wait p.slot
 
 -- a success; or it is out of memory, or the run has no number left for a turn
 pub data Succeeds (S : Outcome → Type 0) (o : Outcome) (t : State) : Type 0 where

@@ -1,10 +1,10 @@
 -- What contracts see of what changes in a run, and how the logic keeps it.
-use Rattle.std.specs.Prelude.{◌≡◌, ◌≤◌, ℕ, List, length, Option, Some, None, refl}
+use Rattle.std.specs.Prelude.{◌≡◌, ◌≤◌, ◌<◌, ℕ, List, length, Option, Some, None, refl}
 use Rattle.std.specs.Coded.{Coded, code_by, coded×, coded_ℕ, coded_list, coded_option}
 use Rattle.thing_core.specs.declared.state.Progress.{Progress}
 use Rattle.thing_core.specs.declared.state.Progress.TheVariants as progress
 use Rattle.thing_site.specs.Refusals.{longest_value}
-use Rattle.thing_core.specs.State.{Status, running, completed, Invocation, Latest, State}
+use Rattle.thing_core.specs.State.{Status, running, completed, Invocation, Latest, Version, State, version_of}
 
 -- the state of the machine, the targets of emissions that weren't handed out yet, and how many more of these can be
 -- kept without taking memory
@@ -28,6 +28,10 @@ IsOutput (completed output) o = o ≡ output
 abbrev pub FitsValue : Option (List ℕ) → Type 0
 FitsValue None = Unit {0}
 FitsValue (Some text) = length text ≤ longest_value
+
+-- a turn more than any property has versions: a value may be seen
+abbrev pub HasRoom : State → Type 0
+HasRoom s = (slot : ℕ) → version_of slot s.versions < s.turns
 
 -- ---- how the logic keeps these
 
@@ -62,14 +66,23 @@ latest_code =
     code_by LatestParts (coded× coded_ℕ (coded_option (coded_list coded_ℕ))) (λ l. (l.target, l.text))
     (λ q. record { target = q.0; text = q.1 }) (λ _. refl)
 
+abbrev VersionParts : Type 0
+VersionParts = ℕ × (ℕ × Option (List ℕ))
+
+abbrev pub version_code : Coded Version
+version_code =
+    code_by VersionParts (coded× coded_ℕ (coded× coded_ℕ (coded_option (coded_list coded_ℕ)))) (λ v. (v.slot, (v.number, v.text)))
+    (λ q. record { slot = q.0; number = q.1.0; text = q.1.1 }) (λ _. refl)
+
 abbrev StateParts : Type 0
-StateParts = List Invocation × (ℕ × (List Latest × ℕ))
+StateParts = List Version × (List Invocation × (ℕ × (List Latest × ℕ)))
 
 abbrev pub state_code : Coded State
 state_code =
-    code_by StateParts (coded× (coded_list invocation_code) (coded× coded_ℕ (coded× (coded_list latest_code) coded_ℕ)))
-    (λ s. (s.invocations, (s.next_invocation, (s.last, s.turns))))
-    (λ q. record { invocations = q.0; next_invocation = q.1.0; last = q.1.1.0; turns = q.1.1.1 }) (λ _. refl)
+    code_by StateParts
+    (coded× (coded_list version_code) (coded× (coded_list invocation_code) (coded× coded_ℕ (coded× (coded_list latest_code) coded_ℕ))))
+    (λ s. (s.versions, (s.invocations, (s.next_invocation, (s.last, s.turns)))))
+    (λ q. record { versions = q.0; invocations = q.1.0; next_invocation = q.1.1.0; last = q.1.1.1.0; turns = q.1.1.1.1 }) (λ _. refl)
 
 abbrev CourseParts : Type 0
 CourseParts = State × (List ℕ × ℕ)

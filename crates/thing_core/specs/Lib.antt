@@ -12,3 +12,4 @@ pub mod Determined
 pub mod Ticks
 pub mod Ids
 pub mod Rounds
+pub mod Runs

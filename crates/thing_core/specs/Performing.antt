@@ -17,12 +17,12 @@ use Rattle.thing_handler.specs.Turns.{HandlerCall, RackShows}
 use Rattle.thing_core.specs.declared.admitting.Task.{Task}
 use Rattle.thing_site.specs.Site.{Placed}
 use Rattle.thing_core.specs.State.{State, Emission, Invocation, completed, running, status_text, invocation_named, running_count, most_invocations}
-use Rattle.thing_core.specs.Course.{Course}
-use Rattle.thing_site.specs.Places.{Act, describes, reads_all, writes_many, reads, writes, invokes, queries, cancels, reads_event, waits}
+use Rattle.thing_core.specs.Course.{Course, HasRoom}
+use Rattle.thing_site.specs.declared.place.Act.{Act}
+use Rattle.thing_site.specs.declared.place.Act.TheVariants as act
 use Rattle.thing_site.specs.Refusals.{Input, longest_value, inputs_of, IsAnswer, IsFirst, IsNone}
 use Rattle.thing_core.specs.Refusals.{Asked, act_asked, refusals, refusals_of_acts, StandsAgainst, IsRefusedBy, NoneStands}
 use Rattle.thing_core.specs.Thing.{Move, Done, only, Called, no_number, no_memory, gives, Calls, Decides, IsTaken, GivesValue, Answers, WritesEach, ReadsEach, PollsEach, Polls, emissions_of_write, place_of_invocation, IsInvoked, IsQueried, IsCancelled, Acts}
-use Rattle.thing_site.specs.Found.{found_act}
 use Rattle.thing_core.specs.Kept.{Kept}
 
 -- ---- judging a request
@@ -38,8 +38,8 @@ IsActRefused act s q o = (o ≡ outcome.Memory) ⊎ IsFirst (λ r. StandsAgainst
 -- a request is admitted, with its act and what is handed in; or it is refused, or out of memory
 abbrev pub IsAdmitted : Asked → Result Task Outcome → Type 0
 IsAdmitted a (Ok task) =
-    (act_asked a ≡ Some (found_act task.act))
-    × (inputs_of (found_act task.act) a.request.body ≡ Some task.inputs.items)
+    (act_asked a ≡ Some task.act)
+    × (inputs_of task.act a.request.body ≡ Some task.inputs.items)
     × NoneStands refusals a
 IsAdmitted a (Err o) = (o ≡ outcome.Memory) ⊎ IsRefusedBy refusals a o
 
@@ -51,16 +51,16 @@ AllStand count ps = AllByRecursion (λ p. p.slot < count) ps
 
 -- the affordances that an act may call the handlers of
 abbrev pub affordances_of_act : Act → List Placed
-affordances_of_act (describes thing) = []
-affordances_of_act (reads_all thing) = thing.affordances
-affordances_of_act (writes_many thing) = thing.affordances
-affordances_of_act (reads p) = p ∷ []
-affordances_of_act (writes p) = p ∷ []
-affordances_of_act (invokes p) = p ∷ []
-affordances_of_act (queries p id) = p ∷ []
-affordances_of_act (cancels p id) = p ∷ []
-affordances_of_act (reads_event p) = []
-affordances_of_act (waits p) = []
+affordances_of_act (act.Describes thing) = []
+affordances_of_act (act.ReadsAll thing) = thing.affordances
+affordances_of_act (act.WritesMany thing) = thing.affordances
+affordances_of_act (act.Reads p) = p ∷ []
+affordances_of_act (act.Writes p) = p ∷ []
+affordances_of_act (act.Invokes p) = p ∷ []
+affordances_of_act (act.Queries p id) = p ∷ []
+affordances_of_act (act.Cancels p id) = p ∷ []
+affordances_of_act (act.ReadsEvent p) = []
+affordances_of_act (act.Waits p) = []
 
 -- each input has such a slot, and is no longer than is taken
 abbrev pub InputsFit : ℕ → List Input → Type 0
@@ -86,10 +86,16 @@ abbrev pub ComesAs : Called → Result Answer Outcome → Type 0
 ComesAs called (Ok answer) = called ≡ gives answer
 ComesAs called (Err o) = IsUnanswered called o
 
+-- where it was answered, a value of any property may be seen: the turn hasn't brought a version about yet
+abbrev pub HasRoomAfter : Called → State → Type 0
+HasRoomAfter (gives answer) s = HasRoom s
+HasRoomAfter called s = Unit {0}
+
 -- the same where this holds of what came of the call
 pub record CallsFor (P : Called → Type 0) (slot : ℕ) (what : CallKind) (old new : Course) (before after : List Seen) : Type 0 where
   pub called : Called
   pub comes : P called
+  pub versions : HasRoomAfter called new.state
   pub made : Makes RackShows (Calls slot what called) old.state new.state before after
   pub pending : new.pending ≡ old.pending
   pub room : new.room ≡ old.room
@@ -208,15 +214,15 @@ SettlesCancel id answer o old new = IsCancelled id (only o) (gives answer) old.s
 -- an invocation that runs no more was asked about; or it runs, and the room is empty still
 abbrev pub IsTold : Option Invocation → ℕ → Result Outcome (List ℕ) → Type 0
 IsTold found id (Ok o) =
-    (i : Invocation) × (output : Option (List ℕ)) × (found ≡ Some i) × (i.status ≡ completed output) × (o ≡ outcome.Content (status_text id (completed output)))
+    (i : Invocation) × (output : Option (List ℕ)) × (found ≡ Some i) × (i.status ≡ completed output) × (o ≡ outcome.Content (status_text id (completed output)) None)
 IsTold found id (Err room) = IfSome found (λ i. i.status ≡ running) × (room ≡ [])
 
 -- what an act asks of the state: the invocation that it is about is there, and where it begins
 -- one, a further one may run
 abbrev pub MayBeDone : Act → State → Type 0
-MayBeDone (invokes p) s = running_count s.invocations < most_invocations
-MayBeDone (queries p id) s = IsSome (invocation_named p.slot id s.invocations)
-MayBeDone (cancels p id) s = IsSome (invocation_named p.slot id s.invocations)
+MayBeDone (act.Invokes p) s = running_count s.invocations < most_invocations
+MayBeDone (act.Queries p id) s = IsSome (invocation_named p.slot id s.invocations)
+MayBeDone (act.Cancels p id) s = IsSome (invocation_named p.slot id s.invocations)
 MayBeDone act s = Unit {0}
 
 -- ---- the outcome of a call

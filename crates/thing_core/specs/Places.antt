@@ -2,12 +2,14 @@
 use Rattle.std.specs.Prelude.{ℕ, List, Option, Some, option_map, option_and_then}
 use Rattle.thing_ops.specs.Routes.{route_of}
 use Rattle.thing_site.specs.Site.{Site}
-use Rattle.thing_site.specs.Places.{Place, invocation, place_at, target_at}
+use Rattle.thing_site.specs.Places.{place_at, target_at}
+use Rattle.thing_site.specs.declared.place.Place.{Place}
+use Rattle.thing_site.specs.declared.place.Place.TheVariants as place
 use Rattle.thing_core.specs.State.{Invocation, invocation_named}
 
 -- an invocation is there only where it is among these, under its own action; what else a path leads to is there
 abbrev pub where_stands : List Invocation → Place → Option Place
-where_stands invocations (invocation p id) = option_map (λ _. invocation p id) (invocation_named p.slot id invocations)
+where_stands invocations (place.Invocation p id) = option_map (λ _. place.Invocation p id) (invocation_named p.slot id invocations)
 where_stands invocations place = Some place
 
 -- what a path leads to, where there are these invocations

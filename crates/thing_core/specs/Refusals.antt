@@ -1,20 +1,32 @@
 -- Why a request is refused before any handler is called.
-use Rattle.std.specs.Prelude.{◌≡◌, ◌≤◌, List, [], ◌∷◌, ◌++◌, Option, None, option_and_then}
+use Rattle.std.specs.Prelude.{◌≡◌, ◌≤◌, List, [], ◌∷◌, ◌++◌, Option, None, option_and_then, IsTrue}
 use Rattle.thing_ops.specs.declared.outcome.Outcome.{Outcome}
 use Rattle.thing_ops.specs.declared.outcome.Outcome.TheVariants as outcome
 use Rattle.thing_ops.specs.declared.allow.Allow.{Allow}
+use Rattle.thing_ops.specs.declared.conditions.Conditions.{Conditions}
+use Rattle.thing_ops.specs.Conditions.{fails_to_write}
 use Rattle.thing_ops.specs.Requests.{PlainRequest}
 use Rattle.thing_ops.specs.Routes.{route_of}
 use Rattle.thing_ops.specs.Verbs.{verbs_in, verbs_of}
 use Rattle.thing_site.specs.Site.{Site}
-use Rattle.thing_site.specs.Places.{Place, Act, invokes, act_at, flags_of}
-use Rattle.thing_site.specs.Refusals.{Refusal, nothing_there, verb_not_taken, no_invocation_left, refusals_by_request, Holding, StandsByRequest, IsAnswer, IsFirst, IsNone}
-use Rattle.thing_core.specs.State.{State, running_count, most_invocations}
+use Rattle.thing_site.specs.Places.{act_at, flags_of}
+use Rattle.thing_site.specs.declared.place.Place.{Place}
+use Rattle.thing_site.specs.declared.place.Act.{Act}
+use Rattle.thing_site.specs.declared.place.Act.TheVariants as act
+use Rattle.thing_site.specs.Refusals.{Refusal, nothing_there, verb_not_taken, condition_failed, no_invocation_left, refusals_by_request, Holding, StandsByRequest, IsAnswer, IsFirst, IsNone}
+use Rattle.thing_core.specs.State.{State, running_count, most_invocations, version_of}
 use Rattle.thing_core.specs.Places.{place_of}
+
+-- A property would be written whose version isn't what the request asks for. Its version before the call counts, so
+-- that a client that read it first loses nobody's write (RFC 9110, section 13.1.1). Of all else that is written no
+-- condition is looked at, and one property's read is judged after its call.
+abbrev pub HasFailedCondition : State → Conditions → Act → Type 0
+HasFailedCondition s c (act.Writes p) = IsTrue (fails_to_write c (version_of p.slot s.versions))
+HasFailedCondition s c act = ⊥
 
 -- as many invocations run as may
 abbrev pub HasNoInvocationLeft : State → Act → Type 0
-HasNoInvocationLeft s (invokes p) = most_invocations ≤ running_count s.invocations
+HasNoInvocationLeft s (act.Invokes p) = most_invocations ≤ running_count s.invocations
 HasNoInvocationLeft s act = ⊥
 
 -- ---- the refusals
@@ -34,7 +46,7 @@ act_asked a = option_and_then (λ place. act_at (route_of a.request.path) place 
 -- Those against an act that is there, apart from the two before it: code that judges an act says what it finds of that
 -- act, and one lemma puts it after "nothing is there" and "the verb isn't taken". A further refusal is one more line.
 abbrev pub refusals_of_acts : List Refusal
-refusals_of_acts = refusals_by_request ++ no_invocation_left ∷ []
+refusals_of_acts = refusals_by_request ++ condition_failed ∷ no_invocation_left ∷ []
 
 -- All of them, in the order in which they are judged.
 abbrev pub refusals : List Refusal
@@ -42,6 +54,8 @@ refusals = nothing_there ∷ verb_not_taken ∷ refusals_of_acts
 
 -- when each of them holds of an act that is asked for
 abbrev pub StandsAgainst : Refusal → Act → State → PlainRequest → Type 0
+-- a property would be written that isn't of a version that the request asks for
+StandsAgainst condition_failed act s q = HasFailedCondition s q.conditions act
 -- an action would be invoked, and no further invocation may run
 StandsAgainst no_invocation_left act s q = HasNoInvocationLeft s act
 StandsAgainst r act s q = StandsByRequest r act q

@@ -1,6 +1,9 @@
 -- The state of the Thing machine: what its devices don't keep themselves.
 use Rattle.std.specs.Prelude.{ℕ, ◌+◌, ◌==◌, List, [], ◌∷◌, ◌++◌, map, length, Bool, true, false, ◌&&◌, Option, Some, None, codes, decimal, if◌then◌else◌}
-use Rattle.thing_site.specs.Site.{Placed, Site, emitters_of}
+use Rattle.std.specs.List.{flat_map}
+use Rattle.std.specs.Str.{bytes_eq}
+use Rattle.wot_terms.specs.declared.kind.Kind.TheVariants as kind
+use Rattle.thing_site.specs.Site.{Placed, Site, emitters_of, those_of}
 
 -- ---- invocations of actions
 
@@ -87,11 +90,41 @@ abbrev pub last_after : List Emission → List Latest → List Latest
 last_after [] last = last
 last_after (e ∷ emissions) last = last_after emissions (map (renewed e) last)
 
+-- ---- versions
+
+-- A property's version: its number, and the text of the value that was seen last, where one was. A version is what a
+-- strong entity tag stands for (RFC 9110, section 8.8.3): while the number is the same, so is the text. The property is
+-- named by its slot.
+pub record Version : Type 0 where
+  pub slot : ℕ
+  pub number : ℕ
+  pub text : Option (List ℕ)
+
+-- this text is the one that was seen last
+abbrev pub is_last_seen : List ℕ → Version → Bool
+is_last_seen text v = elim v.text as (λ _. Bool) [ None ↦ false | Some last ↦ bytes_eq last text ]
+
+-- after this text was seen: where it isn't the last one, there is a new version
+abbrev pub after_text : List ℕ → Version → Version
+after_text text v = if is_last_seen text v then v else record v { number = v.number + 1; text = Some text }
+
+-- after this text was seen of the property in this slot
+abbrev pub versions_after : ℕ → List ℕ → List Version → List Version
+versions_after slot text [] = []
+versions_after slot text (v ∷ versions) =
+    if v.slot == slot then after_text text v ∷ versions else v ∷ versions_after slot text versions
+
+-- the number of the version of the property in this slot
+abbrev pub version_of : ℕ → List Version → ℕ
+version_of slot [] = 0
+version_of slot (v ∷ versions) = if v.slot == slot then v.number else version_of slot versions
+
 -- ---- the state
 
--- The invocations, the oldest first; the id of the next invocation, counted over all actions; the last value of each
--- affordance that may emit; and how many turns the run has.
+-- The version of each property; the invocations, the oldest first; the id of the next invocation, counted over all
+-- actions; the last value of each affordance that may emit; and how many turns the run has.
 pub record State : Type 0 where
+  pub versions : List Version
   pub invocations : List Invocation
   pub next_invocation : ℕ
   pub last : List Latest
@@ -100,6 +133,19 @@ pub record State : Type 0 where
 abbrev pub silent : Placed → Latest
 silent p = record { target = p.slot; text = None }
 
+-- all properties, in the order of Things and names
+abbrev pub properties_of : Site → List Placed
+properties_of = flat_map (those_of kind.Property)
+
+abbrev pub unseen : Placed → Version
+unseen p = record { slot = p.slot; number = 0; text = None }
+
 -- before the first request
 abbrev pub start : Site → State
-start site = record { invocations = []; next_invocation = 1; last = map silent (emitters_of site); turns = 0 }
+start site = record {
+  versions = map unseen (properties_of site);
+  invocations = [];
+  next_invocation = 1;
+  last = map silent (emitters_of site);
+  turns = 0;
+}

@@ -9,8 +9,10 @@ use Rattle.wot_json.specs.Json.{text_of}
 use Rattle.wot_json.specs.Meaning.{json_of}
 use Rattle.wot_json.specs.declared.tree.Tree.{Tree}
 use Rattle.wot_terms.specs.declared.kind.Kind.TheVariants as kind
+use Rattle.thing_ops.specs.declared.conditions.Conditions.{Conditions}
 use Rattle.thing_ops.specs.declared.outcome.Outcome.{Outcome}
 use Rattle.thing_ops.specs.declared.outcome.Outcome.TheVariants as outcome
+use Rattle.thing_ops.specs.Conditions.{fails, has}
 use Rattle.thing_ops.specs.Requests.{PlainRequest}
 use Rattle.thing_handler.specs.declared.handler.CallKind.{CallKind}
 use Rattle.thing_handler.specs.declared.handler.CallKind.TheVariants as call
@@ -18,8 +20,9 @@ use Rattle.thing_handler.specs.declared.handler.Answer.{Answer}
 use Rattle.thing_handler.specs.declared.handler.Answer.TheVariants as answer
 use Rattle.thing_handler.specs.Turns.{HandlerCall, answered, missed}
 use Rattle.thing_site.specs.Site.{Placed, ExposedThing, Site, those_of, events_of}
-use Rattle.thing_core.specs.State.{Status, running, completed, Invocation, State, Emission, invocation_named, without_invocation, with_completed, with_running, status_text, last_of, last_after}
-use Rattle.thing_site.specs.Places.{Act, describes, reads_all, writes_many, reads, writes, invokes, queries, cancels, reads_event, waits}
+use Rattle.thing_core.specs.State.{Status, running, completed, Invocation, State, Emission, invocation_named, without_invocation, with_completed, with_running, status_text, last_of, last_after, versions_after, version_of}
+use Rattle.thing_site.specs.declared.place.Act.{Act}
+use Rattle.thing_site.specs.declared.place.Act.TheVariants as act
 use Rattle.thing_site.specs.Refusals.{Input, IsAccepted, longest_value, inputs_of}
 use Rattle.thing_core.specs.Refusals.{act_asked, refusals, IsRefusedBy, NoneStands}
 
@@ -78,16 +81,36 @@ abbrev pub GivesValue : Option Json → Called → Result Json Outcome → Type 
 GivesValue schema (gives (answer.Value tree)) r = Decides (IsTaken schema (json_of tree)) (Ok (json_of tree)) (Err outcome.BadAnswer) r
 GivesValue schema called r = r ≡ Err (failure_of called)
 
--- a property is read: one call
+-- this text is seen of the property in this slot
+abbrev pub with_seen : ℕ → List ℕ → State → State
+with_seen slot text s = record s { versions = versions_after slot text s.versions }
+
+-- the value that a property gave is seen, where it gave one
+abbrev pub with_value : Placed → Result Json Outcome → State → State
+with_value p (Ok value) s = with_seen p.slot (text_of value) s
+with_value p (Err o) s = s
+
+-- a property is read: one call, and what it gives is seen
 abbrev pub ReadsValue : Placed → Result Json Outcome → Move
-ReadsValue p r = Passing (Calls p.slot call.Read) (λ called s seen t. GivesValue p.affordance.output called r × Stays s seen t)
+ReadsValue p r =
+    Passing (Calls p.slot call.Read) (λ called s seen t. GivesValue p.affordance.output called r × Becomes (with_value p r s) [] seen t)
 
-abbrev pub content_of : Result Json Outcome → Outcome
-content_of (Ok value) = outcome.Content (text_of value)
-content_of (Err o) = o
+-- What a read comes to of one property that has this version, with this text: its value, unless the version isn't what
+-- the request asks for, or its sender has that version (RFC 9110, sections 13.1.1 to 13.2.2; RFC 7252, section 5.10.6.2).
+abbrev pub read_outcome : Conditions → ℕ → List ℕ → Outcome
+read_outcome c version text =
+    if fails c version then outcome.PreconditionFailed
+    else if has c.known version then outcome.NotModified version
+    else outcome.Content text (Some version)
 
-abbrev pub Reads : Placed → Done → Move
-Reads p done s seen t = (r : Result Json Outcome) × (done ≡ only (content_of r)) × ReadsValue p r s seen t
+abbrev pub outcome_of_read : Conditions → ℕ → Result Json Outcome → Outcome
+outcome_of_read c version (Ok value) = read_outcome c version (text_of value)
+outcome_of_read c version (Err o) = o
+
+-- one property is read, and judged by the version that it then has
+abbrev pub Reads : Placed → Conditions → Done → Move
+Reads p c done s seen t =
+    (r : Result Json Outcome) × (done ≡ only (outcome_of_read c (version_of p.slot t.versions) r)) × ReadsValue p r s seen t
 
 -- those of a Thing that aren't write-only
 abbrev pub is_readable : Placed → Bool
@@ -98,7 +121,7 @@ readable thing = filter is_readable (those_of kind.Property thing)
 
 -- several are read, one after another, until one fails; with those that were read so far
 abbrev pub ReadsEach : List Placed → List (List ℕ × Json) → Done → Move
-ReadsEach [] got done s seen t = (done ≡ only (outcome.Content (text_of (object (members_of got))))) × Stays s seen t
+ReadsEach [] got done s seen t = (done ≡ only (outcome.Content (text_of (object (members_of got))) None)) × Stays s seen t
 ReadsEach (p ∷ ps) got done s seen t =
     Passing (ReadsValue p)
     (λ r. elim r as (λ _. Move) [
@@ -117,6 +140,14 @@ emission p value = record { target = p.slot; text = text_of value }
 abbrev pub emissions_of_write : Input → List Emission
 emissions_of_write i = if i.affordance.affordance.observable then emission i.affordance i.value ∷ [] else []
 
+-- what was written is seen, and is emitted where the property is observable
+abbrev pub SeesWritten : Input → Move
+SeesWritten i s =
+    Becomes (record s {
+      versions = versions_after i.affordance.slot (text_of i.value) s.versions;
+      last = last_after (emissions_of_write i) s.last;
+    }) []
+
 -- this is the outcome, with what was emitted so far
 abbrev pub Stops : Outcome → List Emission → Done → Move
 Stops o emitted done s seen t = (done ≡ record { outcome = o; emissions = emitted }) × Stays s seen t
@@ -133,7 +164,7 @@ WritesEach [] emitted done s seen t = Stops outcome.Changed emitted done s seen 
 WritesEach (i ∷ inputs) emitted done s seen t =
     (tree : Tree) × (json_of tree ≡ i.value)
     × Passing (Calls i.affordance.slot (call.Write tree))
-    (λ called. IfDone called (Then (Emits (emissions_of_write i)) (WritesEach inputs (emitted ++ emissions_of_write i) done))
+    (λ called. IfDone called (Then (SeesWritten i) (WritesEach inputs (emitted ++ emissions_of_write i) done))
     (Stops (failure_of called) emitted done)) s seen t
 
 -- ---- actions
@@ -173,12 +204,12 @@ Invokes p path inputs done s seen t =
 
 -- an invocation is asked about that runs no more: its status, and no call
 abbrev pub Tells : ℕ → Status → Done → Move
-Tells id status done s seen t = (done ≡ only (outcome.Content (status_text id status))) × Stays s seen t
+Tells id status done s seen t = (done ≡ only (outcome.Content (status_text id status) None)) × Stays s seen t
 
 -- it finishes with this output
 abbrev pub Completes : ℕ → Option (List ℕ) → Done → Move
 Completes id output done s seen t =
-    (done ≡ only (outcome.Content (status_text id (completed output))))
+    (done ≡ only (outcome.Content (status_text id (completed output)) None))
     × Becomes (with_invocations (with_completed id output s.invocations) s) [] seen t
 
 abbrev pub Fails : Called → Done → Move
@@ -219,7 +250,7 @@ OnInvocation p id ByStatus done s seen t =
 -- the last emission of an event, where there was one
 abbrev pub event_outcome : Option (List ℕ) → Outcome
 event_outcome None = outcome.Empty
-event_outcome (Some text) = outcome.Content text
+event_outcome (Some text) = outcome.Content text None
 
 -- nothing is done but to answer
 abbrev pub Answers : Outcome → Done → Move
@@ -227,16 +258,16 @@ Answers o done s seen t = (done ≡ only o) × Stays s seen t
 
 -- What each act does, with these inputs: the table of acts.
 abbrev pub Performs : Act → PlainRequest → List Input → Done → Move
-Performs (describes thing) q inputs done s seen t = Answers (outcome.Description (text_of thing.description) q.accept.td) done s seen t
-Performs (reads_all thing) q inputs done s seen t = ReadsEach (readable thing) [] done s seen t
-Performs (writes_many thing) q inputs done s seen t = WritesEach inputs [] done s seen t
-Performs (reads p) q inputs done s seen t = Reads p done s seen t
-Performs (writes p) q inputs done s seen t = WritesEach inputs [] done s seen t
-Performs (invokes p) q inputs done s seen t = Invokes p q.path inputs done s seen t
-Performs (queries p id) q inputs done s seen t = OnInvocation p id (Queries p id) done s seen t
-Performs (cancels p id) q inputs done s seen t = OnInvocation p id (Cancels p id) done s seen t
-Performs (reads_event p) q inputs done s seen t = Answers (event_outcome (last_of p.slot s.last)) done s seen t
-Performs (waits p) q inputs done s seen t = Answers (outcome.Wait p.slot) done s seen t
+Performs (act.Describes thing) q inputs done s seen t = Answers (outcome.Description (text_of thing.description) q.accept.td) done s seen t
+Performs (act.ReadsAll thing) q inputs done s seen t = ReadsEach (readable thing) [] done s seen t
+Performs (act.WritesMany thing) q inputs done s seen t = WritesEach inputs [] done s seen t
+Performs (act.Reads p) q inputs done s seen t = Reads p q.conditions done s seen t
+Performs (act.Writes p) q inputs done s seen t = WritesEach inputs [] done s seen t
+Performs (act.Invokes p) q inputs done s seen t = Invokes p q.path inputs done s seen t
+Performs (act.Queries p id) q inputs done s seen t = OnInvocation p id (Queries p id) done s seen t
+Performs (act.Cancels p id) q inputs done s seen t = OnInvocation p id (Cancels p id) done s seen t
+Performs (act.ReadsEvent p) q inputs done s seen t = Answers (event_outcome (last_of p.slot s.last)) done s seen t
+Performs (act.Waits p) q inputs done s seen t = Answers (outcome.Wait p.slot) done s seen t
 
 -- A request to Things, and its outcome.
 pub data Acts (site : Site) (q : PlainRequest) (done : Done) (s : State) (seen : List HandlerCall) (t : State) : Type 0 where

@@ -5,7 +5,6 @@ ghost use Rattle.wot_json.specs.Json.{text_of as text_of_value};
 ghost use Rattle.thing_ops.specs.Requests.{plain_request};
 ghost use Rattle.thing_core.specs.State.{last_of};
 ghost use Rattle.thing_core.specs.Thing.{event_outcome, Performs};
-ghost use Rattle.thing_site.specs.Found.{found_act};
 ghost use Rattle.thing_site.specs.Refusals.{longest_value};
 ghost use Rattle.thing_core.specs.Performing.{affordances_of_act, AllStand, InputsFit, IsOrMemory, MakesDone, MayBeDone, OrMemory};
 
@@ -29,16 +28,16 @@ pub fn act<R: Handlers>(
     machine: &mut Machine,
     rack: &mut R,
 ) -> Outcome
-    requires slots { AllStand (length (R.slots rack.old)) (affordances_of_act (found_act task.act)) }
+    requires slots { AllStand (length (R.slots rack.old)) (affordances_of_act task.act) }
     requires inputs { InputsFit (length (R.slots rack.old)) task.inputs.items }
-    requires state { MayBeDone (found_act task.act) machine.old.state }
-    ensures { MakesDone (OrMemory (Performs (found_act task.entry.act) (plain_request request.now) task.entry.inputs.items)) result machine.old machine.new (R.slots rack.old) (R.slots rack.new) }
+    requires state { MayBeDone task.act machine.old.state }
+    ensures { MakesDone (OrMemory (Performs task.entry.act (plain_request request.now) task.entry.inputs.items)) result machine.old machine.new (R.slots rack.old) (R.slots rack.new) }
 {
     let Task { act, inputs } = task;
     match act {
-        Act::Describes(thing) => describe(alloc, thing, request.accept.td),
-        Act::ReadsAll(thing) => read_all(alloc, thing, machine, rack),
-        Act::Reads(spot) => read(alloc, spot, machine, rack),
+        Act::Describes(thing) => describe(alloc, thing.thing(), request.accept.td),
+        Act::ReadsAll(thing) => read_all(alloc, thing.thing(), machine, rack),
+        Act::Reads(spot) => read(alloc, spot, &request.conditions, machine, rack),
         Act::WritesMany(_) => write_each(inputs, machine, rack),
         Act::Writes(_) => write_each(inputs, machine, rack),
         Act::Invokes(spot) => match prepare(alloc, &request.path, machine.next_invocation()) {
@@ -74,7 +73,7 @@ fn last_emission(alloc: Global, last: &[Latest], target: u32) -> Outcome
 {
     match last_in(last, target) {
         Some(text) => match Bytes::copy_of(alloc, text) {
-            Ok(text) => Outcome::Content(text),
+            Ok(text) => Outcome::Content { text, tag: None },
             Err(_) => Outcome::Memory,
         },
         None => Outcome::Empty,

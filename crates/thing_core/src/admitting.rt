@@ -2,7 +2,6 @@
 
 ghost use Rattle.std.specs.Prelude.{◌≡◌, ◌↔◌, IsTrue, count_by};
 ghost use Rattle.thing_ops.specs.Requests.{plain_request};
-ghost use Rattle.thing_site.specs.Found.{found_act};
 ghost use Rattle.thing_core.specs.State as state;
 ghost use Rattle.thing_core.specs.Refusals as refusal;
 ghost use Rattle.thing_core.specs.Performing.{IsAdmitted};
@@ -11,7 +10,7 @@ use crate::machine::Machine;
 use crate::standing::place_of;
 use crate::state::{Invocation, MOST_INVOCATIONS};
 use std::alloc::Global;
-use thing_ops::{Outcome, Request, route};
+use thing_ops::{Conditions, Outcome, Request, route};
 use thing_site::{Act, IndexedThings, Input, act_at, judge};
 
 /// An act to do, with what is handed in to it.
@@ -42,15 +41,28 @@ pub fn admitted<'a>(
         Ok(inputs) => inputs,
         Err(outcome) => return Err(outcome),
     };
+    if has_failed_condition(&act, machine, &request.conditions) {
+        return Err(Outcome::PreconditionFailed);
+    }
     if has_none_left(&act, machine.invocations()) {
         return Err(Outcome::InvocationsFull);
     }
     Ok(Task { act, inputs })
 }
 
+/// A property would be written that isn't of a version that the request asks for.
+fn has_failed_condition(act: &Act<'_>, machine: &Machine, conditions: &Conditions) -> bool
+    ensures { IsTrue result ↔ refusal.HasFailedCondition machine.now.state conditions.now act.now }
+{
+    match act {
+        Act::Writes(spot) => conditions.fails_to_write(machine.version_of(spot.slot())),
+        _ => false,
+    }
+}
+
 /// An action would be invoked, and no further invocation may run.
 fn has_none_left(act: &Act<'_>, invocations: &[Invocation]) -> bool
-    ensures { (s : state.State) → s.invocations ≡ invocations.now → IsTrue result ↔ refusal.HasNoInvocationLeft s (found_act act.now) }
+    ensures { (s : state.State) → s.invocations ≡ invocations.now → IsTrue result ↔ refusal.HasNoInvocationLeft s act.now }
 {
     match act {
         Act::Invokes(_) => MOST_INVOCATIONS <= running_count(invocations),

@@ -18,6 +18,7 @@ use crate::admitting::admitted;
 use crate::emitters::silent_all;
 use crate::machine::Machine;
 use crate::polling::{Round, poll_all, poll_next};
+use crate::properties::unseen_all;
 use crate::standing::place_of;
 use crate::{ExposeFault, Slots};
 use std::alloc::Global;
@@ -73,11 +74,12 @@ impl Exposed {
         ensures fault { IfErr result (λ fault. IsFirst (expose_faults (kinds_of (R.slots rack.now)) slots.now things) fault) }
     {
         let things = IndexedThings::new(alloc, things, slots, rack)?;
+        let versions = unseen_all(alloc, things.as_slice())?;
         let last = silent_all(alloc, things.as_slice())?;
         Ok(Exposed {
             alloc,
             things,
-            machine: Machine::new(alloc, last)?,
+            machine: Machine::new(alloc, versions, last)?,
         })
     }
 

@@ -1,6 +1,6 @@
 //! Actions: they are invoked, and invocations that run are queried and cancelled.
 
-ghost use Rattle.std.specs.Prelude.{◌≡◌, ◌≤◌, ◌<◌, ℕ, List, [], length, map, IfOk, IfSome, IsSome};
+ghost use Rattle.std.specs.Prelude.{◌≡◌, ◌≤◌, ◌<◌, ℕ, List, [], length, map, None, IfOk, IfSome, IsSome};
 ghost use Rattle.thing_core.specs.Ids.{IdsRise};
 ghost use Rattle.thing_core.specs.State.{invocation_named, is_running as is_running_one, most_invocations, running, running_count, status_text};
 ghost use Rattle.thing_core.specs.Thing.{place_of_invocation, Cancels, Invokes, IsHandedIn, OnInvocation, Queries};
@@ -180,6 +180,16 @@ pub fn query<R: Handlers>(
     }
 }
 
+/// The text in a room, as the outcome of a request.
+fn content_in(room: Room) -> Outcome
+    ensures { result ≡ Outcome.Content room None }
+{
+    Outcome::Content {
+        text: room.into_bytes(),
+        tag: None,
+    }
+}
+
 /// The status of an invocation that runs no more; or else the room.
 fn told(invocations: &[Invocation], slot: u32, id: u32, mut room: Room) -> Result<Outcome, Room>
     requires room { room ≡ [] }
@@ -193,7 +203,7 @@ fn told(invocations: &[Invocation], slot: u32, id: u32, mut room: Room) -> Resul
                 return Err(room);
             }
             put_completed(&mut room, u64::from(id), invocation.output());
-            Ok(Outcome::Content(room.into_bytes()))
+            Ok(content_in(room))
         }
     }
 }
@@ -215,12 +225,12 @@ fn queried(
     match given {
         Answer::Running => {
             put_running(&mut room, u64::from(id));
-            Outcome::Content(room.into_bytes())
+            content_in(room)
         }
         Answer::Finished(None) => {
             machine.complete(id, None);
             put_completed(&mut room, u64::from(id), None);
-            Outcome::Content(room.into_bytes())
+            content_in(room)
         }
         Answer::Finished(Some(value)) => {
             let mut buffer = [0; LONGEST_VALUE];
@@ -228,7 +238,7 @@ fn queried(
                 Some(text) => {
                     machine.complete(id, Some(text));
                     put_completed(&mut room, u64::from(id), Some(text));
-                    Outcome::Content(room.into_bytes())
+                    content_in(room)
                 }
                 None => Outcome::BadAnswer,
             }

@@ -15,6 +15,7 @@ ghost use Rattle.thing_core.specs.Kept.{Kept};
 ghost use Rattle.thing_core.specs.Performing.{MakesAct, MakesPolls};
 ghost use Rattle.thing_core.specs.Completeness.{IsComplete};
 ghost use Rattle.thing_core.specs.Determined.{IsDetermined};
+ghost use Rattle.thing_core.specs.Runs.{NoWriteIsLost, PropertiesHaveVersions, SameTagSameText, TagsAreSeen, TextsMakeVersions, VersionsAreFew, VersionsSeeTexts};
 ghost use Rattle.thing_core.specs.Ticks.{IsSameInTurn};
 
 /// A value that its schema refuses reaches no handler, and changes nothing.
@@ -51,4 +52,29 @@ pub fn polls_are_the_same_in_turn()
 /// and the answers, where nothing is out of memory.
 pub fn requests_are_determined()
     ensures { (site : Site) → (q : PlainRequest) → IsDetermined site q }
+{}
+
+/// Of each property texts are seen one after another, whatever is done: its version never falls, rises by one for each
+/// text that differs from the one before, and while its number is the same, so is its text.
+pub fn versions_see_texts()
+    ensures sees { (site : Site) → VersionsSeeTexts site }
+    ensures later { TextsMakeVersions }
+{}
+
+/// Two reads of one property in a run that send one tag send one text (RFC 9110, section 8.8.3).
+pub fn one_tag_is_one_text()
+    ensures { (site : Site) → SameTagSameText site }
+{}
+
+/// A write that was done and asks for the version that was read found the property as it was read (RFC 9110, section
+/// 13.1.1).
+pub fn no_write_is_lost()
+    ensures { (site : Site) → NoWriteIsLost site }
+{}
+
+/// In every state of a run each property has a version, which is at most the number of turns, and a tag is at least 1.
+pub fn versions_count_turns()
+    ensures few { (site : Site) → VersionsAreFew site }
+    ensures there { (site : Site) → PropertiesHaveVersions site }
+    ensures tags { (site : Site) → TagsAreSeen site }
 {}

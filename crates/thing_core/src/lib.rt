@@ -8,14 +8,15 @@
 //! slots.push(segment, pointer, 0)?; // `lamp` and `/properties/status`
 //! let mut lamp = Exposed::new(alloc, things, &slots, &rack)?;
 //! let outcome = lamp.perform(&mut rack, &request); // GET /lamp/properties/status
-//! assert!(matches!(outcome, Outcome::Content(_)));
+//! assert!(matches!(outcome, Outcome::Content { .. }));
 //! assert_eq!(lamp.accounts().calls, 1);
 //! ```
 //!
 //! Contracts see the site, which is constant (`Site` of `thing_site`), and the state of the Thing machine
 //! (`specs/State.antt`). The contract in a sentence: what `perform` answers, calls and leaves is a move of that
 //! machine (`Acts` of `specs/Thing.antt`), what `tick` calls and leaves is one of its polls (`Polls`), what `poll_next` does
-//! that of one event, and the rack shows the calls of it. Memory is taken before the first call of a handler, and by
+//! that of one event, and the rack shows the calls of it. Each property has a version, which counts the texts that were
+//! seen of it; what a request asks of that is judged for one property alone (RFC 9110, section 13). Memory is taken before the first call of a handler, and by
 //! polls never.
 #![tactic(auto)]
 
@@ -29,17 +30,20 @@ mod invoking;
 mod laws;
 mod machine;
 mod polling;
+mod properties;
 mod reading;
 mod room;
 mod standing;
 mod state;
 mod status;
+mod version;
 mod writing;
 
 pub use exposed::{Accounts, Exposed};
 pub use laws::{
-    a_rack_fits_on, a_rack_fits_on_after_polls, polls_are_the_same_in_turn,
-    refused_values_reach_no_handler, requests_are_complete,
+    a_rack_fits_on, a_rack_fits_on_after_polls, no_write_is_lost, one_tag_is_one_text,
+    polls_are_the_same_in_turn, refused_values_reach_no_handler, requests_are_complete,
+    versions_count_turns, versions_see_texts,
 };
 pub use polling::Round;
 pub use servient_base::NoMemory;

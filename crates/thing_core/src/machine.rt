@@ -12,6 +12,7 @@ ghost use Rattle.thing_core.specs.Ids.{IdsRise};
 use crate::NoMemory;
 use crate::room::Room;
 use crate::state::{Invocation, Latest, MOST_INVOCATIONS, place_by_id};
+use crate::version::{Version, see_one, version_of};
 use std::alloc::Global;
 use std::collections::VecDeque;
 use std::marker::Model;
@@ -20,6 +21,8 @@ use std::marker::Model;
 /// its room back.
 #[derive(Drop)]
 pub struct Machine {
+    /// One for each property.
+    versions: Vec<Version>,
     /// The oldest first.
     invocations: Vec<Invocation>,
     /// The rooms of further invocations.
@@ -44,7 +47,13 @@ impl Model for Machine {
     ghost coded = { course_code };
 
     ghost view = { λ m. record {
-      state = record { invocations = m.invocations.items; next_invocation = m.next_invocation; last = m.last.items; turns = m.turns };
+      state = record {
+        versions = m.versions.items;
+        invocations = m.invocations.items;
+        next_invocation = m.next_invocation;
+        last = m.last.items;
+        turns = m.turns;
+      };
       pending = m.pending.items;
       room = deque_capacity m.pending - deque_len m.pending;
     } };
@@ -53,20 +62,27 @@ impl Model for Machine {
 }
 
 impl Machine {
-    ghost use Rattle.std.specs.Prelude.{◌≡◌, ◌≤◌, ◌<◌, ◌+◌, ◌-◌, ◌++◌, ◌∷◌, [], length, option_map, IfOk, OnOk, OnErr, MatchOption};
+    ghost use Rattle.std.specs.Prelude.{◌≡◌, ◌≤◌, ◌<◌, ◌+◌, ◌-◌, ◌++◌, ◌∷◌, [], ℕ, length, option_map, IfOk, OnOk, OnErr, MatchOption};
     ghost use Rattle.thing_site.specs.Refusals.{longest_value};
     ghost use Rattle.thing_core.specs.State as spec;
-    ghost use Rattle.thing_core.specs.Thing.{most_turns, with_id_used, with_invocations};
-    ghost use Rattle.thing_core.specs.Course.{FitsValue};
+    ghost use Rattle.thing_core.specs.Thing.{most_turns, with_id_used, with_invocations, with_seen};
+    ghost use Rattle.thing_core.specs.Course.{FitsValue, HasRoom};
     ghost use Rattle.thing_core.specs.Ids.{IdsRise};
 
-    /// Before the first request, where what may emit is this. All its memory is taken here.
-    pub fn new(alloc: Global, last: Vec<Latest>) -> Result<Machine, NoMemory>
-        ensures state { IfOk result (λ m. m.state ≡ record { invocations = []; next_invocation = 1; last = last.items; turns = 0 }) }
+    /// Before the first request, where these are the properties and what may emit. All its memory is taken here.
+    pub fn new(
+        alloc: Global,
+        versions: Vec<Version>,
+        last: Vec<Latest>,
+    ) -> Result<Machine, NoMemory>
+        requires { (slot : ℕ) → spec.version_of slot versions.items ≡ 0 }
+        ensures state { IfOk result (λ m. m.state
+            ≡ record { versions = versions.items; invocations = []; next_invocation = 1; last = last.items; turns = 0 }) }
         ensures pending { IfOk result (λ m. m.pending ≡ []) }
     {
         let pending = VecDeque::with_capacity(alloc, last.len())?;
         Ok(Machine {
+            versions,
             invocations: Vec::with_capacity(alloc, MOST_INVOCATIONS)?,
             spare: empty_rooms(alloc)?,
             next_invocation: 1,
@@ -122,12 +138,30 @@ impl Machine {
         self.last.len()
     }
 
-    /// A handler answered, which is a turn.
+    /// A handler answered, which is a turn. It hasn't brought a new version about yet.
     pub fn count_turn(&mut self)
         requires { self.old.state.turns < most_turns }
-        ensures { self.new ≡ record self.old { state = record self.old.state { turns = self.old.state.turns + 1 } } }
+        ensures counted { self.new ≡ record self.old { state = record self.old.state { turns = self.old.state.turns + 1 } } }
+        ensures room { HasRoom self.new.state }
     {
         self.turns += 1;
+    }
+
+    /// The version of the property in this slot.
+    pub fn version_of(&self, slot: u32) -> u32
+        ensures { result ≡ spec.version_of slot self.now.state.versions }
+    {
+        version_of(self.versions.as_slice(), slot)
+    }
+
+    /// A value of this text is seen of the property in this slot. The version that it then has.
+    pub fn see(&mut self, slot: u32, text: &[u8]) -> u32
+        requires length { length text.now ≤ longest_value }
+        requires room { HasRoom self.old.state }
+        ensures seen { self.new ≡ record self.old { state = with_seen slot text.now self.old.state } }
+        ensures version { result ≡ spec.version_of slot self.new.state.versions }
+    {
+        see_one(self.versions.as_mut_slice(), slot, text)
     }
 
     /// Takes room for this many further emissions.

@@ -4,7 +4,7 @@ ghost use Rattle.std.specs.Prelude.{◌≡◌, ◌≤◌, ◌<◌, ◌+◌, ◌+
 ghost use Rattle.std.specs.List.{filter};
 ghost use Rattle.wot_json.specs.Json.{json_string};
 ghost use Rattle.thing_site.specs.Site.{of_kind};
-ghost use Rattle.thing_core.specs.Thing.{is_readable, readable, Reads, ReadsEach};
+ghost use Rattle.thing_core.specs.Thing.{is_readable, read_outcome, readable, Reads, ReadsEach};
 ghost use Rattle.thing_core.specs.Performing.{with_member, room_of_all, AllStand, CallsFor, IsValueOf, MakesDone, OrMemory, ReadsOne};
 
 use crate::NoMemory;
@@ -13,20 +13,21 @@ use crate::field::Field;
 use crate::machine::Machine;
 use std::alloc::Global;
 use thing_handler::{CallKind, Handlers};
-use thing_ops::Outcome;
+use thing_ops::{Conditions, Outcome};
 use thing_site::{HeldThing, LONGEST_VALUE, Spot};
 use wot_json::{Bytes, Tree};
 use wot_terms::Kind;
 
-/// Reads a property. The room for its text is taken before the call.
+/// Reads a property, and judges it by the version that it then has. The room for its text is taken before the call.
 pub fn read<R: Handlers>(
     alloc: Global,
     spot: Spot<'_>,
+    conditions: &Conditions,
     machine: &mut Machine,
     rack: &mut R,
 ) -> Outcome
     requires { spot.slot < length (R.slots rack.old) }
-    ensures { MakesDone (OrMemory (Reads spot.entry)) result machine.old machine.new (R.slots rack.old) (R.slots rack.new) }
+    ensures { MakesDone (OrMemory (Reads spot.entry conditions.now)) result machine.old machine.new (R.slots rack.old) (R.slots rack.new) }
 {
     let room = match Vec::with_capacity(alloc, LONGEST_VALUE) {
         Ok(room) => room,
@@ -38,8 +39,29 @@ pub fn read<R: Handlers>(
     };
     let mut buffer = [0; LONGEST_VALUE];
     match taken_text(&spot.affordance().output, &value, &mut buffer) {
-        Some(text) => Outcome::Content(filled(room, text)),
+        Some(text) => {
+            let version = machine.see(spot.slot(), text);
+            judged(conditions, version, room, text)
+        }
         None => Outcome::BadAnswer,
+    }
+}
+
+/// What a read comes to of a property that has this version, with this text, for which there is this room.
+fn judged(conditions: &Conditions, version: u32, room: Vec<u8>, text: &[u8]) -> Outcome
+    requires empty { room.items ≡ [] }
+    requires room { length text.now ≤ vec_capacity room }
+    ensures { result ≡ read_outcome conditions.now version text.now }
+{
+    if conditions.fails(version) {
+        Outcome::PreconditionFailed
+    } else if conditions.known.has(version) {
+        Outcome::NotModified(version)
+    } else {
+        Outcome::Content {
+            text: filled(room, text),
+            tag: Some(version),
+        }
     }
 }
 
@@ -109,7 +131,10 @@ fn read_fields<R: Handlers>(
         }
     }
     text.push_reserved(b'}');
-    Outcome::Content(Bytes::from_vec(text))
+    Outcome::Content {
+        text: Bytes::from_vec(text),
+        tag: None,
+    }
 }
 
 /// Reads a property, and puts it after the others into the text of an object; or the outcome where that fails.
@@ -135,6 +160,7 @@ fn read_one<R: Handlers>(
     let mut buffer = [0; LONGEST_VALUE];
     match taken_text(&property.affordance().output, &value, &mut buffer) {
         Some(value) => {
+            let _version = machine.see(property.slot(), value);
             put_member(text, field.name(), value);
             None
         }

@@ -1,7 +1,6 @@
 //! What the path of a request leads to: an invocation only where there is one of this id.
 
 ghost use Rattle.std.specs.Prelude.{◌≡◌, ◌==◌, Some, None, if◌then◌else◌, option_map};
-ghost use Rattle.thing_site.specs.Found.{found_place};
 ghost use Rattle.thing_core.specs.Places as spec;
 ghost use Rattle.thing_core.specs.State.{invocation_named as invocation_of};
 ghost use Rattle.thing_core.specs.Ids.{IdsRise};
@@ -17,7 +16,7 @@ pub fn place_of<'a>(
     path: &Segments,
 ) -> Option<Place<'a>>
     requires { IdsRise invocations.now }
-    ensures { option_map found_place result ≡ spec.place_of path.now things.now invocations.now }
+    ensures { result ≡ spec.place_of path.now things.now invocations.now }
 {
     match place_at(things, path) {
         Some(place) => where_stands(place, invocations),
@@ -28,7 +27,7 @@ pub fn place_of<'a>(
 /// A place, unless it is an invocation that isn't there.
 fn where_stands<'a>(place: Place<'a>, invocations: &[Invocation]) -> Option<Place<'a>>
     requires { IdsRise invocations.now }
-    ensures { option_map found_place result ≡ spec.where_stands invocations.now (found_place place.entry) }
+    ensures { result ≡ spec.where_stands invocations.now place.entry }
 {
     match place {
         Place::Invocation(spot, id) => match invocation_in(invocations, spot.slot(), id) {

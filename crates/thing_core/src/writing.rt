@@ -2,7 +2,8 @@
 
 ghost use Rattle.std.specs.Prelude.{◌≡◌, ◌≤◌, ◌<◌, ◌+◌, ◌++◌, [], length, map};
 ghost use Rattle.wot_json.specs.Json.{text_of};
-ghost use Rattle.thing_core.specs.State.{last_after};
+ghost use Rattle.thing_core.specs.State.{last_after, versions_after};
+ghost use Rattle.thing_core.specs.Course.{HasRoom};
 ghost use Rattle.thing_site.specs.Refusals.{longest_value};
 ghost use Rattle.thing_core.specs.Thing.{WritesEach};
 ghost use Rattle.thing_core.specs.Performing.{emissions_of_text, InputsFit, MakesDone, OrMemory, WritesOne};
@@ -60,21 +61,26 @@ fn write_one<R: Handlers>(input: Input<'_>, machine: &mut Machine, rack: &mut R)
     };
     match write_failure(&answer) {
         None => {
-            emit_written(&spot, text.as_slice(), machine);
+            keep_written(&spot, text.as_slice(), machine);
             None
         }
         Some(outcome) => Some(outcome),
     }
 }
 
-/// A property emits the text of what was written to it, if it is observable.
-fn emit_written(spot: &Spot<'_>, text: &[u8], machine: &mut Machine)
+/// The text of what was written to a property is seen, and the property emits it if it is observable.
+fn keep_written(spot: &Spot<'_>, text: &[u8], machine: &mut Machine)
     requires text { length text.now ≤ longest_value }
     requires room { 0 < machine.old.room }
-    ensures state { machine.new.state ≡ record machine.old.state { last = last_after (emissions_of_text spot.now text.now) machine.old.state.last } }
+    requires versions { HasRoom machine.old.state }
+    ensures state { machine.new.state ≡ record machine.old.state {
+      versions = versions_after spot.now.slot text.now machine.old.state.versions;
+      last = last_after (emissions_of_text spot.now text.now) machine.old.state.last;
+    } }
     ensures pending { machine.new.pending ≡ machine.old.pending ++ map (λ e. e.target) (emissions_of_text spot.now text.now) }
     ensures room { machine.old.room ≤ machine.new.room + 1 }
 {
+    let _version = machine.see(spot.slot(), text);
     if spot.affordance().observable {
         machine.emit(spot.slot(), text);
     }

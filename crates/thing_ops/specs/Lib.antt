@@ -1,3 +1,4 @@
+pub mod Conditions
 pub mod Outcomes
 pub mod Requests
 pub mod Routes

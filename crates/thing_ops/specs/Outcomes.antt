@@ -40,7 +40,8 @@ coap_alone code payload = record { status = None; code = Some code; payload = pa
 -- Location-Path in CoAP). A request that waits gets no answer over HTTP for the time being; CoAP has no such requests
 -- and no directory.
 abbrev pub answer_of : Outcome → Answer
-answer_of (outcome.Content value) = both 200 (coap 2 05) (text value)
+answer_of (outcome.Content value tag) = both 200 (coap 2 05) (text value)
+answer_of (outcome.NotModified tag) = both 304 (coap 2 03) nothing
 answer_of (outcome.Description description as_td) = both 200 (coap 2 05) (text description)
 answer_of outcome.Empty = both 204 (coap 2 05) nothing
 answer_of outcome.Changed = both 204 (coap 2 04) nothing
@@ -55,6 +56,7 @@ answer_of (outcome.NotAllowed allow) = both 405 (coap 4 05) (word (codes "method
 answer_of outcome.NotAcceptable = both 406 (coap 4 06) (word (codes "accept"))
 answer_of outcome.Format = both 415 (coap 4 15) (word (codes "format"))
 answer_of outcome.BadValue = both 400 (coap 4 00) (word (codes "value"))
+answer_of outcome.PreconditionFailed = both 412 (coap 4 12) (word (codes "condition"))
 answer_of outcome.TooLarge = both 413 (coap 4 13) (word (codes "large"))
 answer_of (outcome.Refused n) = both 403 (coap 4 03) (numbered (codes "refused ") n)
 answer_of (outcome.DeviceFault n) = both 500 (coap 5 00) (numbered (codes "device ") n)

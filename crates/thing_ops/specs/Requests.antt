@@ -1,6 +1,7 @@
 -- Requests apart from where their parts lie in memory.
 use Rattle.std.specs.Prelude.{ℕ, List}
 use Rattle.thing_ops.specs.declared.verb.Verb.{Verb}
+use Rattle.thing_ops.specs.declared.conditions.Conditions.{Conditions}
 use Rattle.thing_ops.specs.declared.request.Accept.{Accept}
 use Rattle.thing_ops.specs.declared.request.Format.{Format}
 use Rattle.thing_ops.specs.declared.request.Request.{Request}
@@ -13,6 +14,7 @@ pub record PlainRequest : Type 0 where
   pub accept : Accept
   pub format : Format
   pub body : List ℕ
+  pub conditions : Conditions
 
 -- what a request says
 abbrev pub plain_request : Request → PlainRequest
@@ -23,4 +25,5 @@ plain_request r = record {
   accept = r.accept;
   format = r.format;
   body = r.body.now;
+  conditions = r.conditions;
 }

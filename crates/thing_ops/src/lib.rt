@@ -20,10 +20,12 @@
 //! `specs/Outcomes.antt`. The contract in a sentence: for each path, each path's kind and each outcome the code gives
 //! exactly what its row says. The laws: the paths to invocations are those that end in the decimal spelling of an id,
 //! the verbs that are taken are those that are listed, and a payload is the text that an outcome carries or its word.
-//! Memory is taken by `Segments` alone.
+//! Memory is taken by `Segments` and `Versions` alone. What a request asks of the version of a property (`Conditions`) is
+//! judged by `fails` and `fails_to_write` of `specs/Conditions.antt`.
 #![tactic(auto)]
 
 mod allow;
+mod conditions;
 mod laws;
 mod outcome;
 mod replies;
@@ -34,6 +36,7 @@ mod verb;
 mod words;
 
 pub use allow::{Allow, Flags, LONGEST_LINE, allowed};
+pub use conditions::{Conditions, Tags, Versions};
 pub use laws::{invocations_are_spelled, payload_is_text_or_word, takes_what_is_listed};
 pub use outcome::Outcome;
 pub use replies::{coap_code, http_status};

@@ -9,10 +9,17 @@ use wot_json::{Bytes, Text};
 /// The outcome of a request. `specs/Outcomes.antt` says how each is answered.
 #[derive(Debug, Drop)]
 pub enum Outcome {
-    /// A value, as a JSON text.
-    Content(Bytes),
+    /// A value.
+    Content {
+        /// The value, as a JSON text.
+        text: Bytes,
+        /// The version of the property that was read, which is at least 1; none where one property wasn't read by itself.
+        tag: Option<u32>,
+    },
     /// A description, as a JSON text; and whether it is sent as `application/td+json`.
     Description(Bytes, bool),
+    /// The property that was read has this version, and the sender has it already.
+    NotModified(u32),
     /// There is no value yet.
     Empty,
     /// What was asked is done, and there is nothing to say of it.
@@ -41,6 +48,8 @@ pub enum Outcome {
     BadValue,
     /// The value is longer than is taken here.
     TooLarge,
+    /// The property isn't of a version that the request asks for.
+    PreconditionFailed,
     /// The device refused, for the reason of this number.
     Refused(u16),
     /// The device has a fault, of this number.
@@ -80,7 +89,7 @@ impl Outcome {
         ensures { option_map (λ t. t.now) result ≡ text_of self.now }
     {
         match self {
-            Outcome::Content(text)
+            Outcome::Content { text, .. }
             | Outcome::Description(text, _)
             | Outcome::Output(text)
             | Outcome::Started(_, text)

@@ -11,17 +11,19 @@ pub fn http_status(outcome: &Outcome) -> u16
     ensures { (answer_of outcome.now).status ≡ Some result }
 {
     match outcome {
-        Outcome::Content(_)
+        Outcome::Content { .. }
         | Outcome::Description(_, _)
         | Outcome::Output(_)
         | Outcome::Listed(_) => 200,
         Outcome::Started(_, _) | Outcome::Created(_) => 201,
         Outcome::Empty | Outcome::Changed | Outcome::Deleted => 204,
+        Outcome::NotModified(_) => 304,
         Outcome::BadValue | Outcome::Invalid(_) | Outcome::IdDiffers | Outcome::HasId => 400,
         Outcome::Refused(_) => 403,
         Outcome::NotFound => 404,
         Outcome::NotAllowed(_) => 405,
         Outcome::NotAcceptable => 406,
+        Outcome::PreconditionFailed => 412,
         Outcome::TooLarge => 413,
         Outcome::Format => 415,
         Outcome::DeviceFault(_) | Outcome::BadAnswer => 500,
@@ -40,13 +42,15 @@ pub fn coap_code(outcome: &Outcome) -> u8
     match outcome {
         Outcome::Started(_, _) => code(2, 1),
         Outcome::Deleted => code(2, 2),
+        Outcome::NotModified(_) => code(2, 3),
         Outcome::Changed | Outcome::Output(_) => code(2, 4),
-        Outcome::Content(_) | Outcome::Description(_, _) | Outcome::Empty => code(2, 5),
+        Outcome::Content { .. } | Outcome::Description(_, _) | Outcome::Empty => code(2, 5),
         Outcome::BadValue => code(4, 0),
         Outcome::Refused(_) => code(4, 3),
         Outcome::NotFound | Outcome::Wait(_) => code(4, 4),
         Outcome::NotAllowed(_) => code(4, 5),
         Outcome::NotAcceptable => code(4, 6),
+        Outcome::PreconditionFailed => code(4, 12),
         Outcome::TooLarge => code(4, 13),
         Outcome::Format => code(4, 15),
         Outcome::DeviceFault(_) | Outcome::BadAnswer => code(5, 0),

@@ -1,6 +1,6 @@
-//! Requests as both protocols see them: verb, path, formats and body.
+//! Requests as both protocols see them: verb, path, formats, body and conditions.
 
-use crate::{Segments, Verb};
+use crate::{Conditions, Segments, Verb};
 
 /// The media type of a request's body, as its content format says (RFC 9110, section 8.3; RFC 7252, section 12.3).
 #[derive(Clone, Copy, Debug, PartialEq, Eq, Drop)]
@@ -26,7 +26,7 @@ pub struct Accept {
     pub td: bool,
 }
 
-/// A request. It owns its path, and borrows query and body from the message that it came in.
+/// A request. It owns its path and its conditions, and borrows query and body from the message that it came in.
 /// `plain_request` of `specs/Requests.antt` is the same as a record of lists.
 #[derive(Debug, Drop)]
 pub struct Request<'a> {
@@ -42,4 +42,6 @@ pub struct Request<'a> {
     pub format: Format,
     /// Its body; empty where it has none.
     pub body: &'a [u8],
+    /// What it asks of the version that a property has, where its path leads to one; elsewhere it isn't looked at.
+    pub conditions: Conditions,
 }

@@ -24,6 +24,7 @@ pub fn word(outcome: &Outcome, out: &mut [u8; LONGEST_WORD]) -> usize
         Outcome::Format => put(out, 0, b"format"),
         Outcome::BadValue => put(out, 0, b"value"),
         Outcome::TooLarge => put(out, 0, b"large"),
+        Outcome::PreconditionFailed => put(out, 0, b"condition"),
         Outcome::Refused(number) => put_numbered(out, b"refused ", *number),
         Outcome::DeviceFault(number) => put_numbered(out, b"device ", *number),
         Outcome::BadAnswer => put(out, 0, b"answer"),
@@ -34,8 +35,9 @@ pub fn word(outcome: &Outcome, out: &mut [u8; LONGEST_WORD]) -> usize
         Outcome::HasId => put(out, 0, b"hasid"),
         Outcome::DirectoryFull => put(out, 0, b"directory"),
         Outcome::Memory => put(out, 0, b"memory"),
-        Outcome::Content(_)
+        Outcome::Content { .. }
         | Outcome::Description(_, _)
+        | Outcome::NotModified(_)
         | Outcome::Empty
         | Outcome::Changed
         | Outcome::Output(_)

@@ -8,7 +8,7 @@ use Rattle.thing_ops.specs.declared.outcome.Outcome.TheVariants as outcome
 use Rattle.thing_ops.specs.Requests.{PlainRequest}
 use Rattle.thing_site.specs.Site.{Placed}
 use Rattle.thing_site.specs.SiteCodes.{placed_code}
-use Rattle.thing_site.specs.Places.{Act}
+use Rattle.thing_site.specs.declared.place.Act.{Act}
 use Rattle.thing_site.specs.declared.formats.AnswerFormat.{AnswerFormat}
 use Rattle.thing_site.specs.declared.formats.BodyFormat.{BodyFormat}
 use Rattle.thing_site.specs.Refusals.{Input, inputs_of, is_acceptable, HasOtherFormat, refusals_by_request, StandsByRequest, IsAnswer, IsFirst, IsNone}

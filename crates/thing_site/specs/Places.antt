@@ -8,25 +8,13 @@ use Rattle.thing_ops.specs.declared.routing.RouteKind.{RouteKind}
 use Rattle.thing_ops.specs.declared.routing.RouteKind.TheVariants as route
 use Rattle.thing_ops.specs.declared.allow.Flags.{Flags}
 use Rattle.thing_ops.specs.Verbs.{verbs_of}
+use Rattle.thing_site.specs.declared.place.Place.{Place}
+use Rattle.thing_site.specs.declared.place.Place.TheVariants as place
+use Rattle.thing_site.specs.declared.place.Act.{Act}
+use Rattle.thing_site.specs.declared.place.Act.TheVariants as act
 use Rattle.thing_site.specs.Site.{Placed, ExposedThing, Site, thing_named, affordance_named}
 
 -- ---- places
-
--- what a path leads to
-pub data Place : Type 0 where
-  -- a Thing's description
-  description : ExposedThing → Place
-  -- its properties together
-  all_properties : ExposedThing → Place
-  property : Placed → Place
-  -- where a property is observed
-  observed : Placed → Place
-  action : Placed → Place
-  -- an invocation of an action, by its id
-  invocation : Placed → (id : ℕ) → Place
-  event : Placed → Place
-  -- where an event is subscribed to
-  subscribed : Placed → Place
 
 -- the Thing that the first segment names, and its affordance of this kind that the third names
 abbrev pub thing_in : List (List ℕ) → Site → Option ExposedThing
@@ -38,19 +26,19 @@ affordance_in k path site =
 
 -- where a property is observed there is something only where it is observable
 abbrev pub where_observable : Placed → Option Place
-where_observable p = if p.affordance.observable then Some (observed p) else None
+where_observable p = if p.affordance.observable then Some (place.Observed p) else None
 
 -- what a path of this form leads to; an invocation, whether there is one of this id or not
 abbrev pub place_at : RouteKind → List (List ℕ) → Site → Option Place
-place_at route.Root path site = option_map description (slice_get site 0)
-place_at route.Thing path site = option_map description (thing_in path site)
-place_at route.All path site = option_map all_properties (thing_in path site)
-place_at route.Property path site = option_map property (affordance_in kind.Property path site)
+place_at route.Root path site = option_map place.Description (slice_get site 0)
+place_at route.Thing path site = option_map place.Description (thing_in path site)
+place_at route.All path site = option_map place.AllProperties (thing_in path site)
+place_at route.Property path site = option_map place.Property (affordance_in kind.Property path site)
 place_at route.Observe path site = option_and_then where_observable (affordance_in kind.Property path site)
-place_at route.Subscribe path site = option_map subscribed (affordance_in kind.Event path site)
-place_at route.Action path site = option_map action (affordance_in kind.Action path site)
-place_at (route.Invocation id) path site = option_map (λ p. invocation p id) (affordance_in kind.Action path site)
-place_at route.Event path site = option_map event (affordance_in kind.Event path site)
+place_at route.Subscribe path site = option_map place.Subscribed (affordance_in kind.Event path site)
+place_at route.Action path site = option_map place.Action (affordance_in kind.Action path site)
+place_at (route.Invocation id) path site = option_map (λ p. place.Invocation p id) (affordance_in kind.Action path site)
+place_at route.Event path site = option_map place.Event (affordance_in kind.Event path site)
 -- the directory isn't a Thing's
 place_at route.Things path site = None
 place_at route.Entry path site = None
@@ -58,37 +46,24 @@ place_at route.Nowhere path site = None
 
 -- ---- acts
 
--- what a request asks to be done
-pub data Act : Type 0 where
-  describes : ExposedThing → Act
-  reads_all : ExposedThing → Act
-  writes_many : ExposedThing → Act
-  reads : Placed → Act
-  writes : Placed → Act
-  invokes : Placed → Act
-  queries : Placed → (id : ℕ) → Act
-  cancels : Placed → (id : ℕ) → Act
-  reads_event : Placed → Act
-  waits : Placed → Act
-
 -- the flags of the property that a place is; false for any other place
 abbrev pub flags_of : Place → Flags
-flags_of (property p) = record { read_only = p.affordance.read_only; write_only = p.affordance.write_only }
+flags_of (place.Property p) = record { read_only = p.affordance.read_only; write_only = p.affordance.write_only }
 flags_of place = record { read_only = false; write_only = false }
 
 -- what a verb asks to be done at a place where it is taken (TD 1.1, section 8.3, and RFC 9110, section 9.3)
 abbrev pub act_of : Place → Verb → Act
-act_of (description thing) v = describes thing
-act_of (all_properties thing) verb.Put = writes_many thing
-act_of (all_properties thing) v = reads_all thing
-act_of (property p) verb.Put = writes p
-act_of (property p) v = reads p
-act_of (observed p) v = waits p
-act_of (subscribed p) v = waits p
-act_of (action p) v = invokes p
-act_of (invocation p id) verb.Delete = cancels p id
-act_of (invocation p id) v = queries p id
-act_of (event p) v = reads_event p
+act_of (place.Description thing) v = act.Describes thing
+act_of (place.AllProperties thing) verb.Put = act.WritesMany thing
+act_of (place.AllProperties thing) v = act.ReadsAll thing
+act_of (place.Property p) verb.Put = act.Writes p
+act_of (place.Property p) v = act.Reads p
+act_of (place.Observed p) v = act.Waits p
+act_of (place.Subscribed p) v = act.Waits p
+act_of (place.Action p) v = act.Invokes p
+act_of (place.Invocation p id) verb.Delete = act.Cancels p id
+act_of (place.Invocation p id) v = act.Queries p id
+act_of (place.Event p) v = act.ReadsEvent p
 
 -- a verb is among these
 abbrev pub is_verb : Verb → Verb → Bool
@@ -113,6 +88,6 @@ act_at form place v = if is_listed v (verbs_of form (flags_of place)) then Some 
 
 -- what the own path of an observable property or an event means: the slot of its affordance
 abbrev pub target_at : Option Place → Option ℕ
-target_at (Some (property p)) = if p.affordance.observable then Some p.slot else None
-target_at (Some (event p)) = Some p.slot
+target_at (Some (place.Property p)) = if p.affordance.observable then Some p.slot else None
+target_at (Some (place.Event p)) = Some p.slot
 target_at place = None

@@ -16,7 +16,8 @@ use Rattle.thing_site.specs.declared.formats.AnswerFormat.TheVariants as sent
 use Rattle.thing_site.specs.declared.formats.BodyFormat.{BodyFormat}
 use Rattle.thing_site.specs.declared.formats.BodyFormat.TheVariants as taken
 use Rattle.thing_site.specs.Site.{Placed, ExposedThing, affordance_named}
-use Rattle.thing_site.specs.Places.{Act, describes, reads_all, writes_many, reads, writes, invokes, queries, cancels, reads_event, waits}
+use Rattle.thing_site.specs.declared.place.Act.{Act}
+use Rattle.thing_site.specs.declared.place.Act.TheVariants as act
 
 -- ---- what is handed in
 
@@ -61,35 +62,35 @@ invoke_inputs p (Some schema) body = option_map (only_input p) (tree_of body)
 
 -- What a body hands in to an act; None: the act takes a body and has none that can be read, or the other way round.
 abbrev pub inputs_of : Act → List ℕ → Option (List Input)
-inputs_of (describes thing) body = no_inputs body
-inputs_of (reads_all thing) body = no_inputs body
-inputs_of (writes_many thing) body = option_and_then (object_inputs thing) (tree_of body)
-inputs_of (reads p) body = no_inputs body
-inputs_of (writes p) body = option_map (only_input p) (tree_of body)
-inputs_of (invokes p) body = invoke_inputs p p.affordance.input body
-inputs_of (queries p id) body = no_inputs body
-inputs_of (cancels p id) body = no_inputs body
-inputs_of (reads_event p) body = no_inputs body
-inputs_of (waits p) body = no_inputs body
+inputs_of (act.Describes thing) body = no_inputs body
+inputs_of (act.ReadsAll thing) body = no_inputs body
+inputs_of (act.WritesMany thing) body = option_and_then (object_inputs thing) (tree_of body)
+inputs_of (act.Reads p) body = no_inputs body
+inputs_of (act.Writes p) body = option_map (only_input p) (tree_of body)
+inputs_of (act.Invokes p) body = invoke_inputs p p.affordance.input body
+inputs_of (act.Queries p id) body = no_inputs body
+inputs_of (act.Cancels p id) body = no_inputs body
+inputs_of (act.ReadsEvent p) body = no_inputs body
+inputs_of (act.Waits p) body = no_inputs body
 
 -- ---- what an act asks of a request
 
 -- what its answer can be sent as: a description as either format, a value as JSON; other acts send no such thing
 abbrev pub answer_format : Act → AnswerFormat
-answer_format (describes thing) = sent.Description
-answer_format (reads_all thing) = sent.Json
-answer_format (reads p) = sent.Json
-answer_format (invokes p) = sent.Json
-answer_format (queries p id) = sent.Json
-answer_format (reads_event p) = sent.Json
-answer_format (waits p) = sent.Json
-answer_format (writes_many thing) = sent.Any
-answer_format (writes p) = sent.Any
-answer_format (cancels p id) = sent.Any
+answer_format (act.Describes thing) = sent.Description
+answer_format (act.ReadsAll thing) = sent.Json
+answer_format (act.Reads p) = sent.Json
+answer_format (act.Invokes p) = sent.Json
+answer_format (act.Queries p id) = sent.Json
+answer_format (act.ReadsEvent p) = sent.Json
+answer_format (act.Waits p) = sent.Json
+answer_format (act.WritesMany thing) = sent.Any
+answer_format (act.Writes p) = sent.Any
+answer_format (act.Cancels p id) = sent.Any
 
 -- what its body is taken as: for a description also as descriptions are
 abbrev pub body_format : Act → BodyFormat
-body_format (describes thing) = taken.Description
+body_format (act.Describes thing) = taken.Description
 body_format act = taken.Json
 
 -- a sender takes what an answer can be sent as
@@ -143,7 +144,7 @@ IsRefusedBySchema input = ¬ (IsAccepted input.affordance.affordance.input input
 
 -- the kinds of refusals
 pub data Refusal : Type 0 where
-  nothing_there verb_not_taken answer_not_acceptable format_not_taken body_not_as_wanted value_too_large refused_by_schema no_invocation_left : Refusal
+  nothing_there verb_not_taken answer_not_acceptable format_not_taken body_not_as_wanted value_too_large refused_by_schema condition_failed no_invocation_left : Refusal
 
 -- Those of an act that is there for which no state counts, in the order in which they are judged. They are apart from
 -- the two before an act is there, because code that judges an act says what it finds of that act alone.
@@ -181,6 +182,7 @@ IsAnswer format_not_taken o = o ≡ outcome.Format
 IsAnswer body_not_as_wanted o = o ≡ outcome.BadValue
 IsAnswer value_too_large o = o ≡ outcome.TooLarge
 IsAnswer refused_by_schema o = o ≡ outcome.BadValue
+IsAnswer condition_failed o = o ≡ outcome.PreconditionFailed
 IsAnswer no_invocation_left o = o ≡ outcome.InvocationsFull
 IsAnswer r o = ⊥
 

@@ -94,3 +94,38 @@ impl HeldThing {
         )
     }
 }
+
+/// A Thing that is lent. Contracts see the Thing, so that what is found there is the same in code and in definitions.
+#[derive(Drop)]
+pub struct LentThing<'a> {
+    thing: &'a HeldThing,
+}
+
+impl<'a> Model for LentThing<'a> {
+    ghost use Rattle.thing_site.specs.Site.{ExposedThing};
+    ghost use Rattle.thing_site.specs.SiteCodes.{thing_code};
+
+    ghost Value = { ExposedThing };
+
+    ghost coded = { thing_code };
+
+    ghost view = { λ t. t.thing.now };
+}
+
+impl<'a> LentThing<'a> {
+    ghost use Rattle.std.specs.Prelude.{◌≡◌};
+
+    /// A Thing, lent.
+    pub fn of(thing: &'a HeldThing) -> LentThing<'a>
+        ensures { result ≡ thing.now }
+    {
+        LentThing { thing }
+    }
+
+    /// The Thing.
+    pub fn thing(&self) -> &'a HeldThing
+        ensures { result.now ≡ self.now }
+    {
+        self.thing
+    }
+}

@@ -37,7 +37,7 @@ mod wanted;
 
 pub use fault::ExposeFault;
 pub use formats::{AnswerFormat, BodyFormat, judge_formats};
-pub use held::HeldThing;
+pub use held::{HeldThing, LentThing};
 pub use indexed::IndexedThings;
 pub use input::Input;
 pub use place::{Act, Place, act_at, place_at, target_at};

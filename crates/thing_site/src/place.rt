@@ -4,17 +4,17 @@ ghost use Rattle.std.specs.Prelude.{◌≡◌, Some, None, MatchResult, option_a
 ghost use Rattle.thing_ops.specs.Routes.{route_of};
 ghost use Rattle.thing_ops.specs.Verbs.{verbs_in, verbs_of};
 ghost use Rattle.thing_site.specs.Places as spec;
-ghost use Rattle.thing_site.specs.Found.{found_act, found_place, kind_by, place_by, spot_by, thing_by};
+ghost use Rattle.thing_site.specs.Found.{kind_by, place_by, spot_by, thing_by};
 
-use crate::{HeldThing, IndexedThings, Spot};
+use crate::{HeldThing, IndexedThings, LentThing, Spot};
 use thing_ops::{Allow, Flags, RouteKind, Segments, Verb, allowed, route};
 use wot_terms::Kind;
 
 /// What a path leads to.
 #[derive(Drop)]
 pub enum Place<'a> {
-    Description(&'a HeldThing),
-    AllProperties(&'a HeldThing),
+    Description(LentThing<'a>),
+    AllProperties(LentThing<'a>),
     Property(Spot<'a>),
     /// Where a property is observed.
     Observed(Spot<'a>),
@@ -30,9 +30,9 @@ pub enum Place<'a> {
 /// What a request asks to be done.
 #[derive(Drop)]
 pub enum Act<'a> {
-    Describes(&'a HeldThing),
-    ReadsAll(&'a HeldThing),
-    WritesMany(&'a HeldThing),
+    Describes(LentThing<'a>),
+    ReadsAll(LentThing<'a>),
+    WritesMany(LentThing<'a>),
     Reads(Spot<'a>),
     Writes(Spot<'a>),
     Invokes(Spot<'a>),
@@ -45,7 +45,7 @@ pub enum Act<'a> {
 /// What a path leads to, where it leads anywhere: to an invocation of an action also where there is none of this id.
 #[tactic(auto, using(crate::proofs::PlaceLaws::place_by_parts))]
 pub fn place_at<'a>(things: &'a IndexedThings, path: &Segments) -> Option<Place<'a>>
-    ensures { option_map found_place result ≡ spec.place_at (route_of path.now) path.now things.now }
+    ensures { result ≡ spec.place_at (route_of path.now) path.now things.now }
 {
     let route = route(path);
     let thing = thing_at(things, path, route);
@@ -59,7 +59,7 @@ fn place_from<'a>(
     thing: Option<&'a HeldThing>,
     spot: Option<Spot<'a>>,
 ) -> Option<Place<'a>>
-    ensures { option_map found_place result ≡ place_by route (option_map (λ t. t.now) thing.entry) spot.entry }
+    ensures { result ≡ place_by route (option_map (λ t. t.now) thing.entry) spot.entry }
 {
     match route {
         RouteKind::Root | RouteKind::Thing => description(thing),
@@ -151,27 +151,27 @@ fn affordance_in<'a>(things: &'a IndexedThings, path: &Segments, kind: Kind) -> 
 
 /// The description of a Thing.
 fn description<'a>(thing: Option<&'a HeldThing>) -> Option<Place<'a>>
-    ensures { option_map found_place result ≡ option_map spec.description (option_map (λ t. t.now) thing.entry) }
+    ensures { result ≡ option_map (λ t. Place.Description t.now) thing.entry }
 {
     match thing {
-        Some(there) => Some(Place::Description(there)),
+        Some(there) => Some(Place::Description(LentThing::of(there))),
         None => None,
     }
 }
 
 /// The properties of a Thing together.
 fn all_properties<'a>(thing: Option<&'a HeldThing>) -> Option<Place<'a>>
-    ensures { option_map found_place result ≡ option_map spec.all_properties (option_map (λ t. t.now) thing.entry) }
+    ensures { result ≡ option_map (λ t. Place.AllProperties t.now) thing.entry }
 {
     match thing {
-        Some(there) => Some(Place::AllProperties(there)),
+        Some(there) => Some(Place::AllProperties(LentThing::of(there))),
         None => None,
     }
 }
 
 /// A property.
 fn property<'a>(spot: Option<Spot<'a>>) -> Option<Place<'a>>
-    ensures { option_map found_place result ≡ option_map spec.property spot.entry }
+    ensures { result ≡ option_map Place.Property spot.entry }
 {
     match spot {
         Some(there) => Some(Place::Property(there)),
@@ -181,7 +181,7 @@ fn property<'a>(spot: Option<Spot<'a>>) -> Option<Place<'a>>
 
 /// Where an event is subscribed to.
 fn subscribed<'a>(spot: Option<Spot<'a>>) -> Option<Place<'a>>
-    ensures { option_map found_place result ≡ option_map spec.subscribed spot.entry }
+    ensures { result ≡ option_map Place.Subscribed spot.entry }
 {
     match spot {
         Some(there) => Some(Place::Subscribed(there)),
@@ -191,7 +191,7 @@ fn subscribed<'a>(spot: Option<Spot<'a>>) -> Option<Place<'a>>
 
 /// An action.
 fn action<'a>(spot: Option<Spot<'a>>) -> Option<Place<'a>>
-    ensures { option_map found_place result ≡ option_map spec.action spot.entry }
+    ensures { result ≡ option_map Place.Action spot.entry }
 {
     match spot {
         Some(there) => Some(Place::Action(there)),
@@ -201,7 +201,7 @@ fn action<'a>(spot: Option<Spot<'a>>) -> Option<Place<'a>>
 
 /// An event.
 fn event<'a>(spot: Option<Spot<'a>>) -> Option<Place<'a>>
-    ensures { option_map found_place result ≡ option_map spec.event spot.entry }
+    ensures { result ≡ option_map Place.Event spot.entry }
 {
     match spot {
         Some(there) => Some(Place::Event(there)),
@@ -211,7 +211,7 @@ fn event<'a>(spot: Option<Spot<'a>>) -> Option<Place<'a>>
 
 /// Where a property is observed, if it is observable.
 fn observed<'a>(property: Option<Spot<'a>>) -> Option<Place<'a>>
-    ensures { option_map found_place result ≡ option_and_then spec.where_observable property.entry }
+    ensures { result ≡ option_and_then spec.where_observable property.entry }
 {
     match property {
         Some(spot) => {
@@ -227,7 +227,7 @@ fn observed<'a>(property: Option<Spot<'a>>) -> Option<Place<'a>>
 
 /// An invocation of an action.
 fn invocation<'a>(action: Option<Spot<'a>>, id: u32) -> Option<Place<'a>>
-    ensures { option_map found_place result ≡ option_map (λ p. spec.invocation p id) action.entry }
+    ensures { result ≡ option_map (λ p. Place.Invocation p id) action.entry }
 {
     match action {
         Some(there) => Some(Place::Invocation(there, id)),
@@ -238,8 +238,8 @@ fn invocation<'a>(action: Option<Spot<'a>>, id: u32) -> Option<Place<'a>>
 /// The act of a verb at a place to which a path of this form leads; else the verbs that are taken there.
 pub fn act_at<'a>(route: RouteKind, place: Place<'a>, verb: Verb) -> Result<Act<'a>, Allow>
     ensures { MatchResult result
-        (λ act. spec.act_at route (found_place place.entry) verb ≡ Some (found_act act))
-        (λ allow. (spec.act_at route (found_place place.entry) verb ≡ None) × (verbs_in allow ≡ verbs_of route (spec.flags_of (found_place place.entry)))) }
+        (λ act. spec.act_at route place.entry verb ≡ Some act)
+        (λ allow. (spec.act_at route place.entry verb ≡ None) × (verbs_in allow ≡ verbs_of route (spec.flags_of place.entry))) }
 {
     let allow = allowed(route, flags_of(&place));
     if allow.takes(verb) {
@@ -252,7 +252,7 @@ pub fn act_at<'a>(route: RouteKind, place: Place<'a>, verb: Verb) -> Result<Act<
 /// What a verb asks to be done at a place where it is taken. Which verbs these are is `verbs_of`
 /// alone, which `act_at` asks.
 fn act_of<'a>(place: Place<'a>, verb: Verb) -> Act<'a>
-    ensures { found_act result ≡ spec.act_of (found_place place.entry) verb }
+    ensures { result ≡ spec.act_of place.entry verb }
 {
     match (place, verb) {
         (Place::Description(thing), _) => Act::Describes(thing),
@@ -270,7 +270,7 @@ fn act_of<'a>(place: Place<'a>, verb: Verb) -> Act<'a>
 
 /// The flags of the property that a place is; false for any other place.
 fn flags_of(place: &Place<'_>) -> Flags
-    ensures { result ≡ spec.flags_of (found_place place.now) }
+    ensures { result ≡ spec.flags_of place.now }
 {
     match place {
         Place::Property(spot) => Flags {
@@ -286,7 +286,7 @@ fn flags_of(place: &Place<'_>) -> Flags
 
 /// What the own path of an observable property or an event means: the slot of its affordance.
 pub fn target_at(place: Option<Place<'_>>) -> Option<u32>
-    ensures { result ≡ spec.target_at (option_map found_place place.entry) }
+    ensures { result ≡ spec.target_at place.entry }
 {
     match place {
         Some(Place::Property(spot)) => {

@@ -6,7 +6,6 @@ ghost use Rattle.wot_json.specs.Tree.{members_of};
 ghost use Rattle.wot_json.specs.Meaning.{json_of};
 ghost use Rattle.thing_ops.specs.Requests.{plain_request};
 ghost use Rattle.thing_site.specs.Refusals as refusal;
-ghost use Rattle.thing_site.specs.Found.{found_act};
 ghost use Rattle.thing_site.specs.HandedIn.{HasNoInputs, IsRefusedByRequest, IsUnrefused};
 
 use crate::formats::{AnswerFormat, BodyFormat, judge_formats};
@@ -28,8 +27,8 @@ pub fn judge<'a>(
     act: &Act<'a>,
     request: &Request<'_>,
 ) -> Result<Vec<Input<'a>>, Outcome>
-    ensures ok { IfOk result (λ inputs. IsUnrefused (found_act act.now) (plain_request request.now) inputs.items) }
-    ensures fault { IfErr result (λ o. IsRefusedByRequest (found_act act.now) (plain_request request.now) o) }
+    ensures ok { IfOk result (λ inputs. IsUnrefused act.now (plain_request request.now) inputs.items) }
+    ensures fault { IfErr result (λ o. IsRefusedByRequest act.now (plain_request request.now) o) }
 {
     judge_formats(answer_format(act), body_format(act), request)?;
     let inputs = inputs_of(alloc, act, request.body)?;
@@ -44,7 +43,7 @@ pub fn judge<'a>(
 
 /// What the answer of an act can be sent as.
 fn answer_format(act: &Act<'_>) -> AnswerFormat
-    ensures { result ≡ refusal.answer_format (found_act act.now) }
+    ensures { result ≡ refusal.answer_format act.now }
 {
     match act {
         Act::Describes(_) => AnswerFormat::Description,
@@ -60,7 +59,7 @@ fn answer_format(act: &Act<'_>) -> AnswerFormat
 
 /// What the body of an act is taken as.
 fn body_format(act: &Act<'_>) -> BodyFormat
-    ensures { result ≡ refusal.body_format (found_act act.now) }
+    ensures { result ≡ refusal.body_format act.now }
 {
     match act {
         Act::Describes(_) => BodyFormat::Description,
@@ -70,11 +69,11 @@ fn body_format(act: &Act<'_>) -> BodyFormat
 
 /// What a body hands in to an act.
 fn inputs_of<'a>(alloc: Global, act: &Act<'a>, body: &[u8]) -> Result<Vec<Input<'a>>, Outcome>
-    ensures ok { IfOk result (λ inputs. refusal.inputs_of (found_act act.now) body.now ≡ Some inputs.items) }
-    ensures fault { IfErr result (λ o. HasNoInputs (refusal.inputs_of (found_act act.now) body.now) o) }
+    ensures ok { IfOk result (λ inputs. refusal.inputs_of act.now body.now ≡ Some inputs.items) }
+    ensures fault { IfErr result (λ o. HasNoInputs (refusal.inputs_of act.now body.now) o) }
 {
     match act {
-        Act::WritesMany(thing) => object_inputs(alloc, thing, body),
+        Act::WritesMany(thing) => object_inputs(alloc, thing.thing(), body),
         Act::Writes(spot) => one_input(alloc, spot.again(), body),
         Act::Invokes(spot) => invoke_inputs(alloc, spot.again(), body),
         Act::Describes(_)

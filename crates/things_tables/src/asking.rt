@@ -4,19 +4,25 @@
 //! PUT /lamp/properties/status 100
 //! GET /lamp/properties/status accept=td
 //! PUT /lamp/properties/status accept=td format=other 101
+//! PUT /lamp/properties/status ask:match=1,2;known=3 100
+//! GET /lamp/properties/status ask:known=*
+//! GET /lamp/properties/status ask:absent
 //! ```
 //!
-//! Without a word the sender takes JSON and says nothing of what it sends. The body is bytes in text.
+//! Without a word the sender takes JSON, says nothing of what it sends, and asks nothing of versions. The body is bytes in
+//! text.
 
-use thing_ops::{Accept, Format, Verb};
+use std::alloc::{AllocError, Global};
+use thing_ops::{Accept, Conditions, Format, Tags, Verb};
 
-/// What a request asks, its path and its body still in text.
+/// What a request asks, its path, its conditions and its body still in text.
 #[derive(Clone, Copy)]
 pub struct Ask<'a> {
     pub verb: Verb,
     pub path: &'a str,
     pub accept: Accept,
     pub format: Format,
+    pub conditions: &'a str,
     pub body: &'a str,
 }
 
@@ -80,6 +86,7 @@ pub fn ask_of(given: &str) -> Ask<'_> {
             td: false,
         },
         format: Format::Absent,
+        conditions: "",
         body: rest,
     };
     let (word, rest) = cut(ask.body);
@@ -92,5 +99,39 @@ pub fn ask_of(given: &str) -> Ask<'_> {
         ask.format = format;
         ask.body = rest;
     }
+    let (word, rest) = cut(ask.body);
+    if let Some(conditions) = word.strip_prefix("ask:") {
+        ask.conditions = conditions;
+        ask.body = rest;
+    }
     ask
+}
+
+/// The versions of a list; `*` for any.
+fn tags_of(alloc: Global, list: &str) -> Result<Tags, AllocError> {
+    let mut tags = Tags::none(alloc);
+    for word in list.split(',') {
+        match word.parse::<u32>() {
+            Ok(version) => tags.list.push(version)?,
+            Err(_) => tags.any = tags.any || word == "*",
+        }
+    }
+    Ok(tags)
+}
+
+/// The conditions of these words.
+///
+/// # Errors
+///
+/// Out of memory alone.
+pub fn conditions_of(alloc: Global, given: &str) -> Result<Conditions, AllocError> {
+    let mut conditions = Conditions::none(alloc);
+    for word in given.split(';') {
+        match word.split_once('=') {
+            Some(("match", list)) => conditions.if_match = Some(tags_of(alloc, list)?),
+            Some(("known", list)) => conditions.known = tags_of(alloc, list)?,
+            _ => conditions.absent = conditions.absent || word == "absent",
+        }
+    }
+    Ok(conditions)
 }

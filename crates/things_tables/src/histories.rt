@@ -1,7 +1,7 @@
 //! Histories of Things as they are exposed, and the steps besides requests:
 //!
 //! ```text
-//! METHOD PATH ..         status, code and payload; how often handlers were called; the slots whose values were emitted
+//! METHOD PATH ..         status, code and payload; the version; how often handlers were called; the slots whose values were emitted
 //! repeat N METHOD ..     the same request N times: how many answers have the status and the code of the last
 //! tick                   polls all events
 //! last SLOT              the text of the last emission of this slot
@@ -13,7 +13,7 @@
 ghost use Rattle.std.specs.Prelude.{◌≡◌, [], OnOk};
 ghost use Rattle.thing_site.specs.Fits.{Fits};
 
-use crate::asking::{Ask, ask_of};
+use crate::asking::{Ask, ask_of, conditions_of};
 use crate::outcomes::put_answer;
 use crate::paths::path_of;
 use case_notation::{bytes_of, number, put};
@@ -91,6 +91,7 @@ fn put_asked<R: Handlers>(
         accept: ask.accept,
         format: ask.format,
         body: body.as_slice(),
+        conditions: conditions_of(alloc, ask.conditions)?,
     };
     put_performed(text, exposed, rack, &request)
 }

@@ -32,6 +32,7 @@ fn plain(word: &str) -> Outcome {
         "Format" => Outcome::Format,
         "BadValue" => Outcome::BadValue,
         "TooLarge" => Outcome::TooLarge,
+        "PreconditionFailed" => Outcome::PreconditionFailed,
         "BadAnswer" => Outcome::BadAnswer,
         "InvocationsFull" => Outcome::InvocationsFull,
         "CallsUsed" => Outcome::CallsUsed,
@@ -48,6 +49,7 @@ fn numbered(word: &str, number: u64) -> Option<Outcome> {
     let middle = u16::try_from(number).unwrap_or(0);
     let small = u8::try_from(number).unwrap_or(0);
     match word {
+        "NotModified" => Some(Outcome::NotModified(wide)),
         "Wait" => Some(Outcome::Wait(wide)),
         "Refused" => Some(Outcome::Refused(middle)),
         "DeviceFault" => Some(Outcome::DeviceFault(middle)),
@@ -67,7 +69,10 @@ fn started(alloc: Global, rest: &str) -> Result<Outcome, AllocError> {
 fn carrying(alloc: Global, word: &str, rest: &str) -> Result<Outcome, AllocError> {
     let bytes = Bytes::copy_of(alloc, rest.as_bytes())?;
     Ok(match word {
-        "Content" => Outcome::Content(bytes),
+        "Content" => Outcome::Content {
+            text: bytes,
+            tag: None,
+        },
         "Description" => Outcome::Description(bytes, true),
         "Output" => Outcome::Output(bytes),
         _ => Outcome::Listed(bytes),
@@ -140,6 +145,8 @@ fn put_further(text: &mut String, outcome: &Outcome) -> Result<(), AllocError> {
             text.push_str("; allow ")?;
             put_line(text, *allow)
         }
+        Outcome::Content { tag: Some(tag), .. } => write!(text, "; tag {tag}"),
+        Outcome::NotModified(tag) => write!(text, "; tag {tag}"),
         Outcome::Wait(target) => write!(text, "; waits for {target}"),
         Outcome::Description(_, true) => text.push_str("; as td"),
         Outcome::Created(Some(id)) => write!(text, "; id {id}"),

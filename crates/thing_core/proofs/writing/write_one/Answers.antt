@@ -1,10 +1,10 @@
-use Rattle.std.proofs.Common.{◌≡◌, ◌∙◌, List, ◌++◌, map, ap}
+use Rattle.std.proofs.Common.{◌≡◌, ◌∙◌, List, ◌++◌, map, ap, subst}
 use Rattle.std.specs.Prelude.{Err}
-use Rattle.thing_core.specs.State.{Emission, last_after}
+use Rattle.thing_core.specs.State.{Emission, last_after, versions_after}
 use Rattle.thing_handler.specs.declared.handler.CallKind.TheVariants as call
 use Rattle.thing_site.specs.Site.{Placed}
-use Rattle.thing_core.specs.Thing.{emissions_of_write, gives}
-use Rattle.thing_core.specs.Performing.{emissions_of_text, ComesAs}
+use Rattle.thing_core.specs.Thing.{Called, emissions_of_write, gives}
+use Rattle.thing_core.specs.Performing.{emissions_of_text, ComesAs, HasRoomAfter}
 use Rattle.thing_core.proofs.MoveLaws.{makes_answered, makes_call}
 use Rattle.thing_core.proofs.WriteLoop.{write_goes_on, write_stops, unanswered_write}
 use Rattle.thing_core.proofs.writing.write_one.Goals as goal
@@ -15,12 +15,15 @@ returns-in-None-clause-written g c =
     let spot : c.slot.result ≡ c.args.input.affordance.slot = c.slot.ensures ∙ ap (λ (p : Placed). p.slot) c.into_parts-spot.ensures.spot in
     let same : emissions_of_text parts.0 c.as_slice.result.now ≡ emissions_of_write c.args.input =
     λ k. emissions_of_text (c.into_parts-spot.ensures.spot k) ((c.as_slice.ensures ∙ c.into_parts-spot.ensures.text) k) in (
-      c.emit_written.ensures.pending
+      c.keep_written.ensures.pending
           ∙ (λ k. c.in-Ok.ensures.pending k ++ map (λ (e : Emission). e.target) (same k)),
-      write_goes_on c.args.input parts.1 (gives c.in-Ok.answer) c.args.machine.now c.call.new.machine c.emit_written.new.machine
+      write_goes_on c.args.input parts.1 (gives c.in-Ok.answer) c.args.machine.now c.call.new.machine c.keep_written.new.machine
           (g.R.Handlers.slots c.args.rack.now) (g.R.Handlers.slots c.call.new.rack) c.into_parts-spot.ensures.value
           (makes_answered c.slot.result c.args.input.affordance.slot (call.Write parts.1) c.in-Ok.answer c.args.machine.now c.call.new.machine (g.R.Handlers.slots c.args.rack.now) (g.R.Handlers.slots c.call.new.rack) spot c.in-Ok.ensures) c.in-None.ensures
-          (c.emit_written.ensures.state ∙ ap (λ (es : List Emission). record c.call.new.machine.state { last = last_after es c.call.new.machine.state.last }) same),
+          (c.keep_written.ensures.state ∙ (λ k. record c.call.new.machine.state {
+            versions = versions_after (c.into_parts-spot.ensures.spot k).slot ((c.as_slice.ensures ∙ c.into_parts-spot.ensures.text) k) c.call.new.machine.state.versions;
+            last = last_after (same k) c.call.new.machine.state.last;
+          })),
     )
 
 pub returns-clause-written : goal.returns-clause-written
@@ -44,3 +47,8 @@ returns-in-Err-clause-written g c =
           (makes_call (λ called. ComesAs called (Err c.in-Err.outcome)) c.slot.result c.args.input.affordance.slot (call.Write parts.1) c.args.machine.now c.call.new.machine (g.R.Handlers.slots c.args.rack.now) (g.R.Handlers.slots c.call.new.rack) spot k)
           (unanswered_write k.called c.in-Err.outcome k.comes).0 (unanswered_write k.called c.in-Err.outcome k.comes).1,
     )
+
+pub keep_written-requires-clause-versions : goal.keep_written-requires-clause-versions
+keep_written-requires-clause-versions g c =
+    let k = c.in-Ok.ensures in
+    subst (λ (x : Called). HasRoomAfter x c.call.new.machine.state) k.comes k.versions

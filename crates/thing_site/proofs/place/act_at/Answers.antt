@@ -1,21 +1,21 @@
 use Rattle.std.proofs.Common.{◌≡◌, Bool, true, false, cond, sym, ap, ◌∙◌}
 use Rattle.std.specs.Prelude.{Some, None}
 use Rattle.thing_ops.specs.Verbs.{verbs_of}
-use Rattle.thing_site.specs.Places.{Act, act_of, flags_of, is_listed}
-use Rattle.thing_site.specs.Found.{found_place}
+use Rattle.thing_site.specs.Places.{act_of, flags_of, is_listed}
+use Rattle.thing_site.specs.declared.place.Act.{Act}
 use Rattle.thing_site.proofs.VerbLaws.{listed_if_taken, unlisted_if_not_taken}
 use Rattle.thing_site.proofs.place.act_at.Goals as goal
 
 pub returns-then-takes : goal.returns-then-takes
 returns-then-takes c =
-    let listed : is_listed c.args.verb (verbs_of c.args.route (flags_of (found_place c.args.place))) ≡ true =
+    let listed : is_listed c.args.verb (verbs_of c.args.route (flags_of c.args.place)) ≡ true =
     ap (is_listed c.args.verb) (sym (c.allowed-allow.ensures ∙ ap (verbs_of c.args.route) c.flags_of.ensures))
     ∙ listed_if_taken c.allowed-allow.result c.args.verb (sym c.if-takes.ensures) in
-    ap (λ (b : Bool). cond b (Some (act_of (found_place c.args.place) c.args.verb)) None) listed ∙ ap (λ (a : Act). Some a) (sym c.act_of.ensures)
+    ap (λ (b : Bool). cond b (Some (act_of c.args.place c.args.verb)) None) listed ∙ ap (λ (a : Act). Some a) (sym c.act_of.ensures)
 
 pub returns-else-takes : goal.returns-else-takes
 returns-else-takes c =
     let of_table = c.allowed-allow.ensures ∙ ap (verbs_of c.args.route) c.flags_of.ensures in
-    let unlisted : is_listed c.args.verb (verbs_of c.args.route (flags_of (found_place c.args.place))) ≡ false =
+    let unlisted : is_listed c.args.verb (verbs_of c.args.route (flags_of c.args.place)) ≡ false =
     ap (is_listed c.args.verb) (sym of_table) ∙ unlisted_if_not_taken c.allowed-allow.result c.args.verb (sym c.if-takes.ensures) in
-    (ap (λ (b : Bool). cond b (Some (act_of (found_place c.args.place) c.args.verb)) None) unlisted, of_table)
+    (ap (λ (b : Bool). cond b (Some (act_of c.args.place c.args.verb)) None) unlisted, of_table)

@@ -14,6 +14,7 @@ invariant_of-self c =
     omega (arith, ap length done, completed_length c.args.id (option_map (λ t. t.now) c.args.output) c.self.inside.invocations.items, c.self.inside.invocations.ok.0) in
     record {
       turns = c.self.invariant.turns;
+      versions = c.self.invariant.versions;
       ids = c.self.invariant.ids;
       counted = subst (λ (is : List Invocation). AreCounted c.self.inside.next_invocation is) (sym (with_items_is c.self.inside.invocations c.complete_one.new.invocations long ∙ done))
           (counted_completed c.self.inside.next_invocation c.args.id (option_map (λ t. t.now) c.args.output) c.self.inside.invocations.items c.self.invariant.counted);

@@ -7,6 +7,7 @@ pub invariant_of-result : goal.invariant_of-result
 invariant_of-result c = record {
   turns = omega arith;
   ids = omega arith;
+  versions = λ slot. omega (arith, c.requires slot);
   counted = subst (λ (is : List Invocation). AreCounted 1 is) (sym c.in_ok-with_capacity.ensures.items) (tt, tt);
   rooms = omega (arith, c.in_ok-with_capacity.ensures.len, c.in_ok-empty_rooms.ensures.count);
   invocation_places = omega (arith, c.in_ok-with_capacity.ensures.capacity);

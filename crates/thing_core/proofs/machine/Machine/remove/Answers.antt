@@ -14,7 +14,7 @@ use Rattle.thing_core.proofs.machine.Machine.remove.Goals as goal
 -- what is seen of a machine with these invocations in the place of its own
 abbrev seen : Inside → List Invocation → Course
 seen m invocations = record {
-  state = record { invocations = invocations; next_invocation = m.next_invocation; last = m.last.items; turns = m.turns };
+  state = record { versions = m.versions.items; invocations = invocations; next_invocation = m.next_invocation; last = m.last.items; turns = m.turns };
   pending = m.pending.items;
   room = deque_capacity m.pending - deque_len m.pending;
 }
@@ -27,6 +27,7 @@ invariant_of-self c =
     (ap (position (λ i. i.id == c.args.id)) (sym c.as_slice.ensures.value) ∙ sym c.place_by_id.ensures ∙ c.in-Some.is)).1 in
     record {
       turns = c.self.invariant.turns;
+      versions = c.self.invariant.versions;
       ids = c.self.invariant.ids;
       counted = subst (λ (is : List Invocation). AreCounted c.self.inside.next_invocation is) (sym gone) (counted_without c.self.inside.next_invocation c.args.id c.self.inside.invocations.items c.self.invariant.counted);
       rooms = omega (arith, c.take_back.ensures.len, c.take_back.ensures.spare, c.self.invariant.rooms);

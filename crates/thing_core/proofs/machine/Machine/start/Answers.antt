@@ -1,6 +1,6 @@
-use Rattle.std.proofs.Common.{◌≡◌, ◌≤◌, ◌+◌, List, refl, ap, sym, subst, vec_len, vec_capacity, arith}
+use Rattle.std.proofs.Common.{◌≡◌, ◌≤◌, ◌+◌, ℕ, List, refl, ap, sym, subst, vec_len, vec_capacity, arith}
 use Rattle.std.specs.VecDeque.{deque_capacity}
-use Rattle.thing_core.specs.State.{Invocation}
+use Rattle.thing_core.specs.State.{Invocation, version_of}
 use Rattle.thing_core.specs.Course.{Course}
 use Rattle.thing_core.specs.Ids.{AreCounted}
 use Rattle.thing_core.proofs.IdLaws.{counted_and_last, counted_without_oldest}
@@ -13,7 +13,8 @@ invariant_of-self c =
     let s = c.if-len-eq-MOST_INVOCATIONS.self-inside in
     let kept = c.self.invariant in
     let same : AreCounted s.next_invocation s.invocations.items × (s.turns ≡ i.turns) × (s.next_invocation ≡ i.next_invocation)
-    × (vec_len s.invocations + vec_len s.spare ≡ 64) × (64 ≤ vec_capacity s.invocations) × (64 ≤ vec_capacity s.spare) × (vec_len s.last ≤ deque_capacity s.pending) =
+    × (vec_len s.invocations + vec_len s.spare ≡ 64) × (64 ≤ vec_capacity s.invocations) × (64 ≤ vec_capacity s.spare) × (vec_len s.last ≤ deque_capacity s.pending)
+    × ((slot : ℕ) → version_of slot s.versions.items ≤ i.turns) =
     elim c.if-len-eq-MOST_INVOCATIONS.branch [
       | then-len-eq-MOST_INVOCATIONS w ↦ (
           let dropped = w.drop_oldest_completed.ensures in
@@ -25,14 +26,16 @@ invariant_of-self c =
             omega (arith, dropped.places, kept.invocation_places),
             omega (arith, dropped.spare_places, kept.spare_places),
             kept.pending_places,
+            kept.versions,
           )
           )
-      | else-len-eq-MOST_INVOCATIONS w ↦ rw w.self-inside-is (kept.counted, refl, refl, kept.rooms, kept.invocation_places, kept.spare_places, kept.pending_places)
+      | else-len-eq-MOST_INVOCATIONS w ↦ rw w.self-inside-is (kept.counted, refl, refl, kept.rooms, kept.invocation_places, kept.spare_places, kept.pending_places, kept.versions)
     ] in
     let turns = ap (λ (k : Course). k.state.turns) c.self.view_is in
     let ids = ap (λ (k : Course). k.state.next_invocation) c.self.view_is in
     record {
       turns = omega (arith, same.1, kept.turns);
+      versions = λ slot. omega (arith, same.1, same.7 slot);
       ids = omega (arith, same.1, same.2, turns, ids, c.requires.id);
       counted = subst (λ (is : List Invocation). AreCounted (s.next_invocation + 1) is) (sym c.push_reserved.ensures.items)
           (counted_and_last s.next_invocation c.running_in-invocation.result s.invocations.items (ap (λ (x : Invocation). x.id) c.running_in-invocation.ensures.invocation) same.0);

@@ -9,6 +9,7 @@ invariant_of-self c =
     let ids = ap (λ (k : Course). k.state.next_invocation) c.self.view_is in
     record {
       turns = c.self.invariant.turns;
+      versions = c.self.invariant.versions;
       ids = omega (arith, turns, ids, c.requires);
       counted = counted_on c.self.inside.next_invocation c.self.inside.invocations.items c.self.invariant.counted;
       rooms = c.self.invariant.rooms;

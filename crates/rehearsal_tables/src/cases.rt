@@ -1,0 +1,54 @@
+//! Cases: moves, and all that comes of them.
+
+use crate::lamp::world_of;
+use crate::reading::push_move;
+use crate::showing::{is_shown, put_turns, put_world};
+use servient_rehearsal::Moves;
+use std::alloc::{AllocError, Global};
+use thing_handler::{Handler, Handlers, Rack, SHIPPED_SLOTS, shipped_in};
+
+/// Writes what comes of moves with these devices.
+fn put_rehearsed<R: Handlers>(
+    text: &mut String,
+    alloc: Global,
+    rack: &mut R,
+    moves: &Moves,
+) -> Result<(), AllocError> {
+    let world = world_of(alloc, rack, moves)?;
+    put_world(text, &world)?;
+    put_turns(text, rack)
+}
+
+/// Writes what comes of moves.
+fn put_moves(text: &mut String, alloc: Global, moves: &Moves) -> Result<(), AllocError> {
+    let mut list: Vec<Box<dyn Handler>> = Vec::new(alloc);
+    for slot in 0..SHIPPED_SLOTS {
+        list.push(Box::new(alloc, shipped_in(alloc, slot))?)?;
+    }
+    let mut rack = Rack::new(alloc, list);
+    put_rehearsed(text, alloc, &mut rack, moves)
+}
+
+/// Writes a case and what comes of it.
+fn put_case(text: &mut String, alloc: Global, lines: &str) -> Result<(), AllocError> {
+    let mut moves = Vec::new(alloc);
+    for line in lines.lines() {
+        if !is_shown(line) {
+            let _is_move = push_move(&mut moves, alloc, line)?;
+            text.push_str(line)?;
+            text.push_str("\n")?;
+        }
+    }
+    put_moves(text, alloc, &moves)
+}
+
+/// Writes cases, with an empty line between them.
+pub fn put(text: &mut String, alloc: Global, lines: &str) -> Result<(), AllocError> {
+    for (index, case) in lines.split("\n\n").enumerate() {
+        if index > 0 {
+            text.push_str("\n")?;
+        }
+        put_case(text, alloc, case)?;
+    }
+    Ok(())
+}

@@ -1,0 +1,276 @@
+//! What came about in schedules, of what there is to be in them. Each is told by what was sent for it, or by what the
+//! client was told, and not by the moves, since a move may be skipped.
+
+use crate::asks::{number_of, response_to, responses};
+use crate::played::{
+    CLIENT, Played, SERVIENT, acted_with, copy_in, message_in, notice_in, response_in,
+};
+use coap_msg::{Message, OBSERVE, Type4};
+use servient_rehearsal::{AskMade, End, Move, Moves, SentDatagram, World};
+use std::alloc::AllocError;
+use thing_handler::Turn;
+
+/// For how long a datagram may be under way, in milliseconds.
+const LATENCY: u64 = 100_000;
+
+/// After how long a notification counts as newer whatever its number (RFC 7641, section 3.4), in milliseconds.
+const NEWER_AFTER: u64 = 128_000;
+
+/// How often a message is sent that nothing acknowledges: once, and four times more (RFC 7252, section 4.8).
+const MOST_TIMES: usize = 5;
+
+/// What came about.
+#[derive(Clone, Copy)]
+pub struct Kinds {
+    losses: bool,
+    repeats: bool,
+    reorderings: bool,
+    latest: bool,
+    too_late: bool,
+    registrations: bool,
+    observations: bool,
+    resets: bool,
+    late_notices: bool,
+    given_up: bool,
+    timed_out: bool,
+    others: bool,
+}
+
+/// Nothing yet.
+pub const NOTHING: Kinds = Kinds {
+    losses: false,
+    repeats: false,
+    reorderings: false,
+    latest: false,
+    too_late: false,
+    registrations: false,
+    observations: false,
+    resets: false,
+    late_notices: false,
+    given_up: false,
+    timed_out: false,
+    others: false,
+};
+
+/// How often an ask was sent.
+fn copies(world: &World, made: &AskMade) -> usize {
+    let mut count: usize = 0;
+    for sent in world.sent.iter() {
+        if copy_in(sent, made).is_some() {
+            count = count.saturating_add(1);
+        }
+    }
+    count
+}
+
+/// Whether an ask was sent once and came as late as it may: it was responded to at that moment, and not before.
+fn came_latest(world: &World, made: &AskMade) -> bool {
+    match response_to(world, made) {
+        Some(response) => {
+            response.moment.saturating_sub(made.first) == LATENCY && copies(world, made) == 1
+        }
+        None => false,
+    }
+}
+
+/// Whether a message has Observe.
+fn has_observe(message: &Message<'_>) -> bool {
+    for (number, _) in message.options.iter() {
+        if number == OBSERVE {
+            return true;
+        }
+    }
+    false
+}
+
+/// Whether an ask registered: its response has Observe.
+fn did_register(world: &World, made: &AskMade) -> bool {
+    match response_to(world, made) {
+        Some(response) => match response_in(response, made) {
+            Some(message) => has_observe(&message),
+            None => false,
+        },
+        None => false,
+    }
+}
+
+/// What the asks say.
+fn note_asks(kinds: &mut Kinds, world: &World) {
+    let mut has_registered = false;
+    for made in world.asks.iter() {
+        let times = responses(world, made);
+        kinds.losses |= times == 0;
+        kinds.repeats |= times > 1;
+        kinds.latest |= came_latest(world, made);
+        if did_register(world, made) {
+            kinds.registrations |= has_registered;
+            has_registered = true;
+        }
+    }
+}
+
+/// What the client was told: values for two asks, and that an ask ended by time.
+fn note_news(kinds: &mut Kinds, world: &World) {
+    if let Some(first) = world.taken.first() {
+        for taken in world.taken.iter() {
+            kinds.observations |= taken.ask != first.ask;
+        }
+    }
+    for ended in world.ends.iter() {
+        if let End::TimedOut = &ended.end {
+            kinds.timed_out = true;
+        }
+    }
+}
+
+/// What the client replied to notifications: a Reset, or to an older one after a newer.
+fn note_replies(kinds: &mut Kinds, world: &World) {
+    let mut greatest: u16 = 0;
+    for sent in world.sent.iter() {
+        if let Some(message) = message_in(sent, CLIENT, SERVIENT, Type4::Ack) {
+            kinds.reorderings |= message.id < greatest;
+            greatest = greatest.max(message.id);
+        }
+        kinds.resets |= message_in(sent, CLIENT, SERVIENT, Type4::Rst).is_some();
+    }
+}
+
+/// When the first notification with this token was sent.
+fn first_notice(world: &World, token: &[u8]) -> Option<u64> {
+    for sent in world.sent.iter() {
+        if let Some(message) = notice_in(sent) {
+            if message.token == token {
+                return Some(sent.moment);
+            }
+        }
+    }
+    None
+}
+
+/// Whether a notification was sent so long after the first one with its token.
+fn is_late_notice(world: &World, sent: &SentDatagram) -> bool {
+    match notice_in(sent) {
+        Some(message) => match first_notice(world, message.token) {
+            Some(first) => sent.moment.saturating_sub(first) > NEWER_AFTER,
+            None => false,
+        },
+        None => false,
+    }
+}
+
+/// How often a notification was sent.
+fn times_sent(world: &World, wanted: &SentDatagram) -> usize {
+    let mut times: usize = 0;
+    for sent in world.sent.iter() {
+        if notice_in(sent).is_some() && sent.bytes.as_slice() == wanted.bytes.as_slice() {
+            times = times.saturating_add(1);
+        }
+    }
+    times
+}
+
+/// The last value that was written to the status, or -1.
+fn last_value(status: &[Turn]) -> i64 {
+    let mut last = -1;
+    for turn in status {
+        if let Some(value) = acted_with(turn) {
+            last = value;
+        }
+    }
+    last
+}
+
+/// Whether a notification says this value.
+fn is_notified(world: &World, value: i64) -> bool {
+    for sent in world.sent.iter() {
+        if let Some(message) = notice_in(sent) {
+            if number_of(message.payload) == value {
+                return true;
+            }
+        }
+    }
+    false
+}
+
+/// What the notifications say: two of one registration that are far apart, and one that was sent five times, where the
+/// last value that was written was in none.
+fn note_notices(kinds: &mut Kinds, played: &Played<'_>) {
+    let is_last_said = is_notified(played.world, last_value(played.status));
+    for sent in played.world.sent.iter() {
+        kinds.late_notices |= is_late_notice(played.world, sent);
+        kinds.given_up |= !is_last_said && times_sent(played.world, sent) >= MOST_TIMES;
+    }
+}
+
+/// Whether the datagram of this number was sent more than 100 seconds before this moment.
+fn is_too_late(world: &World, index: u32, now: u64) -> bool {
+    match world.sent.get(index as usize) {
+        Some(sent) => now.saturating_sub(sent.moment) > LATENCY,
+        None => false,
+    }
+}
+
+/// What the moves say by themselves: that something else came, and that a datagram was too late.
+fn note_moves(kinds: &mut Kinds, world: &World, moves: &Moves) {
+    let mut now: u64 = 0;
+    for next in moves.iter() {
+        match next {
+            Move::Pass(time) => now = now.saturating_add(*time),
+            Move::Deliver(index) => kinds.too_late |= is_too_late(world, *index, now),
+            Move::Other(_, _) => kinds.others = true,
+            Move::Ask { .. } | Move::Due => {}
+        }
+    }
+}
+
+/// Notes what came about in a schedule.
+pub fn note(kinds: &mut Kinds, played: &Played<'_>) {
+    note_asks(kinds, played.world);
+    note_news(kinds, played.world);
+    note_replies(kinds, played.world);
+    note_notices(kinds, played);
+    note_moves(kinds, played.world, played.moves);
+}
+
+/// Writes whether something came about.
+fn put_kind(text: &mut String, what: &str, came: bool) -> Result<(), AllocError> {
+    text.push_str(what)?;
+    text.push_str(if came {
+        ": it came about\n"
+    } else {
+        ": it never came about\n"
+    })
+}
+
+/// Writes what came about of what the network does.
+fn put_network(text: &mut String, kinds: &Kinds) -> Result<(), AllocError> {
+    put_kind(text, "an ask was lost", kinds.losses)?;
+    put_kind(text, "an ask came twice", kinds.repeats)?;
+    put_kind(
+        text,
+        "notifications came in another order",
+        kinds.reorderings,
+    )?;
+    put_kind(text, "an ask came as late as it may", kinds.latest)?;
+    put_kind(text, "a datagram was too late", kinds.too_late)
+}
+
+/// Writes what came about.
+pub fn put(text: &mut String, kinds: &Kinds) -> Result<(), AllocError> {
+    put_network(text, kinds)?;
+    put_kind(text, "two asks registered", kinds.registrations)?;
+    put_kind(text, "values were taken for two asks", kinds.observations)?;
+    put_kind(text, "the client sent a reset", kinds.resets)?;
+    put_kind(
+        text,
+        "notifications were 128 seconds apart",
+        kinds.late_notices,
+    )?;
+    put_kind(
+        text,
+        "a notification was sent five times and then none",
+        kinds.given_up,
+    )?;
+    put_kind(text, "an ask ended by time", kinds.timed_out)?;
+    put_kind(text, "something else came to the servient", kinds.others)
+}

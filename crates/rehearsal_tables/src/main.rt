@@ -1,0 +1,52 @@
+//! Rehearsals of a client and a servient that serves the built-in Thing. Each argument names a file.
+//!
+//! `rehearsals` has cases, which are separated by empty lines: moves, a line each, and then what comes of them. The
+//! program prints each case with what does come of it: so it prints its file, if all is right.
+//!
+//! - `ask METHOD PATH`, perhaps `Content-Format=N` and a payload: the client asks; `observe ..` and `unobserve ..`: the
+//!   same with Observe 0 and 1;
+//! - `due`: the client does what is due;
+//! - `deliver N`: the datagram of this number comes;
+//! - `pass N`: so many milliseconds pass;
+//! - `open C`, `bytes C TEXT`, `end C`, `tick`, `data ENDPOINT` and a message: this comes to the servient besides.
+//!
+//! `schedules` has schedules that were drawn at random, by `bench/draw-schedules`, a line each. After ` => ` stands what
+//! was checked of it (`checking.rt`), and at the end of the file what came about in them and how much was done.
+#![tactic(auto)]
+
+mod asks;
+mod cases;
+mod checking;
+mod kinds;
+mod lamp;
+mod played;
+mod reading;
+mod schedules;
+mod showing;
+mod totals;
+
+use std::alloc::{AllocError, Global};
+use std::{env, fs, io};
+
+/// A file as a text of its own.
+fn page(alloc: Global, name: &str, lines: &str) -> Result<String, AllocError> {
+    let mut text = String::new(alloc);
+    match name {
+        "schedules" => schedules::put(&mut text, alloc, lines)?,
+        _ => cases::put(&mut text, alloc, lines)?,
+    }
+    Ok(text)
+}
+
+/// Prints a file.
+fn print(rt: &HostRuntime, name: &str) -> io::Result<()> {
+    let lines = fs::read_to_string(rt, name)?;
+    rt.print(page(rt.alloc(), name, lines.as_str())?)
+}
+
+fn main(rt: HostRuntime) -> io::Result<()> {
+    for name in env::args(&rt)?.skip(1) {
+        print(&rt, name.as_str())?;
+    }
+    Ok(())
+}

@@ -1,0 +1,273 @@
+-- However the machine moves, versions see texts one after another, and count turns.
+use Rattle.std.proofs.Common.{◌≡◌, ℕ, ◌+◌, ◌<◌, ◌≤◌, List, [], ◌∷◌, ◌++◌, map, Bool, true, false, cond, refl, sym, ap, subst, ◌∙◌, arith, inl, inr}
+use Rattle.std.specs.Prelude.{◌==◌, Result, Ok, Err, Option, Some, None, option_map}
+use Rattle.servient_base.specs.Moves.{Then}
+use Rattle.wot_json.specs.Tree.{Json}
+use Rattle.wot_json.specs.Json.{text_of}
+use Rattle.thing_ops.specs.declared.outcome.Outcome.{Outcome}
+use Rattle.thing_ops.specs.Requests.{PlainRequest}
+use Rattle.thing_handler.specs.declared.handler.CallKind.{CallKind}
+use Rattle.thing_handler.specs.declared.handler.CallKind.TheVariants as call
+use Rattle.thing_handler.specs.declared.handler.Answer.{Answer}
+use Rattle.thing_handler.specs.declared.handler.Answer.TheVariants as answer
+use Rattle.thing_handler.specs.Turns.{HandlerCall}
+use Rattle.thing_site.specs.Site.{Placed, Site}
+use Rattle.thing_core.specs.State.{Status, running, completed, State, Emission, Version, is_last_seen, after_text, versions_after, version_of}
+use Rattle.thing_site.specs.declared.place.Act.{Act}
+use Rattle.thing_site.specs.declared.place.Act.TheVariants.{Describes as describes, ReadsAll as reads_all, WritesMany as writes_many, Reads as reads, Writes as writes, Invokes as invokes, Queries as queries, Cancels as cancels, ReadsEvent as reads_event, Waits as waits}
+use Rattle.thing_site.specs.Refusals.{Input}
+use Rattle.thing_core.specs.Thing.{Move, Done, Called, no_number, no_memory, gives, failure_of, most_turns, Calls, GivesValue, ReadsValue, with_value, ReadsEach, SeesWritten, emissions_of_write, Stops, IfDone, WritesEach, IsInvoked, IsQueried, Queries, IsCancelled, Cancels, Performs, Acts, refuses, has_no_memory, performs, PollsEach}
+use Rattle.thing_core.specs.Runs.{Deed, asks, polls, DoesAll, version_in, after_texts, changes, SeesTexts, IsLater}
+use Rattle.thing_core.proofs.ReadLaws.{AfterValue}
+use Rattle.thing_core.proofs.VersionLists.{seen_within}
+
+-- ---- texts that are seen
+
+-- one more text
+more_texts : (text : List ℕ) (texts : List (List ℕ)) (v : Version) → IsLater (after_text text v) (after_texts texts (after_text text v)) → IsLater v (after_texts (text ∷ texts) v)
+more_texts text texts v later = by_test (is_last_seen text v) later
+  where
+    by_test : (b : Bool) → IsLater (cond b v (record v { number = v.number + 1; text = Some text })) (after_texts texts (cond b v (record v { number = v.number + 1; text = Some text })))
+        → IsLater v (after_texts texts (cond b v (record v { number = v.number + 1; text = Some text })))
+    by_test true rest = rest
+    by_test false rest = (omega (arith, rest.0), λ same. absurd (omega (arith, rest.0, same)))
+
+pub texts_make_versions : (texts : List (List ℕ)) (v : Version) → IsLater v (after_texts texts v)
+texts_make_versions [] v = (omega arith, λ same. refl)
+texts_make_versions (text ∷ texts) v = more_texts text texts v (texts_make_versions texts (after_text text v))
+
+pub texts_counted : (texts : List (List ℕ)) (v : Version) → (after_texts texts v).number ≡ v.number + changes texts v
+texts_counted [] v = omega arith
+texts_counted (text ∷ texts) v = by_test (is_last_seen text v) (texts_counted texts (after_text text v))
+  where
+    newer : Version
+    newer = record v { number = v.number + 1; text = Some text }
+    by_test : (b : Bool) → (after_texts texts (cond b v newer)).number ≡ (cond b v newer).number + changes texts (cond b v newer)
+        → (after_texts texts (cond b v newer)).number ≡ v.number + (cond b 0 1 + changes texts (cond b v newer))
+    by_test true rest = omega (arith, rest)
+    by_test false rest = omega (arith, rest)
+
+two_parts : (a b : List (List ℕ)) (v : Version) → after_texts b (after_texts a v) ≡ after_texts (a ++ b) v
+two_parts [] b v = refl
+two_parts (text ∷ a) b v = two_parts a b (after_text text v)
+
+two_parts_of : (a b : List (List ℕ)) (o : Option Version) → option_map (after_texts b) (option_map (after_texts a) o) ≡ option_map (after_texts (a ++ b)) o
+two_parts_of a b None = refl
+two_parts_of a b (Some v) = ap Some (two_parts a b v)
+
+no_texts : (o : Option Version) → o ≡ option_map (after_texts []) o
+no_texts None = refl
+no_texts (Some v) = refl
+
+-- what is seen of one property leaves the others
+abbrev OneSeen : List ℕ → ℕ → Version → List Version → List Version → Type 0
+OneSeen text slot v vs new = (texts : List (List ℕ)) × (version_in slot new ≡ option_map (after_texts texts) (version_in slot (v ∷ vs)))
+
+first_seen : (text : List ℕ) (slot : ℕ) (v : Version) (vs : List Version) → OneSeen text slot v vs (after_text text v ∷ vs)
+first_seen text slot v vs = by_last (is_last_seen text v) refl
+  where
+    newer : Version
+    newer = record v { number = v.number + 1; text = Some text }
+
+    by_slot : is_last_seen text v ≡ false → (b : Bool)
+        → (texts : List (List ℕ)) × (cond b (Some newer) (version_in slot vs) ≡ option_map (after_texts texts) (cond b (Some v) (version_in slot vs)))
+    by_slot e true = (text ∷ [], ap (λ (l : Bool). Some (cond l v newer)) (sym e))
+    by_slot e false = ([], no_texts (version_in slot vs))
+
+    by_last : (l : Bool) → is_last_seen text v ≡ l → OneSeen text slot v vs (cond l v newer ∷ vs)
+    by_last true e = ([], no_texts (version_in slot (v ∷ vs)))
+    by_last false e = by_slot e (v.slot == slot)
+
+one_seen : (at : ℕ) (text : List ℕ) (slot : ℕ) (vs : List Version) → (texts : List (List ℕ)) × (version_in slot (versions_after at text vs) ≡ option_map (after_texts texts) (version_in slot vs))
+one_seen at text slot [] = ([], refl)
+one_seen at text slot (v ∷ vs) = by_place (one_seen at text slot vs) (v.slot == at)
+  where
+    by_slot : (texts : List (List ℕ)) × (version_in slot (versions_after at text vs) ≡ option_map (after_texts texts) (version_in slot vs)) → (b : Bool)
+        → (texts : List (List ℕ)) × (cond b (Some v) (version_in slot (versions_after at text vs)) ≡ option_map (after_texts texts) (cond b (Some v) (version_in slot vs)))
+    by_slot rest true = ([], refl)
+    by_slot rest false = rest
+
+    by_place : (texts : List (List ℕ)) × (version_in slot (versions_after at text vs) ≡ option_map (after_texts texts) (version_in slot vs)) → (b : Bool)
+        → OneSeen text slot v vs (cond b (after_text text v ∷ vs) (v ∷ versions_after at text vs))
+    by_place rest true = first_seen text slot v vs
+    by_place rest false = by_slot rest (v.slot == slot)
+
+-- ---- from one state to another
+
+-- versions count turns of the run, which has no more than it may
+pub record IsWithin (s : State) : Type 0 where
+  pub versions : (slot : ℕ) → version_of slot s.versions ≤ s.turns
+  pub turns : s.turns ≤ most_turns
+
+-- of each property texts were seen, and versions count turns still
+pub record Grows (s t : State) : Type 0 where
+  pub sees : (slot : ℕ) → SeesTexts slot s t
+  pub within : IsWithin s → IsWithin t
+
+within_by : (s t : State) → t.versions ≡ s.versions → t.turns ≡ s.turns → IsWithin s → IsWithin t
+within_by s t vs turns w = record {
+  versions = λ slot. subst (λ (n : ℕ). version_of slot t.versions ≤ n) (sym turns) (subst (λ (x : List Version). version_of slot x ≤ s.turns) (sym vs) (w.versions slot));
+  turns = subst (λ (n : ℕ). n ≤ most_turns) (sym turns) w.turns;
+}
+
+-- what neither is a turn nor sees a text
+grows_by : (s t : State) → t.versions ≡ s.versions → t.turns ≡ s.turns → Grows s t
+grows_by s t vs turns = record {
+  sees = λ slot. ([], ap (version_in slot) vs ∙ no_texts (version_in slot s.versions));
+  within = within_by s t vs turns;
+}
+
+stays : (s t : State) → t ≡ s → Grows s t
+stays s t e = grows_by s t (ap (λ (x : State). x.versions) e) (ap (λ (x : State). x.turns) e)
+
+becomes : (s t u : State) → t ≡ u → u.versions ≡ s.versions → u.turns ≡ s.turns → Grows s t
+becomes s t u e vs turns = grows_by s t (ap (λ (x : State). x.versions) e ∙ vs) (ap (λ (x : State). x.turns) e ∙ turns)
+
+pub then_grows : (s u t : State) → Grows s u → Grows u t → Grows s t
+then_grows s u t one other = record {
+  sees = λ slot.
+      let a = one.sees slot in
+      let b = other.sees slot in
+      (a.0 ++ b.0, b.1 ∙ ap (option_map (after_texts b.0)) a.1 ∙ two_parts_of a.0 b.0 (version_in slot s.versions));
+  within = λ w. other.within (one.within w);
+}
+
+-- a call is a turn at most
+call_grows : (slot : ℕ) (what : CallKind) (called : Called) (s : State) (seen : List HandlerCall) (t : State) → Calls slot what called s seen t → Grows s t
+call_grows slot what no_number s seen t p = stays s t p.1.next
+call_grows slot what no_memory s seen t p = stays s t p.1.next
+call_grows slot what (gives a) s seen t p =
+    let vs : t.versions ≡ s.versions = ap (λ (x : State). x.versions) p.1.next in
+    let turns : t.turns ≡ s.turns + 1 = ap (λ (x : State). x.turns) p.1.next in
+    record {
+      sees = λ at. ([], ap (version_in at) vs ∙ no_texts (version_in at s.versions));
+      within = λ w. record {
+        versions = λ at. omega (arith, ap (version_of at) vs, turns, w.versions at);
+        turns = omega (arith, turns, p.0);
+      };
+    }
+
+-- after a call that was answered a text is seen
+seen_grows : (slot : ℕ) (what : CallKind) (a : Answer) (at : ℕ) (text : List ℕ) (s : State) (seen : List HandlerCall) (m t : State) → Calls slot what (gives a) s seen m
+    → t.versions ≡ versions_after at text m.versions → t.turns ≡ m.turns → Grows s t
+seen_grows slot what a at text s seen m t p vs turns =
+    let before : m.versions ≡ s.versions = ap (λ (x : State). x.versions) p.1.next in
+    let counted : m.turns ≡ s.turns + 1 = ap (λ (x : State). x.turns) p.1.next in
+    let whole : t.versions ≡ versions_after at text s.versions = vs ∙ ap (versions_after at text) before in
+    record {
+      sees = λ k. let one = one_seen at text k s.versions in (one.0, ap (version_in k) whole ∙ one.1);
+      within = λ w. record {
+        versions = λ k. omega (
+          arith,
+          ap (version_of k) whole,
+          turns,
+          counted,
+          seen_within at text s.versions (s.turns + 1) (λ j. omega (arith, w.versions j)) k,
+        );
+        turns = omega (arith, turns, counted, p.0);
+      };
+    }
+
+-- ---- properties
+
+value_grows : (p : Placed) (called : Called) (r : Result Json Outcome) (s : State) (seen : List HandlerCall) (m t : State) → Calls p.slot call.Read called s seen m
+    → GivesValue p.affordance.output called r → t ≡ with_value p r m → Grows s t
+value_grows p (gives a) (Ok value) s seen m t made given e =
+    seen_grows p.slot call.Read a p.slot (text_of value) s seen m t made (ap (λ (x : State). x.versions) e) (ap (λ (x : State). x.turns) e)
+value_grows p no_number (Ok value) s seen m t made given e = absurd cc
+value_grows p no_memory (Ok value) s seen m t made given e = absurd cc
+value_grows p called (Err o) s seen m t made given e = then_grows s m t (call_grows p.slot call.Read called s seen m made) (stays m t e)
+
+read_grows : (p : Placed) (r : Result Json Outcome) (s : State) (seen : List HandlerCall) (t : State) → ReadsValue p r s seen t → Grows s t
+read_grows p r s seen t q = value_grows p q.0 r s q.1.first q.1.mid t q.1.one q.1.other.0 q.1.other.1.next
+
+reads_grow : (ps : List Placed) (got : List (List ℕ × Json)) (done : Done) (s : State) (seen : List HandlerCall) (t : State) → ReadsEach ps got done s seen t → Grows s t
+reads_grow [] got done s seen t q = stays s t q.1.next
+reads_grow (p ∷ ps) got done s seen t q =
+    then_grows s q.1.mid t (read_grows p q.0 s q.1.first q.1.mid q.1.one) (after (λ more. reads_grow ps more done q.1.mid q.1.second t) q.0 q.1.other)
+  where
+    after : ((more : List (List ℕ × Json)) → ReadsEach ps more done q.1.mid q.1.second t → Grows q.1.mid t) → (r : Result Json Outcome) → AfterValue p ps got done r q.1.mid q.1.second t → Grows q.1.mid t
+    after further (Ok value) x = further (got ++ (p.affordance.name, value) ∷ []) x
+    after further (Err o) x = stays q.1.mid t x.1.next
+
+write_grows : (i : Input) (is : List Input) (emitted : List Emission) (done : Done) (what : CallKind) (called : Called) (s : State) (first : List HandlerCall) (m : State) (second : List HandlerCall) (t : State)
+    → ((u : State) (seen : List HandlerCall) → WritesEach is (emitted ++ emissions_of_write i) done u seen t → Grows u t)
+    → Calls i.affordance.slot what called s first m
+    → IfDone called (Then (SeesWritten i) (WritesEach is (emitted ++ emissions_of_write i) done)) (Stops (failure_of called) emitted done) m second t → Grows s t
+write_grows i is emitted done what (gives answer.Done) s first m second t further made x =
+    then_grows s x.mid t
+    (seen_grows i.affordance.slot what answer.Done i.affordance.slot (text_of i.value) s first m x.mid made (ap (λ (y : State). y.versions) x.one.next) (ap (λ (y : State). y.turns) x.one.next))
+    (further x.mid x.second x.other)
+write_grows i is emitted done what called s first m second t further made x =
+    then_grows s m t (call_grows i.affordance.slot what called s first m made) (stays m t x.1.next)
+
+writes_grow : (is : List Input) (emitted : List Emission) (done : Done) (s : State) (seen : List HandlerCall) (t : State) → WritesEach is emitted done s seen t → Grows s t
+writes_grow [] emitted done s seen t q = stays s t q.1.next
+writes_grow (i ∷ is) emitted done s seen t q =
+    write_grows i is emitted done (call.Write q.0) q.2.0 s q.2.1.first q.2.1.mid q.2.1.second t
+    (λ u after further. writes_grow is (emitted ++ emissions_of_write i) done u after t further) q.2.1.one q.2.1.other
+
+-- ---- actions
+
+invoked_grows : (p : Placed) (path : List (List ℕ)) (id : ℕ) (done : Done) (called : Called) (s : State) (seen : List HandlerCall) (t : State) → IsInvoked p path id done called s seen t → Grows s t
+invoked_grows p path id done (gives answer.Started) s seen t x = becomes s t _ x.1.next refl refl
+invoked_grows p path id done (gives (answer.Finished None)) s seen t x = becomes s t _ x.1.next refl refl
+invoked_grows p path id done (gives (answer.Finished (Some tree))) s seen t x = becomes s t _ x.1.next refl refl
+invoked_grows p path id done called s seen t x = becomes s t _ x.1.next refl refl
+
+queried_grows : (p : Placed) (id : ℕ) (done : Done) (called : Called) (s : State) (seen : List HandlerCall) (t : State) → IsQueried p id done called s seen t → Grows s t
+queried_grows p id done (gives answer.Running) s seen t x = stays s t x.1.next
+queried_grows p id done (gives (answer.Finished None)) s seen t x = becomes s t _ x.1.next refl refl
+queried_grows p id done (gives (answer.Finished (Some tree))) s seen t (inl x) = becomes s t _ x.1.1.next refl refl
+queried_grows p id done (gives (answer.Finished (Some tree))) s seen t (inr x) = stays s t x.1.1.next
+queried_grows p id done called s seen t x = stays s t x.1.next
+
+cancelled_grows : (id : ℕ) (done : Done) (called : Called) (s : State) (seen : List HandlerCall) (t : State) → IsCancelled id done called s seen t → Grows s t
+cancelled_grows id done (gives answer.Cancelled) s seen t x = becomes s t _ x.1.next refl refl
+cancelled_grows id done called s seen t x = stays s t x.1.next
+
+queries_grow : (p : Placed) (id : ℕ) (status : Status) (done : Done) (s : State) (seen : List HandlerCall) (t : State) → Queries p id status done s seen t → Grows s t
+queries_grow p id running done s seen t q =
+    then_grows s q.1.mid t (call_grows p.slot (call.Query id) q.0 s q.1.first q.1.mid q.1.one) (queried_grows p id done q.0 q.1.mid q.1.second t q.1.other)
+queries_grow p id (completed output) done s seen t q = stays s t q.1.next
+
+cancels_grow : (p : Placed) (id : ℕ) (status : Status) (done : Done) (s : State) (seen : List HandlerCall) (t : State) → Cancels p id status done s seen t → Grows s t
+cancels_grow p id running done s seen t q =
+    then_grows s q.1.mid t (call_grows p.slot (call.Cancel id) q.0 s q.1.first q.1.mid q.1.one) (cancelled_grows id done q.0 q.1.mid q.1.second t q.1.other)
+cancels_grow p id (completed output) done s seen t q = becomes s t _ q.1.next refl refl
+
+-- ---- acts and polls
+
+performs_grow : (act : Act) (q : PlainRequest) (is : List Input) (done : Done) (s : State) (seen : List HandlerCall) (t : State) → Performs act q is done s seen t → Grows s t
+performs_grow (describes thing) q is done s seen t x = stays s t x.1.next
+performs_grow (reads_all thing) q is done s seen t x = reads_grow _ [] done s seen t x
+performs_grow (writes_many thing) q is done s seen t x = writes_grow is [] done s seen t x
+performs_grow (reads p) q is done s seen t x = read_grows p x.0 s seen t x.2
+performs_grow (writes p) q is done s seen t x = writes_grow is [] done s seen t x
+performs_grow (invokes p) q is done s seen t x =
+    then_grows s x.2.1.mid t (call_grows p.slot (call.Invoke s.next_invocation x.0) x.2.0 s x.2.1.first x.2.1.mid x.2.1.one)
+    (invoked_grows p q.path s.next_invocation done x.2.0 x.2.1.mid x.2.1.second t x.2.1.other)
+performs_grow (queries p id) q is done s seen t x = queries_grow p id x.0.status done s seen t x.2
+performs_grow (cancels p id) q is done s seen t x = cancels_grow p id x.0.status done s seen t x.2
+performs_grow (reads_event p) q is done s seen t x = stays s t x.1.next
+performs_grow (waits p) q is done s seen t x = stays s t x.1.next
+
+pub acts_grow : (site : Site) (q : PlainRequest) (done : Done) (s : State) (seen : List HandlerCall) (t : State) → Acts site q done s seen t → Grows s t
+acts_grow site q done s seen t (refuses o refused x) = stays s t x.1.next
+acts_grow site q done s seen t (has_no_memory x) = stays s t x.1.next
+acts_grow site q done s seen t (performs act is none asked given x) = performs_grow act q is done s seen t x
+
+polls_grow : (ps : List Placed) (es : List Emission) (s : State) (seen : List HandlerCall) (t : State) → PollsEach ps es s seen t → Grows s t
+polls_grow [] es s seen t q = stays s t q.1.next
+polls_grow (p ∷ ps) es s seen t q =
+    then_grows s q.3.mid t
+    (then_grows s q.3.one.1.mid q.3.mid (call_grows p.slot call.Poll q.3.one.0 s q.3.one.1.first q.3.one.1.mid q.3.one.1.one)
+    (becomes q.3.one.1.mid q.3.mid _ q.3.one.1.other.1.next refl refl))
+    (polls_grow ps q.1 q.3.mid q.3.second t q.3.other)
+
+pub deeds_grow : (site : Site) (deeds : List Deed) (s : State) (seen : List HandlerCall) (t : State) → DoesAll site deeds s seen t → Grows s t
+deeds_grow site [] s seen t x = stays s t x.next
+deeds_grow site (asks q done ∷ deeds) s seen t x =
+    then_grows s x.mid t (acts_grow site q done s x.first x.mid x.one) (deeds_grow site deeds x.mid x.second t x.other)
+deeds_grow site (polls emissions ∷ deeds) s seen t x =
+    then_grows s x.mid t (polls_grow _ emissions s x.first x.mid x.one) (deeds_grow site deeds x.mid x.second t x.other)

@@ -1,0 +1,112 @@
+-- Versions of properties over a run: what entity tags promise (RFC 9110, section 8.8.3), and that no write is lost
+-- (section 13.1.1).
+use Rattle.std.specs.Prelude.{◌≡◌, ◌≤◌, ℕ, ◌+◌, ◌==◌, List, [], ◌∷◌, Option, Some, None, option_map, IsSome, if◌then◌else◌, false}
+use Rattle.std.specs.List.{AllByRecursion}
+use Rattle.servient_base.specs.Moves.{Each}
+use Rattle.thing_ops.specs.declared.outcome.Outcome.TheVariants as outcome
+use Rattle.thing_ops.specs.Requests.{PlainRequest}
+use Rattle.thing_handler.specs.Turns.{HandlerCall}
+use Rattle.thing_site.specs.Site.{Placed, Site}
+use Rattle.thing_site.specs.declared.place.Act.{Act}
+use Rattle.thing_site.specs.declared.place.Act.TheVariants as act
+use Rattle.thing_core.specs.State.{State, Emission, Version, is_last_seen, after_text, start, properties_of, version_of}
+use Rattle.thing_core.specs.Refusals.{act_asked}
+use Rattle.thing_core.specs.Thing.{Move, Done, Acts, Polls, most_turns}
+
+-- ---- runs
+
+-- a request with what came of it, or a poll of all events with what it emitted
+pub data Deed : Type 0 where
+  asks : PlainRequest → Done → Deed
+  polls : List Emission → Deed
+
+abbrev pub Does : Site → Deed → Move
+Does site (asks q done) = Acts site q done
+Does site (polls emissions) = Polls site emissions
+
+-- one after another
+abbrev pub DoesAll : Site → List Deed → Move
+DoesAll site = Each (Does site)
+
+-- ---- versions
+
+-- the version of the property in this slot
+abbrev pub version_in : ℕ → List Version → Option Version
+version_in slot [] = None
+version_in slot (v ∷ versions) = if v.slot == slot then Some v else version_in slot versions
+
+-- after these texts were seen, one after another
+abbrev pub after_texts : List (List ℕ) → Version → Version
+after_texts [] v = v
+after_texts (text ∷ texts) v = after_texts texts (after_text text v)
+
+-- from one state to another some texts were seen of the property in this slot
+abbrev pub SeesTexts : ℕ → State → State → Type 0
+SeesTexts slot s t = (texts : List (List ℕ)) × (version_in slot t.versions ≡ option_map (after_texts texts) (version_in slot s.versions))
+
+-- however many texts are seen: the number doesn't fall, and where it is the same, so is the text
+abbrev pub IsLater : Version → Version → Type 0
+IsLater v w = (v.number ≤ w.number) × (w.number ≡ v.number → w ≡ v)
+
+-- Whatever is done, of each property texts were seen one after another: its version changes by them alone.
+abbrev pub VersionsSeeTexts : Site → Type 0
+VersionsSeeTexts site = (deeds : List Deed) (s t : State) (seen : List HandlerCall) → DoesAll site deeds s seen t → (slot : ℕ) → SeesTexts slot s t
+
+-- how many of these texts differ from the one that was seen before
+abbrev pub changes : List (List ℕ) → Version → ℕ
+changes [] v = 0
+changes (text ∷ texts) v = (if is_last_seen text v then 0 else 1) + changes texts (after_text text v)
+
+-- A version never falls; while its number is the same, its text is; and it rises by one for each text that differs from
+-- the one that was seen before, and by nothing else.
+abbrev pub TextsMakeVersions : Type 0
+TextsMakeVersions =
+    (texts : List (List ℕ)) (v : Version) → IsLater v (after_texts texts v) × ((after_texts texts v).number ≡ v.number + changes texts v)
+
+-- ---- from the beginning
+
+-- a state that is reached from the beginning
+pub record IsReached (site : Site) (s : State) : Type 0 where
+  pub deeds : List Deed
+  pub seen : List HandlerCall
+  pub run : DoesAll site deeds (start site) seen s
+
+-- A version counts turns of the run: it is a number of 32 bits.
+abbrev pub VersionsAreFew : Site → Type 0
+VersionsAreFew site = (s : State) → IsReached site s → (slot : ℕ) → (version_of slot s.versions ≤ s.turns) × (s.turns ≤ most_turns)
+
+-- ---- reads and writes of one property
+
+-- a request was made, and this came of it
+pub record IsAsked (site : Site) (q : PlainRequest) (act : Act) (done : Done) (s t : State) : Type 0 where
+  pub asked : act_asked (record { site = site; state = s; request = q }) ≡ Some act
+  pub seen : List HandlerCall
+  pub move : Acts site q done s seen t
+
+-- Two reads of one property in a run, whatever is done between them: what they send with one tag is one text.
+abbrev pub SameTagSameText : Site → Type 0
+SameTagSameText site =
+    (p : Placed) (q r : PlainRequest) (one other : Done) (s t u v : State) (deeds : List Deed) (between : List HandlerCall) (tag : ℕ) (text further : List ℕ)
+    → IsSome (version_in p.slot s.versions)
+    → IsAsked site q (act.Reads p) one s t → DoesAll site deeds t between u → IsAsked site r (act.Reads p) other u v
+    → one.outcome ≡ outcome.Content text (Some tag) → other.outcome ≡ outcome.Content further (Some tag) → text ≡ further
+
+-- A tag is at least 1.
+abbrev pub TagsAreSeen : Site → Type 0
+TagsAreSeen site =
+    (p : Placed) (q : PlainRequest) (done : Done) (s t : State) (tag : ℕ) (text : List ℕ) → IsReached site s → IsSome (version_in p.slot s.versions)
+    → IsAsked site q (act.Reads p) done s t → done.outcome ≡ outcome.Content text (Some tag) → 1 ≤ tag
+
+-- No write is lost: one that was done and asks for the version that was read found the property as it was read.
+abbrev pub NoWriteIsLost : Site → Type 0
+NoWriteIsLost site =
+    (p : Placed) (q r : PlainRequest) (read written : Done) (s t u v : State) (deeds : List Deed) (between : List HandlerCall) (tag : ℕ) (text : List ℕ)
+    → IsSome (version_in p.slot s.versions)
+    → IsAsked site q (act.Reads p) read s t → DoesAll site deeds t between u → IsAsked site r (act.Writes p) written u v
+    → read.outcome ≡ outcome.Content text (Some tag) → r.conditions.if_match ≡ Some (record { any = false; list = tag ∷ [] })
+    → written.outcome ≡ outcome.Changed
+    → option_map {U = ℕ × Option (List ℕ)} (λ w. (w.number, w.text)) (version_in p.slot u.versions) ≡ Some (tag, Some text)
+
+-- Each property has a version at the beginning, and so in each state that is reached.
+abbrev pub PropertiesHaveVersions : Site → Type 0
+PropertiesHaveVersions site = (s : State) → IsReached site s → AllByRecursion (λ p. IsSome (version_in p.slot s.versions)) (properties_of site)

@@ -1,0 +1,110 @@
+//! The version of a property, and the text of the value that was seen of it last.
+
+ghost use Rattle.std.specs.Prelude.{◌≡◌, ◌==◌, ◌<◌, ◌≤◌, length, position, IfOk};
+ghost use Rattle.thing_core.specs.State.{after_text, version_of as version_of_slot, versions_after};
+ghost use Rattle.thing_core.specs.Thing.{most_turns};
+ghost use Rattle.thing_site.specs.Refusals.{longest_value};
+
+use crate::NoMemory;
+use std::alloc::Global;
+use std::marker::Model;
+use thing_site::LONGEST_VALUE;
+
+/// A property's version. Room for the text is taken once, so that seeing a value takes no memory.
+#[derive(Debug, Drop)]
+pub struct Version {
+    slot: u32,
+    /// 0 where nothing was seen yet.
+    number: u32,
+    text: Vec<u8>,
+}
+
+impl Model for Version {
+    ghost use Rattle.std.specs.Prelude.{◌≤◌, ◌==◌, Some, None, if◌then◌else◌, vec_capacity};
+    ghost use Rattle.thing_site.specs.Refusals.{longest_value};
+    ghost use Rattle.thing_core.specs.State.{Version as VersionSeen};
+    ghost use Rattle.thing_core.specs.Course.{version_code};
+
+    ghost Value = { VersionSeen };
+
+    ghost coded = { version_code };
+
+    ghost view = { λ v. record { slot = v.slot; number = v.number; text = if v.number == 0 then None else Some v.text.items } };
+
+    ghost invariant = { λ v. longest_value ≤ vec_capacity v.text };
+}
+
+impl Version {
+    ghost use Rattle.std.specs.Prelude.{None};
+
+    /// That of the property in this slot, of which nothing was seen yet.
+    pub fn unseen(alloc: Global, slot: u32) -> Result<Version, NoMemory>
+        ensures { IfOk result (λ v. v ≡ record { slot = slot; number = 0; text = None }) }
+    {
+        Ok(Version {
+            slot,
+            number: 0,
+            text: Vec::with_capacity(alloc, LONGEST_VALUE)?,
+        })
+    }
+
+    /// The slot of its property.
+    pub fn slot(&self) -> u32
+        ensures { result ≡ self.now.slot }
+    {
+        self.slot
+    }
+
+    /// Its number.
+    pub fn number(&self) -> u32
+        ensures { result ≡ self.now.number }
+    {
+        self.number
+    }
+
+    /// A value of this text is seen. The version's number afterwards.
+    pub fn see(&mut self, text: &[u8]) -> u32
+        requires length { length text.now ≤ longest_value }
+        requires room { self.old.number < most_turns }
+        ensures seen { self.new ≡ after_text text.now self.old }
+        ensures number { result ≡ self.new.number }
+    {
+        if self.number != 0 && self.text.as_slice() == text {
+            return self.number;
+        }
+        self.number += 1;
+        self.text.clear();
+        self.text.extend_from_slice(text).unwrap();
+        self.number
+    }
+}
+
+/// The version of the property in this slot.
+pub fn version_of(versions: &[Version], slot: u32) -> u32
+    ensures { result ≡ version_of_slot slot versions.now }
+{
+    match place_of_version(versions, slot) {
+        Some(index) => versions[index].number(),
+        None => 0,
+    }
+}
+
+/// A value of this text is seen of the property in this slot. The version that the property then has.
+pub fn see_one(versions: &mut [Version], slot: u32, text: &[u8]) -> u32
+    requires length { length text.now ≤ longest_value }
+    requires room { version_of_slot slot versions.old < most_turns }
+    ensures versions { versions.new ≡ versions_after slot text.now versions.old }
+    ensures number { result ≡ version_of_slot slot versions.new }
+{
+    match place_of_version(versions, slot) {
+        Some(index) => versions[index].see(text),
+        None => 0,
+    }
+}
+
+/// The place of the version of the property in this slot.
+fn place_of_version(versions: &[Version], slot: u32) -> Option<usize>
+    ensures { result ≡ position (λ v. v.slot == slot) versions.now }
+{
+    versions.iter().position(|v| v.slot() == slot)
+}

@@ -122,37 +122,15 @@ fn replied(
     }
 }
 
-/// Whether the block with this number is given as it should be.
-fn is_given(
-    alloc: Global,
-    server: &mut CoapBind,
-    origin: Origin,
-    cut: Cut<'_>,
-    number: usize,
-) -> Result<bool, AllocError>
-    requires { server.old.exchanges.moment ≤ origin.now }
-    ensures { server.new.exchanges.moment ≤ origin.now }
-{
+/// A request for the block with this number.
+fn request_for(alloc: Global, szx: u8, number: usize) -> Result<Vec<u8>, AllocError> {
     let mut text = String::new(alloc);
-    let value = number
-        .saturating_mul(16)
-        .saturating_add(usize::from(cut.szx));
+    let value = number.saturating_mul(16).saturating_add(usize::from(szx));
     write!(text, "NON GET {number} - /a Block2={value}")?;
-    let datagram = message_of(alloc, text.as_str())?;
-    let outcome = Outcome::Description(Bytes::copy_of(alloc, cut.body)?, true);
-    let mut room = [0u8; LONGEST_MESSAGE];
-    let size = replied(server, origin, datagram.as_slice(), &outcome, &mut room);
-    let reply = room.get(..size).unwrap_or(b"");
-    Ok(is_reply(
-        reply,
-        CONTENT,
-        BLOCK2,
-        block_at(cut, number),
-        piece(cut, number),
-    ))
+    message_of(alloc, text.as_str())
 }
 
-/// Whether all blocks are.
+/// Whether all blocks are given as they should be.
 fn are_given(
     alloc: Global,
     server: &mut CoapBind,
@@ -162,9 +140,15 @@ fn are_given(
     requires { server.old.exchanges.moment ≤ origin.now }
     ensures { server.new.exchanges.moment ≤ origin.now }
 {
+    let outcome = Outcome::Description(Bytes::copy_of(alloc, cut.body)?, true);
+    let mut room = [0u8; LONGEST_MESSAGE];
     let mut right = true;
     for number in 0..count_of(cut) {
-        right = is_given(alloc, server, origin, cut, number)? && right;
+        let datagram = request_for(alloc, cut.szx, number)?;
+        let size = replied(server, origin, datagram.as_slice(), &outcome, &mut room);
+        let reply = room.get(..size).unwrap_or(b"");
+        let (block, payload) = (block_at(cut, number), piece(cut, number));
+        right = is_reply(reply, CONTENT, BLOCK2, block, payload) && right;
     }
     Ok(right)
 }

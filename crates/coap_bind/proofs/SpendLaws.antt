@@ -70,7 +70,7 @@ act_at code o a one two = by_tests (code == GET) (code == POST || code == PUT)
     by_tests false true = ap wanted_by_body one
     by_tests false false = refl
 
-no_block_wants : (m : CoapMessage) → NamesNoBlock m → wanted_in m ≡ wanted.Act
+pub no_block_wants : (m : CoapMessage) → NamesNoBlock m → wanted_in m ≡ wanted.Act
 no_block_wants m none = act_at m.code (observing_in m) (what_is_asked m) none.block1 none.block2
 
 faultless_fault : (faults : List AskFault) (f : AskFault) → faults ≡ [] → slice_get faults 0 ≡ Some f → ⊥

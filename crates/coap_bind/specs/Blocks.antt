@@ -113,7 +113,7 @@ given_portion szx payload = if is_in_blocks szx (length payload) then portion_at
 
 -- the outcome is what is at the path: a value or a description
 abbrev pub is_representation : Outcome → Bool
-is_representation (outcome.Content value) = true
+is_representation (outcome.Content value tag) = true
 is_representation (outcome.Description description as_td) = true
 is_representation _ = false
 

@@ -184,5 +184,6 @@ fn with_body_of<'a>(request: Request<'a>, body: &'a [u8]) -> Request<'a>
         accept: request.accept,
         format: request.format,
         body,
+        conditions: request.conditions,
     }
 }

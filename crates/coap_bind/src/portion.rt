@@ -47,7 +47,7 @@ pub fn is_representation(outcome: &Outcome) -> bool
     ensures { result ≡ is_representation outcome.now }
 {
     match outcome {
-        Outcome::Content(_) => true,
+        Outcome::Content { .. } => true,
         Outcome::Description(_, _) => true,
         _ => false,
     }

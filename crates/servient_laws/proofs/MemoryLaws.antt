@@ -3,6 +3,7 @@ use Rattle.std.proofs.Common.{◌≡◌, ℕ, List, [], ◌∷◌, ◌++◌, Boo
 use Rattle.std.specs.Prelude.{Option, Some, None, Result, Ok, Err}
 use Rattle.servient_base.specs.Moves.{Then}
 use Rattle.wot_json.specs.Tree.{Json}
+use Rattle.wot_json.specs.Json.{text_of}
 use Rattle.wot_json.specs.Meaning.{json_of}
 use Rattle.thing_ops.specs.declared.conditions.Conditions.{Conditions}
 use Rattle.thing_ops.specs.Conditions.{fails, has}
@@ -17,7 +18,7 @@ use Rattle.thing_site.specs.Site.{Placed}
 use Rattle.thing_site.specs.declared.place.Act.{Act}
 use Rattle.thing_site.specs.declared.place.Act.TheVariants.{Describes as describes, ReadsAll as reads_all, WritesMany as writes_many, Reads as reads, Writes as writes, Invokes as invokes, Queries as queries, Cancels as cancels, ReadsEvent as reads_event, Waits as waits}
 use Rattle.thing_site.specs.Refusals.{Input}
-use Rattle.thing_core.specs.State.{State, Emission, Status, running, completed, last_of}
+use Rattle.thing_core.specs.State.{State, Emission, Status, running, completed, last_of, version_of}
 use Rattle.thing_core.specs.Refusals.{Asked, refusals, IsRefusedBy}
 use Rattle.thing_core.specs.Thing.{Done, only, Called, no_number, no_memory, gives, failure_of, Calls, GivesValue, ReadsValue, readable, ReadsEach, SeesWritten, emissions_of_write, Stops, IfDone, WritesEach, IsInvoked, IsQueried, Queries, IsCancelled, Cancels, event_outcome, read_outcome, Performs, refuses, has_no_memory, performs}
 use Rattle.thing_core.proofs.ReadLaws.{AfterValue}
@@ -258,7 +259,7 @@ performs_missed : (act : Act) (q : PlainRequest) (inputs : List Input) (done : D
 performs_missed (describes thing) q inputs done s seen t memory r = absurd (no_description _ _ (outcome_of done _ r.0 memory))
 performs_missed (reads_all thing) q inputs done s seen t memory r = each_missed (readable thing) [] done s seen t memory r
 performs_missed (writes_many thing) q inputs done s seen t memory r = writes_missed inputs [] done s seen t memory r
-performs_missed (reads p) q inputs done s seen t memory (Ok value, is, read) = absurd (no_read _ _ _ (outcome_of done _ is memory))
+performs_missed (reads p) q inputs done s seen t memory (Ok value, is, read) = absurd (no_read q.conditions (version_of p.slot t.versions) (text_of value) (outcome_of done _ is memory))
 performs_missed (reads p) q inputs done s seen t memory (Err o, is, read) = value_missed p (Err o) s seen t (ap (λ (x : Outcome). Err x) (outcome_of done o is memory)) read
 performs_missed (writes p) q inputs done s seen t memory r = writes_missed inputs [] done s seen t memory r
 performs_missed (invokes p) q inputs done s seen t memory r =

@@ -4,7 +4,7 @@ use Rattle.std.specs.Prelude.{nat_lt, All, take}
 use Rattle.std.specs.Option.{option_map_or}
 use Rattle.std.proofs.lemmas.List.{length-take}
 use Rattle.std.proofs.lemmas.List.Elements.{All-head, All-tail}
-use Rattle.coap_msg.specs.declared.constants.TheConstants.{LOCATION_PATH, CONTENT_FORMAT, JSON, LONGEST_SEGMENT, LONGEST_PAYLOAD}
+use Rattle.coap_msg.specs.declared.constants.TheConstants.{LOCATION_PATH, CONTENT_FORMAT, JSON, LONGEST_SEGMENT}
 use Rattle.coap_msg.specs.declared.message.RequestType.{RequestType}
 use Rattle.coap_msg.specs.declared.message.RequestType.TheVariants.{Confirmable, NonConfirmable}
 use Rattle.coap_msg.specs.Grammar.{CoapOption, AreInOrder}

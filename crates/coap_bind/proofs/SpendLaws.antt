@@ -1,5 +1,5 @@
 -- What becomes of the parts, over all that a server does.
-use Rattle.std.proofs.Common.{◌≡◌, ◌≢◌, ◌⊎◌, ◌∙◌, inl, inr, ℕ, Bool, true, false, not, Option, Some, None, List, [], ◌∷◌, ◌++◌, refl, sym, ap, subst, cond, remove, slice_get}
+use Rattle.std.proofs.Common.{◌≡◌, ◌∙◌, inl, inr, ℕ, Bool, true, false, Option, Some, None, List, [], ◌∷◌, ◌++◌, refl, sym, ap, subst, remove, slice_get}
 use Rattle.std.specs.Prelude.{◌==◌, ◌||◌, if◌then◌else◌}
 use Rattle.coap_msg.specs.declared.block.Block.{Block}
 use Rattle.coap_msg.specs.declared.constants.TheConstants.{GET, POST, PUT}
@@ -10,23 +10,20 @@ use Rattle.coap_msg.specs.Grammar.{CoapMessage}
 use Rattle.coap_msg.specs.Requests.{request_type}
 use Rattle.coap_exchange.specs.Admission.{Arrival}
 use Rattle.coap_blocks.specs.Laws.{Call, adds, clears, after_call, parts_after}
-use Rattle.coap_blocks.specs.Parts.{Part, living, after_block, Gives}
+use Rattle.coap_blocks.specs.Parts.{Part}
 use Rattle.coap_blocks.specs.declared.added.Added.{Added}
 use Rattle.coap_blocks.specs.declared.added.Added.TheVariants as answer
 use Rattle.coap_observe.specs.declared.notice.Notice.{Notice}
-use Rattle.thing_ops.specs.declared.outcome.Outcome.{Outcome}
 use Rattle.coap_opts.specs.Reading.{PlainAsk, asked as what_is_asked}
 use Rattle.coap_opts.specs.declared.fault.AskFault.{AskFault}
-use Rattle.coap_bind.specs.declared.blocks.Wanted.{Wanted}
 use Rattle.coap_bind.specs.declared.blocks.Wanted.TheVariants as wanted
-use Rattle.coap_bind.specs.declared.head.OpenAsk.{OpenAsk}
 use Rattle.coap_bind.specs.declared.head.OpenRequest.{OpenRequest}
 use Rattle.coap_bind.specs.declared.observing.Observing.{Observing}
 use Rattle.coap_bind.specs.declared.observing.Observing.TheVariants as observing
 use Rattle.coap_bind.specs.declared.server.Server.{Server}
 use Rattle.coap_bind.specs.Blocks.{added_reply, bodies_after, block2_of, wanted_by_get, wanted_by_body, wanted_of}
-use Rattle.coap_bind.specs.Laws.{Did, DidFrom, nothing, heard_of, answered, emitted, sent}
-use Rattle.coap_bind.specs.Server.{start, Heard, with_next_id, with_id_used, with_kept, with_watchers, with_bodies, with_parts, with_emitted, with_notice_sent, with_report, Replies, Answers, observing_in, wanted_in, block_arrival, Adds, IsAnsweredAtOnce, bad_option, bad_block, for_proxy, no_memory, later_block, joined, Reads, replied, bad_option_ignored, asks, asks_whole, malformed, no_request, duplicate, full, settled, admitted, Hears, opened}
+use Rattle.coap_bind.specs.Laws.{DidFrom, nothing, heard_of, answered, emitted, sent}
+use Rattle.coap_bind.specs.Server.{start, Heard, with_next_id, with_id_used, with_kept, with_watchers, with_bodies, with_parts, with_notice_sent, Replies, observing_in, wanted_in, block_arrival, Adds, IsAnsweredAtOnce, bad_option, bad_block, for_proxy, no_memory, later_block, joined, Reads, replied, bad_option_ignored, asks, asks_whole, malformed, no_request, duplicate, full, settled, admitted, Hears, opened}
 use Rattle.coap_bind.specs.Transfers.{NamesNoBlock, RequestsWithoutBlocksAct, AnswersLeaveTheParts, Spends, no_call, goes_on, spends, NoWholeBodyStays}
 use Rattle.thing_ops.specs.declared.outcome.Outcome.TheVariants.{Memory}
 use Rattle.coap_bind.specs.Writing.{Reply, reply_of}

@@ -1,5 +1,5 @@
 -- What a request wants, and what comes of it.
-use Rattle.std.proofs.Common.{◌≡◌, ◌≤◌, ◌<◌, ◌∙◌, ℕ, Bool, true, false, List, [], length, remove, slice_get, Option, Some, None, refl, ap, sym, subst}
+use Rattle.std.proofs.Common.{◌≡◌, ◌≤◌, ◌<◌, ◌∙◌, ℕ, Bool, true, false, List, length, remove, slice_get, Option, Some, None, refl, ap, sym, subst}
 use Rattle.std.specs.Prelude.{◌==◌, ◌||◌, option_map, IfSome, if◌then◌else◌}
 use Rattle.coap_msg.specs.declared.block.Block.{Block}
 use Rattle.coap_msg.specs.declared.constants.TheConstants.{GET, POST, PUT}
@@ -16,7 +16,6 @@ use Rattle.coap_exchange.specs.declared.met.Met.TheVariants.{Fresh}
 use Rattle.coap_opts.specs.PlainAsk.{plain_ask}
 use Rattle.coap_opts.specs.Reading.{HasBlocks, PlainAsk, asked as what_is_asked}
 use Rattle.thing_ops.specs.declared.outcome.Outcome.TheVariants.{Memory}
-use Rattle.coap_bind.specs.declared.blocks.BlockUse.{BlockUse}
 use Rattle.coap_bind.specs.declared.blocks.BlockUse.TheVariants as use_of_blocks
 use Rattle.coap_bind.specs.declared.blocks.Wanted.{Wanted}
 use Rattle.coap_bind.specs.declared.blocks.Wanted.TheVariants as wanted
@@ -32,7 +31,7 @@ use Rattle.coap_bind.specs.declared.observing.Observing.{Observing}
 use Rattle.coap_bind.specs.declared.observing.Observing.TheVariants as observing
 use Rattle.coap_bind.specs.Blocks.{IsUse, added_reply, block2_of, later_reply, use_of, wanted_by_body, wanted_by_get, wanted_of}
 use Rattle.coap_bind.specs.Observing.{observing_of}
-use Rattle.coap_bind.specs.Server.{Heard, asked, answered_at_once, opened, opened_ask, joined_ask, observing_in, wanted_in, with_parts, with_whole_body, block_arrival, Adds, IsMet, IsAnsweredAtOnce, no_memory, later_block, joined, Reads, asks, asks_whole, admitted}
+use Rattle.coap_bind.specs.Server.{Heard, asked, opened_ask, joined_ask, wanted_in, with_parts, with_whole_body, block_arrival, Adds, IsMet, no_memory, later_block, joined, Reads, asks, asks_whole, admitted}
 use Rattle.coap_bind.specs.Settling.{AsksWhole, HandsOut, HasWhole, IsOpenAfter, IsReadOf, ReadsAs}
 use Rattle.coap_bind.specs.Telling.{HearsAs, MayAnswer, RepliesAs, Tells, TicketIsOpen}
 use Rattle.coap_bind.specs.Writing.{Reply, reply_of}

@@ -17,7 +17,6 @@ use Rattle.coap_msg.proofs.FaultLaws.{no_fault_of_message}
 use Rattle.coap_exchange.specs.declared.met.Met.TheVariants.{Fresh}
 use Rattle.coap_exchange.specs.Admission.{Arrival}
 use Rattle.coap_exchange.specs.Table.{Exchange, Table, at_moment, exchange_in, with_exchange, with_reply, answered as with_answer}
-use Rattle.thing_ops.specs.declared.outcome.Outcome.TheVariants.{Memory}
 use Rattle.coap_observe.specs.Watching.{Watching}
 use Rattle.coap_opts.specs.Reading.{PlainAsk, faults_of, asked as what_is_asked}
 use Rattle.coap_opts.specs.declared.fault.AskFault.{AskFault}
@@ -31,7 +30,7 @@ use Rattle.coap_bind.specs.Blocks.{answer_reply}
 use Rattle.coap_bind.specs.Observing.{effect_of, Watches}
 use Rattle.coap_bind.proofs.DuplicateLaws.{ready}
 use Rattle.coap_bind.specs.Writing.{Reply, observed, head_of, coap_reply}
-use Rattle.coap_bind.specs.Server.{Heard, ignored, answered_at_once, asked, with_id_used, with_kept, with_watchers, replied_at_once, Replies, is_request, arrival, IsMet, malformed, no_request as is_no_request, duplicate, full, IsAnsweredAtOnce, bad_option, bad_block, for_proxy, no_memory, later_block, joined, replied, bad_option_ignored, asks, asks_whole, observing_in, wanted_in, with_parts, with_whole_body, opened, opened_ask, joined_ask, settled, admitted, Hears, Answers}
+use Rattle.coap_bind.specs.Server.{Heard, ignored, answered_at_once, asked, with_id_used, with_kept, replied_at_once, Replies, is_request, arrival, IsMet, malformed, no_request as is_no_request, duplicate, full, IsAnsweredAtOnce, bad_option, bad_block, for_proxy, no_memory, later_block, joined, replied, bad_option_ignored, asks, asks_whole, wanted_in, with_parts, with_whole_body, opened, opened_ask, joined_ask, settled, admitted, Hears, Answers}
 use Rattle.coap_bind.specs.Laws.{HasShortPlace}
 use Rattle.coap_bind.specs.Treating.{Acted, ignores, answers, acts, IsReplied, faulty, memory, of_blocks, acted, acted_on_whole, kept_for, sent_back, IsTreated, no_request, is_duplicate, finds_full, is_answered, is_ignored, AllAreTreated}
 use Rattle.coap_bind.proofs.HistoryLaws.{not_replied, not_duplicate}

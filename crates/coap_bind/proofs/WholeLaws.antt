@@ -1,5 +1,5 @@
 -- The bodies of requests that came in blocks, and their paths, are no longer than they may be.
-use Rattle.std.proofs.Common.{◌≡◌, ◌+◌, ◌-◌, ◌≤◌, ◌<◌, ◌∙◌, ℕ, suc, Bool, true, false, not, List, [], ◌∷◌, ◌++◌, length, set, remove, slice_get, Option, Some, None, refl, ap, sym, subst, arith, length-append}
+use Rattle.std.proofs.Common.{◌≡◌, ◌+◌, ◌-◌, ◌≤◌, ◌<◌, ◌∙◌, ℕ, Bool, true, false, not, List, [], ◌∷◌, ◌++◌, length, set, remove, slice_get, Option, Some, None, refl, ap, sym, subst, arith, length-append}
 use Rattle.std.specs.Prelude.{◌==◌, nat_lt, map, IfSome, if◌then◌else◌}
 use Rattle.std.specs.List.{filter}
 use Rattle.std.proofs.lemmas.List.{length-set, get_or-set_same}

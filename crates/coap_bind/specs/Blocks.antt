@@ -1,6 +1,6 @@
 -- Blocks of bodies: what a request wants of them, and which part of a payload a reply has (RFC 7959, sections 2.1 to
 -- 2.5 and 2.9). Blocks inside notifications are left out.
-use Rattle.std.specs.Prelude.{◌≡◌, ◌≤◌, ◌+◌, ◌/◌, ◌==◌, ◌&&◌, ◌||◌, ℕ, nat_lt, nat_le, Bool, true, false, not, List, [], ◌∷◌, ◌++◌, length, take, drop, codes, unwrap_or, option_map, is_some, IfSome, Option, Some, None, if◌then◌else◌}
+use Rattle.std.specs.Prelude.{◌≤◌, ◌+◌, ◌/◌, ◌==◌, ◌&&◌, ◌||◌, ℕ, nat_lt, nat_le, Bool, true, false, List, [], ◌∷◌, ◌++◌, length, take, drop, codes, unwrap_or, option_map, is_some, IfSome, Option, Some, None, if◌then◌else◌}
 use Rattle.coap_msg.specs.declared.block.Block.{Block}
 use Rattle.coap_msg.specs.declared.constants.TheConstants.{GET, POST, PUT, BLOCK1, BLOCK2, CONTENT_FORMAT, LONGEST_PAYLOAD}
 use Rattle.coap_msg.specs.declared.endpoint.Endpoint.{Endpoint}

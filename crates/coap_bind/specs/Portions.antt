@@ -1,5 +1,5 @@
 -- Inside the crate: what the code has of a reply, apart from where it lies in memory.
-use Rattle.std.specs.Prelude.{◌≡◌, ℕ, List, Option, Some, None, IfSome}
+use Rattle.std.specs.Prelude.{Option, IfSome}
 use Rattle.coap_msg.specs.declared.block.Block.{Block}
 use Rattle.coap_msg.specs.Blocks.{IsBlock}
 use Rattle.coap_bind.specs.declared.blocks.BlockOption.{BlockOption}

@@ -1,9 +1,8 @@
 -- The options and the message have room.
-use Rattle.std.proofs.Common.{◌≡◌, ◌≤◌, ◌∙◌, List, [], ◌++◌, length, ap, subst, sym, arith}
+use Rattle.std.proofs.Common.{◌≤◌, ◌∙◌, List, [], ◌++◌, length, ap, subst, sym, arith}
 use Rattle.coap_msg.specs.Grammar.{CoapOption, CoapMessage, options_spelling}
 use Rattle.coap_msg.specs.Opts.{WrittenOptions}
 use Rattle.coap_bind.specs.Blocks.{block_options, content_format}
-use Rattle.coap_bind.specs.Writing.{reply_kind, reply_id}
 use Rattle.coap_bind.proofs.LengthLaws.{both_written, is_written, message_fits, options_written, told_format, told_length}
 use Rattle.coap_bind.proofs.writing.put_told.Goals as goal
 

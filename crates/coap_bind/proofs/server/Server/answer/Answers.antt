@@ -1,5 +1,5 @@
 -- What was done to the watchers is the effect of the answer, and a body is kept; nothing else changed.
-use Rattle.std.proofs.Common.{◌≡◌, ◌≤◌, ◌∙◌, length, ap, sym, subst}
+use Rattle.std.proofs.Common.{◌≤◌, ◌∙◌, length, ap, sym, subst}
 use Rattle.coap_msg.specs.declared.constants.TheConstants.{LONGEST_MESSAGE}
 use Rattle.coap_msg.specs.Grammar.{spelling}
 use Rattle.coap_bind.specs.declared.observing.Effect.{Effect}
@@ -7,7 +7,7 @@ use Rattle.coap_bind.specs.declared.server.Server.{Server}
 use Rattle.coap_bind.specs.Blocks.{answer_reply, bodies_after}
 use Rattle.coap_bind.specs.Observing.{Watches}
 use Rattle.coap_bind.specs.Writing.{observed, coap_reply}
-use Rattle.coap_bind.specs.Server.{Replies, with_bodies, with_watchers}
+use Rattle.coap_bind.specs.Server.{Replies, with_bodies}
 use Rattle.coap_bind.proofs.server.Server.answer.Goals as goal
 
 pub reply-requires-clause-room : goal.reply-requires-clause-room

@@ -1,5 +1,5 @@
 -- Each answer to the block is a rule, for the request that was read.
-use Rattle.std.proofs.Common.{◌∙◌, ap, refl, sym, subst}
+use Rattle.std.proofs.Common.{◌∙◌, ap, refl}
 use Rattle.coap_opts.specs.PlainAsk.{plain_ask}
 use Rattle.coap_blocks.specs.Parts.{living}
 use Rattle.coap_blocks.specs.declared.added.Added.TheVariants as answer

@@ -1,7 +1,7 @@
 -- What is wanted is what the request that was read wants.
 use Rattle.std.proofs.Common.{◌∙◌, ap, sym}
 use Rattle.coap_opts.specs.PlainAsk.{plain_ask}
-use Rattle.coap_bind.specs.declared.blocks.Wanted.TheVariants.{Act, LaterBlock, Joining}
+use Rattle.coap_bind.specs.declared.blocks.Wanted.TheVariants.{Act, Joining}
 use Rattle.coap_bind.specs.declared.observing.Observing.{Observing}
 use Rattle.coap_bind.specs.Blocks.{wanted_of}
 use Rattle.coap_bind.proofs.TreatLaws.{joining_is_block, later_is_block, treat_later, wanted_is}

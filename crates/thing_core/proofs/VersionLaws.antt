@@ -298,6 +298,7 @@ at_least_one tag text v h number is = by_test tag refl
   where
     none_is : v.text ≡ None → ⊥
     none_is none = let e : None ≡ Some text = sym none ∙ is in cc
+
     by_test : (n : ℕ) → n ≡ tag → 1 ≤ tag
     by_test zero e = absurd (none_is (h (number ∙ sym e)))
     by_test (suc n) e = omega (arith, e)

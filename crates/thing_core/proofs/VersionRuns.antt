@@ -42,6 +42,7 @@ texts_counted (text ∷ texts) v = by_test (is_last_seen text v) (texts_counted 
   where
     newer : Version
     newer = record v { number = v.number + 1; text = Some text }
+
     by_test : (b : Bool) → (after_texts texts (cond b v newer)).number ≡ (cond b v newer).number + changes texts (cond b v newer)
         → (after_texts texts (cond b v newer)).number ≡ v.number + (cond b 0 1 + changes texts (cond b v newer))
     by_test true rest = omega (arith, rest)

@@ -5,8 +5,12 @@ use Rattle.thing_core.proofs.version.see_one.Goals as goal
 
 pub see-requires-clause-room : goal.see-requires-clause-room
 see-requires-clause-room c =
-    omega (arith, c.requires.room, version_at c.args.slot c.args.versions.now c.in-Some.index (get_or c.args.versions.now c.in-Some.index c.index-versions-index.result) c.in-Some.ensures
-    (ap (λ (d : Version). get_or c.args.versions.now c.in-Some.index d) c.index-versions-index.is))
+    omega (
+      arith,
+      c.requires.room,
+      version_at c.args.slot c.args.versions.now c.in-Some.index (get_or c.args.versions.now c.in-Some.index c.index-versions-index.result) c.in-Some.ensures
+          (ap (λ (d : Version). get_or c.args.versions.now c.in-Some.index d) c.index-versions-index.is),
+    )
 
 pub returns-in-Some-clause-versions : goal.returns-in-Some-clause-versions
 returns-in-Some-clause-versions c =

@@ -63,7 +63,7 @@ no_number does from token old new observe none (cancels is isnt same) = isnt
 no_number does from token old new observe none (registers target r is move number) = absurd (let apart : effect.Nothing ≡ effect.Registers target = sym none ∙ is in cc)
 
 -- that memory was wanting is never said in blocks
-memory_is_whole : (use : BlockUse) → answer_reply use outcome.Memory ≡ reply_of outcome.Memory
+memory_is_whole : (x : BlockUse) → answer_reply x outcome.Memory ≡ reply_of outcome.Memory
 memory_is_whole blocks.Whole = refl
 memory_is_whole (blocks.Gives g) = refl
 memory_is_whole (blocks.Joined b) = refl

@@ -123,9 +123,12 @@ first_fault fs f is none = not_first (subst (λ (x : List AskFault). slice_get x
 abbrev AtOnce : Type 0
 AtOnce = Reply × List Part
 
+abbrev both_of : Reply → List Part → AtOnce
+both_of r parts = (r, parts)
+
 -- what is answered to a block of a request, unless the body is whole
 abbrev added_at : Block → Added × List Part → Option AtOnce
-added_at b x = option_map (λ r. (r, x.1)) (added_reply b x.0)
+added_at b x = option_map (λ r. both_of r x.1) (added_reply b x.0)
 
 -- it follows from the first fault and from what the request wants
 abbrev at_once : Endpoint → ℕ → CoapMessage → List Body → List Part → Option AskFault → Wanted → Option AtOnce
@@ -144,17 +147,17 @@ at_once_by from now m s = at_once from now m s.bodies s.parts (slice_get (faults
 no_fault : (m : CoapMessage) → faults_of m.options ≡ [] → slice_get (faults_of m.options) 0 ≡ None
 no_fault m none = ap (λ (fs : List AskFault). slice_get fs 0) none
 
-some_pair : (r q : Reply) (ps qs : List Part) → r ≡ q → ps ≡ qs → Some (r, ps) ≡ Some (q, qs)
-some_pair r q ps qs e f = ap₂ (λ (x : Reply) (y : List Part). Some (x, y)) e f
+some_pair : (r q : Reply) (ps qs : List Part) → r ≡ q → ps ≡ qs → Some (both_of r ps) ≡ Some (both_of q qs)
+some_pair r q ps qs e f = ap₂ (λ (x : Reply) (y : List Part). Some (both_of x y)) e f
 
 answered_by : (from : Endpoint) (now : ℕ) (m : CoapMessage) (r : Reply) (s : Server) (parts : List Part) → (r ≡ reply_of Memory → ⊥) → IsAnsweredAtOnce from now m r s parts
-    → at_once_by from now m s ≡ Some (r, parts)
-answered_by from now m r s parts ample (bad_option number fault con is same) =
-    ap (λ (f : Option AskFault). at_once from now m s.bodies s.parts f (wanted_in m)) fault ∙ some_pair (option_reply number) r s.parts parts (sym is) (sym same)
-answered_by from now m r s parts ample (bad_block fault is same) =
-    ap (λ (f : Option AskFault). at_once from now m s.bodies s.parts f (wanted_in m)) fault ∙ some_pair block_reply r s.parts parts (sym is) (sym same)
-answered_by from now m r s parts ample (for_proxy fault is same) =
-    ap (λ (f : Option AskFault). at_once from now m s.bodies s.parts f (wanted_in m)) fault ∙ some_pair proxy_reply r s.parts parts (sym is) (sym same)
+    → at_once_by from now m s ≡ Some (both_of r parts)
+answered_by from now m r s parts ample (bad_option number first con is same) =
+    ap (λ (f : Option AskFault). at_once from now m s.bodies s.parts f (wanted_in m)) first ∙ some_pair (option_reply number) r s.parts parts (sym is) (sym same)
+answered_by from now m r s parts ample (bad_block first is same) =
+    ap (λ (f : Option AskFault). at_once from now m s.bodies s.parts f (wanted_in m)) first ∙ some_pair block_reply r s.parts parts (sym is) (sym same)
+answered_by from now m r s parts ample (for_proxy first is same) =
+    ap (λ (f : Option AskFault). at_once from now m s.bodies s.parts f (wanted_in m)) first ∙ some_pair proxy_reply r s.parts parts (sym is) (sym same)
 answered_by from now m r s parts ample (no_memory none is same) = absurd (ample is)
 answered_by from now m r s parts ample (later_block b none wants is same) =
     ap₂ (λ (f : Option AskFault) (w : Wanted). at_once from now m s.bodies s.parts f w) (no_fault m none) wants
@@ -163,7 +166,7 @@ answered_by from now m r s parts ample (joined b added none wants adds is) =
     let x : Added × List Part = after_block (block_arrival from now m b) (living now s.parts) in
     let said : added_reply b x.0 ≡ Some r = ap (added_reply b) (sym adds.answer_is) ∙ is in
     ap₂ (λ (f : Option AskFault) (w : Wanted). at_once from now m s.bodies s.parts f w) (no_fault m none) wants
-    ∙ ap (λ (o : Option Reply). option_map (λ (q : Reply). (q, x.1)) o) said
+    ∙ ap (λ (o : Option Reply). option_map (λ (q : Reply). both_of q x.1) o) said
     ∙ some_pair r r x.1 parts refl (sym adds.parts_are)
 
 at_once_alike : (from : Endpoint) (now : ℕ) (m : CoapMessage) (s t : Server) → SameServer s t → at_once_by from now m s ≡ at_once_by from now m t
@@ -173,9 +176,9 @@ at_once_alike from now m s t same =
 -- what was answered at once wasn't ignored
 not_ignored : (from : Endpoint) (now : ℕ) (m : CoapMessage) (r : Reply) (s : Server) (parts : List Part) (number : ℕ) → IsAnsweredAtOnce from now m r s parts
     → slice_get (faults_of m.options) 0 ≡ Some (BadOption number) → request_type m.kind ≡ NonConfirmable → ⊥
-not_ignored from now m r s parts number (bad_option other fault con is same) found non = let apart : Confirmable ≡ NonConfirmable = sym con ∙ non in cc
-not_ignored from now m r s parts number (bad_block fault is same) found non = let apart : Some fault.Block ≡ Some (BadOption number) = sym fault ∙ found in cc
-not_ignored from now m r s parts number (for_proxy fault is same) found non = let apart : Some Proxy ≡ Some (BadOption number) = sym fault ∙ found in cc
+not_ignored from now m r s parts number (bad_option other first con is same) found non = let apart : Confirmable ≡ NonConfirmable = sym con ∙ non in cc
+not_ignored from now m r s parts number (bad_block first is same) found non = let apart : Some fault.Block ≡ Some (BadOption number) = sym first ∙ found in cc
+not_ignored from now m r s parts number (for_proxy first is same) found non = let apart : Some Proxy ≡ Some (BadOption number) = sym first ∙ found in cc
 not_ignored from now m r s parts number (no_memory none is same) found non = first_fault (faults_of m.options) (BadOption number) found none
 not_ignored from now m r s parts number (later_block b none wants is same) found non = first_fault (faults_of m.options) (BadOption number) found none
 not_ignored from now m r s parts number (joined b added none wants adds is) found non = first_fault (faults_of m.options) (BadOption number) found none
@@ -196,7 +199,7 @@ not_whole from now m r s parts rest b place ample why none joins adds =
     let silent : added_reply b x.0 ≡ None = ap (added_reply b) (sym adds.answer_is) in
     let isnt : at_once_by from now m s ≡ None
     = ap₂ (λ (f : Option AskFault) (w : Wanted). at_once from now m s.bodies s.parts f w) (no_fault m none) joins
-    ∙ ap (λ (o : Option Reply). option_map (λ (q : Reply). (q, x.1)) o) silent in
+    ∙ ap (λ (o : Option Reply). option_map (λ (q : Reply). both_of q x.1) o) silent in
     cc
 
 -- the body that is whole then, and the parts without it
@@ -204,8 +207,11 @@ record AsWhole : Type 0 where
   whole : Part
   left : List Part
 
+abbrev as_whole : Part → List Part → AsWhole
+as_whole whole left = record { whole = whole; left = left }
+
 abbrev whole_in : Added → List Part → Option AsWhole
-whole_in (added.Complete place) parts = option_map (λ p. record { whole = p; left = remove parts place }) (slice_get parts place)
+whole_in (added.Complete place) parts = option_map (λ p. as_whole p (remove parts place)) (slice_get parts place)
 whole_in added.Continue parts = None
 whole_in added.BadBlock parts = None
 whole_in added.Incomplete parts = None
@@ -214,9 +220,9 @@ whole_in added.Full parts = None
 
 whole_is : (from : Endpoint) (now : ℕ) (m : CoapMessage) (b : Block) (s : Server) (place : ℕ) (parts : List Part) (whole : Part) → Adds from now m b s (added.Complete place) parts
     → slice_get parts place ≡ Some whole
-    → whole_in (after_block (block_arrival from now m b) (living now s.parts)).0 (after_block (block_arrival from now m b) (living now s.parts)).1 ≡ Some (record { whole = whole; left = remove parts place })
+    → whole_in (after_block (block_arrival from now m b) (living now s.parts)).0 (after_block (block_arrival from now m b) (living now s.parts)).1 ≡ Some (as_whole whole (remove parts place))
 whole_is from now m b s place parts whole adds there =
-    ap₂ whole_in (sym adds.answer_is) (sym adds.parts_are) ∙ ap (option_map (λ p. record { whole = p; left = remove parts place })) there
+    ap₂ whole_in (sym adds.answer_is) (sym adds.parts_are) ∙ ap (option_map (λ p. as_whole p (remove parts place))) there
 
 same_whole : (from : Endpoint) (now : ℕ) (m : CoapMessage) (b : Block) (s t : Server) (place other : ℕ) (parts rest : List Part) (whole body : Part) → SameServer s t
     → Adds from now m b s (added.Complete place) parts → slice_get parts place ≡ Some whole → Adds from now m b t (added.Complete other) rest → slice_get rest other ≡ Some body
@@ -225,15 +231,15 @@ same_whole from now m b s t place other parts rest whole body same adds there ad
     let one = whole_is from now m b s place parts whole adds there in
     let two = whole_is from now m b t other rest body adds' there' in
     let between = ap (λ (ps : List Part). whole_in (after_block (block_arrival from now m b) (living now ps)).0 (after_block (block_arrival from now m b) (living now ps)).1) same.parts in
-    let is : record { whole = whole; left = remove parts place } ≡ record { whole = body; left = remove rest other } =
-    same_Some (record { whole = whole; left = remove parts place }) (record { whole = body; left = remove rest other }) (sym one ∙ between ∙ two) in
+    let is : as_whole whole (remove parts place) ≡ as_whole body (remove rest other) =
+    same_Some (as_whole whole (remove parts place)) (as_whole body (remove rest other)) (sym one ∙ between ∙ two) in
     (ap (λ (x : AsWhole). x.whole) is, ap (λ (x : AsWhole). x.left) is)
 
 -- two that are asked
 asked_alike : (h k : Heard) (one other : PlainAsk) (request ask : OpenAsk) (u v : Server) → h ≡ asked one request → k ≡ asked other ask → one ≡ other → SameAsk request ask u v
     → SameHeard h k u v
-asked_alike h k one other request ask u v is is' same asks =
-    subst (λ (x : Heard). SameHeard h x u v) (sym is') (subst (λ (x : Heard). SameHeard x (asked other ask) u v) (sym is) (same, asks))
+asked_alike h k one other request ask u v is is' same slots =
+    subst (λ (x : Heard). SameHeard h x u v) (sym is') (subst (λ (x : Heard). SameHeard x (asked other ask) u v) (sym is) (same, slots))
 
 -- the reply isn't the one for want of memory
 reply_is_ample : (h : Heard) (r : Reply) (p : OpenRequest) (a : List ℕ) (s u : Server) → IsAmple h → Replies r p a s u → h ≡ answered_at_once a → r ≡ reply_of Memory → ⊥
@@ -248,7 +254,7 @@ same_reads : (from : Endpoint) (now : ℕ) (m : CoapMessage) (slot other : ℕ) 
 same_reads from now m slot other h k s t u v same l n on_h on_k (replied r parts a why replies is) (replied q rest b why' replies' is') =
     let one = answered_by from now m r s parts (reply_is_ample h r (opened m slot) a (with_parts parts s) u on_h replies is) why in
     let two = answered_by from now m q t rest (reply_is_ample k q (opened m other) b (with_parts rest t) v on_k replies' is') why' in
-    let said : (r, parts) ≡ (q, rest) = same_Some (r, parts) (q, rest) (sym one ∙ at_once_alike from now m s t same ∙ two) in
+    let said : both_of r parts ≡ both_of q rest = same_Some (both_of r parts) (both_of q rest) (sym one ∙ at_once_alike from now m s t same ∙ two) in
     let reply : q ≡ r = sym (ap (λ (x : AtOnce). x.0) said) in
     let servers : SameServer (with_parts parts s) (with_parts rest t)
     = record { table = same.table; watchers = same.watchers; next = same.next; bodies = same.bodies; parts = ap (λ (x : AtOnce). x.1) said } in

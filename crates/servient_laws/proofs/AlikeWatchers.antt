@@ -76,12 +76,12 @@ same_answers one other o target a b s t u v same_servers ask p q =
       table = same_servers.table;
       watchers = once.1;
       next = same_servers.next;
-      bodies = ap₂ (λ (use : BlockUse) (e : Endpoint). bodies_after use e o s.bodies) ask.blocks ask.from ∙ ap (λ (bodies : List Body). bodies_after other.blocks other.from o bodies) same_servers.bodies;
+      bodies = ap₂ (λ (x : BlockUse) (e : Endpoint). bodies_after x e o s.bodies) ask.blocks ask.from ∙ ap (λ (bodies : List Body). bodies_after other.blocks other.from o bodies) same_servers.bodies;
       parts = same_servers.parts;
     } in
     same_replies (observed p.observe (answer_reply one.blocks o)) one.request other.request a b (ready one o p.watchers s) (ready other o q.watchers t) u v servers ask.head ask.last ask.last_too
     p.replies (subst (λ (x : Option ℕ). Replies (observed x (answer_reply one.blocks o)) other.request b (ready other o q.watchers t) v) (sym once.0)
-    (subst (λ (use : BlockUse). Replies (observed q.observe (answer_reply use o)) other.request b (ready other o q.watchers t) v) (sym ask.blocks) q.replies))
+    (subst (λ (x : BlockUse). Replies (observed q.observe (answer_reply x o)) other.request b (ready other o q.watchers t) v) (sym ask.blocks) q.replies))
 
 -- the watchers of a target are marked
 pub same_emitted : (target : ℕ) (s t : Server) → SameServer s t → SameServer (with_emitted target s) (with_emitted target t)

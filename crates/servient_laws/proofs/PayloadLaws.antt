@@ -28,10 +28,10 @@ use Rattle.servient_core.specs.Meaning.{Message, by_coap, by_http}
 use Rattle.servient_laws.specs.Payloads.{AsksForAll, SaysByCoap, SaysByHttp, Says, PayloadsAreOfOutcomes}
 
 -- the payload of a reply that isn't too long
-part_payload : (use : BlockUse) (o : Outcome) → length (payload_of o) ≤ most_bytes use o → (answer_reply use o).payload ≡ (portion_of use o).payload
-part_payload use o short = rw fits refl
+part_payload : (u : BlockUse) (o : Outcome) → length (payload_of o) ≤ most_bytes u o → (answer_reply u o).payload ≡ (portion_of u o).payload
+part_payload u o short = rw fits refl
   where
-    fits : nat_lt (most_bytes use o) (length (payload_of o)) ≡ false
+    fits : nat_lt (most_bytes u o) (length (payload_of o)) ≡ false
     fits = grind (arith, nat_tests)
 
 given_whole : (b : Bool) (payload : List ℕ) → length payload ≤ LONGEST_PAYLOAD → (if b then given_portion None payload else all_of payload).payload ≡ payload
@@ -46,7 +46,7 @@ most_at true n short = omega arith
 most_at false n short = short
 
 -- where no part was asked for, all of it
-short_payload : (use : BlockUse) (o : Outcome) → AsksForAll use → length (payload_of o) ≤ LONGEST_PAYLOAD → (answer_reply use o).payload ≡ payload_of o
+short_payload : (u : BlockUse) (o : Outcome) → AsksForAll u → length (payload_of o) ≤ LONGEST_PAYLOAD → (answer_reply u o).payload ≡ payload_of o
 short_payload blocks.Whole o all short = part_payload blocks.Whole o short
 short_payload (blocks.Gives g) o all short =
     part_payload (blocks.Gives g) o (most_at (is_representation o) (length (payload_of o)) short)

@@ -27,11 +27,11 @@ AsksForAll (blocks.Joined b) = Unit {0}
 -- A datagram was sent to an endpoint whose payload is that of an outcome, where no part of it was asked for and it isn't
 -- too long to be sent at once (RFC 7252, section 4.6); else the part that is to be given first (RFC 7959, section 2.4),
 -- if it isn't too long for that.
-pub record SaysByCoap (from : Endpoint) (use : BlockUse) (o : Outcome) (seen : List Sighting) : Type 0 where
+pub record SaysByCoap (from : Endpoint) (u : BlockUse) (o : Outcome) (seen : List Sighting) : Type 0 where
   pub message : CoapMessage
   pub sent : Contains seen (at_network (did (act.Datagram from (spelling message))))
-  pub payload : AsksForAll use → length (payload_of o) ≤ LONGEST_PAYLOAD → message.payload ≡ payload_of o
-  pub part : length (payload_of o) ≤ most_bytes use o → message.payload ≡ (portion_of use o).payload
+  pub payload : AsksForAll u → length (payload_of o) ≤ LONGEST_PAYLOAD → message.payload ≡ payload_of o
+  pub part : length (payload_of o) ≤ most_bytes u o → message.payload ≡ (portion_of u o).payload
 
 -- A reply was sent on a connection: its head, and after it the payload of an outcome, which a HEAD request alone isn't
 -- owed (RFC 9110, section 9.3.2).

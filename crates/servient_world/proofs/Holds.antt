@@ -15,7 +15,7 @@ use Rattle.coap_client.specs.declared.outstanding.Outstanding.{Outstanding}
 use Rattle.coap_client.specs.Laws.{Did as ClientDid}
 use Rattle.coap_bind.specs.declared.head.OpenAsk.{OpenAsk}
 use Rattle.coap_bind.specs.declared.server.Server.{Server}
-use Rattle.coap_bind.specs.Server.{arrival, asked, with_watchers, Hears, Answers}
+use Rattle.coap_bind.specs.Server.{arrival, asked, Hears, Answers}
 use Rattle.coap_bind.specs.Laws.{Did as ServerDid, answered as server_answered}
 use Rattle.coap_bind.specs.Treating.{Acted, Treats, ignores, answers, acts}
 use Rattle.coap_bind.proofs.HistoryLaws.{duplicates_ask_nothing}

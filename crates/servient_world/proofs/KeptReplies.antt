@@ -34,7 +34,7 @@ use Rattle.coap_bind.specs.declared.server.Server.{Server}
 use Rattle.coap_bind.specs.declared.blocks.BlockUse.{BlockUse}
 use Rattle.coap_bind.specs.declared.blocks.BlockUse.TheVariants.{Whole}
 use Rattle.coap_bind.specs.Blocks.{use_of, answer_reply}
-use Rattle.coap_bind.specs.Writing.{Reply, full_reply, reply_of, observed as observed_reply, head_of, coap_reply}
+use Rattle.coap_bind.specs.Writing.{Reply, full_reply, observed as observed_reply, head_of, coap_reply}
 use Rattle.coap_bind.specs.Server.{is_request, duplicate_reply, arrival, observing_in}
 use Rattle.coap_bind.specs.Transfers.{NamesNoBlock}
 use Rattle.coap_bind.specs.Treating.{Acted, IsReplied, faulty, memory, of_blocks, acted, acted_on_whole, kept_for, sent_back, IsTreated, no_request, is_duplicate, finds_full, is_answered, is_ignored}

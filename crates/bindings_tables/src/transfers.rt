@@ -2,7 +2,7 @@
 //! of its own reads in blocks of this size; and `write LENGTH SZX`, a body of this length that it writes in blocks. How
 //! many blocks there are is said, and whether each reply and the joined body are what they should be.
 
-ghost use Rattle.std.specs.Prelude.{◌≤◌, ◌≡◌, false};
+ghost use Rattle.std.specs.Prelude.{◌<◌, ◌≤◌};
 ghost use Rattle.thing_ops.specs.Outcomes.{HasCode};
 ghost use Rattle.coap_bind.specs.Laws.{HasShortPlace};
 
@@ -44,9 +44,19 @@ enum Came {
     Refused,
 }
 
-/// The size of a block.
-fn size_of(szx: u8) -> usize {
-    16usize << szx.min(6)
+/// The size of a block (RFC 7959, section 2.2).
+fn size_of(szx: u8) -> usize
+    ensures { 0 < result }
+{
+    match szx {
+        0 => 16,
+        1 => 32,
+        2 => 64,
+        3 => 128,
+        4 => 256,
+        5 => 512,
+        _ => 1024,
+    }
 }
 
 /// The bytes of the block with this number.

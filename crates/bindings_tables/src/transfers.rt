@@ -140,7 +140,32 @@ fn request_for(alloc: Global, szx: u8, number: usize) -> Result<Vec<u8>, AllocEr
     message_of(alloc, text.as_str())
 }
 
-/// Whether all blocks are given as they should be.
+/// Whether all blocks of what has this outcome are given as they should be.
+fn each_is_given(
+    alloc: Global,
+    server: &mut CoapBind,
+    origin: Origin,
+    cut: Cut<'_>,
+    outcome: &Outcome,
+) -> Result<bool, AllocError>
+    requires now { server.old.exchanges.moment ≤ origin.now }
+    requires code { HasCode outcome.now }
+    requires place { HasShortPlace outcome.now }
+    ensures { server.new.exchanges.moment ≤ origin.now }
+{
+    let mut room = [0u8; LONGEST_MESSAGE];
+    let mut right = true;
+    for number in 0..count_of(cut) {
+        let datagram = request_for(alloc, cut.szx, number)?;
+        let size = replied(server, origin, datagram.as_slice(), outcome, &mut room);
+        let reply = room.get(..size).unwrap_or(b"");
+        let (block, payload) = (block_at(cut, number), piece(cut, number));
+        right = is_reply(reply, CONTENT, BLOCK2, block, payload) && right;
+    }
+    Ok(right)
+}
+
+/// The same of a description with this body.
 fn are_given(
     alloc: Global,
     server: &mut CoapBind,
@@ -151,16 +176,7 @@ fn are_given(
     ensures { server.new.exchanges.moment ≤ origin.now }
 {
     let outcome = Outcome::Description(Bytes::copy_of(alloc, cut.body)?, true);
-    let mut room = [0u8; LONGEST_MESSAGE];
-    let mut right = true;
-    for number in 0..count_of(cut) {
-        let datagram = request_for(alloc, cut.szx, number)?;
-        let size = replied(server, origin, datagram.as_slice(), &outcome, &mut room);
-        let reply = room.get(..size).unwrap_or(b"");
-        let (block, payload) = (block_at(cut, number), piece(cut, number));
-        right = is_reply(reply, CONTENT, BLOCK2, block, payload) && right;
-    }
-    Ok(right)
+    each_is_given(alloc, server, origin, cut, &outcome)
 }
 
 /// What comes of a datagram with a block of a request.

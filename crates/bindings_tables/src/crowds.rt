@@ -4,7 +4,7 @@
 
 ghost use Rattle.std.specs.Prelude.{◌≡◌, ◌≤◌};
 
-use crate::datagrams::put_sent;
+use crate::datagrams::{LONGEST_BODY, put_sent};
 use crate::ids::next_id;
 use crate::watchers::target_of;
 use case_notation::number;
@@ -32,7 +32,8 @@ fn registers(server: &mut CoapBind, host: u64, target: u32, now: u64) -> bool
         port: 5683,
     };
     let mut room = [0u8; LONGEST_MESSAGE];
-    match server.datagram(from, &REGISTRATION, now, &mut room) {
+    let mut body = [0u8; LONGEST_BODY];
+    match server.datagram(from, &REGISTRATION, now, &mut room, &mut body) {
         CoapNext::Nothing => false,
         CoapNext::Send(_) => false,
         CoapNext::Ask(_, ticket) => {

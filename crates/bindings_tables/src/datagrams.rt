@@ -1,8 +1,8 @@
 //! The CoAP server, in which 16 exchanges may live, or as many as a line `room for N exchanges` says, and to which there
 //! may be four watchers, or as many as a line `room for N watchers` says. A step is a datagram: its moment, its host,
 //! what it comes to where it is asked (`-` where it isn't to be), and its message; and what is done with it. What a
-//! request for target 3 comes to is written `3/Content:7`. Other steps are in `notifications.rt` and
-//! `crowds.rt`.
+//! request for target 3 comes to is written `3/Content:7`. Other steps are in `notifications.rt`, `crowds.rt` and
+//! `transfers.rt`.
 
 ghost use Rattle.std.specs.Prelude.{◌≤◌};
 ghost use Rattle.thing_ops.specs.Outcomes.{HasCode};
@@ -12,22 +12,33 @@ use crate::exchanges::{endpoint_of, put_words};
 use crate::outcomes::outcome_of;
 use crate::targets::put_path;
 use crate::watchers::target_of;
-use crate::{crowds, notifications, runs};
+use crate::{crowds, notifications, runs, transfers};
 use case_notation::{message_of, number, put_message};
 use coap_bind::{CoapBind, CoapNext};
-use coap_msg::{Endpoint, LONGEST_MESSAGE};
+use coap_msg::{Endpoint, LONGEST_DATAGRAM, LONGEST_MESSAGE, decode};
 use coap_opts::CoapAsk;
 use std::alloc::{AllocError, Global};
 use std::fmt::Write;
 use thing_ops::Outcome;
 
-/// A message that is sent; of a long one how many bytes it has.
+/// The most bytes of a body that comes in blocks.
+pub const LONGEST_BODY: usize = 16_384;
+
+/// A message that is sent; a byte of its payload that comes many times in a row is written once.
 pub fn put_sent(text: &mut String, bytes: &[u8]) -> Result<(), AllocError> {
     text.push_str("sends ")?;
-    if bytes.len() > 500 {
-        return write!(text, "{} bytes", bytes.len());
+    let payload = match decode(bytes) {
+        Ok(message) => message.payload,
+        Err(_) => b"",
+    };
+    if payload.len() < 40 {
+        return put_message(text, bytes);
     }
-    put_message(text, bytes)
+    // The payload and its marker are left out.
+    let rest = bytes.len().saturating_sub(payload.len()).saturating_sub(1);
+    put_message(text, bytes.get(..rest).unwrap_or(b""))?;
+    text.push_str(" ")?;
+    runs::put_plain(text, payload)
 }
 
 /// What is asked for.
@@ -52,10 +63,10 @@ fn put_answered(text: &mut String, ask: &CoapAsk<'_>, sent: &[u8]) -> Result<(),
 
 /// Where a datagram comes from, when, and what may be observed there.
 #[derive(Clone, Copy)]
-struct Origin {
-    from: Endpoint,
-    now: u64,
-    target: Option<u32>,
+pub struct Origin {
+    pub from: Endpoint,
+    pub now: u64,
+    pub target: Option<u32>,
 }
 
 /// What is done with a datagram that comes to this.
@@ -72,7 +83,11 @@ fn put_done(
     ensures { server.new.exchanges.moment ≤ origin.now }
 {
     let mut room = [0u8; LONGEST_MESSAGE];
-    match server.datagram(origin.from, datagram, origin.now, &mut room) {
+    let mut body = [0u8; LONGEST_BODY];
+    if datagram.len() > LONGEST_DATAGRAM {
+        return text.push_str("too long");
+    }
+    match server.datagram(origin.from, datagram, origin.now, &mut room, &mut body) {
         CoapNext::Nothing => text.push_str("nothing"),
         CoapNext::Send(size) => put_sent(text, room.get(..size).unwrap_or(b"")),
         CoapNext::Ask(ask, ticket) => {
@@ -152,6 +167,9 @@ fn put_done_by(
     }
     if crowds::is_step(step) {
         return crowds::put(text, server, step, now);
+    }
+    if transfers::is_step(step) {
+        return transfers::put(text, alloc, server, step, now);
     }
     put_fields(text, alloc, server, fields_of(step), now)
 }

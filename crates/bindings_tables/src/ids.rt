@@ -3,9 +3,10 @@
 
 ghost use Rattle.std.specs.Prelude.{◌≤◌};
 
+use crate::datagrams::LONGEST_BODY;
 use case_notation::{message_of, number};
 use coap_bind::{CoapBind, CoapNext};
-use coap_msg::{Endpoint, LONGEST_MESSAGE};
+use coap_msg::{Endpoint, LONGEST_DATAGRAM, LONGEST_MESSAGE};
 use std::alloc::{AllocError, Global};
 use std::fmt::Write;
 use thing_ops::Outcome;
@@ -37,7 +38,11 @@ pub fn next_id(server: &mut CoapBind, datagram: &[u8], now: u64) -> Option<u16>
     ensures { server.new.exchanges.moment ≤ now }
 {
     let mut room = [0u8; LONGEST_MESSAGE];
-    match server.datagram(FROM, datagram, now, &mut room) {
+    let mut body = [0u8; LONGEST_BODY];
+    if datagram.len() > LONGEST_DATAGRAM {
+        return None;
+    }
+    match server.datagram(FROM, datagram, now, &mut room, &mut body) {
         CoapNext::Nothing => None,
         CoapNext::Send(_) => Some(id_in(&room)),
         CoapNext::Ask(_, ticket) => {

@@ -1,4 +1,5 @@
-//! Tables of the bindings: CoAP messages, what they ask for, exchanges, watchers, and the server with its notifications;
+//! Tables of the bindings: CoAP messages, what they ask for, exchanges, watchers, and the server with its notifications
+//! and blocks;
 //! HTTP requests and replies at the front of a stream, the targets of requests, the heads of replies, outcomes, and the
 //! connections of an HTTP server. Each argument names a file: the table of that name.
 //!
@@ -27,6 +28,7 @@ mod runs;
 mod streams;
 mod talk;
 mod targets;
+mod transfers;
 mod watchers;
 
 use std::alloc::{AllocError, Global};
@@ -95,7 +97,7 @@ fn put_history(
 ) -> Result<(), AllocError> {
     match table {
         "exchanges" => exchanges::put(text, alloc, history),
-        "datagrams" | "observations" => datagrams::put(text, alloc, history),
+        "datagrams" | "observations" | "blocks" => datagrams::put(text, alloc, history),
         "watchers" => watchers::put(text, alloc, history),
         _ => connections::put(text, alloc, history),
     }
@@ -120,7 +122,7 @@ fn put_histories(
 /// The lines of a table.
 fn put_table(text: &mut String, alloc: Global, table: &str, lines: &str) -> Result<(), AllocError> {
     match table {
-        "exchanges" | "watchers" | "datagrams" | "observations" | "connections" => {
+        "exchanges" | "watchers" | "datagrams" | "observations" | "blocks" | "connections" => {
             put_histories(text, alloc, table, lines)
         }
         _ => put_rows(text, alloc, table, lines),

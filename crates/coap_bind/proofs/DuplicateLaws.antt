@@ -1,6 +1,7 @@
 -- What a server says to duplicates of requests.
 use Rattle.std.proofs.Common.{◌≡◌, ◌≤◌, ◌⊎◌, ◌∙◌, inl, inr, ℕ, Bool, true, false, Option, Some, None, List, [], ◌∷◌, refl, sym, ap, subst, arith}
 use Rattle.std.specs.Prelude.{◌==◌, find}
+use Rattle.std.specs.List.{remove}
 use Rattle.std.specs.Option.{option_or}
 use Rattle.std.proofs.lemmas.List.Folds.{find-append}
 use Rattle.std.proofs.lemmas.Bool.{eqb-true}
@@ -22,8 +23,10 @@ use Rattle.coap_bind.specs.declared.head.OpenAsk.{OpenAsk}
 use Rattle.coap_bind.specs.declared.server.Server.{Server}
 use Rattle.thing_ops.specs.declared.outcome.Outcome.{Outcome}
 use Rattle.coap_observe.specs.declared.notice.Notice.{Notice}
+use Rattle.coap_observe.specs.Watching.{Watching}
+use Rattle.coap_bind.specs.Blocks.{bodies_after}
 use Rattle.coap_bind.specs.Writing.{Reply}
-use Rattle.coap_bind.specs.Server.{start, Heard, answered_at_once, with_id_used, with_kept, with_watchers, with_emitted, with_notice_sent, with_report, Replies, Answers, is_request, duplicate_reply, arrival, IsMet, malformed, no_request, duplicate, full, bad_option, bad_option_ignored, for_proxy, asks, no_memory, opened, Reads, settled, admitted, Hears}
+use Rattle.coap_bind.specs.Server.{start, Heard, answered_at_once, with_id_used, with_kept, with_watchers, with_emitted, with_notice_sent, with_report, Replies, Answers, is_request, duplicate_reply, arrival, IsMet, malformed, no_request, duplicate, full, with_parts, with_bodies, replied, bad_option_ignored, asks, asks_whole, opened, Reads, settled, admitted, Hears}
 use Rattle.coap_bind.specs.Laws.{IsOpen, DidFrom, Did, nothing, heard_of, answered, emitted, sent}
 use Rattle.coap_bind.specs.Duplicates.{may_keep, OnlyConfirmableAreKept, OnlyTimePassed, DuplicatesChangeNothing, IsRepliedTo, at_once, afterwards, repeated, DuplicatesGetTheFirstReply}
 use Rattle.coap_bind.proofs.HistoryLaws.{sent_stays, met_as_duplicate}
@@ -74,13 +77,12 @@ tidy_replies r request bytes s t e replies there is h =
 tidy_same : (s t : Server) → t ≡ s → Tidy s.exchanges → Tidy t.exchanges
 tidy_same s t is h = subst (λ (x : Server). Tidy x.exchanges) (sym is) h
 
-tidy_reads : (from : Endpoint) (m : CoapMessage) (slot : ℕ) (heard : Heard) (s t : Server) (e : Exchange) → Reads from m slot heard s t
+tidy_reads : (from : Endpoint) (now : ℕ) (m : CoapMessage) (slot : ℕ) (heard : Heard) (s t : Server) (e : Exchange) → Reads from now m slot heard s t
     → exchange_in slot s.exchanges ≡ Some e → request_type m.kind ≡ e.arrival.kind → Tidy s.exchanges → Tidy t.exchanges
-tidy_reads from m slot heard s t e (bad_option number bytes fault con replies is) there kind h = tidy_replies _ (opened m slot) bytes s t e replies there kind h
-tidy_reads from m slot heard s t e (bad_option_ignored number fault non is same) there kind h = tidy_same s t same h
-tidy_reads from m slot heard s t e (for_proxy bytes fault replies is) there kind h = tidy_replies _ (opened m slot) bytes s t e replies there kind h
-tidy_reads from m slot heard s t e (asks none is same) there kind h = tidy_same s t same h
-tidy_reads from m slot heard s t e (no_memory bytes none replies is) there kind h = tidy_replies _ (opened m slot) bytes s t e replies there kind h
+tidy_reads from now m slot heard s t e (replied r parts bytes why replies is) there kind h = tidy_replies r (opened m slot) bytes (with_parts parts s) t e replies there kind h
+tidy_reads from now m slot heard s t e (bad_option_ignored number fault non is same) there kind h = tidy_same s t same h
+tidy_reads from now m slot heard s t e (asks none act is same) there kind h = tidy_same s t same h
+tidy_reads from now m slot heard s t e (asks_whole b place parts whole none joining adds found is same) there kind h = tidy_same (with_parts (remove parts place) s) t same h
 
 pub used_stays : (kind : RequestType) (s : Server) → (with_id_used kind s).exchanges ≡ s.exchanges
 used_stays Confirmable s = refl
@@ -93,12 +95,16 @@ tidy_hears from bytes now heard s t (settled (duplicate m kept e met found is)) 
 tidy_hears from bytes now heard s t (settled (full m u met is same)) h =
     subst Tidy (sym (ap (λ (x : Server). x.exchanges) same ∙ used_stays (request_type m.kind) u)) (tidy_meets now s.exchanges u.exchanges (arrival from now m) Full refl met.meets h)
 tidy_hears from bytes now heard s t (admitted m slot u met reads) h =
-    tidy_reads from m slot heard u t (record { arrival = arrival from now m; slot = slot; reply = None }) reads (fresh_is_there from bytes now m slot s u met) refl
+    tidy_reads from now m slot heard u t (record { arrival = arrival from now m; slot = slot; reply = None }) reads (fresh_is_there from bytes now m slot s u met) refl
     (tidy_meets now s.exchanges u.exchanges (arrival from now m) (Fresh slot) refl met.meets h)
+
+-- a server that is to reply to what was asked
+abbrev pub ready : OpenAsk → Outcome → Watching → Server → Server
+ready ask o watchers s = with_bodies (bodies_after ask.blocks ask.from o s.bodies) (with_watchers watchers s)
 
 tidy_answers : (ask : OpenAsk) (o : Outcome) (target : Option ℕ) (bytes : List ℕ) (s t : Server) → IsOpen ask s → Answers ask o target bytes s t → Tidy s.exchanges → Tidy t.exchanges
 tidy_answers ask o target bytes s t waiting answers h =
-    tidy_replies _ ask.request bytes (with_watchers answers.watchers s) t waiting.exchange answers.replies waiting.there waiting.kind h
+    tidy_replies _ ask.request bytes (ready ask o answers.watchers s) t waiting.exchange answers.replies waiting.there waiting.kind h
 
 pub sent_exchanges : (n : Option Notice) (s t : Server) → t ≡ with_notice_sent n s → t.exchanges ≡ s.exchanges
 sent_exchanges n s t is = ap (λ (x : Server). x.exchanges) is ∙ sent_stays n s
@@ -192,14 +198,15 @@ keeps_replies r open_request bytes s t e slot request reply replies there waits 
 keeps_same : (slot : ℕ) (request : Arrival) (reply : Option (List ℕ)) (t u : Table) → u ≡ t → Keeps slot request reply t → Keeps slot request reply u
 keeps_same slot request reply t u is k = subst (Keeps slot request reply) (sym is) k
 
-keeps_reads : (from : Endpoint) (m : CoapMessage) (other : ℕ) (heard : Heard) (s t : Server) (e : Exchange) (slot : ℕ) (request : Arrival) (reply : List ℕ) → Reads from m other heard s t
+keeps_reads : (from : Endpoint) (now : ℕ) (m : CoapMessage) (other : ℕ) (heard : Heard) (s t : Server) (e : Exchange) (slot : ℕ) (request : Arrival) (reply : List ℕ) → Reads from now m other heard s t
     → exchange_in other s.exchanges ≡ Some e → e.reply ≡ None → request_type m.kind ≡ e.arrival.kind
     → Keeps slot request (kept_reply request.kind reply) s.exchanges → Keeps slot request (kept_reply request.kind reply) t.exchanges
-keeps_reads from m other heard s t e slot request reply (bad_option number bytes fault con replies is) there waits kind k = keeps_replies _ (opened m other) bytes s t e slot request reply replies there waits kind k
-keeps_reads from m other heard s t e slot request reply (bad_option_ignored number fault non is same) there waits kind k = keeps_same slot request _ s.exchanges t.exchanges (ap (λ (x : Server). x.exchanges) same) k
-keeps_reads from m other heard s t e slot request reply (for_proxy bytes fault replies is) there waits kind k = keeps_replies _ (opened m other) bytes s t e slot request reply replies there waits kind k
-keeps_reads from m other heard s t e slot request reply (asks none is same) there waits kind k = keeps_same slot request _ s.exchanges t.exchanges (ap (λ (x : Server). x.exchanges) same) k
-keeps_reads from m other heard s t e slot request reply (no_memory bytes none replies is) there waits kind k = keeps_replies _ (opened m other) bytes s t e slot request reply replies there waits kind k
+keeps_reads from now m other heard s t e slot request reply (replied r parts bytes why replies is) there waits kind k =
+    keeps_replies r (opened m other) bytes (with_parts parts s) t e slot request reply replies there waits kind k
+keeps_reads from now m other heard s t e slot request reply (bad_option_ignored number fault non is same) there waits kind k = keeps_same slot request _ s.exchanges t.exchanges (ap (λ (x : Server). x.exchanges) same) k
+keeps_reads from now m other heard s t e slot request reply (asks none act is same) there waits kind k = keeps_same slot request _ s.exchanges t.exchanges (ap (λ (x : Server). x.exchanges) same) k
+keeps_reads from now m other heard s t e slot request reply (asks_whole b place parts whole none joining adds found is same) there waits kind k =
+    keeps_same slot request _ s.exchanges t.exchanges (ap (λ (x : Server). x.exchanges) same) k
 
 keeps_hears : (from : Endpoint) (bytes : List ℕ) (now : ℕ) (heard : Heard) (s t : Server) (slot : ℕ) (request : Arrival) (reply : List ℕ) → Hears from bytes now heard s t
     → lives now request ≡ true
@@ -211,7 +218,7 @@ keeps_hears from bytes now heard s t slot request reply (settled (full m u met i
     keeps_same slot request _ u.exchanges t.exchanges (ap (λ (x : Server). x.exchanges) same ∙ used_stays (request_type m.kind) u)
     (keeps_meets now slot request _ s.exchanges u.exchanges (arrival from now m) Full met.meets alive k)
 keeps_hears from bytes now heard s t slot request reply (admitted m other u met reads) alive k =
-    keeps_reads from m other heard u t (record { arrival = arrival from now m; slot = other; reply = None }) slot request reply reads (fresh_is_there from bytes now m other s u met) refl refl
+    keeps_reads from now m other heard u t (record { arrival = arrival from now m; slot = other; reply = None }) slot request reply reads (fresh_is_there from bytes now m other s u met) refl refl
     (keeps_meets now slot request _ s.exchanges u.exchanges (arrival from now m) (Fresh other) met.meets alive k)
 
 -- the datagram is no later than this moment, or changes no exchange
@@ -233,8 +240,8 @@ keeps_from before history s now slot request reply (heard_of past new r t from b
     keeps_heard from bytes n now heard r t slot request reply hears (moment_of from bytes n heard r t hears) early alive
     (keeps_from before past r now slot request reply did (omega (arith, never_falls from bytes n heard r t hears later, early)) alive k)
 keeps_from before history s now slot request reply (answered past r t ask o target bytes did waiting answers) early alive k =
-    keeps_replies _ ask.request bytes (with_watchers answers.watchers r) t waiting.exchange slot request reply answers.replies waiting.there waiting.waits waiting.kind
-    (keeps_from before past r now slot request reply did (omega (arith, replies_moment _ ask.request bytes (with_watchers answers.watchers r) t answers.replies, early)) alive k)
+    keeps_replies _ ask.request bytes (ready ask o answers.watchers r) t waiting.exchange slot request reply answers.replies waiting.there waiting.waits waiting.kind
+    (keeps_from before past r now slot request reply did (omega (arith, replies_moment _ ask.request bytes (ready ask o answers.watchers r) t answers.replies, early)) alive k)
 keeps_from before history s now slot request reply (emitted past r t target did is) early alive k =
     let same : t.exchanges ≡ r.exchanges = ap (λ (x : Server). x.exchanges) is in
     keeps_same slot request _ r.exchanges t.exchanges same (keeps_from before past r now slot request reply did (moment_same r.exchanges t.exchanges now same early) alive k)
@@ -264,27 +271,24 @@ keeps_first r open_request bytes s t e replies there waits is =
 same_bytes : (a b : List ℕ) → answered_at_once a ≡ answered_at_once b → b ≡ a
 same_bytes a b is = cc
 
-keeps_first_read : (from : Endpoint) (m : CoapMessage) (slot : ℕ) (reply : List ℕ) (s t : Server) (e : Exchange) → Reads from m slot (answered_at_once reply) s t
+keeps_first_read : (from : Endpoint) (now : ℕ) (m : CoapMessage) (slot : ℕ) (reply : List ℕ) (s t : Server) (e : Exchange) → Reads from now m slot (answered_at_once reply) s t
     → exchange_in slot s.exchanges ≡ Some e → e.reply ≡ None → request_type m.kind ≡ e.arrival.kind → Keeps slot e.arrival (kept_reply e.arrival.kind reply) t.exchanges
-keeps_first_read from m slot reply s t e (bad_option number bytes fault con replies is) there waits kind =
-    subst (λ b. Keeps slot e.arrival (kept_reply e.arrival.kind b) t.exchanges) (same_bytes reply bytes is) (keeps_first _ (opened m slot) bytes s t e replies there waits kind)
-keeps_first_read from m slot reply s t e (bad_option_ignored number fault non is same) there waits kind = cc
-keeps_first_read from m slot reply s t e (for_proxy bytes fault replies is) there waits kind =
-    subst (λ b. Keeps slot e.arrival (kept_reply e.arrival.kind b) t.exchanges) (same_bytes reply bytes is) (keeps_first _ (opened m slot) bytes s t e replies there waits kind)
-keeps_first_read from m slot reply s t e (asks none is same) there waits kind = cc
-keeps_first_read from m slot reply s t e (no_memory bytes none replies is) there waits kind =
-    subst (λ b. Keeps slot e.arrival (kept_reply e.arrival.kind b) t.exchanges) (same_bytes reply bytes is) (keeps_first _ (opened m slot) bytes s t e replies there waits kind)
+keeps_first_read from now m slot reply s t e (replied r parts bytes why replies is) there waits kind =
+    subst (λ b. Keeps slot e.arrival (kept_reply e.arrival.kind b) t.exchanges) (same_bytes reply bytes is) (keeps_first r (opened m slot) bytes (with_parts parts s) t e replies there waits kind)
+keeps_first_read from now m slot reply s t e (bad_option_ignored number fault non is same) there waits kind = cc
+keeps_first_read from now m slot reply s t e (asks none act is same) there waits kind = cc
+keeps_first_read from now m slot reply s t e (asks_whole b place parts whole none joining adds found is same) there waits kind = cc
 
 replied_keeps : (request : Arrival) (reply : List ℕ) (s t : Server) → IsRepliedTo request reply s t → (slot : ℕ) × Keeps slot request (kept_reply request.kind reply) t.exchanges
 replied_keeps request reply s t (at_once from bytes now m slot u later met reads is) = (
   slot,
   subst (λ a. Keeps slot a (kept_reply a.kind reply) t.exchanges) (sym is)
-      (keeps_first_read from m slot reply u t (record { arrival = arrival from now m; slot = slot; reply = None }) reads (fresh_is_there from bytes now m slot s u met) refl refl),
+      (keeps_first_read from now m slot reply u t (record { arrival = arrival from now m; slot = slot; reply = None }) reads (fresh_is_there from bytes now m slot s u met) refl refl),
 )
 replied_keeps request reply s t (afterwards ask o target waiting answers is) = (
   ask.request.slot,
   subst (λ a. Keeps ask.request.slot a (kept_reply a.kind reply) t.exchanges) (sym is)
-      (keeps_first _ ask.request reply (with_watchers answers.watchers s) t waiting.exchange answers.replies waiting.there waiting.waits waiting.kind),
+      (keeps_first _ ask.request reply (ready ask o answers.watchers s) t waiting.exchange answers.replies waiting.there waiting.waits waiting.kind),
 )
 
 tidy_replied : (request : Arrival) (reply : List ℕ) (s t : Server) → IsRepliedTo request reply s t → Tidy s.exchanges → Tidy t.exchanges
@@ -294,7 +298,13 @@ tidy_replied request reply s t (afterwards ask o target waiting answers is) h = 
 -- ---- duplicates
 
 only_time_passed : (from : Endpoint) (bytes : List ℕ) (now : ℕ) (m : CoapMessage) (kept : Option ℕ) (s t : Server) → IsMet from bytes now m (Repeat kept) s t → OnlyTimePassed now s t
-only_time_passed from bytes now m kept s t met = record { exchanges = met.meets.1; watchers = met.same_watchers; next_id = met.same_id }
+only_time_passed from bytes now m kept s t met = record {
+  exchanges = met.meets.1;
+  watchers = met.same_watchers;
+  next_id = met.same_id;
+  bodies = met.same_bodies;
+  parts = met.same_parts;
+}
 
 -- a duplicate of an exchange gets its reply
 pub gets_reply_of : (from : Endpoint) (bytes : List ℕ) (now : ℕ) (m : CoapMessage) (heard : Heard) (u v : Server) (e : Exchange) → Spells m bytes → is_request m ≡ true
@@ -329,11 +339,11 @@ repeats Confirmable NonConfirmable reply = refl
 repeats NonConfirmable other reply = refl
 
 pub duplicates_get_the_first_reply : DuplicatesGetTheFirstReply
-duplicates_get_the_first_reply capacity history later s t u v request reply from bytes now m heard did replied since early spells of_m again hears =
+duplicates_get_the_first_reply capacity history later s t u v request reply from bytes now m heard did was since early spells of_m again hears =
     let alive : lives now request ≡ true = (both (lives now request) (is_same_exchange (arrival from now m) request) again).0 in
-    let first = replied_keeps request reply s t replied in
+    let first = replied_keeps request reply s t was in
     let kept = keeps_moment now first.0 request (kept_reply request.kind reply) u.exchanges alive (keeps_from t later u now first.0 request reply since early alive first.1) in
-    let order = tidy_moment now u.exchanges (tidy_from t later u since (tidy_replied request reply s t replied (tidy capacity history s did))) in
+    let order = tidy_moment now u.exchanges (tidy_from t later u since (tidy_replied request reply s t was (tidy capacity history s did))) in
     let there = duplicated_in (arrival from now m) (at_moment now u.exchanges).exchanges first.0 kept.exchange order.distinct kept.there
     (ap (is_duplicate_of (arrival from now m)) kept.arrival_is ∙ again) in
     let gets = gets_reply_of from bytes now m heard u v kept.exchange spells of_m there hears in

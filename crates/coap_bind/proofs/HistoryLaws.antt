@@ -1,7 +1,7 @@
 -- Laws of the server, over all that it did from its beginning.
 use Rattle.std.proofs.Common.{◌≡◌, ◌≤◌, ◌∙◌, ℕ, Bool, true, false, Option, Some, None, List, [], ◌∷◌, ◌++◌, map, refl, sym, ap, subst}
 use Rattle.std.specs.Prelude.{◌==◌, if◌then◌else◌, Contains}
-use Rattle.std.specs.List.{list_any}
+use Rattle.std.specs.List.{list_any, remove}
 use Rattle.std.proofs.lemmas.List.{append-nil}
 use Rattle.std.proofs.lemmas.List.Folds.{list_any_at}
 use Rattle.coap_msg.specs.declared.endpoint.Endpoint.{Endpoint}
@@ -24,8 +24,9 @@ use Rattle.coap_opts.specs.Reading.{PlainAsk}
 use Rattle.coap_bind.specs.declared.head.OpenRequest.{OpenRequest}
 use Rattle.coap_bind.specs.declared.head.OpenAsk.{OpenAsk}
 use Rattle.coap_bind.specs.declared.server.Server.{Server}
+use Rattle.coap_bind.specs.Blocks.{bodies_after}
 use Rattle.coap_bind.specs.Writing.{Reply}
-use Rattle.coap_bind.specs.Server.{start, Heard, asked, with_next_id, with_id_used, with_kept, with_watchers, with_emitted, with_notice_sent, with_report, Replies, is_request, replied_at_once, duplicate_reply, arrival, IsMet, malformed, no_request, duplicate, full, bad_option, bad_option_ignored, for_proxy, asks, no_memory, opened, Reads, settled, admitted, Hears}
+use Rattle.coap_bind.specs.Server.{start, Heard, asked, with_next_id, with_id_used, with_kept, with_watchers, with_emitted, with_notice_sent, with_report, Replies, is_request, replied_at_once, duplicate_reply, arrival, IsMet, malformed, no_request, duplicate, full, with_parts, with_bodies, replied, bad_option_ignored, asks, asks_whole, opened, Reads, settled, admitted, Hears}
 use Rattle.coap_bind.specs.Laws.{AreArrivals, DidFrom, Did, nothing, heard_of, answered, emitted, sent, ExchangesAreOfTheHistory, DuplicatesAskNothing}
 
 -- ---- replies change no arrival
@@ -80,13 +81,14 @@ follows_sent : (capacity : ℕ) (history : List Arrival) (n : Option Notice) (s 
     → Follows capacity history (with_notice_sent n s).exchanges
 follows_sent capacity history n s f = subst (λ (t : Table). Follows capacity history t) (sym (sent_stays n s)) f
 
-follows_reads : (capacity : ℕ) (history : List Arrival) (from : Endpoint) (m : CoapMessage) (slot : ℕ) (heard : Heard) (s t : Server) → Reads from m slot heard s t
+follows_reads : (capacity : ℕ) (history : List Arrival) (from : Endpoint) (now : ℕ) (m : CoapMessage) (slot : ℕ) (heard : Heard) (s t : Server) → Reads from now m slot heard s t
     → Follows capacity history s.exchanges → Follows capacity history t.exchanges
-follows_reads capacity history from m slot heard s t (bad_option number bytes fault con replies h) f = follows_replies capacity history _ (opened m slot) bytes s t replies f
-follows_reads capacity history from m slot heard s t (bad_option_ignored number fault non h is) f = follows_same capacity history s t is f
-follows_reads capacity history from m slot heard s t (for_proxy bytes fault replies h) f = follows_replies capacity history _ (opened m slot) bytes s t replies f
-follows_reads capacity history from m slot heard s t (asks none h is) f = follows_same capacity history s t is f
-follows_reads capacity history from m slot heard s t (no_memory bytes none replies h) f = follows_replies capacity history _ (opened m slot) bytes s t replies f
+follows_reads capacity history from now m slot heard s t (replied r parts bytes why replies h) f =
+    follows_replies capacity history r (opened m slot) bytes (with_parts parts s) t replies f
+follows_reads capacity history from now m slot heard s t (bad_option_ignored number fault non h is) f = follows_same capacity history s t is f
+follows_reads capacity history from now m slot heard s t (asks none act h is) f = follows_same capacity history s t is f
+follows_reads capacity history from now m slot heard s t (asks_whole b place parts whole none joining adds there h is) f =
+    follows_same capacity history (with_parts (remove parts place) s) t is f
 
 -- ---- the requests of a datagram
 
@@ -145,14 +147,15 @@ follows_hears capacity history new s t from bytes now heard (settled (full m u m
     follows_same capacity (history ++ new) _ t is
     (follows_id capacity (history ++ new) (request_type m.kind) u (after_request capacity history new from bytes now m Full s u met later are x))
 follows_hears capacity history new s t from bytes now heard (admitted m slot u met reads) later are x =
-    follows_reads capacity (history ++ new) from m slot heard u t reads (after_request capacity history new from bytes now m (Fresh slot) s u met later are x)
+    follows_reads capacity (history ++ new) from now m slot heard u t reads (after_request capacity history new from bytes now m (Fresh slot) s u met later are x)
 
 follows_from : (capacity watchers : ℕ) (history : List Arrival) (s : Server) → DidFrom (start capacity watchers) history s → Follows capacity history s.exchanges
 follows_from capacity watchers history s nothing = record { stands = refl; same = refl }
 follows_from capacity watchers history s (heard_of before new r t from bytes now heard did later hears are) =
     follows_hears capacity before new r t from bytes now heard hears later are (follows_from capacity watchers before r did)
 follows_from capacity watchers history s (answered before r t ask o target bytes did open_ask answers) =
-    follows_replies capacity before _ ask.request bytes (with_watchers answers.watchers r) t answers.replies (follows_from capacity watchers before r did)
+    follows_replies capacity before _ ask.request bytes (with_bodies (bodies_after ask.blocks ask.from o r.bodies) (with_watchers answers.watchers r)) t answers.replies
+    (follows_from capacity watchers before r did)
 follows_from capacity watchers history s (emitted before r t target did is) =
     follows_same capacity before (with_emitted target r) t is (follows_from capacity watchers before r did)
 follows_from capacity watchers history s (sent before r t now n did sends) =

@@ -1,12 +1,16 @@
 -- How long replies and notifications are, and that they fit their room.
-use Rattle.std.proofs.Common.{◌≡◌, ℕ, ◌+◌, ◌*◌, ◌-◌, ◌/◌, ◌%◌, ◌≤◌, ◌<◌, ◌⊎◌, ◌∙◌, Bool, true, false, inl, inr, Option, Some, None, List, [], ◌∷◌, ◌++◌, length, refl, ap, arith, length-append}
-use Rattle.std.specs.Prelude.{nat_lt, All, Result, Ok, Err, OnErr, if◌then◌else◌}
+use Rattle.std.proofs.Common.{◌≡◌, ℕ, ◌+◌, ◌*◌, ◌-◌, ◌/◌, ◌%◌, ◌≤◌, ◌<◌, ◌⊎◌, ◌∙◌, ◌||◌, Bool, true, false, inl, inr, Option, Some, None, List, [], ◌∷◌, ◌++◌, length, drop, refl, sym, ap, subst, arith, append_assoc, length-append, length-take, length-drop}
+use Rattle.std.specs.Prelude.{nat_lt, All, IfSome, Result, Ok, Err, OnErr, if◌then◌else◌}
+use Rattle.std.proofs.lemmas.List.{append-nil}
 use Rattle.std.specs.Result.{IsOk}
 use Rattle.std.specs.Option.{option_map_or}
 use Rattle.std.proofs.lemmas.List.Elements.{All-nil, All-cons, All-head, All-tail}
 use Rattle.std.proofs.lemmas.Bool.Decides.{nat_tests}
-use Rattle.coap_msg.specs.declared.constants.TheConstants.{OBSERVE, LOCATION_PATH, CONTENT_FORMAT, JSON, LONGEST_TOKEN, LONGEST_SEGMENT, LONGEST_PAYLOAD, LONGEST_MESSAGE}
+use Rattle.coap_msg.specs.declared.constants.TheConstants.{OBSERVE, LOCATION_PATH, CONTENT_FORMAT, BLOCK1, BLOCK2, JSON, LONGEST_TOKEN, LONGEST_SEGMENT, LONGEST_PAYLOAD, LONGEST_MESSAGE}
+use Rattle.coap_msg.specs.Blocks.{block_bytes, block_number, block_size, block_start}
+use Rattle.coap_msg.proofs.BlockValues.{short_length, sizes}
 use Rattle.coap_msg.specs.Numbers.{number_bytes}
+use Rattle.coap_msg.proofs.OptionParts.{longer}
 use Rattle.coap_msg.specs.declared.opts.NoRoom.{NoRoom}
 use Rattle.coap_msg.specs.Opts.{WrittenOptions, PutsOptions, segment_options}
 use Rattle.coap_msg.specs.Grammar.{CoapOption, CoapMessage, extended, option_spelling, options_spelling, payload_spelling, spelling}
@@ -14,7 +18,13 @@ use Rattle.thing_ops.specs.declared.outcome.Outcome.{Outcome}
 use Rattle.thing_ops.specs.declared.outcome.Outcome.TheVariants.{Started}
 use Rattle.thing_ops.specs.Outcomes.{payload_of, text_of}
 use Rattle.coap_bind.specs.declared.head.RequestHead.{RequestHead}
-use Rattle.coap_bind.specs.Writing.{place_of, text_format, format_options, sequence_bytes, observe_options, observed, long_reply, whole_reply, coap_reply}
+use Rattle.coap_blocks.specs.Bodies.{longest_body}
+use Rattle.coap_bind.specs.declared.blocks.BlockOption.{BlockOption}
+use Rattle.coap_bind.specs.declared.blocks.BlockOption.TheVariants as option
+use Rattle.coap_bind.specs.declared.blocks.BlockUse.{BlockUse}
+use Rattle.coap_bind.specs.declared.blocks.BlockUse.TheVariants as blocks
+use Rattle.coap_bind.specs.Blocks.{IsUse, Portion, all_of, answer_reply, block_options, content_format, first_block, given_portion, is_in_blocks, is_representation, most_bytes, option_of, portion_at, portion_of, reply_with, with_block}
+use Rattle.coap_bind.specs.Writing.{place_of, text_format, format_options, sequence_bytes, observe_options, observed, long_reply, coap_reply}
 use Rattle.coap_bind.specs.Laws.{HasShortPlace, RepliesFit}
 
 -- ---- one option
@@ -40,6 +50,49 @@ option_length last o rest delta size =
     let one = none_extended (o.0 - last) delta in
     let two = one_extended (length o.1) (nat_lt (length o.1) 13) size refl in
     omega (arith, length-append (extended (o.0 - last) ++ extended (length o.1) ++ o.1) rest, length-append (extended (o.0 - last) ++ extended (length o.1)) o.1, length-append (extended (o.0 - last)) (extended (length o.1)))
+
+-- one with a short value has no byte for a length
+short_option : (last : ℕ) (o : CoapOption) (rest : List ℕ) → o.0 - last < 13 → length o.1 < 13 → length (option_spelling last o ++ rest) ≤ 1 + length o.1 + length rest
+unfolding option_spelling
+short_option last o rest delta size =
+    let one = none_extended (o.0 - last) delta in
+    let two = none_extended (length o.1) size in
+    omega (arith, length-append (extended (o.0 - last) ++ extended (length o.1) ++ o.1) rest, length-append (extended (o.0 - last) ++ extended (length o.1)) o.1, length-append (extended (o.0 - last)) (extended (length o.1)))
+
+-- one with a short value and a number below 269 has at most one for its number
+low_option : (last : ℕ) (o : CoapOption) → o.0 < 269 → length o.1 < 13 → length (option_spelling last o) ≤ 2 + length o.1
+unfolding option_spelling
+low_option last o low size =
+    let one = one_extended (o.0 - last) (nat_lt (o.0 - last) 13) (omega arith) refl in
+    let two = none_extended (length o.1) size in
+    omega (arith, length-append (extended (o.0 - last) ++ extended (length o.1)) o.1, length-append (extended (o.0 - last)) (extended (length o.1)))
+
+-- ---- the option of a block
+
+block_spelled : (b : BlockOption) (last : ℕ) → length (option_spelling last (option_of b)) ≤ 5
+block_spelled (option.Block2 b) last = let few = short_length (block_number b) in let l = low_option last (BLOCK2, block_bytes b) (omega arith) (omega arith) in omega arith
+block_spelled (option.Block1 b) last = let few = short_length (block_number b) in let l = low_option last (BLOCK1, block_bytes b) (omega arith) (omega arith) in omega arith
+
+pushed_length : (n last : ℕ) (os : List CoapOption) (o : CoapOption) → ((l : ℕ) → length (option_spelling l o) ≤ n)
+    → length (options_spelling last (os ++ o ∷ [])) ≤ length (options_spelling last os) + n
+pushed_length n last [] o few = let l = few last in omega (arith, length-append (option_spelling last o) [])
+pushed_length n last (x ∷ os) o few =
+    let rest = pushed_length n x.0 os o few in
+    omega (arith, length-append (option_spelling last x) (options_spelling x.0 os), length-append (option_spelling last x) (options_spelling x.0 (os ++ o ∷ [])))
+
+-- it adds at most five bytes
+block_length : (b : Option BlockOption) (last : ℕ) (os : List CoapOption) → length (options_spelling last (with_block b os)) ≤ length (options_spelling last os) + 5
+block_length None last os = omega arith
+block_length (Some b) last os = pushed_length 5 last os (option_of b) (block_spelled b)
+
+-- it stands after all others
+pub block_after : (b : Option BlockOption) (os ps : List CoapOption) → os ++ with_block b ps ≡ (os ++ ps) ++ block_options b
+block_after None os ps = sym (append-nil (os ++ ps))
+block_after (Some b) os ps = sym (append_assoc os ps (option_of b ∷ []))
+
+pub block_alone : (b : Option BlockOption) (os : List CoapOption) → with_block b os ≡ os ++ block_options b
+block_alone None os = sym (append-nil os)
+block_alone (Some b) os = refl
 
 -- ---- the options of a place
 
@@ -74,10 +127,10 @@ few_bytes false false n = omega arith
 pub format_value : (n : ℕ) → length (number_bytes n) ≤ 2
 format_value n = few_bytes (nat_lt n 1) (nat_lt n 256) n
 
-format_at : (last : ℕ) (value : List ℕ) (text : Option (List ℕ)) → last ≤ 8 → length value ≤ 2
-    → length (options_spelling last (option_map_or (λ _. (CONTENT_FORMAT, value) ∷ []) text [])) ≤ 4
-format_at last value None low short = omega arith
-format_at last value (Some text) low short = let one = option_length last (CONTENT_FORMAT, value) [] (omega arith) (omega arith) in omega arith
+format_at : (last n : ℕ) (value : List ℕ) (text : Option (List ℕ)) → last ≤ 8 → length value ≤ n → n < 13
+    → length (options_spelling last (option_map_or (λ _. (CONTENT_FORMAT, value) ∷ []) text [])) ≤ 1 + n
+format_at last n value None low short few = omega arith
+format_at last n value (Some text) low short few = let one = short_option last (CONTENT_FORMAT, value) [] (omega arith) (omega arith) in omega arith
 
 -- ---- Observe
 
@@ -86,11 +139,11 @@ sequence_value_at n true = let two = format_value n in omega arith
 sequence_value_at n false = omega arith
 
 observe_length : (observe : Option ℕ) (os : List CoapOption) (n : ℕ) → ((l : ℕ) → l ≤ 8 → length (options_spelling l os) ≤ n)
-    → length (options_spelling 0 (observe_options observe ++ os)) ≤ 5 + n
+    → length (options_spelling 0 (observe_options observe ++ os)) ≤ 4 + n
 observe_length None os n rest = let r = rest 0 (omega arith) in omega arith
 observe_length (Some sequence) os n rest =
     let value : length (sequence_bytes sequence) ≤ 3 = sequence_value_at sequence (nat_lt sequence 65536) in
-    let one = option_length 0 (OBSERVE, sequence_bytes sequence) (options_spelling 6 os) (omega arith) (omega arith) in
+    let one = short_option 0 (OBSERVE, sequence_bytes sequence) (options_spelling 6 os) (omega arith) (omega arith) in
     let r = rest 6 (omega arith) in
     omega arith
 
@@ -105,10 +158,10 @@ segments_after_observe (Some sequence) n place os h =
 
 -- ---- a whole reply
 
--- what is started has a short place and a short status, and nothing else has a place
+-- what is started has a short place, a short status and the shortest format, and nothing else has a place
 pub place_bound : (o : Outcome) → HasShortPlace o
-    → (place_of o ≡ []) ⊎ ((length (place_of o) ≤ 4) × All (λ segment. length segment ≤ LONGEST_SEGMENT) (place_of o) × (length (payload_of o) ≤ 100))
-place_bound (Started place status) h = inr h
+    → (place_of o ≡ []) ⊎ ((length (place_of o) ≤ 4) × All (λ segment. length segment ≤ LONGEST_SEGMENT) (place_of o) × (length (payload_of o) ≤ 100) × (text_format o ≡ JSON))
+place_bound (Started place status) h = inr (h.0, h.1, h.2, refl)
 place_bound _ h = inl refl
 
 payload_length : (payload : List ℕ) → length (payload_spelling payload) ≤ 1 + length payload
@@ -118,37 +171,43 @@ payload_length (b ∷ bytes) = omega arith
 pub all_lengths : (token options payload : List ℕ) → length (token ++ (options ++ payload)) ≡ length token + (length options + length payload)
 all_lengths token options payload = length-append token (options ++ payload) ∙ ap (λ n. length token + n) (length-append options payload)
 
--- what follows Observe has at most so many bytes
+-- what follows Observe has at most so many bytes, but for the option of a block
 abbrev rest_bound : Outcome → ℕ → Type 0
 rest_bound o n = (l : ℕ) → l ≤ 8 → length (options_spelling l (segment_options LOCATION_PATH (place_of o) ++ format_options o)) ≤ n
 
-no_place_bound : (o : Outcome) → place_of o ≡ [] → rest_bound o 4
+no_place_bound : (o : Outcome) → place_of o ≡ [] → rest_bound o 3
 no_place_bound o none l low =
     let count = ap (λ place. length (options_spelling l (segment_options LOCATION_PATH place ++ format_options o))) none in
-    let format = format_at l (number_bytes (text_format o)) (text_of o) low (format_value (text_format o)) in
+    let format = format_at l 2 (number_bytes (text_format o)) (text_of o) low (format_value (text_format o)) (omega arith) in
     omega arith
 
-short_place_bound : (o : Outcome) → length (place_of o) ≤ 4 → All (λ segment. length segment ≤ LONGEST_SEGMENT) (place_of o) → rest_bound o 1032
-short_place_bound o few short l low =
-    let options = place_length l 4 (place_of o) (format_options o) low short (λ k under. format_at k (number_bytes (text_format o)) (text_of o) under (format_value (text_format o))) in
+short_place_bound : (o : Outcome) → length (place_of o) ≤ 4 → All (λ segment. length segment ≤ LONGEST_SEGMENT) (place_of o) → text_format o ≡ JSON → rest_bound o 1030
+short_place_bound o few short json l low =
+    let one : length (number_bytes (text_format o)) ≤ 1 = omega (arith, ap (λ n. length (number_bytes n)) json) in
+    let options = place_length l 2 (place_of o) (format_options o) low short (λ k under. format_at k 1 (number_bytes (text_format o)) (text_of o) under one (omega arith)) in
     omega arith
 
-whole_length : (o : Outcome) (observe : Option ℕ) (head : RequestHead) (next n : ℕ) → rest_bound o n
-    → length (spelling (coap_reply (observed observe (whole_reply o)) head next)) ≤ 10 + n + length head.token + length (payload_of o)
-whole_length o observe head next n bound =
+part_length : (o : Outcome) (p : Portion) (observe : Option ℕ) (head : RequestHead) (next n : ℕ) → rest_bound o n
+    → length (spelling (coap_reply (observed observe (reply_with p o)) head next)) ≤ 14 + n + length head.token + length p.payload
+part_length o p observe head next n bound =
     let rest = segment_options LOCATION_PATH (place_of o) ++ format_options o in
-    let all = all_lengths head.token (options_spelling 0 (observe_options observe ++ rest)) (payload_spelling (payload_of o)) in
-    let options = observe_length observe rest n bound in
-    let payload = payload_length (payload_of o) in
+    let all = all_lengths head.token (options_spelling 0 (observe_options observe ++ with_block p.block rest)) (payload_spelling p.payload) in
+    let options = observe_length observe (with_block p.block rest) (n + 5) (λ l low. let a = bound l low in let b = block_length p.block l rest in omega arith) in
+    let payload = payload_length p.payload in
     omega arith
 
-whole_fits : (o : Outcome) (observe : Option ℕ) (head : RequestHead) (next : ℕ) → length head.token ≤ LONGEST_TOKEN → length (payload_of o) ≤ LONGEST_PAYLOAD
-    → (place_of o ≡ []) ⊎ ((length (place_of o) ≤ 4) × All (λ segment. length segment ≤ LONGEST_SEGMENT) (place_of o) × (length (payload_of o) ≤ 100))
-    → length (spelling (coap_reply (observed observe (whole_reply o)) head next)) ≤ LONGEST_MESSAGE
-whole_fits o observe head next token short (inl none) = let l = whole_length o observe head next 4 (no_place_bound o none) in omega arith
-whole_fits o observe head next token short (inr h) =
-    let l = whole_length o observe head next 1032 (short_place_bound o h.0 h.1) in
+-- a part of a payload that fits: at most 1,024 bytes, and at most 100 where there is a place
+abbrev pub IsShortFor : Outcome → List ℕ → Type 0
+IsShortFor o part = (length part ≤ LONGEST_PAYLOAD) × (length part ≤ length (payload_of o))
+
+part_fits : (o : Outcome) (p : Portion) (observe : Option ℕ) (head : RequestHead) (next : ℕ) → length head.token ≤ LONGEST_TOKEN → IsShortFor o p.payload
+    → (place_of o ≡ []) ⊎ ((length (place_of o) ≤ 4) × All (λ segment. length segment ≤ LONGEST_SEGMENT) (place_of o) × (length (payload_of o) ≤ 100) × (text_format o ≡ JSON))
+    → length (spelling (coap_reply (observed observe (reply_with p o)) head next)) ≤ LONGEST_MESSAGE
+part_fits o p observe head next token short (inl none) = let l = part_length o p observe head next 3 (no_place_bound o none) in let s = short.0 in omega arith
+part_fits o p observe head next token short (inr h) =
+    let l = part_length o p observe head next 1030 (short_place_bound o h.0 h.1 h.3) in
     let status = h.2 in
+    let s = short.1 in
     omega arith
 
 long_fits : (observe : Option ℕ) (head : RequestHead) (next : ℕ) → length head.token ≤ LONGEST_TOKEN
@@ -158,16 +217,62 @@ long_fits observe head next token =
     let options = observe_length observe [] 0 (λ l low. omega arith) in
     omega arith
 
-reply_at : (o : Outcome) (observe : Option ℕ) (head : RequestHead) (next : ℕ) (b : Bool) → nat_lt LONGEST_PAYLOAD (length (payload_of o)) ≡ b
-    → length head.token ≤ LONGEST_TOKEN → HasShortPlace o
-    → length (spelling (coap_reply (observed observe (if b then long_reply else whole_reply o)) head next)) ≤ LONGEST_MESSAGE
-reply_at o observe head next true e token place = long_fits observe head next token
-reply_at o observe head next false e token place =
-    let short : length (payload_of o) ≤ LONGEST_PAYLOAD = grind (arith, nat_tests) in
-    whole_fits o observe head next token short (place_bound o place)
+-- ---- parts of payloads
+
+under : (n m : ℕ) (b : Bool) → nat_lt n m ≡ b → b ≡ false → m ≤ n
+under n m b e is = let t : nat_lt n m ≡ false = e ∙ is in grind (arith, nat_tests)
+
+-- a size of a block that there is
+size_bound : (szx : Option ℕ) → IfSome szx (λ z. z ≤ 6) → block_size (first_block szx) ≤ 1024
+size_bound None fits = omega arith
+size_bound (Some z) fits = (sizes z fits).2
+
+block_part : (szx : Option ℕ) (payload : List ℕ) → IfSome szx (λ z. z ≤ 6) → length (portion_at (first_block szx) payload).payload ≤ 1024
+block_part szx payload fits = let s = size_bound szx fits in omega (arith, length-take (block_size (first_block szx)) (drop (block_start (first_block szx)) payload))
+
+block_part_within : (szx : Option ℕ) (payload : List ℕ) → length (portion_at (first_block szx) payload).payload ≤ length payload
+block_part_within szx payload = omega (arith, length-take (block_size (first_block szx)) (drop (block_start (first_block szx)) payload), length-drop (block_start (first_block szx)) payload)
+
+either_false : (a b : Bool) → (a || b) ≡ false → a ≡ false
+either_false true b e = absurd cc
+either_false false b e = refl
+
+given_short : (szx : Option ℕ) (payload : List ℕ) → IfSome szx (λ z. z ≤ 6) → (length (given_portion szx payload).payload ≤ LONGEST_PAYLOAD) × (length (given_portion szx payload).payload ≤ length payload)
+given_short szx payload fits = at (is_in_blocks szx (length payload)) refl
+  where
+    at : (b : Bool) → is_in_blocks szx (length payload) ≡ b
+        → (length (if b then portion_at (first_block szx) payload else all_of payload).payload ≤ LONGEST_PAYLOAD)
+        × (length (if b then portion_at (first_block szx) payload else all_of payload).payload ≤ length payload)
+    at true e = (block_part szx payload fits, block_part_within szx payload)
+    at false e =
+        let s = size_bound szx fits in
+        let w = under (block_size (first_block szx)) (length payload) (nat_lt (block_size (first_block szx)) (length payload)) refl (either_false _ _ e) in
+        (omega arith, omega arith)
+
+portion_short : (u : BlockUse) (o : Outcome) → IsUse u → length (payload_of o) ≤ most_bytes u o → IsShortFor o (portion_of u o).payload
+portion_short blocks.Whole o fits few = (few, omega arith)
+portion_short (blocks.Gives g) o fits few = at (is_representation o) few
+  where
+    at : (b : Bool) → length (payload_of o) ≤ (if b then longest_body else LONGEST_PAYLOAD)
+        → IsShortFor o (if b then given_portion g.szx (payload_of o) else all_of (payload_of o)).payload
+    at true many = given_short g.szx (payload_of o) fits.0
+    at false some = (some, omega arith)
+portion_short (blocks.Joined b) o fits few = (few, omega arith)
+
+reply_at : (u : BlockUse) (o : Outcome) (observe : Option ℕ) (head : RequestHead) (next : ℕ) (b : Bool) → nat_lt (most_bytes u o) (length (payload_of o)) ≡ b
+    → length head.token ≤ LONGEST_TOKEN → HasShortPlace o → IsUse u
+    → length (spelling (coap_reply (observed observe (if b then long_reply else reply_with (portion_of u o) o)) head next)) ≤ LONGEST_MESSAGE
+reply_at u o observe head next true e token place fits = long_fits observe head next token
+reply_at u o observe head next false e token place fits =
+    part_fits o (portion_of u o) observe head next token (portion_short u o fits (under (most_bytes u o) (length (payload_of o)) false e refl)) (place_bound o place)
 
 pub replies_fit : RepliesFit
-replies_fit o observe head next token place = reply_at o observe head next (nat_lt LONGEST_PAYLOAD (length (payload_of o))) refl token place
+replies_fit o observe u head next token place fits = reply_at u o observe head next (nat_lt (most_bytes u o) (length (payload_of o))) refl token place fits
+
+-- ---- which of both a reply is
+
+pub answer_is : (u : BlockUse) (o : Outcome) → length (payload_of o) ≤ most_bytes u o → answer_reply u o ≡ reply_with (portion_of u o) o
+answer_is u o few = let t : nat_lt (most_bytes u o) (length (payload_of o)) ≡ false = grind (arith, nat_tests) in ap (λ b. if b then long_reply else reply_with (portion_of u o) o) t
 
 -- ---- a notification
 
@@ -179,7 +284,7 @@ content_length l low =
 
 -- its options
 pub notification_options_length : (sequence : ℕ) → length (options_spelling 0 (observe_options (Some sequence) ++ (CONTENT_FORMAT, number_bytes JSON) ∷ [])) ≤ 9
-notification_options_length sequence = observe_length (Some sequence) ((CONTENT_FORMAT, number_bytes JSON) ∷ []) 4 content_length
+notification_options_length sequence = let l = observe_length (Some sequence) ((CONTENT_FORMAT, number_bytes JSON) ∷ []) 4 content_length in omega arith
 
 -- a message with so few options, whose token and payload are no longer than they may be
 pub message_fits : (m : CoapMessage) → length m.token ≤ LONGEST_TOKEN → length (options_spelling 0 m.options) ≤ 9 → length m.payload ≤ LONGEST_PAYLOAD
@@ -189,7 +294,38 @@ message_fits m few options short =
     let payload = payload_length m.payload in
     omega arith
 
+-- the options of a reply to a request that isn't acted on
+pub told_format : (format : Option ℕ) → length (options_spelling 0 (content_format format)) ≤ 4
+told_format None = omega arith
+told_format (Some n) = let value = format_value n in let one = short_option 0 (CONTENT_FORMAT, number_bytes n) [] (omega arith) (omega arith) in omega arith
+
+pub told_length : (format : Option ℕ) (b : Option BlockOption) → length (options_spelling 0 (content_format format ++ block_options b)) ≤ 9
+told_length format b =
+    let L : List CoapOption → Type 0 = λ os. length (options_spelling 0 os) ≤ 9 in
+    let few = told_format format in
+    let more = block_length b 0 (content_format format) in
+    subst L (block_alone b (content_format format)) (omega arith)
+
+-- where options fit with that of a block, they fit without it
+pub without_block : (b : Option BlockOption) (os ps : List CoapOption) (n : ℕ) → length (options_spelling 0 (os ++ with_block b ps)) ≤ n → length (options_spelling 0 (os ++ ps)) ≤ n
+without_block b os ps n fits =
+    let L : List CoapOption → Type 0 = λ l. length (options_spelling 0 l) ≤ n in
+    let whole : L ((os ++ ps) ++ block_options b) = subst L (block_after b os ps) fits in
+    let fewer = longer 0 (os ++ ps) (block_options b) in
+    omega arith
+
 -- ---- what has room is written
+
+-- two parts
+pub both_written : (r q : Result (Unit {0}) NoRoom) (os ps : List CoapOption) (a b c : WrittenOptions) → PutsOptions os r a b → PutsOptions ps q b c
+    → length (options_spelling 0 ((a.list ++ os) ++ ps)) ≤ a.room → IsOk r × IsOk q × (c.list ≡ (a.list ++ os) ++ ps)
+both_written (Ok u) (Ok v) os ps a b c first second fits =
+    (refl, refl, ap (λ (w : WrittenOptions). w.list) second ∙ ap (λ (w : WrittenOptions). w.list ++ ps) first)
+both_written (Ok u) (Err e) os ps a b c first second fits =
+    let W : WrittenOptions → Type 0 = λ w. w.room < length (options_spelling 0 (w.list ++ ps)) in
+    let small : W (record a { list = a.list ++ os }) = subst W first second in
+    absurd (omega arith)
+both_written (Err e) q os ps a b c first second fits = let l = longer 0 (a.list ++ os) ps in absurd (omega arith)
 
 pub options_written : (result : Result (Unit {0}) NoRoom) (os : List CoapOption) (old new : WrittenOptions) → PutsOptions os result old new
     → length (options_spelling 0 (old.list ++ os)) ≤ old.room → IsOk result × (new.list ≡ old.list ++ os)

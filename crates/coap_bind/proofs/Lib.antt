@@ -7,6 +7,9 @@ pub mod MomentLaws
 pub mod OpenLaws
 pub mod ReadingLaws
 pub mod RepeatedLaws
+pub mod SpendLaws
 pub mod TellingLaws
 pub mod TidyLaws
+pub mod TreatLaws
 pub mod TreatingLaws
+pub mod WholeLaws

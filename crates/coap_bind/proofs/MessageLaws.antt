@@ -1,22 +1,28 @@
 -- Replies and notifications are messages within the bounds of one.
-use Rattle.std.proofs.Common.{◌≡◌, ◌⊎◌, ℕ, ◌+◌, ◌/◌, ◌<◌, ◌≤◌, ◌^◌, Bool, true, false, cond, Option, Some, None, List, [], ◌∷◌, ◌++◌, length, inl, inr, refl, sym, subst, arith}
+use Rattle.std.proofs.Common.{◌≡◌, ◌⊎◌, ℕ, ◌+◌, ◌/◌, ◌<◌, ◌≤◌, ◌^◌, Bool, true, false, cond, Option, Some, None, List, [], ◌∷◌, ◌++◌, length, inl, inr, refl, sym, subst, ◌∙◌, append_assoc, arith}
 use Rattle.std.specs.Prelude.{nat_lt, All, take}
 use Rattle.std.specs.Option.{option_map_or}
 use Rattle.std.proofs.lemmas.List.{length-take}
 use Rattle.std.proofs.lemmas.List.Elements.{All-head, All-tail}
-use Rattle.coap_msg.specs.declared.constants.TheConstants.{LOCATION_PATH, CONTENT_FORMAT, JSON, LONGEST_SEGMENT, LONGEST_PAYLOAD}
+use Rattle.coap_msg.specs.declared.constants.TheConstants.{LOCATION_PATH, CONTENT_FORMAT, JSON, LONGEST_SEGMENT}
 use Rattle.coap_msg.specs.declared.message.RequestType.{RequestType}
 use Rattle.coap_msg.specs.declared.message.RequestType.TheVariants.{Confirmable, NonConfirmable}
 use Rattle.coap_msg.specs.Grammar.{CoapOption, AreInOrder}
+use Rattle.coap_msg.specs.Blocks.{block_number}
+use Rattle.coap_msg.proofs.BlockValues.{short_length}
 use Rattle.coap_msg.specs.Numbers.{number_bytes}
 use Rattle.coap_msg.specs.Opts.{segment_options}
 use Rattle.thing_ops.specs.declared.outcome.Outcome.{Outcome}
 use Rattle.thing_ops.specs.declared.outcome.Outcome.TheVariants as outcome
 use Rattle.thing_ops.specs.Outcomes.{HasCode, payload_of, text_of}
-use Rattle.coap_bind.specs.Writing.{Reply, long_reply, whole_reply, reply_of, place_of, text_format, format_options, sequence_bytes, observe_options, reply_id}
+use Rattle.coap_bind.specs.declared.blocks.BlockOption.{BlockOption}
+use Rattle.coap_bind.specs.declared.blocks.BlockOption.TheVariants as option
+use Rattle.coap_bind.specs.declared.blocks.BlockUse.{BlockUse}
+use Rattle.coap_bind.specs.Blocks.{Portion, answer_reply, block_options, most_bytes, portion_of, reply_with}
+use Rattle.coap_bind.specs.Writing.{Reply, long_reply, whole_reply, place_of, text_format, format_options, sequence_bytes, observe_options, reply_id}
 use Rattle.coap_bind.specs.Laws.{HasShortPlace}
 use Rattle.coap_bind.specs.Messages.{RepliesAreMessages, NotificationsAreMessages}
-use Rattle.coap_bind.proofs.LengthLaws.{format_value, sequence_value_at, place_bound}
+use Rattle.coap_bind.proofs.LengthLaws.{block_alone, format_value, sequence_value_at, place_bound}
 
 -- ---- options in order
 
@@ -24,9 +30,18 @@ use Rattle.coap_bind.proofs.LengthLaws.{format_value, sequence_value_at, place_b
 abbrev AreLater : List CoapOption → Type 0
 AreLater os = (last : ℕ) → last ≤ 8 → AreInOrder last os
 
-format_in_order : (value : List ℕ) (text : Option (List ℕ)) → length value ≤ 2 → AreLater (option_map_or (λ _. (CONTENT_FORMAT, value) ∷ []) text [])
-format_in_order value None short last low = tt
-format_in_order value (Some text) short last low = (record { order = omega arith; number = omega arith; value = omega arith }, tt)
+-- options may follow each number up to that of Content-Format
+abbrev AreLast : List CoapOption → Type 0
+AreLast os = (last : ℕ) → last ≤ 12 → AreInOrder last os
+
+block_in_order : (b : Option BlockOption) → AreLast (block_options b)
+block_in_order None last low = tt
+block_in_order (Some (option.Block2 b)) last low = let few = short_length (block_number b) in (record { order = omega arith; number = omega arith; value = omega arith }, tt)
+block_in_order (Some (option.Block1 b)) last low = let few = short_length (block_number b) in (record { order = omega arith; number = omega arith; value = omega arith }, tt)
+
+format_in_order : (value : List ℕ) (text : Option (List ℕ)) (os : List CoapOption) → length value ≤ 2 → AreLast os → AreLater (option_map_or (λ _. (CONTENT_FORMAT, value) ∷ []) text [] ++ os)
+format_in_order value None os short rest last low = rest last (omega arith)
+format_in_order value (Some text) os short rest last low = (record { order = omega arith; number = omega arith; value = omega arith }, rest 12 (omega arith))
 
 place_in_order : (place : List (List ℕ)) (os : List CoapOption) → All (λ segment. length segment ≤ LONGEST_SEGMENT) place → AreLater os
     → AreLater (segment_options LOCATION_PATH place ++ os)
@@ -43,16 +58,24 @@ observe_in_order (Some n) os rest =
     let value : length (sequence_bytes n) ≤ 3 = sequence_value_at n (nat_lt n 65536) in
     (record { order = omega arith; number = omega arith; value = omega arith }, rest 6 (omega arith))
 
-no_place_in_order : (o : Outcome) → (place : List (List ℕ)) → place ≡ [] → AreLater (segment_options LOCATION_PATH place ++ format_options o)
-no_place_in_order o place none =
-    subst (λ (p : List (List ℕ)). AreLater (segment_options LOCATION_PATH p ++ format_options o)) (sym none)
-    (format_in_order (number_bytes (text_format o)) (text_of o) (format_value (text_format o)))
+-- the format of an outcome, and then the option of a block
+format_then : (o : Outcome) (b : Option BlockOption) → AreLater (format_options o ++ block_options b)
+format_then o b = format_in_order (number_bytes (text_format o)) (text_of o) (block_options b) (format_value (text_format o)) (block_in_order b)
 
-whole_in_order : (o : Outcome) → HasShortPlace o → AreLater (whole_reply o).options
-whole_in_order o short = elim (place_bound o short) [
-  | inl none ↦ no_place_in_order o (place_of o) none
-  | inr some ↦ place_in_order (place_of o) (format_options o) some.1 (format_in_order (number_bytes (text_format o)) (text_of o) (format_value (text_format o)))
+no_place_in_order : (o : Outcome) (b : Option BlockOption) (place : List (List ℕ)) → place ≡ [] → AreLater (segment_options LOCATION_PATH place ++ (format_options o ++ block_options b))
+no_place_in_order o b place none =
+    subst (λ (p : List (List ℕ)). AreLater (segment_options LOCATION_PATH p ++ (format_options o ++ block_options b))) (sym none) (format_then o b)
+
+apart_in_order : (o : Outcome) (b : Option BlockOption) → HasShortPlace o → AreLater (segment_options LOCATION_PATH (place_of o) ++ (format_options o ++ block_options b))
+apart_in_order o b short = elim (place_bound o short) [
+  | inl none ↦ no_place_in_order o b (place_of o) none
+  | inr some ↦ place_in_order (place_of o) (format_options o ++ block_options b) some.1 (format_then o b)
 ]
+
+part_in_order : (o : Outcome) (p : Portion) → HasShortPlace o → AreLater (reply_with p o).options
+part_in_order o p short =
+    subst AreLater (sym (block_alone p.block (segment_options LOCATION_PATH (place_of o) ++ format_options o) ∙ append_assoc (segment_options LOCATION_PATH (place_of o)) (format_options o) (block_options p.block)))
+    (apart_in_order o p.block short)
 
 in_order_at : (b : Bool) (r : Reply) → AreLater r.options → AreLater (cond b long_reply r).options
 in_order_at true r later = λ last low. tt
@@ -109,8 +132,8 @@ code_at true r code = server_error 0 (omega arith)
 code_at false r code = code
 
 -- what is said of an outcome has a code of a response
-pub reply_code : (o : Outcome) → HasCode o → IsResponse (reply_of o).code
-reply_code o code = code_at (nat_lt LONGEST_PAYLOAD (length (payload_of o))) (whole_reply o) (whole_code o code)
+pub reply_code : (u : BlockUse) (o : Outcome) → HasCode o → IsResponse (answer_reply u o).code
+reply_code u o code = code_at (nat_lt (most_bytes u o) (length (payload_of o))) (reply_with (portion_of u o) o) (whole_code o code)
 
 some_code : (code : ℕ) → IsResponse code → code ≡ 0 → ⊥
 some_code code is none = elim is.class [
@@ -128,15 +151,16 @@ id_at NonConfirmable id next mine its = its
 -- ---- the messages
 
 pub replies_are_messages : RepliesAreMessages
-replies_are_messages o observe head next code short id token counter =
-    let is : IsResponse (reply_of o).code = reply_code o code in
+replies_are_messages o observe u head next code short id token counter =
+    let r : Reply = answer_reply u o in
+    let is : IsResponse r.code = reply_code u o code in
     record {
       code = let small = is.small in omega arith;
       class = inr is.class;
       id = id_at head.kind head.id next id counter;
       token = token;
-      options = observe_in_order observe (reply_of o).options (in_order_at (nat_lt LONGEST_PAYLOAD (length (payload_of o))) (whole_reply o) (whole_in_order o short));
-      empty = λ none. absurd (some_code (reply_of o).code is none);
+      options = observe_in_order observe r.options (in_order_at (nat_lt (most_bytes u o) (length (payload_of o))) (reply_with (portion_of u o) o) (part_in_order o (portion_of u o) short));
+      empty = λ none. absurd (some_code r.code is none);
     }
 
 short_take : (n : ℕ) (bytes : List ℕ) → length (take n bytes) ≤ n

@@ -12,7 +12,7 @@ use Rattle.coap_exchange.specs.declared.met.Met.TheVariants.{Fresh, Repeat, Full
 use Rattle.coap_bind.specs.declared.head.OpenRequest.{OpenRequest}
 use Rattle.coap_bind.specs.declared.server.Server.{Server}
 use Rattle.coap_bind.specs.Writing.{Reply}
-use Rattle.coap_bind.specs.Server.{Heard, arrival, with_id_used, with_kept, Replies, Reads, bad_option, bad_option_ignored, for_proxy, asks, no_memory, malformed, no_request, duplicate, full, Hears, settled, admitted, opened}
+use Rattle.coap_bind.specs.Server.{Heard, arrival, with_id_used, with_kept, with_parts, Replies, Reads, replied, bad_option_ignored, asks, asks_whole, malformed, no_request, duplicate, full, Hears, settled, admitted, opened}
 
 met_moment : (now : ℕ) (t u : Table) (a : Arrival) (met : Met) → Meets (at_moment now t) a met u → u.moment ≡ now
 met_moment now t u a (Fresh slot) is = ap (λ (x : Table). x.moment) is.1.2
@@ -32,12 +32,11 @@ pub replies_moment : (r : Reply) (request : OpenRequest) (bytes : List ℕ) (s t
 replies_moment r request bytes s t is =
     ap (λ (x : Server). x.exchanges.moment) is.after ∙ kept_moment request.head.kind request.slot bytes (with_id_used request.head.kind s) ∙ used_moment request.head.kind s
 
-reads_moment : (from : Endpoint) (m : CoapMessage) (slot : ℕ) (h : Heard) (s t : Server) → Reads from m slot h s t → t.exchanges.moment ≡ s.exchanges.moment
-reads_moment from m slot h s t (bad_option number bytes fault con replies is) = replies_moment _ (opened m slot) bytes s t replies
-reads_moment from m slot h s t (bad_option_ignored number fault non is same) = ap (λ (x : Server). x.exchanges.moment) same
-reads_moment from m slot h s t (for_proxy bytes fault replies is) = replies_moment _ (opened m slot) bytes s t replies
-reads_moment from m slot h s t (asks none is same) = ap (λ (x : Server). x.exchanges.moment) same
-reads_moment from m slot h s t (no_memory bytes none replies is) = replies_moment _ (opened m slot) bytes s t replies
+pub reads_moment : (from : Endpoint) (now : ℕ) (m : CoapMessage) (slot : ℕ) (h : Heard) (s t : Server) → Reads from now m slot h s t → t.exchanges.moment ≡ s.exchanges.moment
+reads_moment from now m slot h s t (replied r parts bytes why replies is) = replies_moment r (opened m slot) bytes (with_parts parts s) t replies
+reads_moment from now m slot h s t (bad_option_ignored number fault non is same) = ap (λ (x : Server). x.exchanges.moment) same
+reads_moment from now m slot h s t (asks none act is same) = ap (λ (x : Server). x.exchanges.moment) same
+reads_moment from now m slot h s t (asks_whole b place parts whole none joining adds there is same) = ap (λ (x : Server). x.exchanges.moment) same
 
 -- a datagram takes it to its own, or leaves the exchanges
 pub moment_of : (from : Endpoint) (bytes : List ℕ) (now : ℕ) (h : Heard) (s t : Server) → Hears from bytes now h s t
@@ -48,7 +47,7 @@ moment_of from bytes now h s t (settled (duplicate m kept e met found is)) = inl
 moment_of from bytes now h s t (settled (full m u met is same)) =
     inl (ap (λ (x : Server). x.exchanges.moment) same ∙ used_moment (request_type m.kind) u ∙ met_moment now s.exchanges u.exchanges (arrival from now m) Full met.meets)
 moment_of from bytes now h s t (admitted m slot u met reads) =
-    inl (reads_moment from m slot h u t reads ∙ met_moment now s.exchanges u.exchanges (arrival from now m) (Fresh slot) met.meets)
+    inl (reads_moment from now m slot h u t reads ∙ met_moment now s.exchanges u.exchanges (arrival from now m) (Fresh slot) met.meets)
 
 no_later : (now : ℕ) (s t : Table) → (t.moment ≡ now) ⊎ (t ≡ s) → s.moment ≤ now → t.moment ≤ now
 no_later now s t (inl is) early = omega arith

@@ -1,6 +1,7 @@
 -- What a datagram asks may be answered at once.
 use Rattle.std.proofs.Common.{Option, ◌≡◌, ◌∙◌, ℕ, true, Some, None, List, [], ◌∷◌, ◌++◌, refl, sym, ap, subst, arith}
 use Rattle.std.specs.Prelude.{◌==◌, find}
+use Rattle.std.specs.List.{remove}
 use Rattle.std.specs.Option.{option_or}
 use Rattle.std.proofs.lemmas.List.Folds.{find-append}
 use Rattle.std.proofs.lemmas.Bool.Decides.{nat_tests}
@@ -13,7 +14,7 @@ use Rattle.coap_opts.specs.Reading.{PlainAsk}
 use Rattle.coap_bind.specs.declared.head.OpenAsk.{OpenAsk}
 use Rattle.coap_bind.specs.declared.server.Server.{Server}
 use Rattle.coap_exchange.specs.declared.met.Met.TheVariants.{Fresh}
-use Rattle.coap_bind.specs.Server.{asked, IsMet, answered_at_once, arrival, malformed, no_request, duplicate, full, bad_option, bad_option_ignored, for_proxy, asks, no_memory, opened_ask, Reads, settled, admitted}
+use Rattle.coap_bind.specs.Server.{asked, IsMet, answered_at_once, arrival, malformed, no_request, duplicate, full, replied, bad_option_ignored, asks, asks_whole, with_parts, opened_ask, joined_ask, Reads, settled, admitted}
 use Rattle.coap_bind.specs.Laws.{IsOpen, AsksAreOpen}
 use Rattle.coap_bind.proofs.HistoryLaws.{not_replied, not_duplicate}
 
@@ -36,16 +37,24 @@ fresh_is_there from bytes now m slot s u met =
     ap (exchange_in slot) met.meets.1.2
     ∙ last_found slot (at_moment now s.exchanges).exchanges (record { arrival = arrival from now m; slot = slot; reply = None }) met.meets.1.1 (same_number slot)
 
-reads_open : (from : Endpoint) (m : CoapMessage) (slot : ℕ) (what : PlainAsk) (ask : OpenAsk) (s t : Server) (e : Exchange) → Reads from m slot (asked what ask) s t
-    → exchange_in slot s.exchanges ≡ Some e → e.reply ≡ None → request_type m.kind ≡ e.arrival.kind → IsOpen ask t
-reads_open from m slot what ask s t e (bad_option number bytes fault con replies h) there waits kind = absurd (asks_at_once what ask bytes h)
-reads_open from m slot what ask s t e (bad_option_ignored number fault non h is) there waits kind = cc
-reads_open from m slot what ask s t e (for_proxy bytes fault replies h) there waits kind = absurd (asks_at_once what ask bytes h)
-reads_open from m slot what ask s t e (no_memory bytes none replies h) there waits kind = absurd (asks_at_once what ask bytes h)
-reads_open from m slot what ask s t e (asks none h is) there waits kind =
-    let same : ask ≡ opened_ask from m slot = cc in
+-- what is asked of a request in a slot may be answered
+open_at : (ask other : OpenAsk) (s t u : Server) (e : Exchange) → ask ≡ other → t ≡ u → u.exchanges ≡ s.exchanges → exchange_in other.request.slot s.exchanges ≡ Some e → e.reply ≡ None
+    → other.request.head.kind ≡ e.arrival.kind → IsOpen ask t
+open_at ask other s t u e same is exchanges there waits kind =
     subst (λ (x : Server). IsOpen ask x) (sym is)
-    (subst (λ (a : OpenAsk). IsOpen a s) (sym same) (record { exchange = e; there = there; waits = waits; kind = kind }))
+    (subst (λ (a : OpenAsk). IsOpen a u) (sym same)
+    (record { exchange = e; there = ap (exchange_in other.request.slot) exchanges ∙ there; waits = waits; kind = kind }))
+
+reads_open : (from : Endpoint) (now : ℕ) (m : CoapMessage) (slot : ℕ) (what : PlainAsk) (ask : OpenAsk) (s t : Server) (e : Exchange) → Reads from now m slot (asked what ask) s t
+    → exchange_in slot s.exchanges ≡ Some e → e.reply ≡ None → request_type m.kind ≡ e.arrival.kind → IsOpen ask t
+reads_open from now m slot what ask s t e (replied r parts bytes why replies h) there waits kind = absurd (asks_at_once what ask bytes h)
+reads_open from now m slot what ask s t e (bad_option_ignored number fault non h is) there waits kind = cc
+reads_open from now m slot what ask s t e (asks none act h is) there waits kind =
+    let same : ask ≡ opened_ask from now m slot = cc in
+    open_at ask (opened_ask from now m slot) s t s e same is refl there waits kind
+reads_open from now m slot what ask s t e (asks_whole b place parts whole none joining adds found h is) there waits kind =
+    let same : ask ≡ joined_ask from m slot b = cc in
+    open_at ask (joined_ask from m slot b) s t (with_parts (remove parts place) s) e same is refl there waits kind
 
 pub asks_are_open : AsksAreOpen
 asks_are_open from bytes now what ask s t (settled (malformed f fault h is)) = absurd (not_replied what ask _ h)
@@ -53,4 +62,4 @@ asks_are_open from bytes now what ask s t (settled (no_request m of_m none h is)
 asks_are_open from bytes now what ask s t (settled (duplicate m kept e met found h)) = absurd (not_duplicate what ask (request_type m.kind) e.reply h)
 asks_are_open from bytes now what ask s t (settled (full m u met h is)) = absurd (asks_at_once what ask _ h)
 asks_are_open from bytes now what ask s t (admitted m slot u met reads) =
-    reads_open from m slot what ask u t (record { arrival = arrival from now m; slot = slot; reply = None }) reads (fresh_is_there from bytes now m slot s u met) refl refl
+    reads_open from now m slot what ask u t (record { arrival = arrival from now m; slot = slot; reply = None }) reads (fresh_is_there from bytes now m slot s u met) refl refl

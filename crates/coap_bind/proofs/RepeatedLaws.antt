@@ -17,7 +17,7 @@ use Rattle.coap_exchange.specs.declared.met.Met.TheVariants.{Fresh, Full}
 use Rattle.coap_bind.specs.declared.head.OpenRequest.{OpenRequest}
 use Rattle.coap_bind.specs.declared.server.Server.{Server}
 use Rattle.coap_bind.specs.Writing.{Reply}
-use Rattle.coap_bind.specs.Server.{start, Heard, ignored, answered_at_once, with_id_used, with_kept, with_watchers, Replies, Answers, is_request, duplicate_reply, arrival, IsMet, malformed, no_request, duplicate, full, bad_option, bad_option_ignored, for_proxy, asks, no_memory, opened, Reads, settled, admitted, Hears}
+use Rattle.coap_bind.specs.Server.{start, Heard, ignored, answered_at_once, with_id_used, with_kept, with_watchers, Replies, Answers, is_request, duplicate_reply, arrival, IsMet, malformed, no_request, duplicate, full, with_parts, replied, bad_option_ignored, asks, asks_whole, opened, Reads, settled, admitted, Hears}
 use Rattle.thing_ops.specs.declared.outcome.Outcome.{Outcome}
 use Rattle.coap_bind.specs.declared.head.OpenAsk.{OpenAsk}
 use Rattle.coap_bind.specs.Laws.{AreArrivals, IsOpen, DidFrom, nothing, heard_of, answered, emitted, sent}
@@ -26,7 +26,7 @@ use Rattle.coap_bind.proofs.HistoryLaws.{met_as_duplicate}
 use Rattle.coap_bind.proofs.OpenLaws.{fresh_is_there}
 use Rattle.coap_observe.proofs.Counts.{found_passes}
 use Rattle.coap_bind.proofs.TidyLaws.{in_slot_unfilter, was_in, WasIn, well_in_slot}
-use Rattle.coap_bind.proofs.DuplicateLaws.{Tidy, tidy_from, tidy, used_stays, sent_exchanges, same_exchange}
+use Rattle.coap_bind.proofs.DuplicateLaws.{Tidy, tidy_from, tidy, ready, used_stays, sent_exchanges, same_exchange}
 
 -- ---- where an exchange with a reply comes from
 
@@ -66,16 +66,14 @@ told slot heard bytes a reply t e is (inr h) = inr (h.0, is ∙ ap answered_at_o
 same_back : (slot : ℕ) (e : Exchange) (s t : Table) → t ≡ s → exchange_in slot t ≡ Some e → exchange_in slot s ≡ Some e
 same_back slot e s t is found = subst (λ (x : Table). exchange_in slot x ≡ Some e) is found
 
-reads_back : (from : Endpoint) (m : CoapMessage) (other : ℕ) (heard : Heard) (s t : Server) (slot : ℕ) (reply : List ℕ) (e f : Exchange) → Reads from m other heard s t
+reads_back : (from : Endpoint) (now : ℕ) (m : CoapMessage) (other : ℕ) (heard : Heard) (s t : Server) (slot : ℕ) (reply : List ℕ) (e f : Exchange) → Reads from now m other heard s t
     → exchange_in other s.exchanges ≡ Some f → e.reply ≡ Some reply → exchange_in slot t.exchanges ≡ Some e → WasAnswered slot heard f.arrival reply s.exchanges e
-reads_back from m other heard s t slot reply e f (bad_option number bytes fault con replies is) there has found =
-    told slot heard bytes f.arrival reply s.exchanges e is (replies_back _ (opened m other) bytes s t slot reply e f replies there has found)
-reads_back from m other heard s t slot reply e f (bad_option_ignored number fault non is same) there has found = inl (same_back slot e s.exchanges t.exchanges (ap (λ (x : Server). x.exchanges) same) found)
-reads_back from m other heard s t slot reply e f (for_proxy bytes fault replies is) there has found =
-    told slot heard bytes f.arrival reply s.exchanges e is (replies_back _ (opened m other) bytes s t slot reply e f replies there has found)
-reads_back from m other heard s t slot reply e f (asks none is same) there has found = inl (same_back slot e s.exchanges t.exchanges (ap (λ (x : Server). x.exchanges) same) found)
-reads_back from m other heard s t slot reply e f (no_memory bytes none replies is) there has found =
-    told slot heard bytes f.arrival reply s.exchanges e is (replies_back _ (opened m other) bytes s t slot reply e f replies there has found)
+reads_back from now m other heard s t slot reply e f (replied r parts bytes why replies is) there has found =
+    told slot heard bytes f.arrival reply s.exchanges e is (replies_back r (opened m other) bytes (with_parts parts s) t slot reply e f replies there has found)
+reads_back from now m other heard s t slot reply e f (bad_option_ignored number fault non is same) there has found = inl (same_back slot e s.exchanges t.exchanges (ap (λ (x : Server). x.exchanges) same) found)
+reads_back from now m other heard s t slot reply e f (asks none act is same) there has found = inl (same_back slot e s.exchanges t.exchanges (ap (λ (x : Server). x.exchanges) same) found)
+reads_back from now m other heard s t slot reply e f (asks_whole b place parts whole none joining adds at is same) there has found =
+    inl (same_back slot e s.exchanges t.exchanges (ap (λ (x : Server). x.exchanges) same) found)
 
 moment_back : (now slot : ℕ) (t : Table) (e : Exchange) → Tidy t → exchange_in slot (at_moment now t) ≡ Some e → exchange_in slot t ≡ Some e
 moment_back now slot t e h found = in_slot_unfilter (λ x. lives now x.arrival) t.exchanges slot e h.distinct found
@@ -100,14 +98,14 @@ abbrev WasHeard : ℕ → Exchange → List ℕ → Server → Server → Type 0
 WasHeard slot e reply s t = (exchange_in slot s.exchanges ≡ Some e) ⊎ IsRepliedTo e.arrival reply s t
 
 heard_back : (from : Endpoint) (bytes : List ℕ) (now : ℕ) (heard : Heard) (s u t : Server) (m : CoapMessage) (other slot : ℕ) (reply : List ℕ) (e : Exchange) → s.exchanges.moment ≤ now
-    → (met : IsMet from bytes now m (Fresh other) s u) → Reads from m other heard u t → Tidy s.exchanges → e.reply ≡ Some reply
+    → (met : IsMet from bytes now m (Fresh other) s u) → Reads from now m other heard u t → Tidy s.exchanges → e.reply ≡ Some reply
     → WasAnswered slot heard (arrival from now m) reply u.exchanges e → WasHeard slot e reply s t
 heard_back from bytes now heard s u t m other slot reply e later met reads h has (inl found) =
     let x : Exchange = record { arrival = arrival from now m; slot = other; reply = None } in
     let in_u = subst (λ (w : Table). exchange_in slot w ≡ Some e) met.meets.1.2 found in
     inl (moment_back now slot s.exchanges e h (pushed_back slot (at_moment now s.exchanges).exchanges x e reply refl has in_u))
 heard_back from bytes now heard s u t m other slot reply e later met reads h has (inr a) =
-    inr (at_once from bytes now m other u later met (subst (λ x. Reads from m other x u t) a.1 reads) a.0)
+    inr (at_once from bytes now m other u later met (subst (λ x. Reads from now m other x u t) a.1 reads) a.0)
 
 hears_back : (from : Endpoint) (bytes : List ℕ) (now : ℕ) (heard : Heard) (s t : Server) (slot : ℕ) (reply : List ℕ) (e : Exchange) → Hears from bytes now heard s t → s.exchanges.moment ≤ now
     → Tidy s.exchanges → e.reply ≡ Some reply → exchange_in slot t.exchanges ≡ Some e → WasHeard slot e reply s t
@@ -120,7 +118,7 @@ hears_back from bytes now heard s t slot reply e (settled (full m u met is same)
     (same_back slot e (at_moment now s.exchanges) t.exchanges (ap (λ (x : Server). x.exchanges) same ∙ used_stays (request_type m.kind) u ∙ met.meets.1.1) found))
 hears_back from bytes now heard s t slot reply e (admitted m other u met reads) later h has found =
     heard_back from bytes now heard s u t m other slot reply e later met reads h has
-    (reads_back from m other heard u t slot reply e (record { arrival = arrival from now m; slot = other; reply = None }) reads (fresh_is_there from bytes now m other s u met) has found)
+    (reads_back from now m other heard u t slot reply e (record { arrival = arrival from now m; slot = other; reply = None }) reads (fresh_is_there from bytes now m other s u met) has found)
 
 -- ---- over all that a server did
 
@@ -130,7 +128,7 @@ KeepsNone t = (slot : ℕ) (e : Exchange) (reply : List ℕ) → exchange_in slo
 
 -- it was replied to at this step
 now_replied : (before : Server) (history : List Arrival) (request : Arrival) (reply : List ℕ) (s t : Server) → DidFrom before history s → IsRepliedTo request reply s t → WasRepliedTo before request reply t
-now_replied before history request reply s t did replied = record { history = history; later = []; s = s; t = t; did = did; replied = replied; since = nothing }
+now_replied before history request reply s t did was = record { history = history; later = []; s = s; t = t; did = did; replied = was; since = nothing }
 
 heard_was : (before : Server) (past new : List Arrival) (r t : Server) (from : Endpoint) (bytes : List ℕ) (now : ℕ) (heard : Heard) (slot : ℕ) (reply : List ℕ) (e : Exchange) → DidFrom before past r
     → r.exchanges.moment ≤ now → Hears from bytes now heard r t → AreArrivals from bytes now new → WasHeard slot e reply r t
@@ -138,7 +136,7 @@ heard_was : (before : Server) (past new : List Arrival) (r t : Server) (from : E
 heard_was before past new r t from bytes now heard slot reply e did later hears are (inl found) rest =
     let w = rest found in
     record { history = w.history; later = w.later ++ new; s = w.s; t = w.t; did = w.did; replied = w.replied; since = heard_of w.later new r t from bytes now heard w.since later hears are }
-heard_was before past new r t from bytes now heard slot reply e did later hears are (inr replied) rest = now_replied before past e.arrival reply r t did replied
+heard_was before past new r t from bytes now heard slot reply e did later hears are (inr was) rest = now_replied before past e.arrival reply r t did was
 
 answered_was : (before : Server) (past : List Arrival) (r t : Server) (ask : OpenAsk) (o : Outcome) (target : Option ℕ) (bytes : List ℕ) (slot : ℕ) (reply : List ℕ) (e : Exchange) → DidFrom before past r
     → (waiting : IsOpen ask r) → Answers ask o target bytes r t → WasThere slot bytes waiting.exchange.arrival reply r.exchanges e
@@ -157,7 +155,7 @@ was_replied before history t slot reply e (heard_of past new r u from bytes now 
     (λ there. was_replied before past r slot reply e did h none there has)
 was_replied before history t slot reply e (answered past r u ask o target bytes did waiting answers) h none found has =
     answered_was before past r u ask o target bytes slot reply e did waiting answers
-    (replies_back _ ask.request bytes (with_watchers answers.watchers r) u slot reply e waiting.exchange answers.replies waiting.there has found)
+    (replies_back _ ask.request bytes (ready ask o answers.watchers r) u slot reply e waiting.exchange answers.replies waiting.there has found)
     (λ there. was_replied before past r slot reply e did h none there has)
 was_replied before history t slot reply e (emitted past r u target did is) h none found has =
     let w = was_replied before past r slot reply e did h none (same_back slot e r.exchanges u.exchanges (ap (λ (x : Server). x.exchanges) is) found) has in

@@ -1,7 +1,8 @@
 -- What is done with a datagram, case by case.
 use Rattle.std.proofs.Common.{◌≡◌, ◌≢◌, ◌⊎◌, inl, inr, ℕ, ◌∙◌, Bool, true, false, cond, Option, Some, None, List, [], ◌∷◌, ◌++◌, map, refl, sym, ap, subst, rules}
 use Rattle.std.specs.Prelude.{◌==◌, slice_get}
-use Rattle.std.specs.List.{find}
+use Rattle.std.specs.List.{find, remove}
+use Rattle.coap_msg.specs.declared.block.Block.{Block}
 use Rattle.std.proofs.lemmas.List.{map-append}
 use Rattle.coap_msg.specs.declared.endpoint.Endpoint.{Endpoint}
 use Rattle.coap_msg.specs.declared.message.Type4.{Type4}
@@ -16,18 +17,22 @@ use Rattle.coap_msg.proofs.FaultLaws.{no_fault_of_message}
 use Rattle.coap_exchange.specs.declared.met.Met.TheVariants.{Fresh}
 use Rattle.coap_exchange.specs.Admission.{Arrival}
 use Rattle.coap_exchange.specs.Table.{Exchange, Table, at_moment, exchange_in, with_exchange, with_reply, answered as with_answer}
-use Rattle.thing_ops.specs.declared.outcome.Outcome.TheVariants.{Memory}
 use Rattle.coap_observe.specs.Watching.{Watching}
 use Rattle.coap_opts.specs.Reading.{PlainAsk, faults_of, asked as what_is_asked}
 use Rattle.coap_opts.specs.declared.fault.AskFault.{AskFault}
 use Rattle.thing_ops.specs.Outcomes.{HasCode}
 use Rattle.coap_bind.specs.declared.head.OpenAsk.{OpenAsk}
 use Rattle.coap_bind.specs.declared.server.Server.{Server}
-use Rattle.coap_bind.specs.Observing.{observing_of, effect_of, Watches}
-use Rattle.coap_bind.specs.Writing.{Reply, proxy_reply, option_reply, reply_of, observed, head_of, coap_reply}
-use Rattle.coap_bind.specs.Server.{Heard, ignored, answered_at_once, asked, with_id_used, with_kept, with_watchers, replied_at_once, Replies, is_request, arrival, IsMet, malformed, no_request as is_no_request, duplicate, full, bad_option, bad_option_ignored, for_proxy, asks, no_memory, opened, opened_ask, settled, admitted, Hears, Answers}
+use Rattle.coap_blocks.specs.Parts.{Part}
+use Rattle.coap_bind.specs.declared.blocks.Wanted.TheVariants as wanted
+use Rattle.coap_bind.specs.declared.head.OpenRequest.{OpenRequest}
+use Rattle.coap_bind.specs.Blocks.{answer_reply}
+use Rattle.coap_bind.specs.Observing.{effect_of, Watches}
+use Rattle.coap_bind.proofs.DuplicateLaws.{ready}
+use Rattle.coap_bind.specs.Writing.{Reply, observed, head_of, coap_reply}
+use Rattle.coap_bind.specs.Server.{Heard, ignored, answered_at_once, asked, with_id_used, with_kept, replied_at_once, Replies, is_request, arrival, IsMet, malformed, no_request as is_no_request, duplicate, full, IsAnsweredAtOnce, bad_option, bad_block, for_proxy, no_memory, later_block, joined, replied, bad_option_ignored, asks, asks_whole, wanted_in, with_parts, with_whole_body, opened, opened_ask, joined_ask, settled, admitted, Hears, Answers}
 use Rattle.coap_bind.specs.Laws.{HasShortPlace}
-use Rattle.coap_bind.specs.Treating.{Acted, ignores, answers, acts, IsReplied, faulty, memory, acted, kept_for, sent_back, IsTreated, no_request, is_duplicate, finds_full, is_answered, is_ignored, AllAreTreated}
+use Rattle.coap_bind.specs.Treating.{Acted, ignores, answers, acts, IsReplied, faulty, memory, of_blocks, acted, acted_on_whole, kept_for, sent_back, IsTreated, no_request, is_duplicate, finds_full, is_answered, is_ignored, AllAreTreated}
 use Rattle.coap_bind.proofs.HistoryLaws.{not_replied, not_duplicate}
 
 -- ---- the table
@@ -99,16 +104,33 @@ ask_in a (asked what ask) = ask
 
 -- ---- the cases
 
--- a request that was admitted, and answered at once
-treated_at_once : (from : Endpoint) (bytes : List ℕ) (now : ℕ) (act : Option Acted) (back : List (List ℕ)) (s u t : Server) (m : CoapMessage) (slot : ℕ) (r : Reply) (reply : List ℕ)
-    → IsMet from bytes now m (Fresh slot) s u → Replies r (opened m slot) reply u t → (t.watchers ≡ s.watchers → IsReplied from m act r s.watchers t.watchers)
+-- a request that was admitted, and answered at once, with other parts than before
+treated_at_once : (from : Endpoint) (bytes : List ℕ) (now : ℕ) (act : Option Acted) (back : List (List ℕ)) (s v u t : Server) (m : CoapMessage) (slot : ℕ) (r : Reply) (reply : List ℕ)
+    → IsMet from bytes now m (Fresh slot) s u → v.watchers ≡ u.watchers → v.exchanges ≡ u.exchanges → Replies r (opened m slot) reply v t
+    → (v.next_id ≡ u.next_id) → (t.watchers ≡ s.watchers → IsReplied from now m act r s.watchers t.watchers)
     → back ≡ reply ∷ [] → IsTreated from bytes now act back s t
-treated_at_once from bytes now act back s u t m slot r reply met replies why is =
+treated_at_once from bytes now act back s v u t m slot r reply met watchers exchanges replies id why is =
     is_answered m slot r reply met.spells met.request met.meets.1.1
-    (why (ap (λ (x : Server). x.watchers) replies.after ∙ (kept_watchers (request_type m.kind) slot reply u ∙ met.same_watchers)))
-    (replies.bytes_are ∙ ap (λ (n : ℕ). spelling (coap_reply r (head_of m) n)) met.same_id) is
+    (why (ap (λ (x : Server). x.watchers) replies.after ∙ (kept_watchers (request_type m.kind) slot reply v ∙ (watchers ∙ met.same_watchers))))
+    (replies.bytes_are ∙ ap (λ (n : ℕ). spelling (coap_reply r (head_of m) n)) (id ∙ met.same_id)) is
     (ap (λ (x : Server). x.exchanges.exchanges) replies.after
-    ∙ kept_exchanges (request_type m.kind) slot reply u (arrival from now m) (at_moment now s.exchanges) met.meets.1.2 met.meets.1.1)
+    ∙ kept_exchanges (request_type m.kind) slot reply v (arrival from now m) (at_moment now s.exchanges) (exchanges ∙ met.meets.1.2) met.meets.1.1)
+
+-- why a request was answered at once
+joining_is_no_act : (m : CoapMessage) (b : Block) → wanted_in m ≡ wanted.Joining b → wanted_in m ≢ wanted.Act
+joining_is_no_act m b is act = cc
+
+later_is_no_act : (m : CoapMessage) (b : Block) → wanted_in m ≡ wanted.LaterBlock b → wanted_in m ≢ wanted.Act
+later_is_no_act m b is act = cc
+
+why_replied : (from : Endpoint) (now : ℕ) (m : CoapMessage) (act : Option Acted) (r : Reply) (s : Server) (parts : List Part) {old new : Watching} → act ≡ None → IsAnsweredAtOnce from now m r s parts → new ≡ old
+    → IsReplied from now m act r old new
+why_replied from now m act r s parts none (bad_option number fault con is same) w = faulty (some_fault m _ fault) none w
+why_replied from now m act r s parts none (bad_block fault is same) w = faulty (some_fault m _ fault) none w
+why_replied from now m act r s parts none (for_proxy fault is same) w = faulty (some_fault m _ fault) none w
+why_replied from now m act r s parts none (no_memory faultless is same) w = memory is none w
+why_replied from now m act r s parts none (later_block b faultless wants is same) w = of_blocks (later_is_no_act m b wants) none w
+why_replied from now m act r s parts none (joined b added faultless wants adds is) w = of_blocks (joining_is_no_act m b wants) none w
 
 -- what is settled, and not asked for
 treated_settled : (from : Endpoint) (bytes : List ℕ) (now : ℕ) (h : Heard) (act : Option Acted) (back : List (List ℕ)) (s t : Server) → act ≡ None → back ≡ sent_back h
@@ -137,35 +159,54 @@ treated_settled from bytes now h act back s t none is (settled (full m u met e s
     finds_full m met.spells met.request none (is ∙ ap sent_back e)
     (ap (λ (x : Server). x.exchanges) same ∙ (used_exchanges (request_type m.kind) u ∙ met.meets.1.1))
     (ap (λ (x : Server). x.watchers) same ∙ (used_watchers (request_type m.kind) u ∙ met.same_watchers))
-treated_settled from bytes now h act back s t none is (admitted m slot u met (bad_option number b fault con replies e)) unasked =
-    treated_at_once from bytes now act back s u t m slot (option_reply number) b met replies (λ w. faulty (some_fault m _ fault) none w) (is ∙ ap sent_back e)
+treated_settled from bytes now h act back s t none is (admitted m slot u met (replied r parts b why replies e)) unasked =
+    treated_at_once from bytes now act back s (with_parts parts u) u t m slot r b met refl refl replies refl (λ w. why_replied from now m act r u parts none why w) (is ∙ ap sent_back e)
 treated_settled from bytes now h act back s t none is (admitted m slot u met (bad_option_ignored number fault non e same)) unasked =
     is_ignored m slot met.spells met.request (some_fault m _ fault) none (is ∙ ap sent_back e)
     (ap (λ (x : Server). x.exchanges.exchanges) same ∙ ap (λ (x : Table). x.exchanges) met.meets.1.2)
     (ap (λ (x : Server). x.watchers) same ∙ met.same_watchers)
-treated_settled from bytes now h act back s t none is (admitted m slot u met (for_proxy b fault replies e)) unasked =
-    treated_at_once from bytes now act back s u t m slot proxy_reply b met replies (λ w. faulty (some_fault m _ fault) none w) (is ∙ ap sent_back e)
-treated_settled from bytes now h act back s t none is (admitted m slot u met (asks faultless e same)) unasked = absurd (unasked _ _ e)
-treated_settled from bytes now h act back s t none is (admitted m slot u met (no_memory b faultless replies e)) unasked =
-    treated_at_once from bytes now act back s u t m slot (reply_of Memory) b met replies (λ w. memory refl none w) (is ∙ ap sent_back e)
+treated_settled from bytes now h act back s t none is (admitted m slot u met (asks faultless wants e same)) unasked = absurd (unasked _ _ e)
+treated_settled from bytes now h act back s t none is (admitted m slot u met (asks_whole b place parts whole faultless wants adds there e same)) unasked = absurd (unasked _ _ e)
 
 -- a request that was asked, and answered
-treated_answered : (from : Endpoint) (bytes : List ℕ) (now : ℕ) (act : Option Acted) (back : List (List ℕ)) (s u t : Server) (a : Acted) (m : CoapMessage) (slot : ℕ) (reply : List ℕ)
-    → IsMet from bytes now m (Fresh slot) s u → a.what ≡ what_is_asked m → HasCode a.outcome → HasShortPlace a.outcome
-    → Answers (opened_ask from m slot) a.outcome a.target reply u t → act ≡ Some a → back ≡ reply ∷ [] → IsTreated from bytes now act back s t
-treated_answered from bytes now act back s u t a m slot reply met what code place answer acted_is is =
-    let r : Reply = observed answer.observe (reply_of a.outcome) in
-    let v : Server = with_watchers answer.watchers u in
-    let after_is : t.watchers ≡ answer.watchers = ap (λ (x : Server). x.watchers) answer.replies.after ∙ kept_watchers (request_type m.kind) slot reply v in
-    let watches : Watches (effect_of (observing_of m.code (what_is_asked m).observe) a.outcome a.target) from m.token s.watchers answer.observe t.watchers
-    = subst (λ (x : Watching). Watches (effect_of (observing_of m.code (what_is_asked m).observe) a.outcome a.target) from m.token s.watchers answer.observe x) (sym after_is)
-    (subst (λ (x : Watching). Watches (effect_of (observing_of m.code (what_is_asked m).observe) a.outcome a.target) from m.token x answer.observe answer.watchers) met.same_watchers
-    answer.watches) in
+treated_answered : (from : Endpoint) (bytes : List ℕ) (now : ℕ) (act : Option Acted) (back : List (List ℕ)) (s v u t : Server) (a : Acted) (m : CoapMessage) (slot : ℕ) (ask : OpenAsk) (reply : List ℕ)
+    → IsMet from bytes now m (Fresh slot) s u → v.watchers ≡ u.watchers → v.exchanges ≡ u.exchanges → v.next_id ≡ u.next_id → ask.request ≡ opened m slot
+    → Answers ask a.outcome a.target reply v t
+    → ((observe : Option ℕ) → Watches (effect_of ask.observing a.outcome a.target) ask.from m.token s.watchers observe t.watchers
+    → IsReplied from now m act (observed observe (answer_reply ask.blocks a.outcome)) s.watchers t.watchers)
+    → back ≡ reply ∷ [] → IsTreated from bytes now act back s t
+treated_answered from bytes now act back s v u t a m slot ask reply met watchers exchanges id request answer why is =
+    let r : Reply = observed answer.observe (answer_reply ask.blocks a.outcome) in
+    let x : Server = ready ask a.outcome answer.watchers v in
+    let replies : Replies r (opened m slot) reply x t = subst (λ (q : OpenRequest). Replies r q reply x t) request answer.replies in
+    let after_is : t.watchers ≡ answer.watchers = ap (λ (y : Server). y.watchers) replies.after ∙ kept_watchers (request_type m.kind) slot reply x in
+    let W : List ℕ → Watching → Watching → Type 0 = λ token old new. Watches (effect_of ask.observing a.outcome a.target) ask.from token old answer.observe new in
+    let watches : W m.token s.watchers t.watchers =
+    subst (W m.token s.watchers) (sym after_is)
+    (subst (λ (y : Watching). W m.token y answer.watchers) (watchers ∙ met.same_watchers)
+    (subst (λ (y : OpenRequest). W y.head.token v.watchers answer.watchers) request answer.watches)) in
     is_answered m slot r reply met.spells met.request met.meets.1.1
-    (acted a answer.observe acted_is what code place watches refl)
-    (answer.replies.bytes_are ∙ ap (λ (n : ℕ). spelling (coap_reply r (head_of m) n)) met.same_id) is
-    (ap (λ (x : Server). x.exchanges.exchanges) answer.replies.after
-    ∙ kept_exchanges (request_type m.kind) slot reply v (arrival from now m) (at_moment now s.exchanges) met.meets.1.2 met.meets.1.1)
+    (why answer.observe watches)
+    (replies.bytes_are ∙ ap (λ (n : ℕ). spelling (coap_reply r (head_of m) n)) (id ∙ met.same_id)) is
+    (ap (λ (y : Server). y.exchanges.exchanges) replies.after
+    ∙ kept_exchanges (request_type m.kind) slot reply x (arrival from now m) (at_moment now s.exchanges) (exchanges ∙ met.meets.1.2) met.meets.1.1)
+
+-- what is asked of a request, and what waits for its answer
+answered_ask : (from : Endpoint) (bytes : List ℕ) (now : ℕ) (act : Option Acted) (back : List (List ℕ)) (s u v t : Server) (a : Acted) (m : CoapMessage) (slot : ℕ) (reply : List ℕ)
+    → IsMet from bytes now m (Fresh slot) s u → wanted_in m ≡ wanted.Act → a.what ≡ what_is_asked m → HasCode a.outcome → HasShortPlace a.outcome → v ≡ u
+    → Answers (opened_ask from now m slot) a.outcome a.target reply v t → act ≡ Some a → back ≡ reply ∷ [] → IsTreated from bytes now act back s t
+answered_ask from bytes now act back s u v t a m slot reply met wants what code place same answer acted_is is =
+    treated_answered from bytes now act back s v u t a m slot (opened_ask from now m slot) reply met
+    (ap (λ (x : Server). x.watchers) same) (ap (λ (x : Server). x.exchanges) same) (ap (λ (x : Server). x.next_id) same) refl answer
+    (λ observe watches. acted a observe acted_is wants what code place watches refl) is
+
+answered_whole : (from : Endpoint) (bytes : List ℕ) (now : ℕ) (act : Option Acted) (back : List (List ℕ)) (s u v t : Server) (a : Acted) (m : CoapMessage) (slot : ℕ) (b : Block) (body reply : List ℕ) (parts : List Part)
+    → IsMet from bytes now m (Fresh slot) s u → wanted_in m ≡ wanted.Joining b → a.what ≡ with_whole_body body (what_is_asked m) → HasCode a.outcome → HasShortPlace a.outcome → v ≡ with_parts parts u
+    → Answers (joined_ask from m slot b) a.outcome a.target reply v t → act ≡ Some a → back ≡ reply ∷ [] → IsTreated from bytes now act back s t
+answered_whole from bytes now act back s u v t a m slot b body reply parts met wants what code place same answer acted_is is =
+    treated_answered from bytes now act back s v u t a m slot (joined_ask from m slot b) reply met
+    (ap (λ (x : Server). x.watchers) same) (ap (λ (x : Server). x.exchanges) same) (ap (λ (x : Server). x.next_id) same) refl answer
+    (λ observe watches. acted_on_whole a observe b body acted_is wants what code place watches refl) is
 
 treated_asked : (from : Endpoint) (bytes : List ℕ) (now : ℕ) (act : Option Acted) (back : List (List ℕ)) (s v t : Server) (a : Acted) (ask : OpenAsk) (reply : List ℕ)
     → Hears from bytes now (asked a.what ask) s v → HasCode a.outcome → HasShortPlace a.outcome
@@ -175,15 +216,16 @@ treated_asked from bytes now act back s v t a ask reply (settled (is_no_request 
 treated_asked from bytes now act back s v t a ask reply (settled (duplicate m kept e met found h)) code place answer acted_is is =
     absurd (not_duplicate a.what ask (request_type m.kind) e.reply h)
 treated_asked from bytes now act back s v t a ask reply (settled (full m u met h same)) code place answer acted_is is = absurd (cc)
-treated_asked from bytes now act back s v t a ask reply (admitted m slot u met (bad_option number b fault con replies h)) code place answer acted_is is = absurd (cc)
+treated_asked from bytes now act back s v t a ask reply (admitted m slot u met (replied r parts b why replies h)) code place answer acted_is is = absurd (cc)
 treated_asked from bytes now act back s v t a ask reply (admitted m slot u met (bad_option_ignored number fault non h same)) code place answer acted_is is = absurd (cc)
-treated_asked from bytes now act back s v t a ask reply (admitted m slot u met (for_proxy b fault replies h)) code place answer acted_is is = absurd (cc)
-treated_asked from bytes now act back s v t a ask reply (admitted m slot u met (no_memory b faultless replies h)) code place answer acted_is is = absurd (cc)
-treated_asked from bytes now act back s v t a ask reply (admitted m slot u met (asks faultless h same)) code place answer acted_is is =
-    let which : ask ≡ opened_ask from m slot = ap (ask_in ask) h in
-    let one : Answers (opened_ask from m slot) a.outcome a.target reply v t = subst (λ (x : OpenAsk). Answers x a.outcome a.target reply v t) which answer in
-    let two : Answers (opened_ask from m slot) a.outcome a.target reply u t = subst (λ (x : Server). Answers (opened_ask from m slot) a.outcome a.target reply x t) same one in
-    treated_answered from bytes now act back s u t a m slot reply met (ap (what_in a.what) h) code place two acted_is is
+treated_asked from bytes now act back s v t a ask reply (admitted m slot u met (asks faultless wants h same)) code place answer acted_is is =
+    let which : ask ≡ opened_ask from now m slot = ap (ask_in ask) h in
+    answered_ask from bytes now act back s u v t a m slot reply met wants (ap (what_in a.what) h) code place same
+    (subst (λ (x : OpenAsk). Answers x a.outcome a.target reply v t) which answer) acted_is is
+treated_asked from bytes now act back s v t a ask reply (admitted m slot u met (asks_whole b at parts whole faultless wants adds there h same)) code place answer acted_is is =
+    let which : ask ≡ joined_ask from m slot b = ap (ask_in ask) h in
+    answered_whole from bytes now act back s u v t a m slot b whole.bytes reply (remove parts at) met wants (ap (what_in a.what) h) code place same
+    (subst (λ (x : OpenAsk). Answers x a.outcome a.target reply v t) which answer) acted_is is
 
 pub all_are_treated : AllAreTreated
 all_are_treated from bytes now act back s t (ignores hears none is) = treated_settled from bytes now ignored act back s t none is hears (λ what ask e. cc)

@@ -32,6 +32,8 @@ pub record OnlyTimePassed (now : ℕ) (s t : Server) : Type 0 where
   pub exchanges : t.exchanges ≡ at_moment now s.exchanges
   pub watchers : t.watchers ≡ s.watchers
   pub next_id : t.next_id ≡ s.next_id
+  pub bodies : t.bodies ≡ s.bodies
+  pub parts : t.parts ≡ s.parts
 
 -- A duplicate of a request that was admitted and lives changes nothing.
 abbrev pub DuplicatesChangeNothing : Type 0
@@ -43,7 +45,7 @@ DuplicatesChangeNothing =
 -- A request that was admitted is replied to, in these bytes: at once, or when its outcome is known.
 pub data IsRepliedTo (request : Arrival) (reply : List ℕ) (s t : Server) : Type 0 where
   at_once : (from : Endpoint) (bytes : List ℕ) (now : ℕ) (m : CoapMessage) (slot : ℕ) (u : Server) → s.exchanges.moment ≤ now
-      → IsMet from bytes now m (Fresh slot) s u → Reads from m slot (answered_at_once reply) u t → request ≡ arrival from now m
+      → IsMet from bytes now m (Fresh slot) s u → Reads from now m slot (answered_at_once reply) u t → request ≡ arrival from now m
       → IsRepliedTo request reply s t
   afterwards : (ask : OpenAsk) (o : Outcome) (target : Option ℕ) (waiting : IsOpen ask s) → Answers ask o target reply s t
       → request ≡ waiting.exchange.arrival → IsRepliedTo request reply s t

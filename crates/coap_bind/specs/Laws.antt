@@ -12,7 +12,9 @@ use Rattle.coap_opts.specs.Reading.{PlainAsk}
 use Rattle.coap_bind.specs.declared.head.RequestHead.{RequestHead}
 use Rattle.coap_bind.specs.declared.head.OpenAsk.{OpenAsk}
 use Rattle.coap_bind.specs.declared.server.Server.{Server}
-use Rattle.coap_bind.specs.Writing.{reply_of, observed, coap_reply}
+use Rattle.coap_bind.specs.declared.blocks.BlockUse.{BlockUse}
+use Rattle.coap_bind.specs.Blocks.{IsUse, answer_reply}
+use Rattle.coap_bind.specs.Writing.{observed, coap_reply}
 use Rattle.coap_bind.specs.Server.{start, is_request, arrival, Heard, asked, Hears, Answers, with_emitted, SendsNext}
 
 -- these are the requests of a datagram: one, if it is a request, and else none
@@ -72,9 +74,9 @@ abbrev pub AsksAreOpen : Type 0
 AsksAreOpen =
     (from : Endpoint) (bytes : List ℕ) (now : ℕ) (what : PlainAsk) (ask : OpenAsk) (s t : Server) → Hears from bytes now (asked what ask) s t → IsOpen ask t
 
--- A reply has at most 1,152 bytes (RFC 7252, section 4.6), with Observe and without, unless the place of what was started
--- is long.
+-- A reply has at most 1,152 bytes (RFC 7252, section 4.6), with Observe and without, in blocks and whole, unless the place
+-- of what was started is long.
 abbrev pub RepliesFit : Type 0
 RepliesFit =
-    (o : Outcome) (observe : Option ℕ) (head : RequestHead) (next : ℕ) → length head.token ≤ LONGEST_TOKEN → HasShortPlace o
-    → length (spelling (coap_reply (observed observe (reply_of o)) head next)) ≤ LONGEST_MESSAGE
+    (o : Outcome) (observe : Option ℕ) (blocks : BlockUse) (head : RequestHead) (next : ℕ) → length head.token ≤ LONGEST_TOKEN → HasShortPlace o → IsUse blocks
+    → length (spelling (coap_reply (observed observe (answer_reply blocks o)) head next)) ≤ LONGEST_MESSAGE

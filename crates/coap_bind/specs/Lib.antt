@@ -1,5 +1,7 @@
 pub mod Observing
 pub mod Writing
+pub mod Blocks
+pub mod Portions
 pub mod Server
 pub mod Telling
 pub mod Laws
@@ -7,4 +9,5 @@ pub mod Duplicates
 pub mod Settling
 pub mod Histories
 pub mod Messages
+pub mod Transfers
 pub mod Treating

@@ -7,14 +7,16 @@ use Rattle.thing_ops.specs.Outcomes.{HasCode}
 use Rattle.coap_observe.specs.declared.notice.Notice.{Notice}
 use Rattle.coap_observe.specs.Watching.{IsSendable}
 use Rattle.coap_bind.specs.declared.head.RequestHead.{RequestHead}
-use Rattle.coap_bind.specs.Writing.{reply_of, observed, coap_reply, notification}
+use Rattle.coap_bind.specs.declared.blocks.BlockUse.{BlockUse}
+use Rattle.coap_bind.specs.Blocks.{answer_reply}
+use Rattle.coap_bind.specs.Writing.{observed, coap_reply, notification}
 use Rattle.coap_bind.specs.Laws.{HasShortPlace}
 
 -- A reply to a request is a message, if the id and the token of that are those of one.
 abbrev pub RepliesAreMessages : Type 0
 RepliesAreMessages =
-    (o : Outcome) (observe : Option ℕ) (head : RequestHead) (next : ℕ) → HasCode o → HasShortPlace o
-    → head.id < 2 ^ 16 → length head.token ≤ LONGEST_TOKEN → next < 2 ^ 16 → IsWellFormed (coap_reply (observed observe (reply_of o)) head next)
+    (o : Outcome) (observe : Option ℕ) (blocks : BlockUse) (head : RequestHead) (next : ℕ) → HasCode o → HasShortPlace o
+    → head.id < 2 ^ 16 → length head.token ≤ LONGEST_TOKEN → next < 2 ^ 16 → IsWellFormed (coap_reply (observed observe (answer_reply blocks o)) head next)
 
 -- And so is a notification.
 abbrev pub NotificationsAreMessages : Type 0

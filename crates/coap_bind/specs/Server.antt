@@ -1,14 +1,18 @@
--- A CoAP server as one machine (RFC 7252, sections 4.2 to 4.5 and 5.4; RFC 7641): what it holds, and what each
--- datagram, each answer, each new value and each notification does to that.
+-- A CoAP server as one machine (RFC 7252, sections 4.2 to 4.5 and 5.4; RFC 7641; RFC 7959): what it holds, and what
+-- each datagram, each answer, each new value and each notification does to that.
 --
 -- What it holds is `Server` of src/server.rt: the `exchanges` that live, with the replies that are kept
--- (coap_exchange/specs/Table.antt), the `watchers` (coap_observe/specs/Watching.antt), and `next_id`, the message ID of
--- the next message that isn't an acknowledgement. What a request asks for is coap_opts/specs/Reading.antt, what it wants
--- of the watchers is in Observing.antt, and what a reply is on the wire is in Writing.antt.
+-- (coap_exchange/specs/Table.antt), the `watchers` (coap_observe/specs/Watching.antt), `next_id`, the message ID of the
+-- next message that isn't an acknowledgement, the `bodies` of responses that are kept for their later blocks, and the
+-- `parts`, the bodies of requests as far as their blocks came (coap_blocks/specs). What a request asks for is
+-- coap_opts/specs/Reading.antt, what it wants of the watchers is in Observing.antt, and what it wants of blocks in
+-- Blocks.antt; what a reply is on the wire is in Writing.antt.
 --
 -- The state is what the code holds, because a second relation between the code and a history would say no more: the law
 -- `ExchangesAreOfTheHistory` ties the table to what came.
-use Rattle.std.specs.Prelude.{◌≡◌, ℕ, ◌+◌, ◌%◌, ◌==◌, ◌&&◌, nat_lt, Bool, true, false, List, [], Option, Some, None, slice_get, if◌then◌else◌}
+use Rattle.std.specs.Prelude.{◌≡◌, ℕ, ◌+◌, ◌%◌, ◌==◌, ◌&&◌, nat_lt, Bool, true, false, List, [], Option, Some, None, option_map, slice_get, if◌then◌else◌}
+use Rattle.std.specs.List.{remove}
+use Rattle.coap_msg.specs.declared.block.Block.{Block}
 use Rattle.coap_msg.specs.declared.endpoint.Endpoint.{Endpoint}
 use Rattle.coap_msg.specs.declared.message.MsgFault.{MsgFault}
 use Rattle.coap_msg.specs.declared.message.Type4.{Type4}
@@ -26,20 +30,29 @@ use Rattle.coap_exchange.specs.declared.met.Met.{Met}
 use Rattle.coap_exchange.specs.declared.met.Met.TheVariants.{Fresh, Repeat, Full}
 use Rattle.coap_observe.specs.Watching.{Watching, none_watch, with_emission, with_acknowledgement, with_reset, Notifies}
 use Rattle.coap_observe.specs.declared.notice.Notice.{Notice}
+use Rattle.coap_blocks.specs.Bodies.{Body, body_for}
+use Rattle.coap_blocks.specs.Parts.{Part, Arrival as BlockArrival, living, after_block, Gives}
+use Rattle.coap_blocks.specs.declared.added.Added.{Added}
+use Rattle.coap_blocks.specs.declared.added.Added.TheVariants.{Complete}
 use Rattle.thing_ops.specs.declared.outcome.Outcome.{Outcome}
 use Rattle.thing_ops.specs.declared.outcome.Outcome.TheVariants.{Memory}
 use Rattle.coap_opts.specs.Reading.{PlainAsk, faults_of, asked as what_is_asked}
-use Rattle.coap_opts.specs.declared.fault.AskFault.TheVariants.{BadOption, Proxy}
+use Rattle.coap_opts.specs.declared.fault.AskFault.TheVariants as fault
 use Rattle.coap_bind.specs.declared.head.OpenRequest.{OpenRequest}
 use Rattle.coap_bind.specs.declared.head.OpenAsk.{OpenAsk}
 use Rattle.coap_bind.specs.declared.server.Server.{Server}
+use Rattle.coap_bind.specs.declared.blocks.BlockUse.TheVariants as blocks
+use Rattle.coap_bind.specs.declared.blocks.Wanted.{Wanted}
+use Rattle.coap_bind.specs.declared.blocks.Wanted.TheVariants as wanted
+use Rattle.coap_bind.specs.declared.observing.Observing.{Observing}
+use Rattle.coap_bind.specs.Blocks.{wanted_of, use_of, answer_reply, bodies_after, block_reply, later_reply, added_reply}
 use Rattle.coap_bind.specs.Observing.{observing_of, effect_of, Watches}
 use Rattle.coap_bind.specs.Writing.{Reply, full_reply, proxy_reply, option_reply, reply_of, observed, head_of, coap_reply}
 
 -- A server to which nothing came yet, in which so many exchanges may live and so many watchers may be. Its message IDs
 -- begin at 0 and not at a random number (docs/DECISIONS.md, "CoAP").
 abbrev pub start : ℕ → ℕ → Server
-start exchanges watchers = record { exchanges = empty_table exchanges; watchers = none_watch watchers; next_id = 0 }
+start exchanges watchers = record { exchanges = empty_table exchanges; watchers = none_watch watchers; next_id = 0; bodies = []; parts = [] }
 
 -- What is done with a datagram.
 pub data Heard : Type 0 where
@@ -76,13 +89,22 @@ pub record Replies (r : Reply) (request : OpenRequest) (bytes : List ℕ) (s t :
 abbrev pub with_watchers : Watching → Server → Server
 with_watchers w s = record s { watchers = w }
 
+-- the server with these bodies, and with these parts
+abbrev pub with_bodies : List Body → Server → Server
+with_bodies bodies s = record s { bodies = bodies }
+
+abbrev pub with_parts : List Part → Server → Server
+with_parts parts s = record s { parts = parts }
+
 -- What was asked, of this target if it has one, has this outcome, and is answered in these bytes: first its sender is
--- registered or deregistered, then the reply says the sequence number of a registration.
+-- registered or deregistered, and a body that is given in blocks is kept; then the reply says the sequence number of a
+-- registration.
 pub record Answers (ask : OpenAsk) (o : Outcome) (target : Option ℕ) (bytes : List ℕ) (s t : Server) : Type 0 where
   pub observe : Option ℕ
   pub watchers : Watching
   pub watches : Watches (effect_of ask.observing o target) ask.from ask.request.head.token s.watchers observe watchers
-  pub replies : Replies (observed observe (reply_of o)) ask.request bytes (with_watchers watchers s) t
+  pub replies : Replies (observed observe (answer_reply ask.blocks o)) ask.request bytes
+      (with_bodies (bodies_after ask.blocks ask.from o s.bodies) (with_watchers watchers s)) t
 
 -- ---- notifications (RFC 7641)
 
@@ -155,6 +177,8 @@ pub record IsMet (from : Endpoint) (bytes : List ℕ) (now : ℕ) (m : CoapMessa
   pub meets : Meets (at_moment now s.exchanges) (arrival from now m) met t.exchanges
   pub same_watchers : t.watchers ≡ s.watchers
   pub same_id : t.next_id ≡ s.next_id
+  pub same_bodies : t.bodies ≡ s.bodies
+  pub same_parts : t.parts ≡ s.parts
 
 -- What is done with a datagram that isn't admitted. It takes no memory, and so is said apart: a duplicate, what finds
 -- the table full and what is no request are never out of memory.
@@ -181,32 +205,84 @@ pub data Settles (from : Endpoint) (bytes : List ℕ) (now : ℕ) (heard : Heard
 abbrev pub opened : CoapMessage → ℕ → OpenRequest
 opened m slot = record { head = head_of m; slot = slot }
 
--- what it asks, which came from an endpoint, until that is answered
-abbrev pub opened_ask : Endpoint → CoapMessage → ℕ → OpenAsk
-opened_ask from m slot = record { request = opened m slot; from = from; observing = observing_of m.code (what_is_asked m).observe }
+-- what it wants of the watchers, and of blocks
+abbrev pub observing_in : CoapMessage → Observing
+observing_in m = observing_of m.code (what_is_asked m).observe
 
--- What is done with a request that was admitted, by the first fault of its options. Out of memory is free to
--- come where there is none.
-pub data Reads (from : Endpoint) (m : CoapMessage) (slot : ℕ) (heard : Heard) (s t : Server) : Type 0 where
-  -- A bad option: a Confirmable request gets a reply (section 5.4.1), and any other is ignored; it was admitted, so a
-  -- duplicate of it is one.
-  bad_option : (number : ℕ) (bytes : List ℕ) → slice_get (faults_of m.options) 0 ≡ Some (BadOption number) → request_type m.kind ≡ Confirmable
-      → Replies (option_reply number) (opened m slot) bytes s t → heard ≡ answered_at_once bytes → Reads from m slot heard s t
-  bad_option_ignored : (number : ℕ) → slice_get (faults_of m.options) 0 ≡ Some (BadOption number) → request_type m.kind ≡ NonConfirmable
-      → heard ≡ ignored → t ≡ s → Reads from m slot heard s t
+abbrev pub wanted_in : CoapMessage → Wanted
+wanted_in m = wanted_of m.code (observing_in m) (what_is_asked m)
+
+-- what it asks, which came from an endpoint at a moment, until that is answered
+abbrev pub opened_ask : Endpoint → ℕ → CoapMessage → ℕ → OpenAsk
+opened_ask from now m slot = record {
+  request = opened m slot;
+  from = from;
+  observing = observing_in m;
+  blocks = use_of now m.code (observing_in m) (what_is_asked m);
+}
+
+-- the same of a request that came in blocks, of which this is the last
+abbrev pub joined_ask : Endpoint → CoapMessage → ℕ → Block → OpenAsk
+joined_ask from m slot b = record { request = opened m slot; from = from; observing = observing_in m; blocks = blocks.Joined b }
+
+-- a request with this body
+abbrev pub with_whole_body : List ℕ → PlainAsk → PlainAsk
+with_whole_body bytes a = record a { request = record a.request { body = bytes } }
+
+-- a block of a request, as the parts have it
+abbrev pub block_arrival : Endpoint → ℕ → CoapMessage → Block → BlockArrival
+block_arrival from now m b = record {
+  origin = record { from = from; code = m.code; path = (what_is_asked m).request.path };
+  block = b;
+  payload = m.payload;
+  moment = now;
+}
+
+-- What becomes of a block of a request, and the parts then (RFC 7959, section 2.5).
+abbrev pub Adds : Endpoint → ℕ → CoapMessage → Block → Server → Added → List Part → Type 0
+Adds from now m b s added parts = Gives (after_block (block_arrival from now m b) (living now s.parts)) added parts
+
+-- Why a request that was admitted is answered at once, by which reply, and the parts then: by the first fault of its
+-- options, or out of memory, which is free to come where there is none; or because it wants no act.
+pub data IsAnsweredAtOnce (from : Endpoint) (now : ℕ) (m : CoapMessage) (r : Reply) (s : Server) (parts : List Part) : Type 0 where
+  -- a bad option of a Confirmable request (RFC 7252, section 5.4.1)
+  bad_option : (number : ℕ) → slice_get (faults_of m.options) 0 ≡ Some (fault.BadOption number) → request_type m.kind ≡ Confirmable
+      → r ≡ option_reply number → parts ≡ s.parts → IsAnsweredAtOnce from now m r s parts
+  -- a block of the reserved size
+  bad_block : slice_get (faults_of m.options) 0 ≡ Some fault.Block → r ≡ block_reply → parts ≡ s.parts → IsAnsweredAtOnce from now m r s parts
   -- it is for a proxy
-  for_proxy : (bytes : List ℕ) → slice_get (faults_of m.options) 0 ≡ Some Proxy
-      → Replies proxy_reply (opened m slot) bytes s t → heard ≡ answered_at_once bytes → Reads from m slot heard s t
+  for_proxy : slice_get (faults_of m.options) 0 ≡ Some fault.Proxy → r ≡ proxy_reply → parts ≡ s.parts → IsAnsweredAtOnce from now m r s parts
+  -- out of memory: no block was joined
+  no_memory : faults_of m.options ≡ [] → r ≡ reply_of Memory → parts ≡ s.parts → IsAnsweredAtOnce from now m r s parts
+  -- a later block of a response is given out of the body that is kept for its sender and path (RFC 7959, section 2.4)
+  later_block : (b : Block) → faults_of m.options ≡ [] → wanted_in m ≡ wanted.LaterBlock b
+      → r ≡ later_reply b (option_map (λ x. x.content) (body_for from (what_is_asked m).request.path now s.bodies)) → parts ≡ s.parts
+      → IsAnsweredAtOnce from now m r s parts
+  -- a block of a request, and others are to come, or it isn't taken
+  joined : (b : Block) (added : Added) → faults_of m.options ≡ [] → wanted_in m ≡ wanted.Joining b
+      → Adds from now m b s added parts → added_reply b added ≡ Some r → IsAnsweredAtOnce from now m r s parts
+
+-- What is done with a request that was admitted.
+pub data Reads (from : Endpoint) (now : ℕ) (m : CoapMessage) (slot : ℕ) (heard : Heard) (s t : Server) : Type 0 where
+  -- it is answered at once
+  replied : (r : Reply) (parts : List Part) (bytes : List ℕ) → IsAnsweredAtOnce from now m r s parts
+      → Replies r (opened m slot) bytes (with_parts parts s) t → heard ≡ answered_at_once bytes → Reads from now m slot heard s t
+  -- a bad option of any other request than a Confirmable one: it is ignored; it was admitted, so a duplicate of it is one
+  bad_option_ignored : (number : ℕ) → slice_get (faults_of m.options) 0 ≡ Some (fault.BadOption number) → request_type m.kind ≡ NonConfirmable
+      → heard ≡ ignored → t ≡ s → Reads from now m slot heard s t
   -- it is asked
-  asks : faults_of m.options ≡ [] → heard ≡ asked (what_is_asked m) (opened_ask from m slot) → t ≡ s → Reads from m slot heard s t
-  -- out of memory
-  no_memory : (bytes : List ℕ) → faults_of m.options ≡ []
-      → Replies (reply_of Memory) (opened m slot) bytes s t → heard ≡ answered_at_once bytes → Reads from m slot heard s t
+  asks : faults_of m.options ≡ [] → wanted_in m ≡ wanted.Act → heard ≡ asked (what_is_asked m) (opened_ask from now m slot) → t ≡ s
+      → Reads from now m slot heard s t
+  -- it is the last block of a request, which is asked with the body that was joined; that leaves the parts
+  asks_whole : (b : Block) (place : ℕ) (parts : List Part) (whole : Part) → faults_of m.options ≡ [] → wanted_in m ≡ wanted.Joining b
+      → Adds from now m b s (Complete place) parts → slice_get parts place ≡ Some whole
+      → heard ≡ asked (with_whole_body whole.bytes (what_is_asked m)) (joined_ask from m slot b) → t ≡ with_parts (remove parts place) s
+      → Reads from now m slot heard s t
 
 -- ---- any datagram
 
 -- What a datagram from an endpoint does at a moment.
 pub data Hears (from : Endpoint) (bytes : List ℕ) (now : ℕ) (heard : Heard) (s t : Server) : Type 0 where
   settled : Settles from bytes now heard s t → Hears from bytes now heard s t
-  admitted : (m : CoapMessage) (slot : ℕ) (u : Server) → IsMet from bytes now m (Fresh slot) s u → Reads from m slot heard u t
+  admitted : (m : CoapMessage) (slot : ℕ) (u : Server) → IsMet from bytes now m (Fresh slot) s u → Reads from now m slot heard u t
       → Hears from bytes now heard s t

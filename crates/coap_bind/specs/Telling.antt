@@ -15,7 +15,8 @@ use Rattle.coap_bind.specs.declared.next.CoapNext.TheVariants.{Nothing, Send, As
 use Rattle.coap_bind.specs.declared.head.OpenRequest.{OpenRequest}
 use Rattle.coap_bind.specs.declared.head.OpenAsk.{OpenAsk}
 use Rattle.coap_bind.specs.declared.server.Server.{Server}
-use Rattle.coap_bind.specs.Writing.{Reply, reply_of, observed, coap_reply}
+use Rattle.coap_bind.specs.Blocks.{IsUse, answer_reply}
+use Rattle.coap_bind.specs.Writing.{Reply, observed, coap_reply}
 use Rattle.coap_bind.specs.Observing.{effect_of, Watches}
 use Rattle.coap_bind.specs.Server.{Heard, ignored, answered_at_once, asked, Replies, Answers, IsMet, Settles, Hears}
 
@@ -60,15 +61,16 @@ pub record AnswersAs (ask : OpenAsk) (o : Outcome) (target : Option ℕ) (n : �
 abbrev pub HasRoom : OpenAsk → Outcome → Option ℕ → Server → Type 0
 HasRoom ask o target s =
     (observe : Option ℕ) (watchers : Watching) → Watches (effect_of ask.observing o target) ask.from ask.request.head.token s.watchers observe watchers
-    → length (spelling (coap_reply (observed observe (reply_of o)) ask.request.head s.next_id)) ≤ LONGEST_MESSAGE
+    → length (spelling (coap_reply (observed observe (answer_reply ask.blocks o)) ask.request.head s.next_id)) ≤ LONGEST_MESSAGE
 
--- what is asked may be answered: the exchange in the slot of the ticket waits for its reply, and the token is one
--- (RFC 7252, section 3)
-pub record MayAnswer (request : OpenRequest) (s : Server) : Type 0 where
-  pub awaited : IsAwaited request.slot s.exchanges
-  pub token : length request.head.token ≤ LONGEST_TOKEN
+-- what is asked may be answered: the exchange in the slot of the ticket waits for its reply, the token is one (RFC 7252,
+-- section 3), and the sizes of blocks are such as there are
+pub record MayAnswer (ask : OpenAsk) (s : Server) : Type 0 where
+  pub awaited : IsAwaited ask.request.slot s.exchanges
+  pub token : length ask.request.head.token ≤ LONGEST_TOKEN
+  pub blocks : IsUse ask.blocks
 
 abbrev pub TicketIsOpen : CoapNext → Server → Type 0
 TicketIsOpen Nothing s = Unit {0}
 TicketIsOpen (Send n) s = Unit {0}
-TicketIsOpen (Ask ask ticket) s = MayAnswer ticket.request s
+TicketIsOpen (Ask ask ticket) s = MayAnswer ticket s

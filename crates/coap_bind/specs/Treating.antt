@@ -1,6 +1,7 @@
 -- What comes of a datagram, from its coming to its answer: said of the table of exchanges, of the watchers and of what is sent
 -- back (RFC 7252, sections 4.2 to 4.5; RFC 7641, section 4.1).
 use Rattle.std.specs.Prelude.{◌≡◌, ◌≢◌, ◌⊎◌, ℕ, true, List, [], ◌∷◌, ◌++◌, Option, Some, None}
+use Rattle.coap_msg.specs.declared.block.Block.{Block}
 use Rattle.coap_msg.specs.declared.endpoint.Endpoint.{Endpoint}
 use Rattle.coap_msg.specs.declared.message.Type4.TheVariants.{Ack, Rst}
 use Rattle.coap_msg.specs.declared.message.RequestType.{RequestType}
@@ -16,8 +17,11 @@ use Rattle.coap_opts.specs.Reading.{PlainAsk, faults_of, asked as what_is_asked}
 use Rattle.coap_bind.specs.declared.head.OpenAsk.{OpenAsk}
 use Rattle.coap_bind.specs.declared.server.Server.{Server}
 use Rattle.coap_bind.specs.Writing.{Reply, full_reply, reply_of, observed, head_of, coap_reply}
-use Rattle.coap_bind.specs.Observing.{observing_of, effect_of, Watches}
-use Rattle.coap_bind.specs.Server.{Heard, ignored, answered_at_once, asked, told_by, is_request, duplicate_reply, arrival, Hears, Answers}
+use Rattle.coap_bind.specs.declared.blocks.BlockUse.TheVariants.{Joined}
+use Rattle.coap_bind.specs.declared.blocks.Wanted.TheVariants.{Act, Joining}
+use Rattle.coap_bind.specs.Blocks.{answer_reply, use_of}
+use Rattle.coap_bind.specs.Observing.{effect_of, Watches}
+use Rattle.coap_bind.specs.Server.{Heard, ignored, answered_at_once, asked, told_by, is_request, duplicate_reply, arrival, observing_in, wanted_in, with_whole_body, Hears, Answers}
 use Rattle.coap_bind.specs.Laws.{HasShortPlace}
 
 -- An act: what was asked, its outcome, and the target that the request was for, if it was for one.
@@ -38,14 +42,20 @@ pub data Treats (from : Endpoint) (bytes : List ℕ) (now : ℕ) (act : Option A
 
 -- ---- the cases
 
--- Why a request that was admitted gets this reply, and what becomes of the watchers: its options are faulty, or memory is out;
--- or it was acted on, and that is what the act came to.
-pub data IsReplied (from : Endpoint) (m : CoapMessage) (act : Option Acted) (r : Reply) (old new : Watching) : Type 0 where
-  faulty : faults_of m.options ≢ [] → act ≡ None → new ≡ old → IsReplied from m act r old new
-  memory : r ≡ reply_of Memory → act ≡ None → new ≡ old → IsReplied from m act r old new
-  acted : (a : Acted) (observe : Option ℕ) → act ≡ Some a → a.what ≡ what_is_asked m → HasCode a.outcome → HasShortPlace a.outcome
-      → Watches (effect_of (observing_of m.code (what_is_asked m).observe) a.outcome a.target) from m.token old observe new
-      → r ≡ observed observe (reply_of a.outcome) → IsReplied from m act r old new
+-- Why a request that was admitted at a moment gets this reply, and what becomes of the watchers: its options are faulty, or
+-- memory is out; or it wants no act; or it was acted on, as it is or with a body that was joined of blocks, and that is what
+-- the act came to.
+pub data IsReplied (from : Endpoint) (now : ℕ) (m : CoapMessage) (act : Option Acted) (r : Reply) (old new : Watching) : Type 0 where
+  faulty : faults_of m.options ≢ [] → act ≡ None → new ≡ old → IsReplied from now m act r old new
+  memory : r ≡ reply_of Memory → act ≡ None → new ≡ old → IsReplied from now m act r old new
+  of_blocks : wanted_in m ≢ Act → act ≡ None → new ≡ old → IsReplied from now m act r old new
+  acted : (a : Acted) (observe : Option ℕ) → act ≡ Some a → wanted_in m ≡ Act → a.what ≡ what_is_asked m → HasCode a.outcome → HasShortPlace a.outcome
+      → Watches (effect_of (observing_in m) a.outcome a.target) from m.token old observe new
+      → r ≡ observed observe (answer_reply (use_of now m.code (observing_in m) (what_is_asked m)) a.outcome) → IsReplied from now m act r old new
+  acted_on_whole : (a : Acted) (observe : Option ℕ) (b : Block) (body : List ℕ) → act ≡ Some a → wanted_in m ≡ Joining b
+      → a.what ≡ with_whole_body body (what_is_asked m) → HasCode a.outcome → HasShortPlace a.outcome
+      → Watches (effect_of (observing_in m) a.outcome a.target) from m.token old observe new
+      → r ≡ observed observe (answer_reply (Joined b) a.outcome) → IsReplied from now m act r old new
 
 -- the reply that is kept to a request of this type
 abbrev pub kept_for : RequestType → List ℕ → Option (List ℕ)
@@ -76,7 +86,7 @@ pub data IsTreated (from : Endpoint) (bytes : List ℕ) (now : ℕ) (act : Optio
       → back ≡ spelling (coap_reply full_reply (head_of m) s.next_id) ∷ []
       → t.exchanges ≡ at_moment now s.exchanges → t.watchers ≡ s.watchers → IsTreated from bytes now act back s t
   is_answered : (m : CoapMessage) (slot : ℕ) (r : Reply) (reply : List ℕ) → Spells m bytes → is_request m ≡ true
-      → exchange_in slot (at_moment now s.exchanges) ≡ None → IsReplied from m act r s.watchers t.watchers
+      → exchange_in slot (at_moment now s.exchanges) ≡ None → IsReplied from now m act r s.watchers t.watchers
       → reply ≡ spelling (coap_reply r (head_of m) s.next_id) → back ≡ reply ∷ []
       → t.exchanges.exchanges ≡ (at_moment now s.exchanges).exchanges
       ++ record { arrival = arrival from now m; slot = slot; reply = kept_for (request_type m.kind) reply } ∷ []

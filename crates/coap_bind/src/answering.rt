@@ -1,11 +1,14 @@
 //! Replies to requests: those of outcomes, of which some register or deregister a watcher, and the server's own words.
 
+use crate::blocks::{BlockUse, Giving};
 use crate::head::{OpenAsk, OpenRequest, RequestHead};
-use crate::next::CoapNext;
 use crate::observing::{Effect, effect_of};
+use crate::options::text_format;
+use crate::portion::{LONGEST_BODY, first_block, is_representation};
 use crate::server::Server;
-use crate::writing::{Said, put_outcome, put_word};
-use coap_msg::{BAD_OPTION, LONGEST_MESSAGE, RequestType};
+use crate::writing::{CONTENT, Said, put_outcome, put_word};
+use coap_blocks::Whole;
+use coap_msg::{BAD_OPTION, Endpoint, LONGEST_MESSAGE, RequestType};
 use coap_observe::Registered;
 use itoa::Buffer;
 use servient_base::put_bytes;
@@ -18,8 +21,10 @@ impl Server {
     ghost use Rattle.coap_msg.specs.declared.constants.TheConstants.{LONGEST_PAYLOAD};
     ghost use Rattle.thing_ops.specs.Outcomes.{HasCode, payload_of};
     ghost use Rattle.coap_bind.specs.Observing.{effect_of, Watches};
+    ghost use Rattle.coap_bind.specs.Blocks.{IsUse, answer_reply, bodies_after};
+    ghost use Rattle.coap_bind.specs.declared.blocks.BlockUse.TheVariants as blocks;
     ghost use Rattle.coap_bind.specs.Writing.{word_reply, reply_of, observed, coap_reply};
-    ghost use Rattle.coap_bind.specs.Server.{with_next_id, with_id_used, with_kept, with_watchers};
+    ghost use Rattle.coap_bind.specs.Server.{with_next_id, with_id_used, with_kept, with_watchers, with_bodies};
     ghost use Rattle.coap_msg.specs.Written.{IsWritten};
     ghost use Rattle.coap_bind.specs.Telling.{RepliesAs, AnswersAs, HasRoom};
     ghost use Rattle.coap_bind.specs.Settling.{RefusesOption};
@@ -34,12 +39,42 @@ impl Server {
     ) -> usize
         requires slot { IsAwaited ask.now.request.slot self.old.exchanges }
         requires code { HasCode outcome.now }
+        requires blocks { IsUse ask.now.blocks }
         requires room { HasRoom ask.now outcome.now target self.old }
         ensures { AnswersAs ask.now outcome.now target result out.old out.new self.old self.new }
     {
         let effect = effect_of(ask.observing, outcome, target);
         let observe = self.watch(ask, effect);
-        self.reply(&ask.request, Said { outcome, observe }, out)
+        self.keep_body(ask, outcome);
+        let said = Said {
+            outcome,
+            observe,
+            blocks: &ask.blocks,
+        };
+        self.reply(&ask.request, said, out)
+    }
+
+    /// Keeps the payload of what was asked for the requests for its later blocks, where it has any.
+    fn keep_body(&mut self, ask: &OpenAsk, outcome: &Outcome)
+        requires { IsUse ask.now.blocks }
+        ensures { self.new ≡ with_bodies (bodies_after ask.now.blocks ask.now.from outcome.now self.old.bodies) self.old }
+    {
+        match &ask.blocks {
+            BlockUse::Whole => {}
+            BlockUse::Gives(giving) => self.keep_body_under(ask.from, giving, outcome),
+            BlockUse::Joined(_) => {}
+        }
+    }
+
+    /// The same where it is given in blocks.
+    fn keep_body_under(&mut self, from: Endpoint, giving: &Giving, outcome: &Outcome)
+        requires { IsUse (blocks.Gives giving.now) }
+        ensures { self.new ≡ with_bodies (bodies_after (blocks.Gives giving.now) from outcome.now self.old.bodies) self.old }
+    {
+        match kept_body(giving.szx, outcome) {
+            Some(body) => self.bodies.put(from, &giving.path, &body, giving.moment),
+            None => {}
+        }
     }
 
     /// Does this to the watchers, for the sender of what was asked: gives the sequence number that the response says,
@@ -71,10 +106,11 @@ impl Server {
     ) -> usize
         requires slot { IsAwaited request.now.slot self.old.exchanges }
         requires code { HasCode said.outcome.now }
+        requires blocks { IsUse said.blocks.now }
         requires sequence { IfSome said.observe (λ n. n < 2 ^ 24) }
         requires short { (said.observe ≡ None) ⊎ (length (payload_of said.outcome.now) ≤ LONGEST_PAYLOAD) }
-        requires room { length (spelling (coap_reply (observed said.observe (reply_of said.outcome.now)) request.now.head self.old.next_id)) ≤ LONGEST_MESSAGE }
-        ensures { RepliesAs (observed said.entry.observe (reply_of said.entry.outcome.now)) request.now result out.old out.new self.old self.new }
+        requires room { length (spelling (coap_reply (observed said.observe (answer_reply said.blocks.now said.outcome.now)) request.now.head self.old.next_id)) ≤ LONGEST_MESSAGE }
+        ensures { RepliesAs (observed said.entry.observe (answer_reply said.entry.blocks.now said.entry.outcome.now)) request.now result out.old out.new self.old self.new }
     {
         let size = put_outcome(said, &request.head, self.next_id, out);
         self.use_id(request.head.kind);
@@ -101,12 +137,12 @@ impl Server {
     }
 
     /// Answers a request with a bad option, if it is answered.
-    pub fn refuse_option<'a>(
+    pub fn refuse_option(
         &mut self,
         request: &OpenRequest,
         number: u16,
         out: &mut [u8; LONGEST_MESSAGE],
-    ) -> CoapNext<'a>
+    ) -> Option<usize>
         requires slot { IsAwaited request.now.slot self.old.exchanges }
         ensures { RefusesOption request.now number result out.old out.new self.old self.new }
     {
@@ -116,9 +152,9 @@ impl Server {
                 let mut word = [0u8; 16];
                 let at = put_bytes(&mut word, 0, b"option ");
                 let at = put_bytes(&mut word, at, buffer.format(number).as_bytes());
-                CoapNext::Send(self.refuse(request, BAD_OPTION, &word[..at], out))
+                Some(self.refuse(request, BAD_OPTION, &word[..at], out))
             }
-            RequestType::NonConfirmable => CoapNext::Nothing,
+            RequestType::NonConfirmable => None,
         }
     }
 
@@ -148,7 +184,7 @@ impl Server {
     }
 
     /// Uses the next message ID in a reply to a request of this type, where the reply isn't an acknowledgement.
-    fn use_id(&mut self, kind: RequestType)
+    pub fn use_id(&mut self, kind: RequestType)
         ensures { self.new ≡ with_id_used kind self.old }
     {
         match kind {
@@ -158,7 +194,7 @@ impl Server {
     }
 
     /// Keeps a reply, where its request was confirmable.
-    fn keep(&mut self, request: &OpenRequest, reply: &[u8])
+    pub fn keep(&mut self, request: &OpenRequest, reply: &[u8])
         requires slot { IsAwaited request.now.slot self.old.exchanges }
         requires length { length reply.now ≤ LONGEST_MESSAGE }
         ensures { self.new ≡ with_kept request.now.head.kind request.now.slot reply.now self.old }
@@ -170,8 +206,11 @@ impl Server {
     }
 }
 
-ghost use Rattle.std.specs.Prelude.{◌≡◌};
+ghost use Rattle.std.specs.Prelude.{◌≡◌, ◌≤◌, length, option_map, IfSome, Some, None, if◌then◌else◌};
+ghost use Rattle.coap_blocks.specs.Bodies.{content_of, longest_body};
 ghost use Rattle.coap_observe.specs.Watching.{sequence_of};
+ghost use Rattle.coap_bind.specs.Blocks.{is_kept, outcome_content};
+ghost use Rattle.thing_ops.specs.Outcomes.{payload_of};
 
 /// The sequence number that the response to a registration says, if it says one.
 fn sequence_of(registered: Registered) -> Option<u32>
@@ -181,5 +220,39 @@ fn sequence_of(registered: Registered) -> Option<u32>
         Registered::New(sequence) => Some(sequence),
         Registered::Replaced(sequence) => Some(sequence),
         Registered::Full => None,
+    }
+}
+
+/// The body of a response that is kept, where a block of this size was asked for, or none.
+fn kept_body(szx: Option<u8>, outcome: &Outcome) -> Option<Whole<'_>>
+    requires { IfSome szx (λ z. z ≤ 6) }
+    ensures ok { option_map content_of result ≡ (if is_kept szx outcome.now then Some (outcome_content outcome.now) else None) }
+    ensures length { IfSome result (λ w. length w.bytes.now ≤ longest_body) }
+{
+    if !is_representation(outcome) {
+        return None;
+    }
+    match outcome.text() {
+        Some(bytes) => {
+            if first_block(szx).size() < bytes.len() && bytes.len() <= LONGEST_BODY {
+                Some(whole_of(outcome, bytes))
+            } else {
+                None
+            }
+        }
+        None => None,
+    }
+}
+
+/// A response with the code 2.05 and this payload, that of its outcome.
+fn whole_of<'a>(outcome: &Outcome, bytes: &'a [u8]) -> Whole<'a>
+    requires { bytes.now ≡ payload_of outcome.now }
+    ensures { content_of result ≡ outcome_content outcome.now }
+{
+    Whole {
+        code: CONTENT,
+        format: Some(text_format(outcome)),
+        tag: None,
+        bytes,
     }
 }

@@ -1,12 +1,14 @@
 //! The CoAP server: what a datagram asks for, the reply to it, and notifications.
 
 use crate::NoMemory;
+use crate::head::Arrived;
 use crate::next::{CoapNext, Ticket};
 use crate::server::Server;
 use crate::settled::Settled;
 use crate::writing::put_notification;
+use coap_blocks::{Bodies, Parts};
 use coap_exchange::Exchanges;
-use coap_msg::{Endpoint, LONGEST_MESSAGE, LONGEST_PAYLOAD};
+use coap_msg::{Endpoint, LONGEST_DATAGRAM, LONGEST_MESSAGE, LONGEST_PAYLOAD};
 use coap_observe::{Notice, Watchers};
 use std::alloc::Global;
 use std::marker::Model;
@@ -39,10 +41,11 @@ impl CoapBind {
     ghost use Rattle.coap_observe.specs.Watching.{IsSendable};
     ghost use Rattle.coap_bind.specs.Writing.{notification};
     ghost use Rattle.coap_bind.specs.Server.{start, with_emitted, SendsNext};
+    ghost use Rattle.coap_blocks.specs.Parts.{longest_request};
     ghost use Rattle.coap_bind.specs.Telling.{HearsAs, SettlesAs, IsAdmitted, TicketIsOpen, HasRoom, AnswersAs};
 
     /// A server in which `exchanges` exchanges may live, with at most `watchers` watchers. The memory of both is taken
-    /// here.
+    /// here, and that of bodies in blocks: 16 of responses and 8 of requests.
     pub fn new(alloc: Global, exchanges: u32, watchers: u32) -> Result<CoapBind, NoMemory>
         requires least_exchanges { 16 ≤ exchanges }
         requires most_exchanges { exchanges ≤ 65536 }
@@ -58,20 +61,27 @@ impl CoapBind {
                 exchanges,
                 watchers,
                 next_id: 0,
+                bodies: Bodies::new(alloc)?,
+                parts: Parts::new(alloc)?,
             },
         })
     }
 
-    /// Takes a datagram of any length that came from an endpoint. Bytes to be sent back are written to the beginning of
-    /// `out`. Out of memory is a reply too, 5.03 `memory`.
+    /// Takes a datagram of at most 1,280 bytes that came from an endpoint. Bytes to be sent back are written to the
+    /// beginning of `out`. Out of memory is a reply too, 5.03 `memory`. The body of a request that came in blocks is
+    /// written into `room` and lent from there, because a caller would know nothing of `self` if a result that owns a
+    /// path were lent from it (docs/DECISIONS.md, "What the kit can't give").
     pub fn datagram<'a>(
         &mut self,
         from: Endpoint,
         bytes: &'a [u8],
         now: u64,
         out: &mut [u8; LONGEST_MESSAGE],
+        room: &'a mut [u8],
     ) -> CoapNext<'a>
-        requires { self.old.exchanges.moment ≤ now }
+        requires moment { self.old.exchanges.moment ≤ now }
+        requires length { length bytes.now ≤ LONGEST_DATAGRAM }
+        requires room { longest_request ≤ length room.old }
         ensures ok { HearsAs from bytes.now now result out.old out.new self.old self.new }
 
         // What isn't admitted takes no memory, and is never answered to be out of memory: duplicates, what finds the
@@ -86,15 +96,23 @@ impl CoapBind {
             Settled::Done(None) => CoapNext::Nothing,
             Settled::Done(Some(size)) => CoapNext::Send(size),
             Settled::Admitted(message, slot) => {
-                self.server.read(self.alloc, from, &message, slot, out)
+                let arrived = Arrived {
+                    from,
+                    code: message.code,
+                    now,
+                    slot,
+                };
+                let read = self.server.read(self.alloc, arrived, &message, out);
+                self.server.hand_out(read, room)
             }
         }
     }
 
     /// Answers what was asked of `target`, the number of what may be observed there, if there is such a thing: the reply
     /// is written to the beginning of `out`, goes to where the request came from, and has as many bytes as are returned.
-    /// A GET with Observe registers or deregisters its sender (RFC 7641, section 4.1). It takes no memory. That the
-    /// reply has at most 1,152 bytes is asked just so; the law `replies_fit` says when it has.
+    /// A GET with Observe registers or deregisters its sender (RFC 7641, section 4.1), and of a payload that is given in
+    /// blocks the first is, and the rest is kept for the requests for it (RFC 7959, section 2.4). It takes no memory. That
+    /// the reply has at most 1,152 bytes is asked just so; the law `replies_fit` says when it has.
     pub fn answer(
         &mut self,
         ticket: Ticket,

@@ -1,5 +1,6 @@
 //! What is kept of a request until it is answered.
 
+use crate::blocks::BlockUse;
 use crate::observing::Observing;
 use coap_msg::{BoundedBytes, Endpoint, LONGEST_TOKEN, Message, RequestType};
 
@@ -32,6 +33,21 @@ pub struct OpenAsk {
     pub from: Endpoint,
     /// What it wants of the watchers.
     pub observing: Observing,
+    /// What blocks are to its reply.
+    pub blocks: BlockUse,
+}
+
+/// A request that was admitted.
+#[derive(Clone, Copy)]
+pub struct Arrived {
+    /// Where it came from.
+    pub from: Endpoint,
+    /// Its code.
+    pub code: u8,
+    /// When it came, in milliseconds.
+    pub now: u64,
+    /// The slot of its exchange.
+    pub slot: u32,
 }
 
 impl RequestHead {

@@ -4,6 +4,7 @@ ghost use Rattle.coap_bind.specs.Duplicates.{OnlyConfirmableAreKept, DuplicatesC
 ghost use Rattle.coap_bind.specs.Histories.{HearingGoesOn, AskedIsAdmitted};
 ghost use Rattle.coap_bind.specs.Laws.{ExchangesAreOfTheHistory, DuplicatesAskNothing, AsksAreOpen, RepliesFit};
 ghost use Rattle.coap_bind.specs.Messages.{RepliesAreMessages, NotificationsAreMessages};
+ghost use Rattle.coap_bind.specs.Transfers.{AnswersLeaveTheParts, NoWholeBodyStays, RequestsWithoutBlocksAct};
 ghost use Rattle.coap_bind.specs.Treating.{AllAreTreated};
 
 /// The exchanges of a server are those of the admitted requests that live (RFC 7252, section 4.5).
@@ -65,6 +66,18 @@ pub fn asked_is_admitted()
 /// What is done with a datagram, case by case: what becomes of the exchanges and of the watchers, and what is sent back.
 pub fn all_are_treated()
     ensures { AllAreTreated }
+{}
+
+/// A request that names no block is asked as it is, or is out of memory: it is never answered from a body that is kept,
+/// and never comes to the parts (RFC 7959, sections 2.4 and 2.5).
+pub fn requests_without_blocks_act()
+    ensures { RequestsWithoutBlocksAct }
+{}
+
+/// Between two calls no body that is whole stands among the parts (RFC 7959, section 2.5), and an answer leaves them.
+pub fn no_whole_body_stays()
+    ensures stays { NoWholeBodyStays }
+    ensures answers { AnswersLeaveTheParts }
 {}
 
 /// Replies and notifications are messages (RFC 7252, section 3).

@@ -1,5 +1,5 @@
-//! The CoAP server (RFC 7252, RFC 7641): which datagrams are requests to act on, the replies to them, and the
-//! notifications of those that observe. It has no clock, no socket and no resources: moments and datagrams are handed in,
+//! The CoAP server (RFC 7252, RFC 7641, RFC 7959): which datagrams are requests to act on, the replies to them, in blocks
+//! where they are long, and the notifications of those that observe. It has no clock, no socket and no resources: moments and datagrams are handed in,
 //! what is asked is handed out, and what is to be sent is written into the caller's room. `CoapBind`, `CoapNext`,
 //! `Ticket` and `coap_observe`'s `Notice` carry everything.
 //!
@@ -8,8 +8,9 @@
 //!
 //! let mut server = CoapBind::new(alloc, 1024, 64)?;
 //! let mut room = [0; 1152];
+//! let mut body = [0; 16384];
 //! // For each datagram that comes:
-//! match server.datagram(from, datagram, now, &mut room) {
+//! match server.datagram(from, datagram, now, &mut room, &mut body) {
 //!     CoapNext::Nothing => {}
 //!     CoapNext::Send(size) => send(from, &room[..size]),
 //!     CoapNext::Ask(ask, ticket) => {
@@ -28,21 +29,27 @@
 //! ```
 //!
 //! What a server holds and what its calls do is one machine, `specs/Server.antt`; what a request wants of the watchers is
-//! `specs/Observing.antt`, and what a reply and a notification are on the wire is `specs/Writing.antt`. The contract in a
-//! sentence: each call does what the machine does (`Hears`, `Answers`, `SendsNext`), for all that comes in any order. The
-//! laws (`specs/Laws.antt`, `specs/Duplicates.antt`): the exchanges of a server are those of the admitted requests that
+//! `specs/Observing.antt`, what it wants of blocks and which part of a payload a reply has is `specs/Blocks.antt`, and what
+//! a reply and a notification are on the wire is `specs/Writing.antt`. The contract in a sentence: each call does what the
+//! machine does (`Hears`, `Answers`, `SendsNext`), for all that comes in any order. The laws (`specs/Laws.antt`,
+//! `specs/Duplicates.antt`, `specs/Transfers.antt`): the exchanges of a server are those of the admitted requests that
 //! live; a duplicate asks for nothing and changes nothing, and where it is answered it gets the bytes that were sent
-//! first, which it gets exactly where both requests are Confirmable and the first was replied to; and a reply fits its
-//! room. Memory is taken when the server is made, and then by the path of a request that was admitted.
+//! first, which it gets exactly where both requests are Confirmable and the first was replied to; a request without blocks
+//! comes to no body and no part; no body that is whole stays; and a reply fits its room. Memory is taken when the server
+//! is made, and then by the path of a request that was admitted.
 #![tactic(auto)]
 
 mod answering;
 mod bind;
+mod blocks;
 mod head;
+mod joining;
 mod laws;
 mod next;
 mod observing;
 mod options;
+mod portion;
+mod reading;
 mod server;
 mod settled;
 mod writing;
@@ -51,8 +58,8 @@ pub use bind::CoapBind;
 pub use laws::{
     all_are_treated, asked_is_admitted, asks_are_open, duplicates_ask_nothing,
     duplicates_change_nothing, duplicates_get_the_first_reply, exchanges_are_of_the_history,
-    hearing_goes_on, only_confirmable_are_kept, only_the_first_reply_is_repeated, replies_fit,
-    sent_are_messages,
+    hearing_goes_on, no_whole_body_stays, only_confirmable_are_kept,
+    only_the_first_reply_is_repeated, replies_fit, requests_without_blocks_act, sent_are_messages,
 };
 pub use next::{CoapNext, Ticket};
 pub use servient_base::NoMemory;

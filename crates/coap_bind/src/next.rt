@@ -16,7 +16,7 @@ pub enum CoapNext<'a> {
 
 /// A request that was admitted and is to be answered, by `CoapBind::answer` alone: a ticket can't be dropped, copied or
 /// made elsewhere. Contracts see what the reply takes over from the request, the slot of its exchange, where it came
-/// from and what it wants of the watchers (`OpenAsk`).
+/// from, what it wants of the watchers, and what blocks are to its reply (`OpenAsk`).
 pub struct Ticket {
     ask: OpenAsk,
 }
@@ -26,14 +26,20 @@ impl Model for Ticket {
 
     ghost Value = { OpenAsk };
 
+    ghost use Rattle.coap_bind.specs.Blocks.{IsUse};
+
     ghost view = { λ t. t.ask };
+
+    ghost invariant = { λ t. IsUse t.ask.blocks };
 }
 
 impl Ticket {
     ghost use Rattle.std.specs.Prelude.{◌≡◌};
+    ghost use Rattle.coap_bind.specs.Blocks.{IsUse};
 
     /// A ticket for this request.
     pub(crate) fn of(ask: OpenAsk) -> Ticket
+        requires { IsUse ask.blocks }
         ensures { result ≡ ask }
     {
         Ticket { ask }
@@ -41,7 +47,8 @@ impl Ticket {
 
     /// Spends the ticket: the request that it is for.
     pub(crate) fn spend(self) -> OpenAsk
-        ensures { result ≡ self }
+        ensures ok { result ≡ self }
+        ensures blocks { IsUse result.blocks }
     {
         let Ticket { ask } = self;
         ask

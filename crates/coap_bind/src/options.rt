@@ -1,13 +1,18 @@
 //! Writing the options of replies and of notifications, one part after another.
 
 ghost use Rattle.std.specs.Prelude.{◌≡◌, ◌≤◌, ◌<◌, ◌^◌, ◌++◌, [], ◌∷◌, Some, length, slice_index_or, All, OnOk, IfSome, if◌then◌else◌};
+ghost use Rattle.coap_msg.specs.Blocks.{IsBlock, block_bytes};
 ghost use Rattle.coap_msg.specs.Grammar.{largest_number};
 ghost use Rattle.coap_msg.specs.Numbers.{number_bytes};
 ghost use Rattle.coap_msg.specs.Opts.{last_number, PutsOptions, segment_options};
+ghost use Rattle.coap_bind.specs.Blocks.{block_options, content_format};
+ghost use Rattle.coap_bind.specs.Portions.{HoldsBlock};
 ghost use Rattle.coap_bind.specs.Writing.{place_of, format_options, text_format, sequence_bytes, observe_options};
 
+use crate::blocks::BlockOption;
 use coap_msg::{
-    CONTENT_FORMAT, JSON, LOCATION_PATH, NoRoom, OBSERVE, Opts, TD_JSON, put_number, put_segment,
+    BLOCK1, BLOCK2, Block, CONTENT_FORMAT, JSON, LOCATION_PATH, NoRoom, OBSERVE, Opts, TD_JSON,
+    put_number, put_segment, write_block,
 };
 use thing_ops::{Outcome, Segments};
 
@@ -20,7 +25,8 @@ pub fn put_options(
     requires empty { options.old.list ≡ [] }
     requires sequence { IfSome observe (λ n. n < 2 ^ 24) }
     requires segments { All (λ segment. length segment ≤ largest_number) (place_of outcome.now) }
-    ensures { PutsOptions (observe_options observe ++ (segment_options LOCATION_PATH (place_of outcome.now) ++ format_options outcome.now)) result options.old options.new }
+    ensures ok { PutsOptions (observe_options observe ++ (segment_options LOCATION_PATH (place_of outcome.now) ++ format_options outcome.now)) result options.old options.new }
+    ensures last { OnOk result (last_number 0 options.new.list ≤ CONTENT_FORMAT) }
 {
     put_observe(observe, options)?;
     put_rest(outcome, options)
@@ -69,7 +75,8 @@ fn put_sequence(sequence: u32, options: &mut Opts<'_>) -> Result<(), NoRoom>
 fn put_rest(outcome: &Outcome, options: &mut Opts<'_>) -> Result<(), NoRoom>
     requires order { last_number 0 options.old.list ≤ OBSERVE }
     requires segments { All (λ segment. length segment ≤ largest_number) (place_of outcome.now) }
-    ensures { PutsOptions (segment_options LOCATION_PATH (place_of outcome.now) ++ format_options outcome.now) result options.old options.new }
+    ensures ok { PutsOptions (segment_options LOCATION_PATH (place_of outcome.now) ++ format_options outcome.now) result options.old options.new }
+    ensures last { OnOk result (last_number 0 options.new.list ≤ CONTENT_FORMAT) }
 {
     put_place(outcome, options)?;
     put_format(outcome, options)
@@ -107,7 +114,8 @@ fn put_location(options: &mut Opts<'_>, place: &Segments) -> Result<(), NoRoom>
 /// Writes Content-Format, where a text is sent.
 fn put_format(outcome: &Outcome, options: &mut Opts<'_>) -> Result<(), NoRoom>
     requires { last_number 0 options.old.list ≤ LOCATION_PATH }
-    ensures { PutsOptions (format_options outcome.now) result options.old options.new }
+    ensures ok { PutsOptions (format_options outcome.now) result options.old options.new }
+    ensures last { OnOk result (last_number 0 options.new.list ≤ CONTENT_FORMAT) }
 {
     match outcome.text() {
         Some(_) => put_number(options, CONTENT_FORMAT, text_format(outcome)),
@@ -116,11 +124,47 @@ fn put_format(outcome: &Outcome, options: &mut Opts<'_>) -> Result<(), NoRoom>
 }
 
 /// The content format of an outcome's text.
-fn text_format(outcome: &Outcome) -> u16
+pub fn text_format(outcome: &Outcome) -> u16
     ensures { result ≡ text_format outcome.now }
 {
     match outcome {
         Outcome::Description(_, true) => TD_JSON,
         _ => JSON,
     }
+}
+
+/// Writes a content format, where there is one and no option is written yet.
+pub fn put_content_format(format: Option<u16>, options: &mut Opts<'_>) -> Result<(), NoRoom>
+    requires empty { options.old.list ≡ [] }
+    ensures ok { PutsOptions (content_format format) result options.old options.new }
+    ensures last { OnOk result (last_number 0 options.new.list ≤ CONTENT_FORMAT) }
+{
+    match format {
+        Some(format) => put_number(options, CONTENT_FORMAT, format),
+        None => Ok(()),
+    }
+}
+
+/// Writes the option that says a block after all others, where there is one.
+pub fn put_block(option: Option<BlockOption>, options: &mut Opts<'_>) -> Result<(), NoRoom>
+    requires order { last_number 0 options.old.list ≤ CONTENT_FORMAT }
+    requires block { HoldsBlock option }
+    ensures { PutsOptions (block_options option) result options.old options.new }
+{
+    match option {
+        Some(BlockOption::Block2(block)) => put_block_value(BLOCK2, block, options),
+        Some(BlockOption::Block1(block)) => put_block_value(BLOCK1, block, options),
+        None => Ok(()),
+    }
+}
+
+/// Writes the option of this number that says a block.
+fn put_block_value(number: u16, block: Block, options: &mut Opts<'_>) -> Result<(), NoRoom>
+    requires order { last_number 0 options.old.list ≤ number }
+    requires block { IsBlock block }
+    ensures { PutsOptions ((number, block_bytes block) ∷ []) result options.old options.new }
+{
+    let mut value = [0u8; 3];
+    let size = write_block(block, &mut value);
+    options.push(number, &value[..size])
 }

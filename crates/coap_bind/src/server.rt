@@ -4,21 +4,16 @@ ghost use Rattle.std.specs.Prelude.{◌≡◌, ◌≤◌, ◌&&◌, nat_lt, leng
 ghost use Rattle.coap_msg.specs.Written.{IsWritten};
 ghost use Rattle.coap_bind.specs.Server.{may_ask};
 
-use crate::head::{OpenAsk, OpenRequest, RequestHead};
-use crate::next::{CoapNext, Ticket};
-use crate::observing::observing_of;
+use crate::head::RequestHead;
 use crate::settled::Settled;
-use crate::writing::Said;
+use coap_blocks::{Bodies, Parts};
 use coap_exchange::{Exchanges, Met};
 use coap_msg::{
-    EMPTY, Endpoint, LONGEST_MESSAGE, Message, PROXYING_NOT_SUPPORTED, RequestType,
-    SERVICE_UNAVAILABLE, Type4, decode, put_empty_reply, put_rejection,
+    EMPTY, Endpoint, LONGEST_MESSAGE, Message, RequestType, SERVICE_UNAVAILABLE, Type4, decode,
+    put_empty_reply, put_rejection,
 };
 use coap_observe::{Notice, Watchers};
-use coap_opts::{AskFault, request_of};
 use servient_base::put_bytes;
-use std::alloc::Global;
-use thing_ops::Outcome;
 
 /// What a server holds. What is done to it is specs/Server.antt.
 #[derive(Drop)]
@@ -29,6 +24,10 @@ pub struct Server {
     pub watchers: Watchers,
     /// The message ID of the next message that isn't an acknowledgement.
     pub next_id: u16,
+    /// The bodies of responses that are kept for their later blocks.
+    pub bodies: Bodies,
+    /// The bodies of requests, as far as their blocks came.
+    pub parts: Parts,
 }
 
 impl Server {
@@ -38,8 +37,7 @@ impl Server {
     ghost use Rattle.coap_observe.specs.Unsent.{unsent};
     ghost use Rattle.coap_observe.specs.Watching.{IsSendable};
     ghost use Rattle.coap_bind.specs.Server.{is_request, duplicate_reply, with_watchers, told_by_empty, with_report, with_notice_sent, SendsNext};
-    ghost use Rattle.coap_bind.specs.Telling.{TicketIsOpen};
-    ghost use Rattle.coap_bind.specs.Settling.{TellsDone, SettlesOrAdmits, ReadsAs};
+    ghost use Rattle.coap_bind.specs.Settling.{TellsDone, SettlesOrAdmits};
 
     /// Judges a datagram as far as that takes no memory.
     pub fn settle<'a>(
@@ -50,8 +48,7 @@ impl Server {
         out: &mut [u8; LONGEST_MESSAGE],
     ) -> Settled<'a>
         requires { self.old.exchanges.moment ≤ now }
-        ensures ok { SettlesOrAdmits from bytes.now now result out.old out.new self.old self.new }
-        ensures moment { self.new.exchanges.moment ≤ now }
+        ensures { SettlesOrAdmits from bytes.now now result out.old out.new self.old self.new }
     {
         let message = match decode(bytes) {
             Ok(message) => message,
@@ -144,52 +141,6 @@ impl Server {
                 None => None,
             },
             RequestType::NonConfirmable => None,
-        }
-    }
-
-    /// Reads a request from an endpoint that was admitted and got this slot.
-    pub fn read<'a>(
-        &mut self,
-        alloc: Global,
-        from: Endpoint,
-        message: &Message<'a>,
-        slot: u32,
-        out: &mut [u8; LONGEST_MESSAGE],
-    ) -> CoapNext<'a>
-        requires request { is_request (message_of message.now) ≡ true }
-        requires token { length message.now.token.now ≤ 8 }
-        requires slot { IsAwaited slot self.old.exchanges }
-        ensures ok { ReadsAs from (message_of message.now) slot result out.old out.new self.old self.new }
-        ensures ticket { TicketIsOpen result self.new }
-        ensures moment { self.new.exchanges.moment ≡ self.old.exchanges.moment }
-    {
-        let request = OpenRequest {
-            head: RequestHead::of(message),
-            slot,
-        };
-        match request_of(alloc, message) {
-            Ok(ask) => {
-                let observing = observing_of(message.code, ask.observe);
-                CoapNext::Ask(
-                    ask,
-                    Ticket::of(OpenAsk {
-                        request,
-                        from,
-                        observing,
-                    }),
-                )
-            }
-            Err(AskFault::BadOption(number)) => self.refuse_option(&request, number, out),
-            Err(AskFault::Proxy) => {
-                CoapNext::Send(self.refuse(&request, PROXYING_NOT_SUPPORTED, b"proxy", out))
-            }
-            Err(AskFault::NoMemory) => {
-                let said = Said {
-                    outcome: &Outcome::Memory,
-                    observe: None,
-                };
-                CoapNext::Send(self.reply(&request, said, out))
-            }
         }
     }
 }

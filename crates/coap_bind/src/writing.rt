@@ -4,11 +4,15 @@ ghost use Rattle.std.specs.Prelude.{◌≡◌, ◌≤◌, ◌<◌, ◌^◌, ◌/
 ghost use Rattle.coap_msg.specs.Grammar.{spelling};
 ghost use Rattle.thing_ops.specs.Outcomes.{HasCode, payload_of};
 ghost use Rattle.coap_observe.specs.Watching.{IsSendable};
-ghost use Rattle.coap_bind.specs.Writing.{word_reply, reply_of, observed, whole_reply, coap_reply, reply_kind, reply_id, notification};
+ghost use Rattle.coap_bind.specs.Blocks.{IsUse, answer_reply, portion_of, reply_with};
+ghost use Rattle.coap_bind.specs.Portions.{HoldsBlock, portion_seen, told_reply};
+ghost use Rattle.coap_bind.specs.Writing.{word_reply, observed, coap_reply, reply_kind, reply_id, notification};
 ghost use Rattle.coap_msg.specs.Written.{IsWritten};
 
+use crate::blocks::BlockUse;
 use crate::head::RequestHead;
-use crate::options::{put_notification_options, put_options};
+use crate::options::{put_block, put_content_format, put_notification_options, put_options};
+use crate::portion::{Portion, most_bytes, portion_of};
 use coap_msg::{
     INTERNAL_SERVER_ERROR, LONGEST_MESSAGE, LONGEST_PAYLOAD, Opts, Plain, RequestType, Type4,
     encode,
@@ -16,8 +20,8 @@ use coap_msg::{
 use coap_observe::Notice;
 use thing_ops::{LONGEST_WORD, Outcome, coap_code, word};
 
-/// 2.05 (RFC 7252, section 5.9.1.5), the code of a notification.
-const CONTENT: u8 = 32 * 2 + 5;
+/// 2.05 (RFC 7252, section 5.9.1.5), the code of a notification and of a body that is given in blocks.
+pub const CONTENT: u8 = 32 * 2 + 5;
 
 /// What a reply says.
 #[derive(Clone, Copy)]
@@ -26,6 +30,19 @@ pub struct Said<'a> {
     pub outcome: &'a Outcome,
     /// The sequence number of the registration, where the request registered its sender.
     pub observe: Option<u32>,
+    /// What blocks are to it.
+    pub blocks: &'a BlockUse,
+}
+
+/// A reply to a request that isn't acted on: it has no Observe and no place.
+#[derive(Clone, Copy)]
+pub struct Told<'a> {
+    /// The code.
+    pub code: u8,
+    /// The content format of what it has, if that has one.
+    pub format: Option<u16>,
+    /// What it has.
+    pub portion: Portion<'a>,
 }
 
 /// The type of a reply to a request of this type.
@@ -82,43 +99,80 @@ pub fn put_outcome(
 ) -> usize
     requires code { HasCode said.outcome.now }
     requires sequence { IfSome said.observe (λ n. n < 2 ^ 24) }
+    requires blocks { IsUse said.blocks.now }
     requires short { (said.observe ≡ None) ⊎ (length (payload_of said.outcome.now) ≤ LONGEST_PAYLOAD) }
-    requires room { length (spelling (coap_reply (observed said.observe (reply_of said.outcome.now)) head.now next_id)) ≤ LONGEST_MESSAGE }
-    ensures { IsWritten (spelling (coap_reply (observed said.entry.observe (reply_of said.entry.outcome.now)) head.now next_id)) result out.old out.new }
+    requires room { length (spelling (coap_reply (observed said.observe (answer_reply said.blocks.now said.outcome.now)) head.now next_id)) ≤ LONGEST_MESSAGE }
+    ensures { IsWritten (spelling (coap_reply (observed said.entry.observe (answer_reply said.entry.blocks.now said.entry.outcome.now)) head.now next_id)) result out.old out.new }
 {
     let mut words = [0u8; LONGEST_WORD];
-    let size = word(said.outcome, &mut words);
-    let payload = said.outcome.text().unwrap_or(&words[..size]);
-    if payload.len() > LONGEST_PAYLOAD {
+    let payload = payload_of(said.outcome, &mut words);
+    if payload.len() > most_bytes(said.blocks, said.outcome) {
         return put_word(INTERNAL_SERVER_ERROR, b"long", head, next_id, out);
     }
-    put_whole(said, payload, head, next_id, out)
+    let portion = portion_of(said.blocks, said.outcome, payload);
+    put_portion(said, portion, head, next_id, out)
 }
 
-/// Writes a reply with this payload, of any length, and returns how many bytes it has.
-fn put_whole(
+/// The payload of an outcome; a word is written into the room for it.
+fn payload_of<'a>(outcome: &'a Outcome, words: &'a mut [u8; LONGEST_WORD]) -> &'a [u8]
+    ensures { result.now ≡ payload_of outcome.now }
+{
+    let size = word(outcome, words);
+    outcome.text().unwrap_or(&words[..size])
+}
+
+/// Writes a reply with this part of the payload of its outcome, and returns how many bytes it has.
+fn put_portion(
     said: Said<'_>,
-    payload: &[u8],
+    portion: Portion<'_>,
     head: &RequestHead,
     next_id: u16,
     out: &mut [u8; LONGEST_MESSAGE],
 ) -> usize
     requires code { HasCode said.outcome.now }
-    requires payload { payload.now ≡ payload_of said.outcome.now }
+    requires block { HoldsBlock portion.block }
     requires sequence { IfSome said.observe (λ n. n < 2 ^ 24) }
-    requires room { length (spelling (coap_reply (observed said.observe (whole_reply said.outcome.now)) head.now next_id)) ≤ LONGEST_MESSAGE }
-    ensures { IsWritten (spelling (coap_reply (observed said.entry.observe (whole_reply said.entry.outcome.now)) head.now next_id)) result out.old out.new }
+    requires room { length (spelling (coap_reply (observed said.observe (reply_with (portion_seen portion) said.outcome.now)) head.now next_id)) ≤ LONGEST_MESSAGE }
+    ensures { IsWritten (spelling (coap_reply (observed said.entry.observe (reply_with (portion_seen portion.entry) said.entry.outcome.now)) head.now next_id)) result out.old out.new }
 {
     let mut room = [0u8; LONGEST_MESSAGE];
     let mut options = Opts::on(&mut room);
     put_options(said.observe, said.outcome, &mut options).unwrap();
+    put_block(portion.block, &mut options).unwrap();
     let message = Plain {
         kind: kind_of_reply(head.kind),
         code: coap_code(said.outcome),
         id: id_of_reply(head.kind, head.id, next_id),
         token: head.token.as_bytes(),
         options: &options,
-        payload,
+        payload: portion.payload,
+    };
+    encode(&message, out).unwrap()
+}
+
+/// Writes a reply to a request that isn't acted on, and returns how many bytes it has.
+pub fn put_told(
+    told: Told<'_>,
+    head: &RequestHead,
+    next_id: u16,
+    out: &mut [u8; LONGEST_MESSAGE],
+) -> usize
+    requires code { told.code / 32 ≡ 2 }
+    requires block { HoldsBlock told.portion.block }
+    requires payload { length told.portion.payload.now ≤ LONGEST_PAYLOAD }
+    ensures { IsWritten (spelling (coap_reply (told_reply told.entry) head.now next_id)) result out.old out.new }
+{
+    let mut room = [0u8; LONGEST_MESSAGE];
+    let mut options = Opts::on(&mut room);
+    put_content_format(told.format, &mut options).unwrap();
+    put_block(told.portion.block, &mut options).unwrap();
+    let message = Plain {
+        kind: kind_of_reply(head.kind),
+        code: told.code,
+        id: id_of_reply(head.kind, head.id, next_id),
+        token: head.token.as_bytes(),
+        options: &options,
+        payload: told.portion.payload,
     };
     encode(&message, out).unwrap()
 }

@@ -19,6 +19,7 @@ use Rattle.coap_bind.specs.Laws.{AreArrivals, IsOpen, Did, nothing, heard_of, an
 use Rattle.coap_bind.proofs.HistoryLaws.{sent_stays}
 use Rattle.coap_exchange.specs.Table.{Table}
 use Rattle.coap_bind.proofs.OpenLaws.{asks_are_open}
+use Rattle.coap_bind.proofs.DuplicateLaws.{ready}
 use Rattle.coap_bind.proofs.MomentLaws.{replies_moment, hears_moment}
 use Rattle.http_bind.specs.Streams.{Streams, Taken, asks, wants_continue, is_faulty, interrupts, oldest_for, oldest_late, IsDry, NoneIdle}
 use Rattle.thing_ops.specs.declared.outcome.Outcome.{Outcome}
@@ -84,7 +85,7 @@ answers_holds : (k : ℕ) (history : List Arrival) (now : ℕ) (request : OpenAs
 answers_holds k history now request o target bytes s t seen open_ask on h =
     becomes k history now (record s { coap = on.0 }) t on.2.next (record {
       did = (h.did.0, answered history s.coap on.0 request o target bytes h.did.1 open_ask on.1);
-      early = omega (arith, replies_moment _ request.request bytes (with_watchers on.1.watchers s.coap) on.0 on.1.replies, h.early);
+      early = omega (arith, replies_moment _ request.request bytes (ready request o on.1.watchers s.coap) on.0 on.1.replies, h.early);
       at = h.at;
     })
 

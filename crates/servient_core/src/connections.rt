@@ -27,12 +27,12 @@ const HEAD_BYTES: usize = 4096;
 /// The most bytes of the word of an outcome or of a fault.
 const WORD_BYTES: usize = 32;
 
-/// Room for a message of HTTP and for the reply to it, which is taken once and used for all, because one message is
+/// Room for what a message holds and for the reply to it, which is taken once and used for all, because one message is
 /// handled at a time.
 #[derive(Drop)]
 pub struct Rooms {
-    /// The query and the body of a message.
-    message: [u8; ROOM],
+    /// The query and the body of a message of HTTP, and the body of a request by CoAP that came in blocks.
+    pub message: [u8; ROOM],
     /// The reply.
     pub reply: ReplyRoom,
 }

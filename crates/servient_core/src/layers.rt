@@ -8,7 +8,7 @@ ghost use Rattle.servient_core.specs.Serving.{IsReady};
 ghost use Rattle.servient_core.specs.Keeping.{DoesMove};
 ghost use Rattle.servient_core.specs.Trace.{outside};
 
-use crate::connections::{ReplyRoom, Rooms};
+use crate::connections::Rooms;
 use crate::performing::{observed_by, perform};
 use crate::{Event, Net, What};
 use coap_bind::{CoapBind, CoapNext};
@@ -54,7 +54,7 @@ impl Layers {
             What::Opened(c) => self.http.opened(c, self.moment),
             What::Bytes(c, _) => self.piece(net, rack, c, bytes, rooms),
             What::Ended(c) => self.http.ended(c),
-            What::Datagram(from, _) => self.datagram(net, rack, from, bytes, &mut rooms.reply),
+            What::Datagram(from, _) => self.datagram(net, rack, from, bytes, rooms),
             What::Tick => self.poll_all(net, rack, &mut rooms.reply),
             What::Stop => {}
         }
@@ -67,7 +67,7 @@ impl Layers {
         rack: &mut R,
         from: Endpoint,
         bytes: &[u8],
-        room: &mut ReplyRoom,
+        rooms: &mut Rooms,
     )
         requires ready { IsReady self.old }
         requires fits { Fits self.old.exposed.site (R.slots rack.old) }
@@ -78,7 +78,8 @@ impl Layers {
             return;
         }
         let mut out = [0u8; LONGEST_MESSAGE];
-        match self.coap.datagram(from, bytes, self.moment, &mut out) {
+        let room = &mut rooms.message;
+        match self.coap.datagram(from, bytes, self.moment, &mut out, room) {
             CoapNext::Nothing => {}
             CoapNext::Send(size) => net.datagram(from, &out[..size]),
             CoapNext::Ask(ask, ticket) => {
@@ -86,7 +87,7 @@ impl Layers {
                 let target = observed_by(&self.exposed, &ask);
                 let size = self.coap.answer(ticket, &outcome, target, &mut out);
                 net.datagram(from, &out[..size]);
-                self.deliver(net, room);
+                self.deliver(net, &mut rooms.reply);
             }
         }
     }

@@ -126,21 +126,23 @@ abbrev first_table : Table
 first_table = later 0 (nothing_came 16 MOST_WATCHERS).exchanges
 
 abbrev admitting : Server
-admitting = record { exchanges = with_exchange (arrival client_place 0 question) 0 first_table; watchers = (nothing_came 16 MOST_WATCHERS).watchers; next_id = 0 }
+admitting = record { exchanges = with_exchange (arrival client_place 0 question) 0 first_table; watchers = (nothing_came 16 MOST_WATCHERS).watchers; next_id = 0; bodies = []; parts = [] }
 
 abbrev answered_server : Server
 answered_server = with_kept Confirmable 0 answer_bytes (with_id_used Confirmable admitting)
 
-hears_it : Hears client_place sent_bytes 0 (asked (what_is_asked question) (opened_ask client_place question 0)) (nothing_came 16 MOST_WATCHERS) admitting
+hears_it : Hears client_place sent_bytes 0 (asked (what_is_asked question) (opened_ask client_place 0 question 0)) (nothing_came 16 MOST_WATCHERS) admitting
 hears_it = admitted question 0 admitting (record {
   spells = question_spells;
   request = refl;
   meets = (refl, (omega arith, refl, refl));
   same_watchers = refl;
   same_id = refl;
-}) (asks refl refl refl)
+  same_bodies = refl;
+  same_parts = refl;
+}) (asks refl refl refl refl)
 
-answers_it : Answers (opened_ask client_place question 0) outcome.NotFound None answer_bytes admitting answered_server
+answers_it : Answers (opened_ask client_place 0 question 0) outcome.NotFound None answer_bytes admitting answered_server
 answers_it = record {
   observe = None;
   watchers = (nothing_came 16 MOST_WATCHERS).watchers;
@@ -183,7 +185,7 @@ the_step = record {
     one = inr (
       short_question,
       (
-        asked (what_is_asked question) (opened_ask client_place question 0),
+        asked (what_is_asked question) (opened_ask client_place 0 question 0),
         record {
           mid = heard_state;
           first = [];

@@ -20,7 +20,10 @@ use Rattle.coap_bind.specs.declared.observing.Effect.{Effect}
 use Rattle.coap_bind.specs.declared.observing.Effect.TheVariants as effect
 use Rattle.coap_bind.specs.declared.server.Server.{Server}
 use Rattle.coap_bind.specs.Observing.{effect_of, Watches, leaves, cancels, registers}
-use Rattle.coap_bind.specs.Writing.{reply_of, observed, coap_reply}
+use Rattle.coap_bind.specs.declared.blocks.BlockUse.{BlockUse}
+use Rattle.coap_bind.specs.declared.blocks.BlockUse.TheVariants as blocks
+use Rattle.coap_bind.specs.Blocks.{answer_reply}
+use Rattle.coap_bind.specs.Writing.{Reply, reply_of, observed, coap_reply}
 use Rattle.coap_bind.specs.Server.{Heard, ignored, answered_at_once, asked, Hears, Answers}
 use Rattle.coap_observe.specs.Watching.{Watching}
 use Rattle.http_bind.specs.Streams.{Streams, Taken, asks, wants_continue, is_faulty, interrupts, Opened, Ended, Lengthened, Takes, IsDry, Answers as AnswersRequest, lets_wait, sends_reply, Continues, Refuses}
@@ -59,6 +62,12 @@ no_number does from token old new observe none (leaves is isnt same) = isnt
 no_number does from token old new observe none (cancels is isnt same) = isnt
 no_number does from token old new observe none (registers target r is move number) = absurd (let apart : effect.Nothing ≡ effect.Registers target = sym none ∙ is in cc)
 
+-- that memory was wanting is never said in blocks
+memory_is_whole : (x : BlockUse) → answer_reply x outcome.Memory ≡ reply_of outcome.Memory
+memory_is_whole blocks.Whole = refl
+memory_is_whole (blocks.Gives g) = refl
+memory_is_whole (blocks.Joined b) = refl
+
 -- an answer that isn't the one for want of memory was of a request that wasn't out of it
 ask_is_ample : (answers : ℕ → Answer) (site : Site) (from : Endpoint) (ask : PlainAsk) (r : OpenAsk) (done : Done) (s u : State) (a : List Sighting) → AnswersAsk site from ask r done s a u → Fits answers a
     → WasAmple done
@@ -69,7 +78,9 @@ ask_is_ample answers site from ask r done s u a (bytes, w) fits memory =
     no_number (effect_of r.observing outcome.Memory (observed_target site s.thing ask)) r.from r.request.head.token s.coap.watchers of_memory.watchers of_memory.observe
     (no_effect r.observing (observed_target site s.thing ask)) of_memory.watches in
     let is : bytes ≡ spelling (coap_reply (reply_of outcome.Memory) r.request.head s.coap.next_id) =
-    of_memory.replies.bytes_are ∙ ap (λ (o : Option ℕ). spelling (coap_reply (observed o (reply_of outcome.Memory)) r.request.head s.coap.next_id)) none in
+    of_memory.replies.bytes_are
+    ∙ ap (λ (o : Option ℕ). spelling (coap_reply (observed o (answer_reply r.blocks outcome.Memory)) r.request.head s.coap.next_id)) none
+    ∙ ap (λ (x : Reply). spelling (coap_reply (observed None x) r.request.head s.coap.next_id)) (memory_is_whole r.blocks) in
     told answers (act.Datagram from bytes) [] w.second w.other.saw (fits_rest answers w.first w.second a w.whole fits)
     (by_coap from r.request.head s.coap.next_id (ap (λ (x : List ℕ). act.Datagram from x) is))
 

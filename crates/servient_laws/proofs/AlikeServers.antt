@@ -1,7 +1,8 @@
 -- What two CoAP servers that differ in slots alone do with one datagram, with one answer and with what is due.
-use Rattle.std.proofs.Common.{◌≡◌, ◌+◌, ◌%◌, ℕ, Bool, true, false, List, [], Option, Some, None, refl, sym, ap, ap₂, subst, ◌∙◌, inl, inr}
+use Rattle.std.proofs.Common.{◌≡◌, ◌+◌, ◌%◌, ℕ, Bool, true, false, List, [], Option, Some, None, option_map, remove, refl, sym, ap, ap₂, subst, ◌∙◌, inl, inr}
 use Rattle.std.specs.Prelude.{◌⊎◌, slice_get}
 use Rattle.std.proofs.lemmas.Option.{same_Some}
+use Rattle.coap_msg.specs.declared.block.Block.{Block}
 use Rattle.coap_msg.specs.declared.endpoint.Endpoint.{Endpoint}
 use Rattle.coap_msg.specs.declared.message.MsgFault.{MsgFault}
 use Rattle.coap_msg.specs.declared.message.RequestType.{RequestType}
@@ -16,16 +17,25 @@ use Rattle.coap_exchange.specs.Table.{Exchange, at_moment, duplicated_exchange}
 use Rattle.coap_exchange.specs.declared.met.Met.{Met}
 use Rattle.coap_exchange.specs.declared.met.Met.TheVariants.{Fresh, Repeat, Full}
 use Rattle.coap_observe.specs.Watching.{Watching}
-use Rattle.coap_opts.specs.Reading.{faults_of, asked as what_is_asked}
+use Rattle.coap_blocks.specs.Bodies.{Body, body_for}
+use Rattle.coap_blocks.specs.Parts.{Part, living, after_block}
+use Rattle.coap_blocks.specs.declared.added.Added.{Added}
+use Rattle.coap_blocks.specs.declared.added.Added.TheVariants as added
+use Rattle.coap_opts.specs.Reading.{PlainAsk, faults_of, asked as what_is_asked}
 use Rattle.coap_opts.specs.declared.fault.AskFault.{AskFault}
 use Rattle.coap_opts.specs.declared.fault.AskFault.TheVariants.{BadOption, Proxy}
+use Rattle.coap_opts.specs.declared.fault.AskFault.TheVariants as fault
 use Rattle.thing_ops.specs.declared.outcome.Outcome.TheVariants.{Memory}
 use Rattle.coap_bind.specs.declared.head.RequestHead.{RequestHead}
 use Rattle.coap_bind.specs.declared.head.OpenRequest.{OpenRequest}
 use Rattle.coap_bind.specs.declared.head.OpenAsk.{OpenAsk}
 use Rattle.coap_bind.specs.declared.server.Server.{Server}
+use Rattle.coap_bind.specs.declared.blocks.BlockUse.TheVariants as blocks
+use Rattle.coap_bind.specs.declared.blocks.Wanted.{Wanted}
+use Rattle.coap_bind.specs.declared.blocks.Wanted.TheVariants.{Act, LaterBlock, Joining}
+use Rattle.coap_bind.specs.Blocks.{block_reply, later_reply, added_reply}
 use Rattle.coap_bind.specs.Writing.{Reply, full_reply, proxy_reply, option_reply, reply_of, head_of, coap_reply}
-use Rattle.coap_bind.specs.Server.{Heard, ignored, answered_at_once, asked, with_id_used, with_kept, Replies, told_by, with_report, replied_at_once, is_request, duplicate_reply, arrival, IsMet, malformed, no_request, duplicate, full, opened, opened_ask, Reads, bad_option, bad_option_ignored, for_proxy, asks, no_memory, Hears, settled, admitted}
+use Rattle.coap_bind.specs.Server.{Heard, ignored, answered_at_once, asked, with_id_used, with_kept, Replies, told_by, with_report, replied_at_once, is_request, duplicate_reply, arrival, IsMet, malformed, no_request, duplicate, full, opened, observing_in, wanted_in, opened_ask, joined_ask, with_whole_body, block_arrival, Adds, with_parts, IsAnsweredAtOnce, bad_option, bad_block, for_proxy, no_memory, later_block, joined, Reads, replied, bad_option_ignored, asks, asks_whole, Hears, settled, admitted}
 use Rattle.servient_laws.proofs.AlikeStates.{SameTable, SameServer}
 use Rattle.servient_laws.proofs.AlikeTables.{same_at_moment, same_reply, IsLast, MetAlike, met_alike, same_with_reply}
 
@@ -33,14 +43,20 @@ use Rattle.servient_laws.proofs.AlikeTables.{same_at_moment, same_reply, IsLast,
 
 same_id_used : (kind : RequestType) (s t : Server) → SameServer s t → SameServer (with_id_used kind s) (with_id_used kind t)
 same_id_used Confirmable s t same = same
-same_id_used NonConfirmable s t same = record { table = same.table; watchers = same.watchers; next = ap (λ (n : ℕ). (n + 1) % 65536) same.next }
+same_id_used NonConfirmable s t same = record { table = same.table; watchers = same.watchers; next = ap (λ (n : ℕ). (n + 1) % 65536) same.next; bodies = same.bodies; parts = same.parts }
 
 pub moved : (s t u v : Server) → u ≡ s → v ≡ t → SameServer s t → SameServer u v
 moved s t u v one other same = subst (λ (x : Server). SameServer u x) (sym other) (subst (λ (x : Server). SameServer x t) (sym one) same)
 
 same_kept : (kind : RequestType) (slot other : ℕ) (bytes : List ℕ) (s t : Server) → SameServer s t → IsLast slot s.exchanges → IsLast other t.exchanges
     → SameServer (with_kept kind slot bytes (with_id_used kind s)) (with_kept kind other bytes (with_id_used kind t))
-same_kept Confirmable slot other bytes s t same l k = record { table = same_with_reply slot other bytes s.exchanges t.exchanges same.table l k; watchers = same.watchers; next = same.next }
+same_kept Confirmable slot other bytes s t same l k = record {
+  table = same_with_reply slot other bytes s.exchanges t.exchanges same.table l k;
+  watchers = same.watchers;
+  next = same.next;
+  bodies = same.bodies;
+  parts = same.parts;
+}
 same_kept NonConfirmable slot other bytes s t same l k = same_id_used NonConfirmable s t same
 
 pub same_replies : (r : Reply) (p q : OpenRequest) (a b : List ℕ) (s t u v : Server) → SameServer s t → p.head ≡ q.head → IsLast p.slot s.exchanges → IsLast q.slot t.exchanges
@@ -58,6 +74,7 @@ pub record SameAsk (one other : OpenAsk) (s t : Server) : Type 0 where
   pub head : one.request.head ≡ other.request.head
   pub from : one.from ≡ other.from
   pub observing : one.observing ≡ other.observing
+  pub blocks : one.blocks ≡ other.blocks
   pub last : IsLast one.request.slot s.exchanges
   pub last_too : IsLast other.request.slot t.exchanges
 
@@ -100,53 +117,205 @@ first_fault fs f is none = not_first (subst (λ (x : List AskFault). slice_get x
     not_first : slice_get {X = AskFault} [] 0 ≡ Some f → ⊥
     not_first e = cc
 
--- what is done with a request that was admitted
-same_reads : (from : Endpoint) (m : CoapMessage) (slot other : ℕ) (h k : Heard) (s t u v : Server) → SameServer s t → IsLast slot s.exchanges → IsLast other t.exchanges
-    → IsAmple h → IsAmple k → Reads from m slot h s u → Reads from m other k t v → SameHeard h k u v × SameServer u v
-same_reads from m slot other h k s t u v same l n on_h on_k (bad_option number a first kind replies is) (bad_option number' b first' kind' replies' is') =
-    let fault : BadOption number ≡ BadOption number' = same_Some (BadOption number) (BadOption number') (sym first ∙ first') in
-    let numbers : number ≡ number' = (cc) in
-    let both = same_replies (option_reply number) (opened m slot) (opened m other) a b s t u v same refl l n replies
-    (subst (λ (x : ℕ). Replies (option_reply x) (opened m other) b t v) (sym numbers) replies') in
+-- ---- what is done with a request that was admitted
+
+-- the reply at once, and the parts then
+abbrev AtOnce : Type 0
+AtOnce = Reply × List Part
+
+abbrev both_of : Reply → List Part → AtOnce
+both_of r parts = (r, parts)
+
+-- what is answered to a block of a request, unless the body is whole
+abbrev added_at : Block → Added × List Part → Option AtOnce
+added_at b x = option_map (λ r. both_of r x.1) (added_reply b x.0)
+
+-- it follows from the first fault and from what the request wants
+abbrev at_once : Endpoint → ℕ → CoapMessage → List Body → List Part → Option AskFault → Wanted → Option AtOnce
+at_once from now m bodies parts (Some (BadOption number)) wants = Some (option_reply number, parts)
+at_once from now m bodies parts (Some fault.Block) wants = Some (block_reply, parts)
+at_once from now m bodies parts (Some Proxy) wants = Some (proxy_reply, parts)
+at_once from now m bodies parts (Some fault.NoMemory) wants = None
+at_once from now m bodies parts None Act = None
+at_once from now m bodies parts None (LaterBlock b) = Some (later_reply b (option_map (λ x. x.content) (body_for from (what_is_asked m).request.path now bodies)), parts)
+at_once from now m bodies parts None (Joining b) = added_at b (after_block (block_arrival from now m b) (living now parts))
+
+-- of a server, with what the message has
+abbrev at_once_by : Endpoint → ℕ → CoapMessage → Server → Option AtOnce
+at_once_by from now m s = at_once from now m s.bodies s.parts (slice_get (faults_of m.options) 0) (wanted_in m)
+
+no_fault : (m : CoapMessage) → faults_of m.options ≡ [] → slice_get (faults_of m.options) 0 ≡ None
+no_fault m none = ap (λ (fs : List AskFault). slice_get fs 0) none
+
+some_pair : (r q : Reply) (ps qs : List Part) → r ≡ q → ps ≡ qs → Some (both_of r ps) ≡ Some (both_of q qs)
+some_pair r q ps qs e f = ap₂ (λ (x : Reply) (y : List Part). Some (both_of x y)) e f
+
+answered_by : (from : Endpoint) (now : ℕ) (m : CoapMessage) (r : Reply) (s : Server) (parts : List Part) → (r ≡ reply_of Memory → ⊥) → IsAnsweredAtOnce from now m r s parts
+    → at_once_by from now m s ≡ Some (both_of r parts)
+answered_by from now m r s parts ample (bad_option number first con is same) =
+    ap (λ (f : Option AskFault). at_once from now m s.bodies s.parts f (wanted_in m)) first ∙ some_pair (option_reply number) r s.parts parts (sym is) (sym same)
+answered_by from now m r s parts ample (bad_block first is same) =
+    ap (λ (f : Option AskFault). at_once from now m s.bodies s.parts f (wanted_in m)) first ∙ some_pair block_reply r s.parts parts (sym is) (sym same)
+answered_by from now m r s parts ample (for_proxy first is same) =
+    ap (λ (f : Option AskFault). at_once from now m s.bodies s.parts f (wanted_in m)) first ∙ some_pair proxy_reply r s.parts parts (sym is) (sym same)
+answered_by from now m r s parts ample (no_memory none is same) = absurd (ample is)
+answered_by from now m r s parts ample (later_block b none wants is same) =
+    ap₂ (λ (f : Option AskFault) (w : Wanted). at_once from now m s.bodies s.parts f w) (no_fault m none) wants
+    ∙ some_pair (later_reply b (option_map (λ x. x.content) (body_for from (what_is_asked m).request.path now s.bodies))) r s.parts parts (sym is) (sym same)
+answered_by from now m r s parts ample (joined b added none wants adds is) =
+    let x : Added × List Part = after_block (block_arrival from now m b) (living now s.parts) in
+    let said : added_reply b x.0 ≡ Some r = ap (added_reply b) (sym adds.answer_is) ∙ is in
+    ap₂ (λ (f : Option AskFault) (w : Wanted). at_once from now m s.bodies s.parts f w) (no_fault m none) wants
+    ∙ ap (λ (o : Option Reply). option_map (λ (q : Reply). both_of q x.1) o) said
+    ∙ some_pair r r x.1 parts refl (sym adds.parts_are)
+
+at_once_alike : (from : Endpoint) (now : ℕ) (m : CoapMessage) (s t : Server) → SameServer s t → at_once_by from now m s ≡ at_once_by from now m t
+at_once_alike from now m s t same =
+    ap₂ (λ (bodies : List Body) (parts : List Part). at_once from now m bodies parts (slice_get (faults_of m.options) 0) (wanted_in m)) same.bodies same.parts
+
+-- what was answered at once wasn't ignored
+not_ignored : (from : Endpoint) (now : ℕ) (m : CoapMessage) (r : Reply) (s : Server) (parts : List Part) (number : ℕ) → IsAnsweredAtOnce from now m r s parts
+    → slice_get (faults_of m.options) 0 ≡ Some (BadOption number) → request_type m.kind ≡ NonConfirmable → ⊥
+not_ignored from now m r s parts number (bad_option other first con is same) found non = let apart : Confirmable ≡ NonConfirmable = sym con ∙ non in cc
+not_ignored from now m r s parts number (bad_block first is same) found non = let apart : Some fault.Block ≡ Some (BadOption number) = sym first ∙ found in cc
+not_ignored from now m r s parts number (for_proxy first is same) found non = let apart : Some Proxy ≡ Some (BadOption number) = sym first ∙ found in cc
+not_ignored from now m r s parts number (no_memory none is same) found non = first_fault (faults_of m.options) (BadOption number) found none
+not_ignored from now m r s parts number (later_block b none wants is same) found non = first_fault (faults_of m.options) (BadOption number) found none
+not_ignored from now m r s parts number (joined b added none wants adds is) found non = first_fault (faults_of m.options) (BadOption number) found none
+
+-- nor asked, as it is or with a body that was joined
+not_asked : (from : Endpoint) (now : ℕ) (m : CoapMessage) (r : Reply) (s : Server) (parts : List Part) → (r ≡ reply_of Memory → ⊥) → IsAnsweredAtOnce from now m r s parts
+    → faults_of m.options ≡ [] → wanted_in m ≡ Act → ⊥
+not_asked from now m r s parts ample why none acts =
+    let is = answered_by from now m r s parts ample why in
+    let isnt : at_once_by from now m s ≡ None = ap₂ (λ (f : Option AskFault) (w : Wanted). at_once from now m s.bodies s.parts f w) (no_fault m none) acts in
+    cc
+
+not_whole : (from : Endpoint) (now : ℕ) (m : CoapMessage) (r : Reply) (s : Server) (parts rest : List Part) (b : Block) (place : ℕ) → (r ≡ reply_of Memory → ⊥)
+    → IsAnsweredAtOnce from now m r s parts → faults_of m.options ≡ [] → wanted_in m ≡ Joining b → Adds from now m b s (added.Complete place) rest → ⊥
+not_whole from now m r s parts rest b place ample why none joins adds =
+    let is = answered_by from now m r s parts ample why in
+    let x : Added × List Part = after_block (block_arrival from now m b) (living now s.parts) in
+    let silent : added_reply b x.0 ≡ None = ap (added_reply b) (sym adds.answer_is) in
+    let isnt : at_once_by from now m s ≡ None
+    = ap₂ (λ (f : Option AskFault) (w : Wanted). at_once from now m s.bodies s.parts f w) (no_fault m none) joins
+    ∙ ap (λ (o : Option Reply). option_map (λ (q : Reply). both_of q x.1) o) silent in
+    cc
+
+-- the body that is whole then, and the parts without it
+record AsWhole : Type 0 where
+  whole : Part
+  left : List Part
+
+abbrev as_whole : Part → List Part → AsWhole
+as_whole whole left = record { whole = whole; left = left }
+
+abbrev whole_in : Added → List Part → Option AsWhole
+whole_in (added.Complete place) parts = option_map (λ p. as_whole p (remove parts place)) (slice_get parts place)
+whole_in added.Continue parts = None
+whole_in added.BadBlock parts = None
+whole_in added.Incomplete parts = None
+whole_in added.TooLarge parts = None
+whole_in added.Full parts = None
+
+whole_is : (from : Endpoint) (now : ℕ) (m : CoapMessage) (b : Block) (s : Server) (place : ℕ) (parts : List Part) (whole : Part) → Adds from now m b s (added.Complete place) parts
+    → slice_get parts place ≡ Some whole
+    → whole_in (after_block (block_arrival from now m b) (living now s.parts)).0 (after_block (block_arrival from now m b) (living now s.parts)).1 ≡ Some (as_whole whole (remove parts place))
+whole_is from now m b s place parts whole adds there =
+    ap₂ whole_in (sym adds.answer_is) (sym adds.parts_are) ∙ ap (option_map (λ p. as_whole p (remove parts place))) there
+
+same_whole : (from : Endpoint) (now : ℕ) (m : CoapMessage) (b : Block) (s t : Server) (place other : ℕ) (parts rest : List Part) (whole body : Part) → SameServer s t
+    → Adds from now m b s (added.Complete place) parts → slice_get parts place ≡ Some whole → Adds from now m b t (added.Complete other) rest → slice_get rest other ≡ Some body
+    → (whole ≡ body) × (remove parts place ≡ remove rest other)
+same_whole from now m b s t place other parts rest whole body same adds there adds' there' =
+    let one = whole_is from now m b s place parts whole adds there in
+    let two = whole_is from now m b t other rest body adds' there' in
+    let between = ap (λ (ps : List Part). whole_in (after_block (block_arrival from now m b) (living now ps)).0 (after_block (block_arrival from now m b) (living now ps)).1) same.parts in
+    let is : as_whole whole (remove parts place) ≡ as_whole body (remove rest other) =
+    same_Some (as_whole whole (remove parts place)) (as_whole body (remove rest other)) (sym one ∙ between ∙ two) in
+    (ap (λ (x : AsWhole). x.whole) is, ap (λ (x : AsWhole). x.left) is)
+
+-- two that are asked
+asked_alike : (h k : Heard) (one other : PlainAsk) (request ask : OpenAsk) (u v : Server) → h ≡ asked one request → k ≡ asked other ask → one ≡ other → SameAsk request ask u v
+    → SameHeard h k u v
+asked_alike h k one other request ask u v is is' same slots =
+    subst (λ (x : Heard). SameHeard h x u v) (sym is') (subst (λ (x : Heard). SameHeard x (asked other ask) u v) (sym is) (same, slots))
+
+-- the reply isn't the one for want of memory
+reply_is_ample : (h : Heard) (r : Reply) (p : OpenRequest) (a : List ℕ) (s u : Server) → IsAmple h → Replies r p a s u → h ≡ answered_at_once a → r ≡ reply_of Memory → ⊥
+reply_is_ample h r p a s u ample replies is memory =
+    ample p.head s.next_id (is ∙ ap answered_at_once (replies.bytes_are ∙ ap (λ (x : Reply). spelling (coap_reply x p.head s.next_id)) memory))
+
+same_joined : (a b : Block) → Joining a ≡ Joining b → a ≡ b
+same_joined a b e = cc
+
+same_reads : (from : Endpoint) (now : ℕ) (m : CoapMessage) (slot other : ℕ) (h k : Heard) (s t u v : Server) → SameServer s t → IsLast slot s.exchanges → IsLast other t.exchanges
+    → IsAmple h → IsAmple k → Reads from now m slot h s u → Reads from now m other k t v → SameHeard h k u v × SameServer u v
+same_reads from now m slot other h k s t u v same l n on_h on_k (replied r parts a why replies is) (replied q rest b why' replies' is') =
+    let one = answered_by from now m r s parts (reply_is_ample h r (opened m slot) a (with_parts parts s) u on_h replies is) why in
+    let two = answered_by from now m q t rest (reply_is_ample k q (opened m other) b (with_parts rest t) v on_k replies' is') why' in
+    let said : both_of r parts ≡ both_of q rest = same_Some (both_of r parts) (both_of q rest) (sym one ∙ at_once_alike from now m s t same ∙ two) in
+    let reply : q ≡ r = sym (ap (λ (x : AtOnce). x.0) said) in
+    let servers : SameServer (with_parts parts s) (with_parts rest t)
+    = record { table = same.table; watchers = same.watchers; next = same.next; bodies = same.bodies; parts = ap (λ (x : AtOnce). x.1) said } in
+    let both = same_replies r (opened m slot) (opened m other) a b (with_parts parts s) (with_parts rest t) u v servers refl l n replies
+    (subst (λ (x : Reply). Replies x (opened m other) b (with_parts rest t) v) reply replies') in
     (heard_as (answered_at_once b) h k u v tt (is ∙ ap answered_at_once both.0) is', both.1)
-same_reads from m slot other h k s t u v same l n on_h on_k (bad_option number a first kind replies is) (bad_option_ignored number' first' kind' is' after') =
-    absurd (let apart : Confirmable ≡ NonConfirmable = sym kind ∙ kind' in cc)
-same_reads from m slot other h k s t u v same l n on_h on_k (bad_option number a first kind replies is) (for_proxy b first' replies' is') =
-    absurd (let apart : Some (BadOption number) ≡ Some Proxy = sym first ∙ first' in cc)
-same_reads from m slot other h k s t u v same l n on_h on_k (bad_option number a first kind replies is) (asks none is' after') = absurd (first_fault (faults_of m.options) (BadOption number) first none)
-same_reads from m slot other h k s t u v same l n on_h on_k (bad_option_ignored number first kind is after) (bad_option number' b first' kind' replies' is') =
-    absurd (let apart : Confirmable ≡ NonConfirmable = sym kind' ∙ kind in cc)
-same_reads from m slot other h k s t u v same l n on_h on_k (bad_option_ignored number first kind is after) (bad_option_ignored number' first' kind' is' after') =
+same_reads from now m slot other h k s t u v same l n on_h on_k (replied r parts a why replies is) (bad_option_ignored number first non is' after') =
+    absurd (not_ignored from now m r s parts number why first non)
+same_reads from now m slot other h k s t u v same l n on_h on_k (replied r parts a why replies is) (asks none acts is' after') =
+    absurd (not_asked from now m r s parts (reply_is_ample h r (opened m slot) a (with_parts parts s) u on_h replies is) why none acts)
+same_reads from now m slot other h k s t u v same l n on_h on_k (replied r parts a why replies is) (asks_whole b place rest whole none joins adds there is' after') =
+    absurd (not_whole from now m r s parts rest b place (reply_is_ample h r (opened m slot) a (with_parts parts s) u on_h replies is) why none joins
+    (subst (λ (ps : List Part). Adds from now m b (with_parts ps s) (added.Complete place) rest) (sym same.parts) adds))
+same_reads from now m slot other h k s t u v same l n on_h on_k (bad_option_ignored number first non is after) (replied q rest b why' replies' is') =
+    absurd (not_ignored from now m q t rest number why' first non)
+same_reads from now m slot other h k s t u v same l n on_h on_k (bad_option_ignored number first non is after) (bad_option_ignored number' first' non' is' after') =
     (heard_as ignored h k u v tt is is', moved s t u v after after' same)
-same_reads from m slot other h k s t u v same l n on_h on_k (bad_option_ignored number first kind is after) (for_proxy b first' replies' is') =
-    absurd (let apart : Some (BadOption number) ≡ Some Proxy = sym first ∙ first' in cc)
-same_reads from m slot other h k s t u v same l n on_h on_k (bad_option_ignored number first kind is after) (asks none is' after') = absurd (first_fault (faults_of m.options) (BadOption number) first none)
-same_reads from m slot other h k s t u v same l n on_h on_k (for_proxy a first replies is) (bad_option number b first' kind' replies' is') =
-    absurd (let apart : Some (BadOption number) ≡ Some Proxy = sym first' ∙ first in cc)
-same_reads from m slot other h k s t u v same l n on_h on_k (for_proxy a first replies is) (bad_option_ignored number first' kind' is' after') =
-    absurd (let apart : Some (BadOption number) ≡ Some Proxy = sym first' ∙ first in cc)
-same_reads from m slot other h k s t u v same l n on_h on_k (for_proxy a first replies is) (for_proxy b first' replies' is') =
-    let both = same_replies proxy_reply (opened m slot) (opened m other) a b s t u v same refl l n replies replies' in
-    (heard_as (answered_at_once b) h k u v tt (is ∙ ap answered_at_once both.0) is', both.1)
-same_reads from m slot other h k s t u v same l n on_h on_k (for_proxy a first replies is) (asks none is' after') = absurd (first_fault (faults_of m.options) Proxy first none)
-same_reads from m slot other h k s t u v same l n on_h on_k (asks none is after) (bad_option number b first' kind' replies' is') = absurd (first_fault (faults_of m.options) (BadOption number) first' none)
-same_reads from m slot other h k s t u v same l n on_h on_k (asks none is after) (bad_option_ignored number first' kind' is' after') = absurd (first_fault (faults_of m.options) (BadOption number) first' none)
-same_reads from m slot other h k s t u v same l n on_h on_k (asks none is after) (for_proxy b first' replies' is') = absurd (first_fault (faults_of m.options) Proxy first' none)
-same_reads from m slot other h k s t u v same l n on_h on_k (asks none is after) (asks none' is' after') = (
-  subst (λ (x : Heard). SameHeard h x u v) (sym is') (subst (λ (x : Heard). SameHeard x (asked (what_is_asked m) (opened_ask from m other)) u v) (sym is) (
-    refl,
-    record {
-      head = refl;
-      from = refl;
-      observing = refl;
-      last = subst (λ (x : Server). IsLast slot x.exchanges) (sym after) l;
-      last_too = subst (λ (x : Server). IsLast other x.exchanges) (sym after') n;
-    },
-  )),
+same_reads from now m slot other h k s t u v same l n on_h on_k (bad_option_ignored number first non is after) (asks none acts is' after') =
+    absurd (first_fault (faults_of m.options) (BadOption number) first none)
+same_reads from now m slot other h k s t u v same l n on_h on_k (bad_option_ignored number first non is after) (asks_whole b place rest whole none joins adds there is' after') =
+    absurd (first_fault (faults_of m.options) (BadOption number) first none)
+same_reads from now m slot other h k s t u v same l n on_h on_k (asks none acts is after) (replied q rest b why' replies' is') =
+    absurd (not_asked from now m q t rest (reply_is_ample k q (opened m other) b (with_parts rest t) v on_k replies' is') why' none acts)
+same_reads from now m slot other h k s t u v same l n on_h on_k (asks none acts is after) (bad_option_ignored number' first' non' is' after') =
+    absurd (first_fault (faults_of m.options) (BadOption number') first' none)
+same_reads from now m slot other h k s t u v same l n on_h on_k (asks none acts is after) (asks none' acts' is' after') = (
+  asked_alike h k (what_is_asked m) (what_is_asked m) (opened_ask from now m slot) (opened_ask from now m other) u v is is' refl (record {
+    head = refl;
+    from = refl;
+    observing = refl;
+    blocks = refl;
+    last = subst (λ (x : Server). IsLast slot x.exchanges) (sym after) l;
+    last_too = subst (λ (x : Server). IsLast other x.exchanges) (sym after') n;
+  }),
   moved s t u v after after' same,
 )
-same_reads from m slot other h k s t u v same l n on_h on_k (no_memory a none replies is) q = absurd (on_h (head_of m) s.next_id (is ∙ ap answered_at_once replies.bytes_are))
-same_reads from m slot other h k s t u v same l n on_h on_k p (no_memory b none replies is) = absurd (on_k (head_of m) t.next_id (is ∙ ap answered_at_once replies.bytes_are))
+same_reads from now m slot other h k s t u v same l n on_h on_k (asks none acts is after) (asks_whole b place rest whole none' joins adds there is' after') =
+    absurd (let apart : Act ≡ Joining b = sym acts ∙ joins in cc)
+same_reads from now m slot other h k s t u v same l n on_h on_k (asks_whole b place parts whole none joins adds there is after) (replied q rest c why' replies' is') =
+    absurd (not_whole from now m q t rest parts b place (reply_is_ample k q (opened m other) c (with_parts rest t) v on_k replies' is') why' none joins
+    (subst (λ (ps : List Part). Adds from now m b (with_parts ps t) (added.Complete place) parts) same.parts adds))
+same_reads from now m slot other h k s t u v same l n on_h on_k (asks_whole b place parts whole none joins adds there is after) (bad_option_ignored number' first' non' is' after') =
+    absurd (first_fault (faults_of m.options) (BadOption number') first' none)
+same_reads from now m slot other h k s t u v same l n on_h on_k (asks_whole b place parts whole none joins adds there is after) (asks none' acts' is' after') =
+    absurd (let apart : Act ≡ Joining b = sym acts' ∙ joins in cc)
+same_reads from now m slot other h k s t u v same l n on_h on_k (asks_whole b place parts whole none joins adds there is after) (asks_whole b' place' rest body none' joins' adds' there' is' after') =
+    let one : b' ≡ b = same_joined b' b (sym joins' ∙ joins) in
+    let both = same_whole from now m b s t place place' parts rest whole body same adds there
+    (subst (λ (x : Block). Adds from now m x t (added.Complete place') rest) one adds') there' in (
+      asked_alike h k (with_whole_body whole.bytes (what_is_asked m)) (with_whole_body body.bytes (what_is_asked m)) (joined_ask from m slot b) (joined_ask from m other b') u v is is'
+          (ap (λ (p : Part). with_whole_body p.bytes (what_is_asked m)) both.0) (record {
+            head = refl;
+            from = refl;
+            observing = refl;
+            blocks = ap (λ (x : Block). blocks.Joined x) (sym one);
+            last = subst (λ (x : Server). IsLast slot x.exchanges) (sym after) l;
+            last_too = subst (λ (x : Server). IsLast other x.exchanges) (sym after') n;
+          }),
+      moved (with_parts (remove parts place) s) (with_parts (remove rest place') t) u v after after'
+          (record { table = same.table; watchers = same.watchers; next = same.next; bodies = same.bodies; parts = both.1 }),
+    )
 
 -- ---- by what a datagram is
 
@@ -161,7 +330,7 @@ IsNoRequest from bytes h s u = (m : CoapMessage) × Spells m bytes × (is_reques
 abbrev Follows : Endpoint → ℕ → CoapMessage → Heard → Server → Server → Server → Met → Type 0
 Follows from now m h s w u (Repeat kept) =
     (e : Exchange) × (duplicated_exchange (arrival from now m) (at_moment now s.exchanges) ≡ Some e) × (h ≡ duplicate_reply (request_type m.kind) e.reply) × (u ≡ w)
-Follows from now m h s w u (Fresh slot) = Reads from m slot h w u
+Follows from now m h s w u (Fresh slot) = Reads from now m slot h w u
 Follows from now m h s w u Full = (h ≡ answered_at_once (spelling (coap_reply full_reply (head_of m) s.next_id))) × (u ≡ with_id_used (request_type m.kind) w)
 
 record IsRequest (from : Endpoint) (bytes : List ℕ) (now : ℕ) (h : Heard) (s u : Server) : Type 0 where
@@ -183,8 +352,15 @@ never true is isnt = absurd cc
 never false is isnt = absurd cc
 
 -- the table and the rest of the server after what was met
-between_same : (s t u v : Server) → SameServer s t → u.watchers ≡ s.watchers → u.next_id ≡ s.next_id → v.watchers ≡ t.watchers → v.next_id ≡ t.next_id → SameTable u.exchanges v.exchanges → SameServer u v
-between_same s t u v same a b c d table = record { table = table; watchers = a ∙ same.watchers ∙ sym c; next = b ∙ same.next ∙ sym d }
+between_same : (from : Endpoint) (bytes : List ℕ) (now : ℕ) (m : CoapMessage) (one other : Met) (s t u v : Server) → SameServer s t → IsMet from bytes now m one s u → IsMet from bytes now m other t v
+    → SameTable u.exchanges v.exchanges → SameServer u v
+between_same from bytes now m one other s t u v same a b table = record {
+  table = table;
+  watchers = a.same_watchers ∙ same.watchers ∙ sym b.same_watchers;
+  next = a.same_id ∙ same.next ∙ sym b.same_id;
+  bodies = a.same_bodies ∙ same.bodies ∙ sym b.same_bodies;
+  parts = a.same_parts ∙ same.parts ∙ sym b.same_parts;
+}
 
 same_requests : (from : Endpoint) (bytes : List ℕ) (now : ℕ) (h k : Heard) (s t u v : Server) → SameServer s t → IsAmple h → IsAmple k
     → (p : IsRequest from bytes now h s u) → (w x : Server) (m n : Met)
@@ -194,15 +370,15 @@ same_requests from bytes now h k s t u v same on_h on_k p w x (Repeat kept) (Rep
     let reply = same_reply (arrival from now p.message) (at_moment now s.exchanges) (at_moment now t.exchanges) f.0 g.0 (same_at_moment now s.exchanges t.exchanges same.table) f.1 g.1 in (
       heard_as (duplicate_reply (request_type p.message.kind) g.0.reply) h k u v (repeated (request_type p.message.kind) g.0.reply)
           (f.2 ∙ ap (λ (o : Option (List ℕ)). duplicate_reply (request_type p.message.kind) o) reply) g.2,
-      moved w x u v f.3 g.3 (between_same s t w x same a.same_watchers a.same_id b.same_watchers b.same_id alike),
+      moved w x u v f.3 g.3 (between_same from bytes now p.message (Repeat kept) (Repeat other) s t w x same a b alike),
     )
 same_requests from bytes now h k s t u v same on_h on_k p w x (Fresh slot) (Fresh other) a b f g alike =
-    same_reads from p.message slot other h k w x u v (between_same s t w x same a.same_watchers a.same_id b.same_watchers b.same_id alike.0) alike.1 alike.2 on_h on_k f g
+    same_reads from now p.message slot other h k w x u v (between_same from bytes now p.message (Fresh slot) (Fresh other) s t w x same a b alike.0) alike.1 alike.2 on_h on_k f g
 same_requests from bytes now h k s t u v same on_h on_k p w x Full Full a b f g alike = (
   heard_as (answered_at_once (spelling (coap_reply full_reply (head_of p.message) t.next_id))) h k u v tt
       (f.0 ∙ ap (λ (n : ℕ). answered_at_once (spelling (coap_reply full_reply (head_of p.message) n))) same.next) g.0,
   moved (with_id_used (request_type p.message.kind) w) (with_id_used (request_type p.message.kind) x) u v f.1 g.1
-      (same_id_used (request_type p.message.kind) w x (between_same s t w x same a.same_watchers a.same_id b.same_watchers b.same_id alike)),
+      (same_id_used (request_type p.message.kind) w x (between_same from bytes now p.message Full Full s t w x same a b alike)),
 )
 same_requests from bytes now h k s t u v same on_h on_k p w x (Repeat kept) (Fresh slot) a b f g alike = absurd alike
 same_requests from bytes now h k s t u v same on_h on_k p w x (Repeat kept) Full a b f g alike = absurd alike
@@ -212,7 +388,7 @@ same_requests from bytes now h k s t u v same on_h on_k p w x Full (Repeat kept)
 same_requests from bytes now h k s t u v same on_h on_k p w x Full (Fresh slot) a b f g alike = absurd alike
 
 same_reported : (from : Endpoint) (m : CoapMessage) (s t : Server) → SameServer s t → SameServer (with_report from m s) (with_report from m t)
-same_reported from m s t same = record { table = same.table; watchers = ap (λ (w : Watching). told_by from m w) same.watchers; next = same.next }
+same_reported from m s t same = record { table = same.table; watchers = ap (λ (w : Watching). told_by from m w) same.watchers; next = same.next; bodies = same.bodies; parts = same.parts }
 
 pub same_hearing : (from : Endpoint) (bytes : List ℕ) (now : ℕ) (h k : Heard) (s t u v : Server) → SameServer s t → IsAmple h → IsAmple k
     → Hears from bytes now h s u → Hears from bytes now k t v → SameHeard h k u v × SameServer u v

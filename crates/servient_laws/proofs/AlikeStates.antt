@@ -31,6 +31,8 @@ pub record SameServer (s t : Server) : Type 0 where
   pub table : SameTable s.exchanges t.exchanges
   pub watchers : s.watchers ≡ t.watchers
   pub next : s.next_id ≡ t.next_id
+  pub bodies : s.bodies ≡ t.bodies
+  pub parts : s.parts ≡ t.parts
 
 pub record Alike (s t : State) : Type 0 where
   pub moment : s.moment ≡ t.moment
@@ -40,7 +42,7 @@ pub record Alike (s t : State) : Type 0 where
   pub directory : s.directory ≡ t.directory
 
 pub same_server : (s : Server) → SameServer s s
-same_server s = record { table = record { capacity = refl; moment = refl; exchanges = refl }; watchers = refl; next = refl }
+same_server s = record { table = record { capacity = refl; moment = refl; exchanges = refl }; watchers = refl; next = refl; bodies = refl; parts = refl }
 
 pub alike_self : (s : State) → Alike s s
 alike_self s = record { moment = refl; http = refl; coap = same_server s.coap; thing = refl; directory = refl }
@@ -50,6 +52,8 @@ server_back s t e = record {
   table = record { capacity = sym e.table.capacity; moment = sym e.table.moment; exchanges = sym e.table.exchanges };
   watchers = sym e.watchers;
   next = sym e.next;
+  bodies = sym e.bodies;
+  parts = sym e.parts;
 }
 
 pub alike_back : (s t : State) → Alike s t → Alike t s

@@ -22,7 +22,11 @@ use Rattle.coap_bind.specs.declared.head.RequestHead.{RequestHead}
 use Rattle.coap_bind.specs.declared.head.OpenAsk.{OpenAsk}
 use Rattle.coap_bind.specs.declared.server.Server.{Server}
 use Rattle.coap_bind.specs.Observing.{effect_of, Watches, leaves, cancels, registers}
-use Rattle.coap_bind.specs.Writing.{reply_of, observed, observe_options, notification}
+use Rattle.coap_bind.specs.declared.blocks.BlockUse.{BlockUse}
+use Rattle.coap_bind.specs.Blocks.{answer_reply, bodies_after}
+use Rattle.coap_bind.proofs.DuplicateLaws.{ready}
+use Rattle.coap_blocks.specs.Bodies.{Body}
+use Rattle.coap_bind.specs.Writing.{observed, observe_options, notification}
 use Rattle.coap_bind.specs.Server.{Replies, Answers, with_watchers, with_next_id, with_notice_sent, with_emitted, SendsNext}
 use Rattle.coap_observe.specs.Watching.{with_emission}
 use Rattle.servient_laws.proofs.AlikeStates.{SameServer}
@@ -68,13 +72,20 @@ same_answers one other o target a b s t u v same_servers ask p q =
     (subst (λ (e : Endpoint). Watches (effect_of one.observing o target) e other.request.head.token t.watchers q.observe q.watchers) (sym ask.from)
     (subst (λ (x : Observing). Watches (effect_of x o target) other.from other.request.head.token t.watchers q.observe q.watchers) (sym ask.observing) q.watches))) in
     let once = watched_once (effect_of one.observing o target) one.from one.request.head.token s.watchers p.watchers q.watchers p.observe q.observe p.watches there in
-    let servers : SameServer (with_watchers p.watchers s) (with_watchers q.watchers t) = record { table = same_servers.table; watchers = once.1; next = same_servers.next } in
-    same_replies (observed p.observe (reply_of o)) one.request other.request a b (with_watchers p.watchers s) (with_watchers q.watchers t) u v servers ask.head ask.last ask.last_too p.replies
-    (subst (λ (x : Option ℕ). Replies (observed x (reply_of o)) other.request b (with_watchers q.watchers t) v) (sym once.0) q.replies)
+    let servers : SameServer (ready one o p.watchers s) (ready other o q.watchers t) = record {
+      table = same_servers.table;
+      watchers = once.1;
+      next = same_servers.next;
+      bodies = ap₂ (λ (x : BlockUse) (e : Endpoint). bodies_after x e o s.bodies) ask.blocks ask.from ∙ ap (λ (bodies : List Body). bodies_after other.blocks other.from o bodies) same_servers.bodies;
+      parts = same_servers.parts;
+    } in
+    same_replies (observed p.observe (answer_reply one.blocks o)) one.request other.request a b (ready one o p.watchers s) (ready other o q.watchers t) u v servers ask.head ask.last ask.last_too
+    p.replies (subst (λ (x : Option ℕ). Replies (observed x (answer_reply one.blocks o)) other.request b (ready other o q.watchers t) v) (sym once.0)
+    (subst (λ (x : BlockUse). Replies (observed q.observe (answer_reply x o)) other.request b (ready other o q.watchers t) v) (sym ask.blocks) q.replies))
 
 -- the watchers of a target are marked
 pub same_emitted : (target : ℕ) (s t : Server) → SameServer s t → SameServer (with_emitted target s) (with_emitted target t)
-same_emitted target s t is = record { table = is.table; watchers = ap (λ (w : Watching). with_emission target w) is.watchers; next = is.next }
+same_emitted target s t is = record { table = is.table; watchers = ap (λ (w : Watching). with_emission target w) is.watchers; next = is.next; bodies = is.bodies; parts = is.parts }
 
 -- ---- what is due
 
@@ -147,7 +158,7 @@ sent_once now id ws us vs o p (nothing _ none nobody_free after) (nothing _ none
 -- ---- what is sent next
 
 id_after : (b c : Bool) (s t : Server) → b ≡ c → SameServer s t → SameServer (if b then with_next_id s else s) (if c then with_next_id t else t)
-id_after true true s t e is = record { table = is.table; watchers = is.watchers; next = ap (λ (n : ℕ). (n + 1) % 65536) is.next }
+id_after true true s t e is = record { table = is.table; watchers = is.watchers; next = ap (λ (n : ℕ). (n + 1) % 65536) is.next; bodies = is.bodies; parts = is.parts }
 id_after false false s t e is = is
 id_after true false s t e is = absurd cc
 id_after false true s t e is = absurd cc
@@ -169,7 +180,7 @@ same_next now o p s t u v is a b =
     let once = sent_once now s.next_id a.notifies.left a.watchers.list b.watchers.list o p a.notifies.sends
     (subst (λ (ws : List Watcher). Sends now s.next_id ws p b.watchers.list) left there.sends) in
     let watching : a.watchers ≡ b.watchers = same_watching a.watchers b.watchers (a.capacity ∙ ap (λ (w : Watching). w.capacity) is.watchers ∙ sym b.capacity) once.1 in
-    let servers : SameServer (with_watchers a.watchers s) (with_watchers b.watchers t) = record { table = is.table; watchers = watching; next = is.next } in (
+    let servers : SameServer (with_watchers a.watchers s) (with_watchers b.watchers t) = record { table = is.table; watchers = watching; next = is.next; bodies = is.bodies; parts = is.parts } in (
       once.0,
       moved (with_notice_sent o (with_watchers a.watchers s)) (with_notice_sent p (with_watchers b.watchers t)) u v a.after b.after
           (notice_sent o p (with_watchers a.watchers s) (with_watchers b.watchers t) once.0 servers),

@@ -1,5 +1,5 @@
 -- The payload of what is sent.
-use Rattle.std.proofs.Common.{◌≡◌, ◌≤◌, ℕ, Bool, false, length, map, List, [], ◌∷◌, ◌++◌, Option, Some, None, option_map, refl, sym, ap, subst, ◌∙◌, arith, inl, inr}
+use Rattle.std.proofs.Common.{◌≡◌, ◌≤◌, ℕ, Bool, true, false, length, map, List, [], ◌∷◌, ◌++◌, Option, Some, None, option_map, refl, sym, ap, subst, ◌∙◌, arith, inl, inr}
 use Rattle.std.specs.Prelude.{◌⊎◌, Contains, nat_lt, if◌then◌else◌}
 use Rattle.std.proofs.lemmas.List.Elements.{Contains-append_left, Contains-append_right}
 use Rattle.std.proofs.lemmas.Bool.Decides.{nat_tests}
@@ -12,7 +12,11 @@ use Rattle.thing_ops.specs.Outcomes.{payload_of}
 use Rattle.thing_core.specs.Thing.{Done}
 use Rattle.coap_opts.specs.Reading.{PlainAsk}
 use Rattle.coap_bind.specs.declared.head.OpenAsk.{OpenAsk}
-use Rattle.coap_bind.specs.Writing.{reply_of, observed, coap_reply}
+use Rattle.coap_bind.specs.declared.blocks.BlockUse.{BlockUse}
+use Rattle.coap_bind.specs.declared.blocks.BlockUse.TheVariants as blocks
+use Rattle.coap_blocks.specs.Bodies.{longest_body}
+use Rattle.coap_bind.specs.Blocks.{is_representation, given_portion, all_of, portion_of, most_bytes, answer_reply}
+use Rattle.coap_bind.specs.Writing.{observed, coap_reply}
 use Rattle.http_bind.specs.Replying.{reply, reply_head, reply_body}
 use Rattle.thing_ops.specs.Requests.{PlainRequest}
 use Rattle.http_bind.specs.Streams.{Streams, connection_at, Answers as AnswersRequest, lets_wait, sends_reply, waits_of}
@@ -21,14 +25,34 @@ use Rattle.servient_outside.specs.Network.{did}
 use Rattle.servient_core.specs.Trace.{Sighting, at_network}
 use Rattle.servient_core.specs.Machine.{Site, State, Sends, SendsIfAny, PerformsByHttp, AnswersAsk, AnswersMessage}
 use Rattle.servient_core.specs.Meaning.{Message, by_coap, by_http}
-use Rattle.servient_laws.specs.Payloads.{SaysByCoap, SaysByHttp, Says, PayloadsAreOfOutcomes}
+use Rattle.servient_laws.specs.Payloads.{AsksForAll, SaysByCoap, SaysByHttp, Says, PayloadsAreOfOutcomes}
 
 -- the payload of a reply that isn't too long
-short_payload : (o : Outcome) → length (payload_of o) ≤ LONGEST_PAYLOAD → (reply_of o).payload ≡ payload_of o
-short_payload o short = rw fits refl
+part_payload : (u : BlockUse) (o : Outcome) → length (payload_of o) ≤ most_bytes u o → (answer_reply u o).payload ≡ (portion_of u o).payload
+part_payload u o short = rw fits refl
   where
-    fits : nat_lt LONGEST_PAYLOAD (length (payload_of o)) ≡ false
+    fits : nat_lt (most_bytes u o) (length (payload_of o)) ≡ false
     fits = grind (arith, nat_tests)
+
+given_whole : (b : Bool) (payload : List ℕ) → length payload ≤ LONGEST_PAYLOAD → (if b then given_portion None payload else all_of payload).payload ≡ payload
+given_whole false payload short = refl
+given_whole true payload short = rw fits refl
+  where
+    fits : nat_lt LONGEST_PAYLOAD (length payload) ≡ false
+    fits = grind (arith, nat_tests)
+
+most_at : (b : Bool) (n : ℕ) → n ≤ LONGEST_PAYLOAD → n ≤ (if b then longest_body else LONGEST_PAYLOAD)
+most_at true n short = omega arith
+most_at false n short = short
+
+-- where no part was asked for, all of it
+short_payload : (u : BlockUse) (o : Outcome) → AsksForAll u → length (payload_of o) ≤ LONGEST_PAYLOAD → (answer_reply u o).payload ≡ payload_of o
+short_payload blocks.Whole o all short = part_payload blocks.Whole o short
+short_payload (blocks.Gives g) o all short =
+    part_payload (blocks.Gives g) o (most_at (is_representation o) (length (payload_of o)) short)
+    ∙ ap (λ (szx : Option ℕ). (if is_representation o then given_portion szx (payload_of o) else all_of (payload_of o)).payload) all
+    ∙ given_whole (is_representation o) (payload_of o) short
+short_payload (blocks.Joined b) o all short = part_payload (blocks.Joined b) o short
 
 -- what a part of a trace has, the trace has
 in_whole : (x : Sighting) (a b seen : List Sighting) → seen ≡ a ++ b → Contains a x ⊎ Contains b x → Contains seen x
@@ -38,13 +62,14 @@ in_whole x a b seen whole (inr there) = subst (λ (l : List Sighting). Contains 
 first_of : (x : Sighting) (rest seen : List Sighting) → seen ≡ x ∷ rest → Contains seen x
 first_of x rest seen is = subst (λ (l : List Sighting). Contains l x) (sym is) (0, omega arith, refl)
 
-by_ask : (site : Site) (from : Endpoint) (ask : PlainAsk) (r : OpenAsk) (done : Done) (s t : State) (seen : List Sighting) → AnswersAsk site from ask r done s seen t → SaysByCoap from done.outcome seen
+by_ask : (site : Site) (from : Endpoint) (ask : PlainAsk) (r : OpenAsk) (done : Done) (s t : State) (seen : List Sighting) → AnswersAsk site from ask r done s seen t → SaysByCoap from r.blocks done.outcome seen
 by_ask site from ask r done s t seen (bytes, w) = record {
-  message = coap_reply (observed w.one.1.observe (reply_of done.outcome)) r.request.head s.coap.next_id;
-  sent = in_whole (at_network (did (act.Datagram from (spelling (coap_reply (observed w.one.1.observe (reply_of done.outcome)) r.request.head s.coap.next_id))))) w.first w.second seen w.whole
-      (inr (first_of (at_network (did (act.Datagram from (spelling (coap_reply (observed w.one.1.observe (reply_of done.outcome)) r.request.head s.coap.next_id))))) [] w.second
+  message = coap_reply (observed w.one.1.observe (answer_reply r.blocks done.outcome)) r.request.head s.coap.next_id;
+  sent = in_whole (at_network (did (act.Datagram from (spelling (coap_reply (observed w.one.1.observe (answer_reply r.blocks done.outcome)) r.request.head s.coap.next_id))))) w.first w.second seen w.whole
+      (inr (first_of (at_network (did (act.Datagram from (spelling (coap_reply (observed w.one.1.observe (answer_reply r.blocks done.outcome)) r.request.head s.coap.next_id))))) [] w.second
       (w.other.saw ∙ ap (λ (x : List ℕ). at_network (did (act.Datagram from x)) ∷ []) w.one.1.replies.bytes_are)));
-  payload = short_payload done.outcome;
+  payload = short_payload r.blocks done.outcome;
+  part = part_payload r.blocks done.outcome;
 }
 
 -- a reply is its head and its body
@@ -82,6 +107,7 @@ whole_says (by_coap from ask request) o s a c d seen whole says = record {
   message = says.message;
   sent = in_whole (at_network (did (act.Datagram from (spelling says.message)))) a (c ++ d) seen whole (inr (Contains-append_left c d (at_network (did (act.Datagram from (spelling says.message)))) says.sent));
   payload = says.payload;
+  part = says.part;
 }
 whole_says (by_http n q) o s a c d seen whole says = record {
   connection = says.connection;

@@ -3,7 +3,8 @@ use Rattle.std.proofs.Common.{◌≡◌, ◌≢◌, ◌<◌, ◌≤◌, ℕ, Boo
 use Rattle.std.specs.Prelude.{◌&&◌, ◌==◌, ◌/◌, nat_le, nat_lt, unwrap_or, IsSome, option_and_then, slice_get}
 use Rattle.std.specs.List.{AllByRecursion}
 use Rattle.std.proofs.lemmas.Bool.Decides.{nat_tests}
-use Rattle.coap_msg.specs.declared.constants.TheConstants.{LONGEST_SEGMENT, URI_PATH, CONTENT_FORMAT, ACCEPT}
+use Rattle.coap_msg.specs.declared.constants.TheConstants.{LONGEST_SEGMENT, URI_PATH, CONTENT_FORMAT, ACCEPT, BLOCK1, BLOCK2}
+use Rattle.coap_msg.specs.Blocks.{block_of}
 use Rattle.coap_msg.specs.Grammar.{CoapOption, AreInOrder}
 use Rattle.coap_msg.specs.Opts.{segment_options}
 use Rattle.coap_opts.specs.Reading.{faults_after, faults_of, values_under, number_within, number_under, verb_of, format_of, accept_of}
@@ -102,30 +103,32 @@ other_values number (segment ∷ path) os other = rw other (other_values number 
 
 record IsRest (f : Format) (json td : Bool) : Type 0 where
   path : values_under URI_PATH (rest_of f json td) ≡ []
+  block1 : values_under BLOCK1 (rest_of f json td) ≡ []
+  block2 : values_under BLOCK2 (rest_of f json td) ≡ []
   format_is : f ≢ format.Patch → format_of (number_under content_format (rest_of f json td)) ≡ f
   accept_is : accept_of (number_under accept (rest_of f json td)) ≡ record { json = json; td = td }
 
 rest_is : (f : Format) (json td : Bool) → IsRest f json td
-rest_is format.Absent true true = record { path = refl; format_is = λ n. refl; accept_is = refl }
-rest_is format.Absent true false = record { path = refl; format_is = λ n. refl; accept_is = refl }
-rest_is format.Absent false true = record { path = refl; format_is = λ n. refl; accept_is = refl }
-rest_is format.Absent false false = record { path = refl; format_is = λ n. refl; accept_is = refl }
-rest_is format.Json true true = record { path = refl; format_is = λ n. refl; accept_is = refl }
-rest_is format.Json true false = record { path = refl; format_is = λ n. refl; accept_is = refl }
-rest_is format.Json false true = record { path = refl; format_is = λ n. refl; accept_is = refl }
-rest_is format.Json false false = record { path = refl; format_is = λ n. refl; accept_is = refl }
-rest_is format.Td true true = record { path = refl; format_is = λ n. refl; accept_is = refl }
-rest_is format.Td true false = record { path = refl; format_is = λ n. refl; accept_is = refl }
-rest_is format.Td false true = record { path = refl; format_is = λ n. refl; accept_is = refl }
-rest_is format.Td false false = record { path = refl; format_is = λ n. refl; accept_is = refl }
-rest_is format.Patch true true = record { path = refl; format_is = λ n. absurd (n refl); accept_is = refl }
-rest_is format.Patch true false = record { path = refl; format_is = λ n. absurd (n refl); accept_is = refl }
-rest_is format.Patch false true = record { path = refl; format_is = λ n. absurd (n refl); accept_is = refl }
-rest_is format.Patch false false = record { path = refl; format_is = λ n. absurd (n refl); accept_is = refl }
-rest_is format.Other true true = record { path = refl; format_is = λ n. refl; accept_is = refl }
-rest_is format.Other true false = record { path = refl; format_is = λ n. refl; accept_is = refl }
-rest_is format.Other false true = record { path = refl; format_is = λ n. refl; accept_is = refl }
-rest_is format.Other false false = record { path = refl; format_is = λ n. refl; accept_is = refl }
+rest_is format.Absent true true = record { path = refl; block1 = refl; block2 = refl; format_is = λ n. refl; accept_is = refl }
+rest_is format.Absent true false = record { path = refl; block1 = refl; block2 = refl; format_is = λ n. refl; accept_is = refl }
+rest_is format.Absent false true = record { path = refl; block1 = refl; block2 = refl; format_is = λ n. refl; accept_is = refl }
+rest_is format.Absent false false = record { path = refl; block1 = refl; block2 = refl; format_is = λ n. refl; accept_is = refl }
+rest_is format.Json true true = record { path = refl; block1 = refl; block2 = refl; format_is = λ n. refl; accept_is = refl }
+rest_is format.Json true false = record { path = refl; block1 = refl; block2 = refl; format_is = λ n. refl; accept_is = refl }
+rest_is format.Json false true = record { path = refl; block1 = refl; block2 = refl; format_is = λ n. refl; accept_is = refl }
+rest_is format.Json false false = record { path = refl; block1 = refl; block2 = refl; format_is = λ n. refl; accept_is = refl }
+rest_is format.Td true true = record { path = refl; block1 = refl; block2 = refl; format_is = λ n. refl; accept_is = refl }
+rest_is format.Td true false = record { path = refl; block1 = refl; block2 = refl; format_is = λ n. refl; accept_is = refl }
+rest_is format.Td false true = record { path = refl; block1 = refl; block2 = refl; format_is = λ n. refl; accept_is = refl }
+rest_is format.Td false false = record { path = refl; block1 = refl; block2 = refl; format_is = λ n. refl; accept_is = refl }
+rest_is format.Patch true true = record { path = refl; block1 = refl; block2 = refl; format_is = λ n. absurd (n refl); accept_is = refl }
+rest_is format.Patch true false = record { path = refl; block1 = refl; block2 = refl; format_is = λ n. absurd (n refl); accept_is = refl }
+rest_is format.Patch false true = record { path = refl; block1 = refl; block2 = refl; format_is = λ n. absurd (n refl); accept_is = refl }
+rest_is format.Patch false false = record { path = refl; block1 = refl; block2 = refl; format_is = λ n. absurd (n refl); accept_is = refl }
+rest_is format.Other true true = record { path = refl; block1 = refl; block2 = refl; format_is = λ n. refl; accept_is = refl }
+rest_is format.Other true false = record { path = refl; block1 = refl; block2 = refl; format_is = λ n. refl; accept_is = refl }
+rest_is format.Other false true = record { path = refl; block1 = refl; block2 = refl; format_is = λ n. refl; accept_is = refl }
+rest_is format.Other false false = record { path = refl; block1 = refl; block2 = refl; format_is = λ n. refl; accept_is = refl }
 
 -- ---- verbs
 
@@ -177,6 +180,10 @@ read_by_coap q can =
       };
       request = is_asked (unwrap_or (code_of q.verb) 0) some small;
       options = no_fault q.path os can.path faultless.0 faultless.1;
+      names = record {
+        block1 = ap (λ (vs : List (List ℕ)). option_and_then block_of (slice_get vs 0)) (other_values BLOCK1 q.path os refl ∙ rest.block1);
+        block2 = ap (λ (vs : List (List ℕ)). option_and_then block_of (slice_get vs 0)) (other_values BLOCK2 q.path os refl ∙ rest.block2);
+      };
       asks_it = same_request q (verb_of (unwrap_or (code_of q.verb) 0)) (values_under URI_PATH (segment_options URI_PATH q.path ++ os))
           (accept_of (number_under accept (segment_options URI_PATH q.path ++ os))) (format_of (number_under content_format (segment_options URI_PATH q.path ++ os)))
           code.back (path_values q.path os rest.path) can.query

@@ -1,10 +1,13 @@
--- What a reply says: by either binding the payload of the outcome.
+-- What a reply says: by either binding the payload of the outcome, or by CoAP the block of it that was asked for.
 use Rattle.std.specs.Prelude.{◌≡◌, ◌≤◌, ◌++◌, ℕ, List, length, Some, None, Contains}
 use Rattle.coap_msg.specs.declared.constants.TheConstants.{LONGEST_PAYLOAD}
 use Rattle.coap_msg.specs.declared.endpoint.Endpoint.{Endpoint}
 use Rattle.coap_msg.specs.Grammar.{CoapMessage, spelling}
 use Rattle.thing_ops.specs.declared.outcome.Outcome.{Outcome}
 use Rattle.thing_ops.specs.Outcomes.{payload_of}
+use Rattle.coap_bind.specs.declared.blocks.BlockUse.{BlockUse}
+use Rattle.coap_bind.specs.declared.blocks.BlockUse.TheVariants as blocks
+use Rattle.coap_bind.specs.Blocks.{most_bytes, portion_of}
 use Rattle.http_bind.specs.declared.owed.Owed.{Owed}
 use Rattle.http_bind.specs.Replying.{reply_head, reply_body}
 use Rattle.http_bind.specs.Streams.{Connection, connection_at, waits_of}
@@ -15,12 +18,20 @@ use Rattle.servient_core.specs.Machine.{Site, State}
 use Rattle.servient_core.specs.Meaning.{Message, by_coap, by_http, ComesTo}
 use Rattle.thing_core.specs.Thing.{Done}
 
--- A datagram was sent to an endpoint whose payload is that of an outcome, if it isn't too long to be sent (RFC 7252,
--- section 4.6).
-pub record SaysByCoap (from : Endpoint) (o : Outcome) (seen : List Sighting) : Type 0 where
+-- no part of the payload is asked for
+abbrev pub AsksForAll : BlockUse → Type 0
+AsksForAll blocks.Whole = Unit {0}
+AsksForAll (blocks.Gives g) = g.szx ≡ None
+AsksForAll (blocks.Joined b) = Unit {0}
+
+-- A datagram was sent to an endpoint whose payload is that of an outcome, where no part of it was asked for and it isn't
+-- too long to be sent at once (RFC 7252, section 4.6); else the part that is to be given first (RFC 7959, section 2.4),
+-- if it isn't too long for that.
+pub record SaysByCoap (from : Endpoint) (u : BlockUse) (o : Outcome) (seen : List Sighting) : Type 0 where
   pub message : CoapMessage
   pub sent : Contains seen (at_network (did (act.Datagram from (spelling message))))
-  pub payload : length (payload_of o) ≤ LONGEST_PAYLOAD → message.payload ≡ payload_of o
+  pub payload : AsksForAll u → length (payload_of o) ≤ LONGEST_PAYLOAD → message.payload ≡ payload_of o
+  pub part : length (payload_of o) ≤ most_bytes u o → message.payload ≡ (portion_of u o).payload
 
 -- A reply was sent on a connection: its head, and after it the payload of an outcome, which a HEAD request alone isn't
 -- owed (RFC 9110, section 9.3.2).
@@ -34,11 +45,11 @@ pub record SaysByHttp (c : ℕ) (o : Outcome) (s : State) (seen : List Sighting)
   pub sent : Contains seen (at_network (did (act.Sent c (head ++ reply_body owed.bodiless o))))
 
 abbrev pub Says : Message → Outcome → State → List Sighting → Type 0
-Says (by_coap from ask request) o s seen = SaysByCoap from o seen
+Says (by_coap from ask request) o s seen = SaysByCoap from request.blocks o seen
 Says (by_http c q) o s seen = SaysByHttp c o s seen
 
--- What is sent in reply to a message has the payload of its outcome, unless that is to wait. So two messages of one
--- meaning have one payload.
+-- What is sent in reply to a message has the payload of its outcome, unless that is to wait, or the part of it that is to
+-- be given first. So two messages of one meaning have one payload but for that.
 abbrev pub PayloadsAreOfOutcomes : Type 0
 PayloadsAreOfOutcomes =
     (site : Site) (m : Message) (done : Done) (s t : State) (seen : List Sighting)

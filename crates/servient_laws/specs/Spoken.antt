@@ -11,6 +11,7 @@ use Rattle.coap_msg.specs.Numbers.{number_bytes}
 use Rattle.coap_msg.specs.Opts.{segment_options}
 use Rattle.coap_opts.specs.Reading.{faults_of, asked as what_is_asked}
 use Rattle.coap_bind.specs.Server.{is_request}
+use Rattle.coap_bind.specs.Transfers.{NamesNoBlock}
 use Rattle.thing_ops.specs.declared.verb.Verb.{Verb}
 use Rattle.thing_ops.specs.declared.verb.Verb.TheVariants as verb
 use Rattle.thing_ops.specs.declared.request.Format.{Format}
@@ -56,11 +57,12 @@ coap_message q = record {
   payload = q.body;
 }
 
--- It is a message and a request, nothing is wrong with its options, and it asks for that.
+-- It is a message and a request, nothing is wrong with its options, it names no block, and it asks for that.
 pub record IsReadByCoap (q : PlainRequest) : Type 0 where
   pub spells : Spells (coap_message q) (spelling (coap_message q))
   pub request : is_request (coap_message q) ≡ true
   pub options : faults_of (coap_message q).options ≡ []
+  pub names : NamesNoBlock (coap_message q)
   pub asks_it : (what_is_asked (coap_message q)).request ≡ q
 
 -- ---- by HTTP (RFC 9112)

@@ -54,8 +54,8 @@ pub fn nothing_fails_in_memory()
     ensures { NothingFailsInMemory }
 {}
 
-/// What is sent in reply to a message says the payload of its outcome: by CoAP unless it is too long for a datagram, by
-/// HTTP unless the request was HEAD. So two messages of one meaning are replied to with one payload.
+/// What is sent in reply to a message says the payload of its outcome: by CoAP unless it is given in blocks or too long for
+/// a datagram, by HTTP unless the request was HEAD. So two messages of one meaning are replied to with one payload.
 pub fn payloads_are_of_outcomes()
     ensures { PayloadsAreOfOutcomes }
 {}

@@ -1,14 +1,16 @@
--- What a client asks is a message, none of whose options is faulty, and says to observe only where it registers.
+-- What a client asks is a message, none of whose options is faulty, names no block, and says to observe only where it
+-- registers.
 use Rattle.std.proofs.Common.{◌≡◌, ◌≢◌, ℕ, ◌<◌, ◌≤◌, ◌&&◌, ◌∙◌, Bool, true, false, Option, Some, None, List, [], ◌∷◌, ◌++◌, length, refl, sym, ap, arith}
-use Rattle.std.specs.Prelude.{nat_lt, nat_le, All, option_and_then, slice_get}
+use Rattle.std.specs.Prelude.{◌==◌, nat_lt, nat_le, All, option_and_then, slice_get}
 use Rattle.std.proofs.lemmas.Bool.Decides.{nat_tests}
 use Rattle.std.proofs.lemmas.List.Elements.{All-head, All-tail}
-use Rattle.coap_msg.specs.declared.constants.TheConstants.{OBSERVE, URI_PATH, LONGEST_SEGMENT}
+use Rattle.coap_msg.specs.declared.constants.TheConstants.{OBSERVE, URI_PATH, CONTENT_FORMAT, BLOCK1, BLOCK2, LONGEST_SEGMENT}
 use Rattle.coap_msg.specs.declared.endpoint.Endpoint.{Endpoint}
 use Rattle.coap_msg.specs.Grammar.{CoapMessage}
 use Rattle.coap_msg.specs.Opts.{segment_options}
 use Rattle.coap_opts.specs.Table.{observe}
 use Rattle.coap_opts.specs.Reading.{faults_after, fault_of, and_then_these, faults_of, values_under, number_under, number_within}
+use Rattle.coap_msg.specs.Blocks.{block_of}
 use Rattle.coap_client.specs.declared.outstanding.Outstanding.{Outstanding}
 use Rattle.coap_client.specs.declared.state.State.{State}
 use Rattle.coap_client.specs.Asking.{Asking, MayAsk, observe_option, format_option, message_for}
@@ -17,6 +19,7 @@ use Rattle.coap_client.specs.Laws.{Did}
 use Rattle.coap_client.specs.Requests.{IsMessageOf}
 use Rattle.coap_client.proofs.RequestLaws.{asks_are_messages}
 use Rattle.coap_bind.specs.Server.{is_request}
+use Rattle.coap_bind.specs.Transfers.{NamesNoBlock}
 
 -- the message of an ask, to a server
 pub record IsAskOf (a : Outstanding) (m : CoapMessage) : Type 0 where
@@ -24,6 +27,7 @@ pub record IsAskOf (a : Outstanding) (m : CoapMessage) : Type 0 where
   pub request : is_request m ≡ true
   pub options : faults_of m.options ≡ []
   pub observes : number_under observe m.options ≡ Some 0 → a.registers ≡ true
+  pub names : NamesNoBlock m
 
 abbrev pub HasMessage : Outstanding → Type 0
 HasMessage a = (m : CoapMessage) × IsAskOf a m
@@ -73,6 +77,34 @@ observes_where None path format e =
 observes_where (Some true) path format e = refl
 observes_where (Some false) path format e = absurd (cc)
 
+-- ---- blocks
+
+-- a number that no option of an ask has
+record IsNever (number : ℕ) : Type 0 where
+  path : (URI_PATH == number) ≡ false
+  format : (CONTENT_FORMAT == number) ≡ false
+  observe : (OBSERVE == number) ≡ false
+
+format_never : (number : ℕ) (format : Option ℕ) → IsNever number → values_under number (format_option format) ≡ []
+format_never number None never = refl
+format_never number (Some n) never = rw never.format refl
+
+path_never : (number : ℕ) (path : List (List ℕ)) (format : Option ℕ) → IsNever number → values_under number (segment_options URI_PATH path ++ format_option format) ≡ []
+path_never number [] format never = format_never number format never
+path_never number (segment ∷ path) format never = let rest = path_never number path format never in rw never.path rest
+
+never_under : (number : ℕ) (o : Option Bool) (path : List (List ℕ)) (format : Option ℕ) → IsNever number
+    → values_under number (observe_option o ++ (segment_options URI_PATH path ++ format_option format)) ≡ []
+never_under number None path format never = path_never number path format never
+never_under number (Some true) path format never = let rest = path_never number path format never in rw never.observe rest
+never_under number (Some false) path format never = let rest = path_never number path format never in rw never.observe rest
+
+no_blocks : (a : Asking) (id : ℕ) (token : List ℕ) → NamesNoBlock (message_for a id token)
+no_blocks a id token = record {
+  block1 = ap (λ l. option_and_then block_of (slice_get l 0)) (never_under BLOCK1 a.observe a.path a.format (record { path = refl; format = refl; observe = refl }));
+  block2 = ap (λ l. option_and_then block_of (slice_get l 0)) (never_under BLOCK2 a.observe a.path a.format (record { path = refl; format = refl; observe = refl }));
+}
+
 -- ---- the message
 
 asking_code : (code : ℕ) → code ≢ 0 → code < 32 → (nat_lt 0 code && nat_lt code 32) ≡ true
@@ -87,5 +119,6 @@ asks_are_asks sent s t now peer a n old new did may asks = (
     request = asking_code a.code may.code may.class;
     options = faultless a.observe a.path a.format may.segments;
     observes = λ e. observes_where a.observe a.path a.format e;
+    names = no_blocks a asks.id (token_for (at_moment now s) peer a.observe);
   },
 )

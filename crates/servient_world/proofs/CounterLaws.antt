@@ -9,8 +9,9 @@ use Rattle.coap_observe.specs.declared.notice.Notice.{Notice}
 use Rattle.coap_bind.specs.declared.head.OpenRequest.{OpenRequest}
 use Rattle.coap_bind.specs.declared.server.Server.{Server}
 use Rattle.coap_bind.specs.Writing.{Reply}
-use Rattle.coap_bind.specs.Server.{Heard, with_next_id, with_id_used, with_kept, with_watchers, with_notice_sent, Replies, SendsNext, malformed, no_request, duplicate, full, bad_option, bad_option_ignored, for_proxy, asks, no_memory, opened, Reads, settled, admitted, Hears}
+use Rattle.coap_bind.specs.Server.{Heard, with_next_id, with_id_used, with_kept, with_watchers, with_notice_sent, Replies, SendsNext, malformed, no_request, duplicate, full, with_parts, replied, bad_option_ignored, asks, asks_whole, opened, Reads, settled, admitted, Hears}
 use Rattle.coap_bind.specs.Treating.{Acted, Treats, ignores, answers, acts}
+use Rattle.coap_bind.proofs.DuplicateLaws.{ready}
 use Rattle.servient_world.specs.World.{Receives, too_long, treated}
 
 abbrev IsCounter : Server → Type 0
@@ -31,12 +32,11 @@ counter_replies : (r : Reply) (request : OpenRequest) (bytes : List ℕ) (s t : 
 counter_replies r request bytes s t replies h =
     subst IsCounter (sym replies.after) (counter_kept request.head.kind request.slot bytes (with_id_used request.head.kind s) (counter_used request.head.kind s h))
 
-counter_reads : (from : Endpoint) (m : CoapMessage) (slot : ℕ) (heard : Heard) (s t : Server) → Reads from m slot heard s t → IsCounter s → IsCounter t
-counter_reads from m slot heard s t (bad_option number bytes fault con replies e) h = counter_replies _ (opened m slot) bytes s t replies h
-counter_reads from m slot heard s t (bad_option_ignored number fault non e same) h = subst IsCounter (sym same) h
-counter_reads from m slot heard s t (for_proxy bytes fault replies e) h = counter_replies _ (opened m slot) bytes s t replies h
-counter_reads from m slot heard s t (asks none e same) h = subst IsCounter (sym same) h
-counter_reads from m slot heard s t (no_memory bytes none replies e) h = counter_replies _ (opened m slot) bytes s t replies h
+counter_reads : (from : Endpoint) (now : ℕ) (m : CoapMessage) (slot : ℕ) (heard : Heard) (s t : Server) → Reads from now m slot heard s t → IsCounter s → IsCounter t
+counter_reads from now m slot heard s t (replied r parts bytes why replies e) h = counter_replies r (opened m slot) bytes (with_parts parts s) t replies h
+counter_reads from now m slot heard s t (bad_option_ignored number fault non e same) h = subst IsCounter (sym same) h
+counter_reads from now m slot heard s t (asks none act e same) h = subst IsCounter (sym same) h
+counter_reads from now m slot heard s t (asks_whole b place parts whole none joining adds there e same) h = subst IsCounter (sym same) h
 
 counter_hears : (from : Endpoint) (bytes : List ℕ) (now : ℕ) (heard : Heard) (s t : Server) → Hears from bytes now heard s t → IsCounter s → IsCounter t
 counter_hears from bytes now heard s t (settled (malformed f fault e same)) h = subst IsCounter (sym same) h
@@ -44,14 +44,14 @@ counter_hears from bytes now heard s t (settled (no_request m spells none e same
 counter_hears from bytes now heard s t (settled (duplicate m kept x met found e)) h = same_counter s t met.same_id h
 counter_hears from bytes now heard s t (settled (full m u met e same)) h =
     subst IsCounter (sym same) (counter_used (request_type m.kind) u (same_counter s u met.same_id h))
-counter_hears from bytes now heard s t (admitted m slot u met reads) h = counter_reads from m slot heard u t reads (same_counter s u met.same_id h)
+counter_hears from bytes now heard s t (admitted m slot u met reads) h = counter_reads from now m slot heard u t reads (same_counter s u met.same_id h)
 
 counter_treats : (from : Endpoint) (bytes : List ℕ) (now : ℕ) (act : Option Acted) (back : List (List ℕ)) (s t : Server) → Treats from bytes now act back s t → IsCounter s → IsCounter t
 counter_treats from bytes now act back s t (ignores hears none nothing) h = counter_hears from bytes now _ s t hears h
 counter_treats from bytes now act back s t (answers reply hears none one) h = counter_hears from bytes now _ s t hears h
 counter_treats from bytes now act back s t (acts a ask reply u hears code place answer is one) h =
     let heard_it = counter_hears from bytes now _ s u hears h in
-    counter_replies _ ask.request reply (with_watchers answer.watchers u) t answer.replies heard_it
+    counter_replies _ ask.request reply (ready ask a.outcome answer.watchers u) t answer.replies heard_it
 
 pub counter_receives : (from : Endpoint) (bytes : List ℕ) (now : ℕ) (act : Option Acted) (back : List (List ℕ)) (s t : Server) → Receives from bytes now act back s t
     → s.next_id < 2 ^ 16 → t.next_id < 2 ^ 16

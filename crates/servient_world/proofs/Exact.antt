@@ -16,13 +16,14 @@ use Rattle.coap_observe.specs.Accounts.{token_of}
 use Rattle.coap_bind.specs.Writing.{Reply, full_reply, reply_of, observed as observed_reply, notification}
 use Rattle.coap_bind.specs.Server.{is_request}
 use Rattle.servient_world.specs.World.{client_place, server_place, Purpose, copy_of, reply_to, notice_for, other, Datagram, Act, End, answered, observed, reset, timed_out, AskEnd, WorldState}
+use Rattle.servient_world.specs.Laws.{said_of}
 use Rattle.servient_world.proofs.Places.{at_more}
 
 -- ---- the invariant
 
 -- why the server replies so to an ask: the table is full, memory is out, or that is what its act came to
 abbrev pub IsWhy : List Act → ℕ → Reply → Type 0
-IsWhy acts k r = (r ≡ full_reply) ⊎ ((r ≡ reply_of Memory) ⊎ ((x : Act) × Contains acts x × (x.ask ≡ k) × (seen : Option ℕ) × (r ≡ observed_reply seen (reply_of x.acted.outcome))))
+IsWhy acts k r = (r ≡ full_reply) ⊎ ((r ≡ reply_of Memory) ⊎ ((x : Act) × Contains acts x × (x.ask ≡ k) × (seen : Option ℕ) × (r ≡ observed_reply seen (said_of x.acted))))
 
 -- these bytes are a reply to an ask
 pub record IsReply (asks : List Outstanding) (acts : List Act) (k : ℕ) (bytes : List ℕ) : Type 0 where

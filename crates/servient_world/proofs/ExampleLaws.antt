@@ -129,7 +129,7 @@ abbrev first_table : Table
 first_table = later 0 (nothing_came 16 16).exchanges
 
 abbrev admitting : Server
-admitting = record { exchanges = with_exchange (arrival client_place 0 question) 0 first_table; watchers = (nothing_came 16 16).watchers; next_id = 0 }
+admitting = record { exchanges = with_exchange (arrival client_place 0 question) 0 first_table; watchers = (nothing_came 16 16).watchers; next_id = 0; bodies = []; parts = [] }
 
 abbrev watching : Watching
 watching = record { capacity = 16; list = newcomer client_place first_token 0 ∷ [] }
@@ -142,16 +142,18 @@ answered_world uses =
     with_sent (record (asked_world uses) { server = answered_server; acts = record { ask = 0; acted = act_made } ∷ [] })
     server_place client_place (reply_to 0) (answer_bytes ∷ [])
 
-hears_it : Hears client_place (take (length question_bytes) question_bytes) 0 (asked (what_is_asked question) (opened_ask client_place question 0)) (nothing_came 16 16) admitting
+hears_it : Hears client_place (take (length question_bytes) question_bytes) 0 (asked (what_is_asked question) (opened_ask client_place 0 question 0)) (nothing_came 16 16) admitting
 hears_it = admitted question 0 admitting (record {
   spells = question_spells;
   request = refl;
   meets = (refl, (omega arith, refl, refl));
   same_watchers = refl;
   same_id = refl;
-}) (asks refl refl refl)
+  same_bodies = refl;
+  same_parts = refl;
+}) (asks refl refl refl refl)
 
-answers_it : Answers (opened_ask client_place question 0) outcome.Empty (Some 0) answer_bytes admitting answered_server
+answers_it : Answers (opened_ask client_place 0 question 0) outcome.Empty (Some 0) answer_bytes admitting answered_server
 answers_it = record {
   observe = Some 0;
   watchers = watching;
@@ -160,7 +162,7 @@ answers_it = record {
 }
 
 treats_it : Treats client_place (take (length question_bytes) question_bytes) 0 (Some act_made) (answer_bytes ∷ []) (nothing_came 16 16) answered_server
-treats_it = acts act_made (opened_ask client_place question 0) answer_bytes admitting hears_it refl tt answers_it refl refl
+treats_it = acts act_made (opened_ask client_place 0 question 0) answer_bytes admitting hears_it refl tt answers_it refl refl
 
 short_question : length (take (length question_bytes) question_bytes) ≤ 1280
 short_question = let size = question_length in let same = ap length question_taken in omega arith

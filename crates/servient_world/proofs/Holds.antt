@@ -15,11 +15,12 @@ use Rattle.coap_client.specs.declared.outstanding.Outstanding.{Outstanding}
 use Rattle.coap_client.specs.Laws.{Did as ClientDid}
 use Rattle.coap_bind.specs.declared.head.OpenAsk.{OpenAsk}
 use Rattle.coap_bind.specs.declared.server.Server.{Server}
-use Rattle.coap_bind.specs.Server.{arrival, asked, with_watchers, Hears, Answers}
+use Rattle.coap_bind.specs.Server.{arrival, asked, Hears, Answers}
 use Rattle.coap_bind.specs.Laws.{Did as ServerDid, answered as server_answered}
 use Rattle.coap_bind.specs.Treating.{Acted, Treats, ignores, answers, acts}
 use Rattle.coap_bind.proofs.HistoryLaws.{duplicates_ask_nothing}
 use Rattle.coap_bind.proofs.OpenLaws.{asks_are_open}
+use Rattle.coap_bind.proofs.DuplicateLaws.{ready}
 use Rattle.coap_bind.proofs.MomentLaws.{replies_moment}
 use Rattle.coap_bind.proofs.ArrivalLaws.{hearing_goes_on, asked_is_admitted}
 use Rattle.servient_world.specs.declared.network.TheConstants.{MAX_LATENCY}
@@ -184,7 +185,7 @@ answered_did capacity history s u t from bytes now a ask reply hears did answer 
     (did.0, server_answered history u t ask a.outcome a.target reply did.1 (asks_are_open from bytes now a.what ask s u hears) answer)
 
 answered_moment : (ask : OpenAsk) (a : Acted) (reply : List ℕ) (u t : Server) → Answers ask a.outcome a.target reply u t → t.exchanges.moment ≡ u.exchanges.moment
-answered_moment ask a reply u t answer = replies_moment _ ask.request reply (with_watchers answer.watchers u) t answer.replies
+answered_moment ask a reply u t answer = replies_moment _ ask.request reply (ready ask a.outcome answer.watchers u) t answer.replies
 
 -- tests
 pub is_below : (m n : ℕ) → m < n → nat_lt m n ≡ true

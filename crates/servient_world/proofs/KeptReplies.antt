@@ -20,7 +20,8 @@ use Rattle.coap_exchange.specs.Admission.{Arrival, lives, is_same_exchange, is_d
 use Rattle.coap_exchange.specs.Table.{Exchange, Table, at_moment as later}
 use Rattle.thing_ops.specs.declared.outcome.Outcome.{Outcome}
 use Rattle.thing_ops.specs.declared.outcome.Outcome.TheVariants.{Memory}
-use Rattle.coap_opts.specs.Reading.{faults_of, asked as what_is_asked}
+use Rattle.thing_ops.specs.declared.verb.Verb.{Verb}
+use Rattle.coap_opts.specs.Reading.{PlainAsk, verb_of, faults_of, asked as what_is_asked}
 use Rattle.coap_client.specs.declared.outstanding.Outstanding.{Outstanding}
 use Rattle.coap_client.specs.Answers.{sequence_of}
 use Rattle.coap_observe.specs.declared.notice.Registered.TheVariants.{New, Replaced, Full}
@@ -30,15 +31,21 @@ use Rattle.coap_bind.specs.declared.observing.Effect.{Effect}
 use Rattle.coap_bind.specs.declared.observing.Effect.TheVariants as effect
 use Rattle.coap_bind.specs.Observing.{observing_of, effect_of, Watches, leaves, cancels, registers}
 use Rattle.coap_bind.specs.declared.server.Server.{Server}
-use Rattle.coap_bind.specs.Writing.{Reply, full_reply, reply_of, observed as observed_reply, head_of, coap_reply}
-use Rattle.coap_bind.specs.Server.{is_request, duplicate_reply, arrival}
-use Rattle.coap_bind.specs.Treating.{Acted, IsReplied, faulty, memory, acted, kept_for, sent_back, IsTreated, no_request, is_duplicate, finds_full, is_answered, is_ignored}
+use Rattle.coap_bind.specs.declared.blocks.BlockUse.{BlockUse}
+use Rattle.coap_bind.specs.declared.blocks.BlockUse.TheVariants.{Whole}
+use Rattle.coap_bind.specs.Blocks.{use_of, answer_reply}
+use Rattle.coap_bind.specs.Writing.{Reply, full_reply, observed as observed_reply, head_of, coap_reply}
+use Rattle.coap_bind.specs.Server.{is_request, duplicate_reply, arrival, observing_in}
+use Rattle.coap_bind.specs.Transfers.{NamesNoBlock}
+use Rattle.coap_bind.specs.Treating.{Acted, IsReplied, faulty, memory, of_blocks, acted, acted_on_whole, kept_for, sent_back, IsTreated, no_request, is_duplicate, finds_full, is_answered, is_ignored}
 use Rattle.coap_bind.proofs.MessageLaws.{replies_are_messages}
+use Rattle.coap_bind.proofs.SpendLaws.{no_block_wants}
+use Rattle.servient_world.specs.Laws.{blocks_for, said_of}
 use Rattle.servient_world.specs.World.{client_place, copy_of, Datagram, Act, WorldState, acts_for}
 use Rattle.servient_world.proofs.Places.{all_at}
 use Rattle.servient_world.proofs.AskLaws.{IsAskOf, HasMessage}
 use Rattle.servient_world.proofs.Holds.{IsCopy}
-use Rattle.servient_world.proofs.ReplyLaws.{full_is_message, unnumbered, observe_says}
+use Rattle.servient_world.proofs.ReplyLaws.{full_is_message, unnumbered, answer_unnumbered, said_by_verb, observe_says}
 use Rattle.servient_world.proofs.WatchLaws.{effect_says, observing_says}
 use Rattle.servient_world.proofs.Exact.{IsWhy, IsReply, IsKept, IsEmpty, reply_more, all_kept_more, same_ask}
 
@@ -113,33 +120,44 @@ kept_right P kind reply b con right e =
     subst P (same_Some reply b same) right
 
 -- a reply that has its reason
-message_by_reason : (from : Endpoint) (m : CoapMessage) (act : Option Acted) (r : Reply) (old new : Watching) (next : ℕ) → faults_of m.options ≡ [] → IsWellFormed m → next < 2 ^ 16
-    → IsReplied from m act r old new → IsWellFormed (coap_reply r (head_of m) next)
-message_by_reason from m act r old new next none bounds small (faulty some e same) = absurd (some none)
-message_by_reason from m act r old new next none bounds small (memory is e same) =
-    subst (λ (x : Reply). IsWellFormed (coap_reply x (head_of m) next)) (sym is) (replies_are_messages Memory None (head_of m) next refl tt bounds.id bounds.token small)
-message_by_reason from m act r old new next none bounds small (acted a said e what code place watches is) =
-    subst (λ (x : Reply). IsWellFormed (coap_reply x (head_of m) next)) (sym is) (replies_are_messages a.outcome said (head_of m) next code place bounds.id bounds.token small)
+message_by_reason : (from : Endpoint) (now : ℕ) (m : CoapMessage) (act : Option Acted) (r : Reply) (old new : Watching) (next : ℕ) → faults_of m.options ≡ [] → NamesNoBlock m
+    → IsWellFormed m → next < 2 ^ 16 → IsReplied from now m act r old new → IsWellFormed (coap_reply r (head_of m) next)
+message_by_reason from now m act r old new next none names bounds small (faulty some e same) = absurd (some none)
+message_by_reason from now m act r old new next none names bounds small (memory is e same) =
+    subst (λ (x : Reply). IsWellFormed (coap_reply x (head_of m) next)) (sym is) (replies_are_messages Memory None Whole (head_of m) next refl tt bounds.id bounds.token small)
+message_by_reason from now m act r old new next none names bounds small (of_blocks wants e same) = absurd (wants (no_block_wants m names))
+message_by_reason from now m act r old new next none names bounds small (acted a said e wants what code place watches is) =
+    subst (λ (x : Reply). IsWellFormed (coap_reply x (head_of m) next)) (sym is)
+    (replies_are_messages a.outcome said (use_of now m.code (observing_in m) (what_is_asked m)) (head_of m) next code place bounds.id bounds.token small)
+message_by_reason from now m act r old new next none names bounds small (acted_on_whole a said b body e wants what code place watches is) =
+    absurd (let acts_alone = no_block_wants m names in cc)
 
-why_by_reason : (acts : List Act) (k : ℕ) (from : Endpoint) (m : CoapMessage) (act : Option Acted) (r : Reply) (old new : Watching) → faults_of m.options ≡ [] → IsReplied from m act r old new
-    → IsWhy (acts ++ acts_for (copy_of k) act) k r
-why_by_reason acts k from m act r old new none (faulty some e same) = absurd (some none)
-why_by_reason acts k from m act r old new none (memory is e same) = inr (inl is)
-why_by_reason acts k from m act r old new none (acted a said e what code place watches is) =
+why_by_reason : (acts : List Act) (k : ℕ) (from : Endpoint) (now : ℕ) (m : CoapMessage) (act : Option Acted) (r : Reply) (old new : Watching) → faults_of m.options ≡ [] → NamesNoBlock m
+    → IsReplied from now m act r old new → IsWhy (acts ++ acts_for (copy_of k) act) k r
+why_by_reason acts k from now m act r old new none names (faulty some e same) = absurd (some none)
+why_by_reason acts k from now m act r old new none names (memory is e same) = inr (inl is)
+why_by_reason acts k from now m act r old new none names (of_blocks wants e same) = absurd (wants (no_block_wants m names))
+why_by_reason acts k from now m act r old new none names (acted a said e wants what code place watches is) =
     let made : Act = record { ask = k; acted = a } in
     let list : acts ++ acts_for (copy_of k) act ≡ acts ++ made ∷ [] = ap (λ (x : Option Acted). acts ++ acts_for (copy_of k) x) e in
-    inr (inr (made, subst (λ (l : List Act). Contains l made) (sym list) (Contains-push acts made), refl, said, is))
+    let asked_verb : a.what.request.verb ≡ verb_of m.code = ap (λ (x : PlainAsk). x.request.verb) what in
+    let says : answer_reply (use_of now m.code (observing_in m) (what_is_asked m)) a.outcome ≡ said_of a
+    = said_by_verb now m a.outcome names ∙ ap (λ (v : Verb). answer_reply (blocks_for v) a.outcome) (sym asked_verb) in
+    inr (inr (made, subst (λ (l : List Act). Contains l made) (sym list) (Contains-push acts made), refl, said, is ∙ ap (observed_reply said) says))
+why_by_reason acts k from now m act r old new none names (acted_on_whole a said b body e wants what code place watches is) =
+    absurd (let acts_alone = no_block_wants m names in cc)
 
 -- what a reply says of Observe: 0, where the request registers
 abbrev pub ShowsFirst : Outstanding → Reply → Type 0
 ShowsFirst request r = (q : ℕ) → sequence_of r.options ≡ Some q → (q ≡ 0) × (request.registers ≡ true)
 
-shows_said : (request : Outstanding) (o : Outcome) (said : Option ℕ) → ((n : ℕ) → said ≡ Some n → (n ≡ 0) × (request.registers ≡ true)) → ShowsFirst request (observed_reply said (reply_of o))
-shows_said request o None first q e = absurd (let none = unnumbered o in let wrong : None ≡ Some q = sym none ∙ e in cc)
-shows_said request o (Some n) first q e =
+shows_said : (request : Outstanding) (u : BlockUse) (o : Outcome) (said : Option ℕ) → ((n : ℕ) → said ≡ Some n → (n ≡ 0) × (request.registers ≡ true))
+    → ShowsFirst request (observed_reply said (answer_reply u o))
+shows_said request u o None first q e = absurd (let none = answer_unnumbered u o in let wrong : None ≡ Some q = sym none ∙ e in cc)
+shows_said request u o (Some n) first q e =
     let is = first n refl in
     let low : n < 2 ^ 24 = let none = is.0 in omega arith in
-    let same : n ≡ q = same_Some n q (sym (observe_says n (reply_of o).options low) ∙ e) in
+    let same : n ≡ q = same_Some n q (sym (observe_says n (answer_reply u o).options low) ∙ e) in
     (sym same ∙ is.0, is.1)
 
 replaced_there : (o : Option Watcher) (n : ℕ) → option_map (λ (w : Watcher). next_sequence w.sequence) o ≡ Some n → (w : Watcher) × (o ≡ Some w)
@@ -159,14 +177,17 @@ shows_watched request from token does old new said (registers target (Replaced k
     absurd (absent there.0 there.1 (reg target is))
 shows_watched request from token does old new said (registers target Full is r says) reg absent n e = absurd (let wrong : None ≡ Some n = sym says ∙ e in cc)
 
-shows_by_reason : (request : Outstanding) (from : Endpoint) (m : CoapMessage) (act : Option Acted) (r : Reply) (old new : Watching) → IsAskOf request m → IsReplied from m act r old new
-    → ((a : Acted) (w : Watcher) → act ≡ Some a → find (is_pair from m.token) old.list ≡ Some w → request.registers ≡ true → ⊥) → ShowsFirst request r
-shows_by_reason request from m act r old new is (faulty some none same) absent q e = absurd (some is.options)
-shows_by_reason request from m act r old new is (memory same none stays) absent q e =
+shows_by_reason : (request : Outstanding) (from : Endpoint) (now : ℕ) (m : CoapMessage) (act : Option Acted) (r : Reply) (old new : Watching) → IsAskOf request m
+    → IsReplied from now m act r old new → ((a : Acted) (w : Watcher) → act ≡ Some a → find (is_pair from m.token) old.list ≡ Some w → request.registers ≡ true → ⊥) → ShowsFirst request r
+shows_by_reason request from now m act r old new is (faulty some none same) absent q e = absurd (some is.options)
+shows_by_reason request from now m act r old new is (of_blocks wants none same) absent q e = absurd (wants (no_block_wants m is.names))
+shows_by_reason request from now m act r old new is (acted_on_whole a said b body made wants what code place watches same) absent q e =
+    absurd (let acts_alone = no_block_wants m is.names in cc)
+shows_by_reason request from now m act r old new is (memory same none stays) absent q e =
     let none_said = unnumbered Memory in
     absurd (let wrong : None ≡ Some q = sym none_said ∙ subst (λ (x : Reply). sequence_of x.options ≡ Some q) same e in cc)
-shows_by_reason request from m act r old new is (acted a said made what code place watches same) absent q e =
-    shows_said request a.outcome said
+shows_by_reason request from now m act r old new is (acted a said made wants what code place watches same) absent q e =
+    shows_said request (use_of now m.code (observing_in m) (what_is_asked m)) a.outcome said
     (shows_watched request from m.token (effect_of (observing_of m.code (what_is_asked m).observe) a.outcome a.target) old new said watches
     (λ target does. is.observes (observing_says m.code (what_is_asked m).observe (effect_says (observing_of m.code (what_is_asked m).observe) a.outcome a.target target does).0))
     (λ w there reg. absent a w made there reg)) q
@@ -228,9 +249,9 @@ right_copy w d k act said t copy messages differ small absent kept (is_answered 
     (subst (λ (n : List ℕ). find (is_pair d.from n) w.server.watchers.list ≡ Some x) mine.message.token there)) reg in
     let right : IsReply w.asks (w.acts ++ acts_for (copy_of k) act) k reply
     = made_reply w.asks (w.acts ++ acts_for (copy_of k) act) k copy.request m r w.server.next_id reply copy.ask mine
-    (message_by_reason d.from m act r w.server.watchers t.watchers w.server.next_id mine.options spells.bounds small reason) spelt
-    (why_by_reason w.acts k d.from m act r w.server.watchers t.watchers mine.options reason)
-    (shows_by_reason copy.request d.from m act r w.server.watchers t.watchers mine reason absent_here) in
+    (message_by_reason d.from w.moment m act r w.server.watchers t.watchers w.server.next_id mine.options mine.names spells.bounds small reason) spelt
+    (why_by_reason w.acts k d.from w.moment m act r w.server.watchers t.watchers mine.options mine.names reason)
+    (shows_by_reason copy.request d.from w.moment m act r w.server.watchers t.watchers mine reason absent_here) in
     let fresh : Exchange = record { arrival = arrival d.from w.moment m; slot = slot; reply = kept_for (request_type m.kind) reply } in
     record {
       kept = All-same (IsKept w.asks (w.acts ++ acts_for (copy_of k) act)) t.exchanges.exchanges ((later w.moment w.server.exchanges).exchanges ++ fresh ∷ []) new

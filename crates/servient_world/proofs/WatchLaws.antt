@@ -32,7 +32,7 @@ use Rattle.coap_bind.specs.declared.server.Server.{Server}
 use Rattle.coap_bind.specs.Observing.{observing_at, observing_of, may_notify, is_memory, registering, effect_of, Watches, leaves, cancels, registers}
 use Rattle.coap_bind.specs.Writing.{Reply}
 use Rattle.coap_bind.specs.Server.{told_by_empty}
-use Rattle.coap_bind.specs.Treating.{Acted, IsReplied, faulty, memory, acted, IsTold, IsTreated, no_request, is_duplicate, finds_full, is_answered, is_ignored}
+use Rattle.coap_bind.specs.Treating.{Acted, IsReplied, faulty, memory, of_blocks, acted, acted_on_whole, IsTold, IsTreated, no_request, is_duplicate, finds_full, is_answered, is_ignored}
 use Rattle.servient_world.specs.World.{client_place, server_place, Purpose, copy_of, reply_to, notice_for, other, Datagram, Act, WorldState, targets_of}
 use Rattle.servient_world.proofs.Places.{at_more}
 use Rattle.servient_world.proofs.Tokens.{same_token}
@@ -339,11 +339,14 @@ account_watched watchers from bytes act a s t m made observe_said spells is (reg
       observes = observing_says m.code (what_is_asked m).observe says.0;
     }) did
 
-account_replied : (watchers : ℕ) (from : Endpoint) (bytes : List ℕ) (act : Option Acted) (a : Account) (s t : Watching) (m : CoapMessage) (r : Reply)
-    → Spells m bytes → IsReplied from m act r s t → AccountDid watchers a s → GoesOn watchers from bytes act a t
-account_replied watchers from bytes act a s t m r spells (faulty faults none same) did = kept_account watchers from bytes act a s t same did
-account_replied watchers from bytes act a s t m r spells (memory is none same) did = kept_account watchers from bytes act a s t same did
-account_replied watchers from bytes act a s t m r spells (acted made observe_said is what code place watches reply) did =
+account_replied : (watchers : ℕ) (from : Endpoint) (bytes : List ℕ) (now : ℕ) (act : Option Acted) (a : Account) (s t : Watching) (m : CoapMessage) (r : Reply)
+    → Spells m bytes → IsReplied from now m act r s t → AccountDid watchers a s → GoesOn watchers from bytes act a t
+account_replied watchers from bytes now act a s t m r spells (faulty faults none same) did = kept_account watchers from bytes act a s t same did
+account_replied watchers from bytes now act a s t m r spells (memory is none same) did = kept_account watchers from bytes act a s t same did
+account_replied watchers from bytes now act a s t m r spells (of_blocks wants none same) did = kept_account watchers from bytes act a s t same did
+account_replied watchers from bytes now act a s t m r spells (acted made observe_said is wants what code place watches reply) did =
+    account_watched watchers from bytes act a s t m made observe_said spells is watches did
+account_replied watchers from bytes now act a s t m r spells (acted_on_whole made observe_said b body is wants what code place watches reply) did =
     account_watched watchers from bytes act a s t m made observe_said spells is watches did
 
 pub account_goes_on : (watchers : ℕ) (from : Endpoint) (bytes : List ℕ) (now : ℕ) (act : Option Acted) (back : List (List ℕ)) (a : Account) (s t : Server)
@@ -353,5 +356,5 @@ account_goes_on watchers from bytes now act back a s t (no_request never quiet n
 account_goes_on watchers from bytes now act back a s t (is_duplicate m e spells request found none is same kept) did = kept_account watchers from bytes act a s.watchers t.watchers kept did
 account_goes_on watchers from bytes now act back a s t (finds_full m spells request none is same kept) did = kept_account watchers from bytes act a s.watchers t.watchers kept did
 account_goes_on watchers from bytes now act back a s t (is_answered m slot r reply spells request free why spelt is new) did =
-    account_replied watchers from bytes act a s.watchers t.watchers m r spells why did
+    account_replied watchers from bytes now act a s.watchers t.watchers m r spells why did
 account_goes_on watchers from bytes now act back a s t (is_ignored m slot spells request faults none silent new kept) did = kept_account watchers from bytes act a s.watchers t.watchers kept did

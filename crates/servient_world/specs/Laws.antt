@@ -1,7 +1,13 @@
 -- What holds of the world over every schedule.
-use Rattle.std.specs.Prelude.{◌≡◌, ◌≢◌, ◌<◌, ◌≤◌, ◌-◌, ◌⊎◌, ℕ, List, length, codes, All, AllPairs, Contains, Some, slice_get}
+use Rattle.std.specs.Prelude.{◌≡◌, ◌≢◌, ◌<◌, ◌≤◌, ◌-◌, ◌⊎◌, ℕ, List, [], length, codes, All, AllPairs, Contains, Some, None, slice_get}
+use Rattle.thing_ops.specs.declared.verb.Verb.{Verb}
+use Rattle.thing_ops.specs.declared.verb.Verb.TheVariants as verb
 use Rattle.thing_ops.specs.Outcomes.{coap}
-use Rattle.coap_bind.specs.Writing.{reply_of}
+use Rattle.coap_bind.specs.declared.blocks.BlockUse.{BlockUse}
+use Rattle.coap_bind.specs.declared.blocks.BlockUse.TheVariants as blocks
+use Rattle.coap_bind.specs.Blocks.{answer_reply}
+use Rattle.coap_bind.specs.Treating.{Acted}
+use Rattle.coap_bind.specs.Writing.{Reply}
 use Rattle.servient_world.specs.World.{Emission, WorldState, WorldMove, Act, Value, answered, observed, IsStart, PlaysAll}
 
 -- no two acts are for one ask
@@ -18,13 +24,28 @@ ActedOnce =
 abbrev pub IsExcuse : ℕ → List ℕ → Type 0
 IsExcuse code payload = (code ≡ coap 5 03) × ((payload ≡ codes "full") ⊎ (payload ≡ codes "memory"))
 
+-- What blocks are to the reply to an ask of the client, which names none: what a GET reads is given in blocks of 1,024 bytes
+-- (RFC 7959, section 2.4). For whom and when they are kept isn't said in the reply.
+abbrev pub blocks_for : Verb → BlockUse
+blocks_for verb.Get = blocks.Gives (record { path = []; szx = None; moment = 0 })
+blocks_for verb.Head = blocks.Whole
+blocks_for verb.Put = blocks.Whole
+blocks_for verb.Post = blocks.Whole
+blocks_for verb.Patch = blocks.Whole
+blocks_for verb.Delete = blocks.Whole
+blocks_for verb.Other = blocks.Whole
+
+-- what the server says of an act for an ask
+abbrev pub said_of : Acted → Reply
+said_of a = answer_reply (blocks_for a.what.request.verb) a.outcome
+
 -- an act for an ask, and its outcome as the server writes it
 pub record IsAnsweredBy (acts : List Act) (k code : ℕ) (payload : List ℕ) : Type 0 where
   pub act : Act
   pub made : Contains acts act
   pub for_it : act.ask ≡ k
-  pub says_code : code ≡ (reply_of act.acted.outcome).code
-  pub says_payload : payload ≡ (reply_of act.acted.outcome).payload
+  pub says_code : code ≡ (said_of act.acted).code
+  pub says_payload : payload ≡ (said_of act.acted).payload
 
 -- For an ask that ended with any other response the server made an act (and only one, by the law before), and the response says
 -- what that came to.
@@ -58,7 +79,7 @@ pub record WasRead (acts : List Act) (x : Value) : Type 0 where
   pub made : Contains acts act
   pub for_it : act.ask ≡ x.ask
   pub first : x.place ≡ 0
-  pub payload : x.payload ≡ (reply_of act.acted.outcome).payload
+  pub payload : x.payload ≡ (said_of act.acted).payload
 
 -- A value was emitted for the target for which its ask registered.
 pub record WasEmitted (acts : List Act) (emitted : List Emission) (x : Value) : Type 0 where

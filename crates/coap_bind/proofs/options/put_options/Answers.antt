@@ -7,8 +7,8 @@ use Rattle.coap_msg.proofs.OptionParts.{no_room_for_all}
 use Rattle.coap_bind.specs.Writing.{place_of, format_options, observe_options}
 use Rattle.coap_bind.proofs.options.put_options.Goals as goal
 
-pub returns-in_err-put_observe : goal.returns-in_err-put_observe
-returns-in_err-put_observe c =
+pub returns-in_err-put_observe-clause-ok : goal.returns-in_err-put_observe-clause-ok
+returns-in_err-put_observe-clause-ok c =
     let p = err_from_is_err_and c.from_residual.result c.from_residual.ensures.1 in
     let rest = segment_options LOCATION_PATH (place_of c.args.outcome.now) ++ format_options c.args.outcome.now in
     rw p.1 (no_room_for_all _ rest _ c.args.options.now.room

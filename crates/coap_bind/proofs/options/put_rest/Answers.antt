@@ -7,8 +7,8 @@ use Rattle.coap_msg.specs.Opts.{segment_options}
 use Rattle.coap_msg.proofs.OptionParts.{no_room_for_all}
 use Rattle.coap_bind.proofs.options.put_rest.Goals as goal
 
-pub returns-in_err-put_place : goal.returns-in_err-put_place
-returns-in_err-put_place c =
+pub returns-in_err-put_place-clause-ok : goal.returns-in_err-put_place-clause-ok
+returns-in_err-put_place-clause-ok c =
     let p = err_from_is_err_and c.from_residual.result c.from_residual.ensures.1 in
     rw p.1 (no_room_for_all _ (format_options c.args.outcome.now) _ c.args.options.now.room
     (sym (append_assoc c.args.options.now.list (segment_options LOCATION_PATH (place_of c.args.outcome.now)) (format_options c.args.outcome.now)))

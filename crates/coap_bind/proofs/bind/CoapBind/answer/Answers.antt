@@ -9,4 +9,4 @@ pub answer-requires-clause-room : goal.answer-requires-clause-room
 answer-requires-clause-room c =
     let P : OpenAsk → Type 0 = λ a. HasRoom a c.args.outcome.now c.args.target c.self.inside.server in
     let Q : Server → Type 0 = λ s. HasRoom c.args.ticket c.args.outcome.now c.args.target s in
-    subst P (sym c.spend-ask.ensures) (subst Q (sym c.self.view_is) c.requires.room)
+    subst P (sym c.spend-ask.ensures.ok) (subst Q (sym c.self.view_is) c.requires.room)

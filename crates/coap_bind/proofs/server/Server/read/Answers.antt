@@ -1,36 +1,32 @@
 -- Each way out is a rule.
-use Rattle.std.proofs.Common.{subst}
+use Rattle.std.proofs.Common.{◌≤◌, length, ap, sym, subst}
 use Rattle.coap_msg.specs.MessageOf.{message_of}
-use Rattle.coap_opts.specs.declared.fault.AskFault.TheVariants.{BadOption, Proxy}
-use Rattle.thing_ops.specs.declared.outcome.Outcome.TheVariants.{Memory}
+use Rattle.coap_blocks.specs.Paths.{largest_path, path_size}
+use Rattle.coap_opts.specs.Reading.{PlainAsk}
+use Rattle.coap_bind.specs.declared.head.OpenRequest.{OpenRequest}
 use Rattle.coap_bind.specs.declared.head.RequestHead.{RequestHead}
-use Rattle.coap_bind.specs.Writing.{proxy_reply, reply_of}
-use Rattle.coap_bind.specs.Telling.{RepliesAs}
-use Rattle.coap_bind.specs.Settling.{RefusesOption}
-use Rattle.coap_bind.proofs.ReadingLaws.{first_fault, no_fault_here, reads_bad_option, reads_for_proxy, reads_no_memory}
+use Rattle.coap_bind.specs.Settling.{RefusesFault}
+use Rattle.coap_bind.proofs.ReadingLaws.{reads_fault}
 use Rattle.coap_bind.proofs.server.Server.read.Goals as goal
 
-pub returns-in-Err-BadOption-clause-ok : goal.returns-in-Err-BadOption-clause-ok
-returns-in-Err-BadOption-clause-ok c =
-    let P : RequestHead → Type 0 = λ h.
-    RefusesOption (record { head = h; slot = c.args.slot }) c.in-Err-BadOption.number c.refuse_option.result c.args.out.now c.refuse_option.new.out
-    c.args.self.now c.refuse_option.new.self in
-    reads_bad_option c.args.from (message_of c.args.message.now) c.args.slot c.in-Err-BadOption.number _ _ _ _ _
-    (first_fault _ c.in-Err-BadOption.field-0 (BadOption c.in-Err-BadOption.number) c.in-Err-BadOption.field-0-is (λ e. cc) c.in-Err-BadOption.ensures.fault)
-    (subst P c.of.ensures (rw c.in-Err-BadOption.field-0-is at c.refuse_option.ensures))
+pub returns-in-Ok-clause-ok : goal.returns-in-Ok-clause-ok
+returns-in-Ok-clause-ok c =
+    c.treat.ensures.ok (message_of c.args.message.now) (record {
+      code = c.requires.code;
+      request_is = ap (λ (h : RequestHead). let r : OpenRequest = record { head = h; slot = c.args.arrived.slot } in r) c.of.ensures;
+      what_is = c.in-Ok.ensures.ok.1;
+      faultless = c.in-Ok.ensures.ok.0;
+    })
 
-pub returns-in-Err-Proxy-clause-ok : goal.returns-in-Err-Proxy-clause-ok
-returns-in-Err-Proxy-clause-ok c =
+pub returns-in-Err-clause-ok : goal.returns-in-Err-clause-ok
+returns-in-Err-clause-ok c =
     let P : RequestHead → Type 0 = λ h.
-    RepliesAs proxy_reply (record { head = h; slot = c.args.slot }) c.refuse.result c.args.out.now c.refuse.new.out c.args.self.now c.refuse.new.self in
-    reads_for_proxy c.args.from (message_of c.args.message.now) c.args.slot _ _ _ _ _
-    (first_fault _ c.in-Err-Proxy.field-0 Proxy c.in-Err-Proxy.field-0-is (λ e. cc) c.in-Err-Proxy.ensures.fault)
-    (subst P c.of.ensures c.refuse.ensures)
+    RefusesFault (record { head = h; slot = c.args.arrived.slot }) c.in-Err.fault c.refuse_fault.result c.args.out.now c.refuse_fault.new.out c.args.self.now c.refuse_fault.new.self in
+    reads_fault c.args.arrived.from c.args.arrived.now (message_of c.args.message.now) c.args.arrived.slot c.in-Err.fault c.refuse_fault.result _ _ _ _
+    c.in-Err.ensures.fault (subst P c.of.ensures c.refuse_fault.ensures)
 
-pub returns-in-Err-NoMemory-clause-ok : goal.returns-in-Err-NoMemory-clause-ok
-returns-in-Err-NoMemory-clause-ok c =
-    let P : RequestHead → Type 0 = λ h.
-    RepliesAs (reply_of Memory) (record { head = h; slot = c.args.slot }) c.reply.result c.args.out.now c.reply.new.out c.args.self.now c.reply.new.self in
-    reads_no_memory c.args.from (message_of c.args.message.now) c.args.slot _ _ _ _ _
-    (no_fault_here c.args.message.now.options c.in-Err-NoMemory.field-0 c.in-Err-NoMemory.field-0-is c.in-Err-NoMemory.ensures.fault)
-    (subst P c.of.ensures c.reply.ensures)
+pub treat-requires-clause-token : goal.treat-requires-clause-token
+treat-requires-clause-token c = subst (λ (h : RequestHead). length h.token ≤ 8) (sym c.of.ensures) c.requires.token
+
+pub treat-requires-clause-path : goal.treat-requires-clause-path
+treat-requires-clause-path c = subst (λ (a : PlainAsk). path_size a.request.path ≤ largest_path) (sym c.in-Ok.ensures.ok.1) c.requires.path

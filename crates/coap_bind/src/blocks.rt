@@ -1,0 +1,99 @@
+//! What a request wants of blocks, and what its reply says of them (RFC 7959).
+
+ghost use Rattle.std.specs.Prelude.{◌≡◌};
+ghost use Rattle.coap_opts.specs.PlainAsk.{plain_ask};
+ghost use Rattle.coap_bind.specs.Blocks.{block2_of, wanted_by_body, wanted_by_get, wanted_of};
+
+use crate::observing::Observing;
+use coap_msg::{Block, GET, POST, PUT};
+use coap_opts::CoapAsk;
+use thing_ops::Segments;
+
+/// What a request wants, by the blocks that it names.
+#[derive(Clone, Copy, Debug, PartialEq, Eq)]
+pub enum Wanted {
+    /// To be acted on as it is.
+    Act,
+    /// A block of a response that was given, after its first.
+    LaterBlock(Block),
+    /// That this block of it is joined to those before.
+    Joining(Block),
+}
+
+/// What blocks are to the reply to a request.
+#[derive(Debug, Drop)]
+pub enum BlockUse {
+    /// Nothing: its payload is whole.
+    Whole,
+    /// Its payload is given in blocks, where it is longer than one.
+    Gives(Giving),
+    /// The request came in blocks, of which this was the last.
+    Joined(Block),
+}
+
+/// How the payload of a response is given in blocks.
+#[derive(Debug, Drop)]
+pub struct Giving {
+    /// The path of the request: its sender and the path lead to the later blocks.
+    pub path: Segments,
+    /// The exponent of the size of a block that was asked for, from 0 to 6.
+    pub szx: Option<u8>,
+    /// When the request came, in milliseconds.
+    pub moment: u64,
+}
+
+/// The option of a reply that says a block (RFC 7959, section 2.1).
+#[derive(Clone, Copy, Debug, PartialEq, Eq)]
+pub enum BlockOption {
+    /// Which block of the response it has.
+    Block2(Block),
+    /// Which block of the request came.
+    Block1(Block),
+}
+
+/// What a request of this code wants, which wants this of the watchers.
+pub fn wanted_of(code: u8, observing: Observing, ask: &CoapAsk<'_>) -> Wanted
+    ensures { result ≡ wanted_of code observing (plain_ask ask.now) }
+{
+    match code {
+        GET => wanted_by_get(block2_of(observing, ask)),
+        POST | PUT => wanted_by_body(ask.block1),
+        _ => Wanted::Act,
+    }
+}
+
+/// Block2 of a GET, where it is read.
+pub fn block2_of(observing: Observing, ask: &CoapAsk<'_>) -> Option<Block>
+    ensures { result ≡ block2_of observing (plain_ask ask.now) }
+{
+    match observing {
+        Observing::Registers => None,
+        Observing::Unchanged | Observing::Deregisters => ask.block2,
+    }
+}
+
+/// What a GET wants with this Block2.
+fn wanted_by_get(block: Option<Block>) -> Wanted
+    ensures { result ≡ wanted_by_get block }
+{
+    match block {
+        Some(block) => {
+            if block.number == 0 {
+                Wanted::Act
+            } else {
+                Wanted::LaterBlock(block)
+            }
+        }
+        None => Wanted::Act,
+    }
+}
+
+/// What a PUT or a POST wants with this Block1.
+fn wanted_by_body(block: Option<Block>) -> Wanted
+    ensures { result ≡ wanted_by_body block }
+{
+    match block {
+        Some(block) => Wanted::Joining(block),
+        None => Wanted::Act,
+    }
+}

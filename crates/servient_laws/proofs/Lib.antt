@@ -1,5 +1,9 @@
 mod Histories
 mod RequestLaws
+mod KeptBlocks
+mod HeardBlocks
+mod RunBlocks
+mod TransferLaws
 mod FoundKinds
 mod CallLaws
 mod RunCalls

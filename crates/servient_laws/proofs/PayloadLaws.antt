@@ -62,7 +62,7 @@ in_whole x a b seen whole (inr there) = subst (λ (l : List Sighting). Contains 
 first_of : (x : Sighting) (rest seen : List Sighting) → seen ≡ x ∷ rest → Contains seen x
 first_of x rest seen is = subst (λ (l : List Sighting). Contains l x) (sym is) (0, omega arith, refl)
 
-by_ask : (site : Site) (from : Endpoint) (ask : PlainAsk) (r : OpenAsk) (done : Done) (s t : State) (seen : List Sighting) → AnswersAsk site from ask r done s seen t → SaysByCoap from r.blocks done.outcome seen
+pub by_ask : (site : Site) (from : Endpoint) (ask : PlainAsk) (r : OpenAsk) (done : Done) (s t : State) (seen : List Sighting) → AnswersAsk site from ask r done s seen t → SaysByCoap from r.blocks done.outcome seen
 by_ask site from ask r done s t seen (bytes, w) = record {
   message = coap_reply (observed w.one.1.observe (answer_reply r.blocks done.outcome)) r.request.head s.coap.next_id;
   sent = in_whole (at_network (did (act.Datagram from (spelling (coap_reply (observed w.one.1.observe (answer_reply r.blocks done.outcome)) r.request.head s.coap.next_id))))) w.first w.second seen w.whole
@@ -102,7 +102,7 @@ by_message c done s t seen answered (sent, w) = by sent w.one.1 w.other
         }
 
 -- what is written is in the trace of all
-whole_says : (m : Message) (o : Outcome) (s : State) (a c d seen : List Sighting) → seen ≡ a ++ (c ++ d) → Says m o s c → Says m o s seen
+pub whole_says : (m : Message) (o : Outcome) (s : State) (a c d seen : List Sighting) → seen ≡ a ++ (c ++ d) → Says m o s c → Says m o s seen
 whole_says (by_coap from ask request) o s a c d seen whole says = record {
   message = says.message;
   sent = in_whole (at_network (did (act.Datagram from (spelling says.message)))) a (c ++ d) seen whole (inr (Contains-append_left c d (at_network (did (act.Datagram from (spelling says.message)))) says.sent));

@@ -39,18 +39,18 @@ use Rattle.servient_laws.proofs.Histories.{same_requests}
 -- ---- the parts of a step on a datagram that is looked at
 
 -- it was heard, and answered, and then the event ended
-record Parts (site : Site) (from : Endpoint) (bytes : List ℕ) (e : EventWithBytes) (s : State) (seen : List Sighting) (t : State) : Type 0 where
-  what : Heard
-  server : Server
-  hears : Hears from bytes (moment_of s e) what s.coap server
-  answer : List Sighting
-  middle : State
-  answers : AnswersDatagram site from what (record s { moment = moment_of s e; coap = server }) answer middle
-  rest : List Sighting
-  whole : seen ≡ at_network (heard e) ∷ answer ++ rest
-  ends : EndsEvent middle rest t
+pub record Parts (site : Site) (from : Endpoint) (bytes : List ℕ) (e : EventWithBytes) (s : State) (seen : List Sighting) (t : State) : Type 0 where
+  pub what : Heard
+  pub server : Server
+  pub hears : Hears from bytes (moment_of s e) what s.coap server
+  pub answer : List Sighting
+  pub middle : State
+  pub answers : AnswersDatagram site from what (record s { moment = moment_of s e; coap = server }) answer middle
+  pub rest : List Sighting
+  pub whole : seen ≡ at_network (heard e) ∷ answer ++ rest
+  pub ends : EndsEvent middle rest t
 
-parts_of : (site : Site) (from : Endpoint) (size : ℕ) (e : EventWithBytes) (s t : State) (seen : List Sighting) → e.event.what ≡ what.Datagram from size
+pub parts_of : (site : Site) (from : Endpoint) (size : ℕ) (e : EventWithBytes) (s t : State) (seen : List Sighting) → e.event.what ≡ what.Datagram from size
     → length e.bytes ≤ LONGEST_DATAGRAM → EventAndStep site e s seen t → Parts site from e.bytes e s seen t
 parts_of site from size e s t seen is short both =
     let step : Step site e s both.second t = subst (λ (x : State). Step site e x both.second t) both.one.next both.other in
@@ -78,7 +78,7 @@ parts_of site from size e s t seen is short both =
     }
 
 -- what ends the event calls nothing, so if the answer calls nothing, nothing does
-nothing_done : (e : EventWithBytes) (s middle t : State) (answer rest seen : List Sighting) → seen ≡ at_network (heard e) ∷ answer ++ rest → EndsEvent middle rest t
+pub nothing_done : (e : EventWithBytes) (s middle t : State) (answer rest seen : List Sighting) → seen ≡ at_network (heard e) ∷ answer ++ rest → EndsEvent middle rest t
     → calls_in answer ≡ [] → middle.thing ≡ s.thing → middle.directory ≡ s.directory → ActsOnNothing e s answer middle seen t
 nothing_done e s middle t answer rest seen whole ends none thing directory =
     let quiet = ends_quiet middle t rest ends in record {
@@ -92,11 +92,11 @@ nothing_done e s middle t answer rest seen whole ends none thing directory =
 
 -- ---- verdicts
 
-record Known (exchanges : ℕ) (history : List Arrival) (s : State) : Type 0 where
-  did : Did exchanges history s.coap
-  moment : s.coap.exchanges.moment ≤ s.moment
+pub record Known (exchanges : ℕ) (history : List Arrival) (s : State) : Type 0 where
+  pub did : Did exchanges history s.coap
+  pub moment : s.coap.exchanges.moment ≤ s.moment
 
-known : (v : Verdict) (site : Site) (exchanges : ℕ) (from : Endpoint) (m : CoapMessage) (s t : State) (e : EventWithBytes) (seen : List Sighting)
+pub known : (v : Verdict) (site : Site) (exchanges : ℕ) (from : Endpoint) (m : CoapMessage) (s t : State) (e : EventWithBytes) (seen : List Sighting)
     (comes : ComesTo v site exchanges from m s e seen t) → Known exchanges comes.history s
 known v site exchanges from m s t e seen comes =
     let h : HasHistory exchanges comes.took s = each_run_has_a_history site exchanges comes.took comes.before s comes.run in record {
@@ -105,7 +105,7 @@ known v site exchanges from m s t e seen comes =
     }
 
 -- the verdict is what the request met
-met_by : (exchanges : ℕ) (history : List Arrival) (from : Endpoint) (bytes : List ℕ) (now : ℕ) (m : CoapMessage) (met : Met) (s t : Server) → Did exchanges history s
+pub met_by : (exchanges : ℕ) (history : List Arrival) (from : Endpoint) (bytes : List ℕ) (now : ℕ) (m : CoapMessage) (met : Met) (s t : Server) → Did exchanges history s
     → s.exchanges.moment ≤ now → IsMet from bytes now m met s t → IsVerdict met (verdict exchanges (admitted_among exchanges history) (arrival from now m))
 met_by exchanges history from bytes now m met s t did past is =
     let of = exchanges_are_of_the_history exchanges history s did in

@@ -6,6 +6,7 @@ ghost use Rattle.servient_laws.specs.InMemory.{NothingFailsInMemory};
 ghost use Rattle.servient_laws.specs.Memory.{MemoryIsSeen};
 ghost use Rattle.servient_laws.specs.Payloads.{PayloadsAreOfOutcomes};
 ghost use Rattle.servient_laws.specs.Spoken.{RequestsAreSpoken};
+ghost use Rattle.servient_laws.specs.Transfers.{JoinedBodiesActOnce, LaterBlocksAreOfOneAct, RequestsActOnce};
 ghost use Rattle.servient_laws.specs.Untouched.{FaultsTakeNoEvent, HandlersStay};
 ghost use Rattle.servient_laws.specs.Requests.{RepeatsActOnce, FullTablesActOnNothing};
 
@@ -64,4 +65,23 @@ pub fn payloads_are_of_outcomes()
 /// is said of something.
 pub fn requests_are_spoken()
     ensures { RequestsAreSpoken }
+{}
+
+/// A CoAP request that is admitted and wants an act makes one, and what is sent says its payload, or the part of it that
+/// is to be given first; or it is out of memory, and makes none.
+pub fn requests_act_once()
+    ensures { RequestsActOnce }
+{}
+
+/// Each later block of a response that is sent to an endpoint for a path is the part, from its number times its size on, of
+/// one payload: that of one act, made on a request of that endpoint for that path less than 247,000 ms before. None is
+/// made for it (RFC 7959, section 2.4).
+pub fn later_blocks_are_of_one_act()
+    ensures { LaterBlocksAreOfOneAct }
+{}
+
+/// The last block of a request's body leads to one act, on the payloads joined of blocks that came in their order, all of
+/// one endpoint, code and path; each before it, and each that isn't taken, leads to none (RFC 7959, section 2.5).
+pub fn joined_bodies_act_once()
+    ensures { JoinedBodiesActOnce }
 {}

@@ -4,6 +4,8 @@
 //! it. They stand in a crate of their own above `servient_core`, so that a further one proves nothing anew.
 //!
 //! - A CoAP request that comes again within its exchange lifetime acts once: `repeats_act_once`.
+//! - A request that is admitted and wants an act makes one: `requests_act_once`; each later block that is sent is of what
+//!   one act gave, `later_blocks_are_of_one_act`, and the blocks of a body lead to one act, `joined_bodies_act_once`.
 //! - A full table of exchanges acts on nothing: `full_tables_act_on_nothing`.
 //! - What its schema refuses reaches no device: `calls_are_fit`, said of the calls alone.
 //! - A request that was out of memory made no call, or ended at a handler that was: `memory_is_seen`.
@@ -20,7 +22,8 @@
 mod laws;
 
 pub use laws::{
-    calls_are_fit, faults_take_no_event, full_tables_act_on_nothing, handlers_stay, memory_is_seen,
-    nothing_fails_in_memory, payloads_are_of_outcomes, repeats_act_once, requests_are_spoken,
+    calls_are_fit, faults_take_no_event, full_tables_act_on_nothing, handlers_stay,
+    joined_bodies_act_once, later_blocks_are_of_one_act, memory_is_seen, nothing_fails_in_memory,
+    payloads_are_of_outcomes, repeats_act_once, requests_act_once, requests_are_spoken,
     runs_are_determined,
 };

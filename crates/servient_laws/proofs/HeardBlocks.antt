@@ -1,0 +1,185 @@
+-- What a datagram that is heard does to the bodies and the parts, what it asks, and what answering that does to them.
+use Rattle.std.proofs.Common.{◌≡◌, ℕ, List, [], ◌∷◌, ◌++◌, refl, sym, ap, ap₂, subst, ◌∙◌, inl, inr, remove, map}
+use Rattle.std.specs.Prelude.{◌⊎◌, Option, Some, None, true}
+use Rattle.std.proofs.lemmas.List.{append-nil}
+use Rattle.std.proofs.lemmas.List.Elements.{filter_map-append}
+use Rattle.coap_msg.specs.declared.block.Block.{Block}
+use Rattle.coap_msg.specs.declared.endpoint.Endpoint.{Endpoint}
+use Rattle.coap_msg.specs.declared.message.RequestType.{RequestType}
+use Rattle.coap_msg.specs.declared.message.RequestType.TheVariants.{Confirmable, NonConfirmable}
+use Rattle.coap_msg.specs.Grammar.{CoapMessage, Spells}
+use Rattle.coap_msg.specs.Requests.{request_type}
+use Rattle.coap_exchange.specs.declared.met.Met.TheVariants.{Fresh}
+use Rattle.coap_blocks.specs.Bodies.{Body}
+use Rattle.coap_blocks.specs.Laws.{Call, adds, clears, blocks_among, parts_after}
+use Rattle.coap_blocks.specs.Parts.{Arrival as BlockArrival, Part}
+use Rattle.coap_opts.specs.Reading.{PlainAsk, asked as what_is_asked}
+use Rattle.coap_bind.specs.declared.blocks.Wanted.TheVariants as wanted
+use Rattle.coap_bind.specs.declared.head.OpenAsk.{OpenAsk}
+use Rattle.coap_bind.specs.declared.head.OpenRequest.{OpenRequest}
+use Rattle.coap_bind.specs.declared.server.Server.{Server}
+use Rattle.coap_bind.specs.Blocks.{answer_reply, bodies_after}
+use Rattle.coap_bind.specs.Server.{Heard, asked, is_request, with_id_used, with_kept, with_watchers, with_bodies, with_parts, Replies, Answers, wanted_in, opened, opened_ask, joined_ask, with_whole_body, block_arrival, Adds, IsAnsweredAtOnce, bad_option, bad_block, for_proxy, no_memory, later_block, joined, Reads, replied, bad_option_ignored, asks, asks_whole as reads_whole, malformed, no_request, duplicate, full, settled, admitted, Hears, answered_at_once, ignored}
+use Rattle.coap_bind.specs.Writing.{Reply, observed}
+use Rattle.coap_bind.proofs.HistoryLaws.{not_replied, not_duplicate}
+use Rattle.thing_ops.specs.declared.outcome.Outcome.{Outcome}
+use Rattle.thing_handler.specs.Turns.{HandlerCall}
+use Rattle.thing_core.specs.State.{State as ThingState}
+use Rattle.thing_core.specs.Thing.{Done, Acts}
+use Rattle.servient_core.specs.Trace.{Sighting, call_in, calls_in}
+use Rattle.servient_core.specs.Machine.{Site, State, AnswersDatagram}
+use Rattle.servient_core.specs.Meaning.{by_coap}
+use Rattle.servient_core.proofs.MeaningLaws.{rest_quiet}
+use Rattle.servient_core.proofs.PartLaws.{the_calls}
+use Rattle.servient_laws.proofs.KeptBlocks.{SameBlocks, delivers_each_same}
+
+-- ---- what stays
+
+used_blocks : (kind : RequestType) (s : Server) → ((with_id_used kind s).parts ≡ s.parts) × ((with_id_used kind s).bodies ≡ s.bodies)
+used_blocks Confirmable s = (refl, refl)
+used_blocks NonConfirmable s = (refl, refl)
+
+kept_blocks : (kind : RequestType) (slot : ℕ) (bytes : List ℕ) (s : Server)
+    → ((with_kept kind slot bytes (with_id_used kind s)).parts ≡ s.parts) × ((with_kept kind slot bytes (with_id_used kind s)).bodies ≡ s.bodies)
+kept_blocks Confirmable slot bytes s = (refl, refl)
+kept_blocks NonConfirmable slot bytes s = (refl, refl)
+
+-- a reply leaves them
+pub replies_blocks : (r : Reply) (request : OpenRequest) (bytes : List ℕ) (s t : Server) → Replies r request bytes s t → (t.parts ≡ s.parts) × (t.bodies ≡ s.bodies)
+replies_blocks r request bytes s t h =
+    let kept = kept_blocks request.head.kind request.slot bytes s in
+    (ap (λ (x : Server). x.parts) h.after ∙ kept.0, ap (λ (x : Server). x.bodies) h.after ∙ kept.1)
+
+-- an answer keeps a body that is given in blocks
+answers_blocks : (ask : OpenAsk) (o : Outcome) (target : Option ℕ) (bytes : List ℕ) (s t : Server) → Answers ask o target bytes s t
+    → (t.parts ≡ s.parts) × (t.bodies ≡ bodies_after ask.blocks ask.from o s.bodies)
+answers_blocks ask o target bytes s t h =
+    replies_blocks (observed h.observe (answer_reply ask.blocks o)) ask.request bytes (with_bodies (bodies_after ask.blocks ask.from o s.bodies) (with_watchers h.watchers s)) t h.replies
+
+-- ---- what is heard
+
+-- the blocks of a request in a datagram: one at most
+pub data AreBlocksOf (from : Endpoint) (bytes : List ℕ) (now : ℕ) (row : List BlockArrival) : Type 0 where
+  no_block : row ≡ [] → AreBlocksOf from bytes now row
+  one_block : (m : CoapMessage) (b : Block) → Spells m bytes → is_request m ≡ true → wanted_in m ≡ wanted.Joining b → row ≡ block_arrival from now m b ∷ []
+      → AreBlocksOf from bytes now row
+
+-- calls lead to the parts, by the blocks of the datagram; the bodies are as they were
+pub record HearsBlocks (from : Endpoint) (bytes : List ℕ) (now : ℕ) (s t : Server) : Type 0 where
+  pub calls : List Call
+  pub parts : t.parts ≡ parts_after s.parts calls
+  pub blocks : AreBlocksOf from bytes now (blocks_among calls)
+  pub bodies : t.bodies ≡ s.bodies
+
+unheard : (from : Endpoint) (bytes : List ℕ) (now : ℕ) (s t : Server) → t.parts ≡ s.parts → t.bodies ≡ s.bodies → HearsBlocks from bytes now s t
+unheard from bytes now s t parts bodies = record { calls = []; parts = parts; blocks = no_block refl; bodies = bodies }
+
+at_once_blocks : (from : Endpoint) (bytes : List ℕ) (now : ℕ) (m : CoapMessage) (r : Reply) (s t : Server) (parts : List Part) → Spells m bytes → is_request m ≡ true
+    → IsAnsweredAtOnce from now m r s parts → t.parts ≡ parts → t.bodies ≡ s.bodies → HearsBlocks from bytes now s t
+at_once_blocks from bytes now m r s t parts spells request (bad_option number fault con is same) leaves bodies = unheard from bytes now s t (leaves ∙ same) bodies
+at_once_blocks from bytes now m r s t parts spells request (bad_block fault is same) leaves bodies = unheard from bytes now s t (leaves ∙ same) bodies
+at_once_blocks from bytes now m r s t parts spells request (for_proxy fault is same) leaves bodies = unheard from bytes now s t (leaves ∙ same) bodies
+at_once_blocks from bytes now m r s t parts spells request (no_memory fine is same) leaves bodies = unheard from bytes now s t (leaves ∙ same) bodies
+at_once_blocks from bytes now m r s t parts spells request (later_block b fine wants is same) leaves bodies = unheard from bytes now s t (leaves ∙ same) bodies
+at_once_blocks from bytes now m r s t parts spells request (joined b added fine wants adding is) leaves bodies = record {
+  calls = adds (block_arrival from now m b) ∷ [];
+  parts = leaves ∙ adding.parts_are;
+  blocks = one_block m b spells request wants refl;
+  bodies = bodies;
+}
+
+reads_blocks : (from : Endpoint) (bytes : List ℕ) (now : ℕ) (m : CoapMessage) (slot : ℕ) (h : Heard) (s t : Server) → Spells m bytes → is_request m ≡ true
+    → Reads from now m slot h s t → HearsBlocks from bytes now s t
+reads_blocks from bytes now m slot h s t spells request (replied r parts sent why replies is) =
+    let leaves = replies_blocks r (opened m slot) sent (with_parts parts s) t replies in
+    at_once_blocks from bytes now m r s t parts spells request why leaves.0 leaves.1
+reads_blocks from bytes now m slot h s t spells request (bad_option_ignored number fault non is same) =
+    unheard from bytes now s t (ap (λ (x : Server). x.parts) same) (ap (λ (x : Server). x.bodies) same)
+reads_blocks from bytes now m slot h s t spells request (asks fine act is same) =
+    unheard from bytes now s t (ap (λ (x : Server). x.parts) same) (ap (λ (x : Server). x.bodies) same)
+reads_blocks from bytes now m slot h s t spells request (reads_whole b place parts body fine wants adding there is same) = record {
+  calls = adds (block_arrival from now m b) ∷ clears place ∷ [];
+  parts = ap (λ (x : Server). x.parts) same ∙ ap (λ (ps : List Part). remove ps place) adding.parts_are;
+  blocks = one_block m b spells request wants refl;
+  bodies = ap (λ (x : Server). x.bodies) same;
+}
+
+-- of a server with the same parts and bodies
+heard_from : (from : Endpoint) (bytes : List ℕ) (now : ℕ) (s u t : Server) → u.parts ≡ s.parts → u.bodies ≡ s.bodies → HearsBlocks from bytes now u t → HearsBlocks from bytes now s t
+heard_from from bytes now s u t parts bodies h = record {
+  calls = h.calls;
+  parts = h.parts ∙ ap (λ (ps : List Part). parts_after ps h.calls) parts;
+  blocks = h.blocks;
+  bodies = h.bodies ∙ bodies;
+}
+
+pub hears_blocks : (from : Endpoint) (bytes : List ℕ) (now : ℕ) (h : Heard) (s t : Server) → Hears from bytes now h s t → HearsBlocks from bytes now s t
+hears_blocks from bytes now h s t (settled (malformed f fault is same)) =
+    unheard from bytes now s t (ap (λ (x : Server). x.parts) same) (ap (λ (x : Server). x.bodies) same)
+hears_blocks from bytes now h s t (settled (no_request m spells isnt is same)) =
+    unheard from bytes now s t (ap (λ (x : Server). x.parts) same) (ap (λ (x : Server). x.bodies) same)
+hears_blocks from bytes now h s t (settled (duplicate m kept e met found is)) = unheard from bytes now s t met.same_parts met.same_bodies
+hears_blocks from bytes now h s t (settled (full m u met is same)) =
+    let used = used_blocks (request_type m.kind) u in
+    unheard from bytes now s t (ap (λ (x : Server). x.parts) same ∙ (used.0 ∙ met.same_parts)) (ap (λ (x : Server). x.bodies) same ∙ (used.1 ∙ met.same_bodies))
+hears_blocks from bytes now h s t (admitted m slot u met reads) =
+    heard_from from bytes now s u t met.same_parts met.same_bodies (reads_blocks from bytes now m slot h u t met.spells met.request reads)
+
+-- ---- what is asked
+
+-- nothing, or the request of a datagram as it is, or with a body that was joined
+pub data AsksFor (from : Endpoint) (bytes : List ℕ) (now : ℕ) (h : Heard) : Type 0 where
+  asks_nothing : ((what : PlainAsk) (ask : OpenAsk) → h ≡ asked what ask → ⊥) → AsksFor from bytes now h
+  asks_act : (m : CoapMessage) (slot : ℕ) → Spells m bytes → is_request m ≡ true → h ≡ asked (what_is_asked m) (opened_ask from now m slot) → AsksFor from bytes now h
+  asks_whole : (m : CoapMessage) (slot : ℕ) (b : Block) (body : List ℕ) → h ≡ asked (with_whole_body body (what_is_asked m)) (joined_ask from m slot b)
+      → AsksFor from bytes now h
+
+at_once_asks : (bytes : List ℕ) (what : PlainAsk) (ask : OpenAsk) → answered_at_once bytes ≡ asked what ask → ⊥
+at_once_asks bytes what ask is = absurd cc
+
+ignored_asks : (what : PlainAsk) (ask : OpenAsk) → ignored ≡ asked what ask → ⊥
+ignored_asks what ask is = absurd cc
+
+reads_asks : (from : Endpoint) (bytes : List ℕ) (now : ℕ) (m : CoapMessage) (slot : ℕ) (h : Heard) (s t : Server) → Spells m bytes → is_request m ≡ true
+    → Reads from now m slot h s t → AsksFor from bytes now h
+reads_asks from bytes now m slot h s t spells request (replied r parts sent why replies is) = asks_nothing (λ what ask asks_it. at_once_asks sent what ask (sym is ∙ asks_it))
+reads_asks from bytes now m slot h s t spells request (bad_option_ignored number fault non is same) = asks_nothing (λ what ask asks_it. ignored_asks what ask (sym is ∙ asks_it))
+reads_asks from bytes now m slot h s t spells request (asks fine wants is same) = asks_act m slot spells request is
+reads_asks from bytes now m slot h s t spells request (reads_whole b place parts body fine wants adding there is same) = asks_whole m slot b body.bytes is
+
+pub hears_asks : (from : Endpoint) (bytes : List ℕ) (now : ℕ) (h : Heard) (s t : Server) → Hears from bytes now h s t → AsksFor from bytes now h
+hears_asks from bytes now h s t (settled (malformed f fault is same)) = asks_nothing (λ what ask asks_it. not_replied what ask _ (sym asks_it ∙ is))
+hears_asks from bytes now h s t (settled (no_request m spells isnt is same)) = asks_nothing (λ what ask asks_it. not_replied what ask _ (sym asks_it ∙ is))
+hears_asks from bytes now h s t (settled (duplicate m kept e met found is)) = asks_nothing (λ what ask asks_it. not_duplicate what ask (request_type m.kind) e.reply (sym asks_it ∙ is))
+hears_asks from bytes now h s t (settled (full m u met is same)) = asks_nothing (λ what ask asks_it. at_once_asks _ what ask (sym is ∙ asks_it))
+hears_asks from bytes now h s t (admitted m slot u met reads) = reads_asks from bytes now m slot h u t met.spells met.request reads
+
+-- ---- what is answered
+
+-- one act is made on it, the parts are as they were, and of the bodies one may be new
+pub record Answered (site : Site) (what : PlainAsk) (ask : OpenAsk) (done : Done) (s : State) (seen : List Sighting) (t : State) : Type 0 where
+  pub acts : Acts site what.request done s.thing (calls_in seen) t.thing
+  pub parts : t.coap.parts ≡ s.coap.parts
+  pub moment : t.moment ≡ s.moment
+  pub bodies : t.coap.bodies ≡ bodies_after ask.blocks ask.from done.outcome s.coap.bodies
+
+pub asked_is_answered : (site : Site) (from : Endpoint) (what : PlainAsk) (ask : OpenAsk) (s t : State) (seen : List Sighting)
+    (answers : AnswersDatagram site from (asked what ask) s seen t) → Answered site what ask answers.0 s seen t
+asked_is_answered site from what ask s t seen (done, w) =
+    let written = w.other.one.1 in
+    let quiet = rest_quiet site (by_coap from what ask) done w.mid t w.second w.other in
+    let calls_are : w.one.1 ≡ calls_in seen =
+    sym (ap calls_in w.whole ∙ filter_map-append call_in w.first w.second ∙ ap₂ (λ (x y : List HandlerCall). x ++ y) (ap calls_in w.one.3.saw ∙ the_calls w.one.1) quiet.calls ∙ append-nil w.one.1) in
+    let thing_is : w.one.0 ≡ t.thing = sym (quiet.thing ∙ ap (λ (x : State). x.thing) w.one.3.next) in
+    let performed : w.mid.coap ≡ s.coap = ap (λ (x : State). x.coap) w.one.3.next in
+    let answers = answers_blocks ask done.outcome _ w.other.one.0 w.mid.coap written.one.0 written.one.1 in
+    let sent : w.other.mid.coap ≡ written.one.0 = ap (λ (x : State). x.coap) written.other.next ∙ ap (λ (x : State). x.coap) written.one.2.next in
+    let delivered = delivers_each_same done.emissions w.other.mid t w.other.second w.other.other in
+    record {
+      acts = subst (λ (x : ThingState). Acts site what.request done s.thing (calls_in seen) x) thing_is
+          (subst (λ (x : List HandlerCall). Acts site what.request done s.thing x w.one.0) calls_are w.one.2);
+      parts = delivered.parts ∙ (ap (λ (x : Server). x.parts) sent ∙ (answers.0 ∙ ap (λ (x : Server). x.parts) performed));
+      moment = delivered.moment
+          ∙ (ap (λ (x : State). x.moment) written.other.next ∙ (ap (λ (x : State). x.moment) written.one.2.next ∙ ap (λ (x : State). x.moment) w.one.3.next));
+      bodies = delivered.bodies ∙ (ap (λ (x : Server). x.bodies) sent ∙ (answers.1 ∙ ap (λ (x : Server). bodies_after ask.blocks ask.from done.outcome x.bodies) performed));
+    }

@@ -21,3 +21,4 @@ mod SpokenByCoap
 mod SpokenHeads
 mod SpokenByHttp
 mod InMemoryLaws
+mod StopLaws

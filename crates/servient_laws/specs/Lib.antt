@@ -6,3 +6,4 @@ pub mod Payloads
 pub mod Untouched
 pub mod Spoken
 pub mod InMemory
+pub mod Stops

@@ -25,3 +25,4 @@ mod SpokenByCoap
 mod SpokenHeads
 mod SpokenByHttp
 mod InMemoryLaws
+mod StopLaws

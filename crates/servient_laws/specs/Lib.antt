@@ -7,3 +7,4 @@ pub mod Untouched
 pub mod Spoken
 pub mod InMemory
 pub mod Transfers
+pub mod Stops

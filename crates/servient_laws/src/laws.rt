@@ -7,6 +7,7 @@ ghost use Rattle.servient_laws.specs.Memory.{MemoryIsSeen};
 ghost use Rattle.servient_laws.specs.Payloads.{PayloadsAreOfOutcomes};
 ghost use Rattle.servient_laws.specs.Spoken.{RequestsAreSpoken};
 ghost use Rattle.servient_laws.specs.Transfers.{JoinedBodiesActOnce, LaterBlocksAreOfOneAct, RequestsActOnce};
+ghost use Rattle.servient_laws.specs.Stops.{StopsAreCounted};
 ghost use Rattle.servient_laws.specs.Untouched.{FaultsTakeNoEvent, HandlersStay};
 ghost use Rattle.servient_laws.specs.Requests.{RepeatsActOnce, FullTablesActOnNothing};
 
@@ -31,6 +32,12 @@ pub fn calls_are_fit()
 /// handler which was to be called next was out of memory.
 pub fn memory_is_seen()
     ensures { MemoryIsSeen }
+{}
+
+/// The polls that are left out and the operations that stop at a handler are together at most as many as its count of
+/// misses rises by, unless that is at its last value.
+pub fn stops_are_counted()
+    ensures { StopsAreCounted }
 {}
 
 /// Two runs from the start with the same Things, events and answers of handlers, in both of which there was memory enough,

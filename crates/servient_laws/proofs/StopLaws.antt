@@ -232,7 +232,7 @@ counted_missed site slot task n s t seen (does, inr one) = omega (arith, one.0, 
 
 tasks_missed : (site : Site) (slot : ℕ) (tasks : List Task) (n : ℕ) (s t : ThingState) (seen : List HandlerCall) → CountsTasks site slot tasks n s seen t → n ≤ missed_at slot seen
 tasks_missed site slot [] n s t seen is = omega (arith, is.0)
-tasks_missed site slot (task ∷ tasks) n s t seen (one, (others, (both, w))) =
+tasks_missed site slot (task ∷ tasks) n s t seen (one, others, both, w) =
     omega (arith, both, counted_missed site slot task one s w.mid w.first w.one, tasks_missed site slot tasks others w.mid t w.second w.other, missed_then slot w.first w.second seen w.whole)
 
 at_least : (n more before now : ℕ) → n ≤ more → RoseExactly more before now → RoseAtLeast n before now
@@ -241,7 +241,9 @@ at_least n more before now most (inr last) = inr last
 
 pub stops_are_counted : StopsAreCounted
 stops_are_counted site budget result s t seen before now serves shows =
-    let all : Tasks site (polled_in_run site serves.took) s.thing seen t.thing = serves_tasks site budget result s t seen serves in
-    (record { tasks = all.tasks; polled = all.polled; each = all.each }, λ slot n old new counts was is.
-    at_least n (misses_of slot seen) old.misses new.misses (tasks_missed site slot all.tasks n s.thing t.thing (calls_in seen) counts)
-    (misses_are_counted site budget slot result s t seen before now old new serves shows was is))
+    let all : Tasks site (polled_in_run site serves.took) s.thing seen t.thing = serves_tasks site budget result s t seen serves in (
+      record { tasks = all.tasks; polled = all.polled; each = all.each },
+      λ slot n old new counts was is.
+          at_least n (misses_of slot seen) old.misses new.misses (tasks_missed site slot all.tasks n s.thing t.thing (calls_in seen) counts)
+          (misses_are_counted site budget slot result s t seen before now old new serves shows was is),
+    )

@@ -180,6 +180,7 @@ ends_well words before now out out_now result e fine kept output = elim e.report
     consumed_well consumes n same (inr (inl nine)) = inr (inl (same ∙ nine))
     consumed_well consumes n same (inr (inr (inl seven))) = absurd (kept.no_write (output (same ∙ seven)))
     consumed_well consumes n same (inr (inr (inr answered))) = inr (inr (inr (consumes, subst IsAnswered (sym same) answered)))
+
     quiet : HasFailed e.seen ⊎ (1 ≤ break_count (happened_in (sightings_in e.seen))) → ⊥
     quiet (inl failed) = kept.no_read (e.shows.failed failed)
     quiet (inr broken) = kept.no_call (rose_some _ _ _ broken e.shows.outside.net.faults)

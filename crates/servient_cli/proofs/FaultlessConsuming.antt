@@ -11,7 +11,6 @@ use Rattle.wot_forms.specs.declared.form.Form.{Form}
 use Rattle.wot_forms.specs.declared.scheme.Scheme.{Scheme}
 use Rattle.wot_forms.specs.declared.scheme.Scheme.TheVariants as scheme
 use Rattle.wot_consumer.specs.declared.chosen.Chosen.{Chosen}
-use Rattle.wot_consumer.specs.declared.wanted.Wanted.{Wanted}
 use Rattle.wot_consumer.specs.Choice.{IsFirst, IsChosen, base_of, forms_for, wanted}
 use Rattle.command_words.specs.Operations.{form_operation}
 use Rattle.command_words.specs.declared.command.Consumption.{Consumption}
@@ -178,10 +177,10 @@ input_well held files (Some name) fine seen o is_held quiet stage =
 -- ---- the form
 
 -- no forms have a first one and none
-never_both : (w : Wanted) (base : Option (List ℕ)) (forms : List Form) (c : Chosen) → IsFirst w base forms None → IsFirst w base forms (Some c) → ⊥
-never_both w base [] c none first = first
-never_both w base (f ∷ fs) c none (inl qualifies) = none.0 c qualifies
-never_both w base (f ∷ fs) c none (inr later) = never_both w base fs c none.1 later.1
+never_both : (op : Op) (only : Option Scheme) (base : Option (List ℕ)) (forms : List Form) (c : Chosen) → IsFirst (wanted op only) base forms None → IsFirst (wanted op only) base forms (Some c) → ⊥
+never_both op only base [] c none first = first
+never_both op only base (f ∷ fs) c none (inl qualifies) = none.0 c qualifies
+never_both op only base (f ∷ fs) c none (inr later) = never_both op only base fs c none.1 later.1
 
 choose_well : (tree : Tree) (v : Json) (op : Op) (name : List ℕ) (only : Option Scheme) (c : Chosen) (seen : List Deed) (o : Outcome Chosen) → json_of tree ≡ v → IsChosen v (wanted op only) name c → Chooses tree op name only seen o → GoesOn (λ c. Unit {0}) o
 choose_well tree v op name only c seen o same chosen (is_chosen d is saw goes) = inl (d, tt, goes)
@@ -191,7 +190,7 @@ choose_well tree v op name only c seen o same chosen (has_no_form none end) =
     let forms : none.0 ≡ chosen.0 = same_Some none.0 chosen.0 (sym none.1 ∙ ap (λ (x : Json). forms_for x op name) same ∙ chosen.1) in
     let first : IsFirst (wanted op only) (base_of v) chosen.0 None =
     subst (λ (fs : List Form). IsFirst (wanted op only) (base_of v) fs None) forms (subst (λ (x : Json). IsFirst (wanted op only) (base_of x) none.0 None) same none.2) in
-    absurd (never_both (wanted op only) (base_of v) chosen.0 c first chosen.2)
+    absurd (never_both op only (base_of v) chosen.0 c first chosen.2)
 choose_well tree v op name only c seen o same chosen (choose_memory end) = inr end.1
 
 -- ---- the whole

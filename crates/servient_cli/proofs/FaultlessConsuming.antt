@@ -71,7 +71,7 @@ never_follows o c w n deeds r v is (is_answer said by_it verdict_is other closes
 never_follows o c w n deeds r v is (has_value said by_it first more verdict_is other closes after whole) = never_after c w said first by_it r more v is closes after
 
 never_meets : (o : Operation) (c : Chosen) (w : CoapWaiting) (e : EventWithBytes) (deeds : List operation.Deed) (r : Consumed) (v : CoapWaiting) → Some consumed.Failed ≡ Some r → Meets o c w e deeds (Some r) v → ⊥
-never_meets o c w e deeds r v is (is_datagram from count first n u more what_is delivers follows whole) = never_follows o c u n more r v is follows
+never_meets o c w e deeds r v is (is_datagram from count first n u more what_is delivered follows whole) = never_follows o c u n more r v is follows
 never_meets o c w e deeds r v is (is_stop what_is nothing stopped) = cc
 never_meets o c w e deeds r v is (is_another other nothing none next) = cc
 

@@ -28,10 +28,10 @@ use Rattle.consuming.specs.Deeds.{happens, prints, happen}
 use Rattle.consuming.specs.Deeds as operation
 use Rattle.consuming.specs.Answers.{Closes}
 use Rattle.consuming.specs.Asking.{asking_for}
-use Rattle.consuming.specs.HttpWaiting.{EndsOrWaits, has_come, has_not_come, deadline}
+use Rattle.consuming.specs.HttpWaiting.{has_come, has_not_come}
 use Rattle.consuming.specs.CoapWaiting.{MeetsAndGoesOn, ends_by_it, then_due, Meets, is_datagram, is_stop, is_another, Follows, says_nothing, is_answer, has_value, AfterValue, goes_on_observing, is_last, FallsDue, is_quiet, goes_again, is_over}
 use Rattle.consuming.specs.Waiting.{Hears, by_http, by_coap, Awaits, is_spent, is_broken, comes_to, goes_on}
-use Rattle.consuming.specs.Consuming.{Consumes, is_refused, input_memory, is_done, AsksOrNot, body_memory, has_body, AsksBy, AsksByHttp, not_dialled, dial_memory, request_memory, is_sent, AsksByCoap, not_found, find_memory, client_memory, is_found, AsksPeer, is_long, is_asked}
+use Rattle.consuming.specs.Consuming.{Consumes, is_refused, input_memory, is_done, body_memory, has_body, AsksBy, not_dialled, dial_memory, request_memory, is_sent, not_found, find_memory, client_memory, is_found, AsksPeer, is_long, is_asked}
 use Rattle.servient_cli.specs.Stages.{Deed, Outcome, ends, did_write}
 use Rattle.servient_cli.specs.Reading.{ReadsFile, ReadsTree, longest_json}
 use Rattle.servient_cli.specs.Consuming.{TakesDescription, is_taken, has_fault, description_memory, DescriptionIn, ReadsDescription, ReadsValue, HasInput, has_input, has_no_input, ReadsInput, Chooses, is_chosen, has_no_affordance, has_no_form, choose_memory, deeds_of, status_after, line_after, Operates, has_ended, line_memory, OperatesOn, ConsumesBy, ConsumesThing}

@@ -5,4 +5,4 @@ use Rattle.coap_opts.specs.Reading.{PlainAsk}
 
 -- a request that was read, apart from where it lies in memory
 abbrev pub plain_ask : CoapAsk → PlainAsk
-plain_ask a = record { request = plain_request a.request; observe = a.observe }
+plain_ask a = record { request = plain_request a.request; observe = a.observe; block1 = a.block1; block2 = a.block2 }

@@ -1,9 +1,12 @@
--- What a CoAP request asks for, and what can be wrong with its options (RFC 7252, sections 5.4, 5.8 and 5.10).
-use Rattle.std.specs.Prelude.{◌≡◌, ◌⊎◌, ℕ, ◌%◌, List, [], ◌∷◌, map, Bool, true, not, ◌==◌, ◌&&◌, ◌||◌, Option, Some, None, option_and_then, slice_get, if◌then◌else◌}
+-- What a CoAP request asks for, and what can be wrong with its options (RFC 7252, sections 5.4, 5.8 and 5.10; RFC 7959,
+-- section 2).
+use Rattle.std.specs.Prelude.{◌≡◌, ◌⊎◌, ℕ, ◌%◌, List, [], ◌∷◌, map, Bool, true, not, ◌==◌, ◌&&◌, ◌||◌, Option, Some, None, option_and_then, slice_get, is_some, IfSome, if◌then◌else◌}
 use Rattle.std.specs.List.{filter}
-use Rattle.coap_msg.specs.declared.constants.TheConstants.{URI_PATH, PROXY_URI, PROXY_SCHEME, GET, POST, PUT, DELETE, JSON, TD_JSON}
+use Rattle.coap_msg.specs.declared.constants.TheConstants.{URI_PATH, BLOCK1, BLOCK2, PROXY_URI, PROXY_SCHEME, GET, POST, PUT, DELETE, JSON, TD_JSON}
 use Rattle.coap_msg.specs.Grammar.{CoapOption, CoapMessage}
 use Rattle.coap_msg.specs.Numbers.{number_of}
+use Rattle.coap_msg.specs.declared.block.Block.{Block}
+use Rattle.coap_msg.specs.Blocks.{IsBlock, block_of}
 use Rattle.thing_ops.specs.declared.verb.Verb.{Verb}
 use Rattle.thing_ops.specs.declared.verb.Verb.TheVariants as verb
 use Rattle.thing_ops.specs.declared.request.Accept.{Accept}
@@ -14,7 +17,7 @@ use Rattle.thing_ops.specs.Requests.{PlainRequest}
 use Rattle.coap_opts.specs.declared.fault.AskFault.{AskFault}
 use Rattle.coap_opts.specs.declared.fault.AskFault.TheVariants as fault
 use Rattle.coap_opts.specs.declared.known.Known.{Known}
-use Rattle.coap_opts.specs.Table.{observe, content_format, accept, has_length, may_stand}
+use Rattle.coap_opts.specs.Table.{observe, content_format, accept, block1, block2, has_length, may_stand}
 
 -- ---- what is wrong
 
@@ -26,12 +29,17 @@ is_proxy number = (number == PROXY_URI) || (number == PROXY_SCHEME)
 abbrev pub is_critical : ℕ → Bool
 is_critical number = number % 2 == 1
 
+-- a Block option that says the reserved size, where its value isn't too long for one (RFC 7959, section 2.2)
+abbrev pub is_no_block : CoapOption → Bool
+is_no_block o = (o.0 == BLOCK1 || o.0 == BLOCK2) && not (is_some (block_of o.1))
+
 -- What is wrong with an option after one of the number before. A critical one that may not be there is bad, an
--- elective one is ignored (section 5.4.1).
+-- elective one is ignored (section 5.4.1). One that may be there and is no block is wrong by that.
 abbrev pub fault_of : Option ℕ → CoapOption → Option AskFault
 fault_of before o =
     if is_proxy o.0 then Some fault.Proxy
     else if is_critical o.0 && not (may_stand before o) then Some (fault.BadOption o.0)
+    else if is_no_block o then Some fault.Block
     else None
 
 -- a fault, if there is one, and then these
@@ -68,6 +76,10 @@ number_within k value = if has_length k value then Some (number_of value) else N
 abbrev pub number_under : Known → List CoapOption → Option ℕ
 number_under k os = option_and_then (number_within k) (slice_get (values_under k.number os) 0)
 
+-- the block that an option says: there is one option of its number at most, and it is a block where nothing is wrong
+abbrev pub block_under : Known → List CoapOption → Option Block
+block_under k os = option_and_then block_of (slice_get (values_under k.number os) 0)
+
 -- the verb of a code of class 0 (section 12.1.1)
 abbrev pub verb_of : ℕ → Verb
 verb_of code =
@@ -88,10 +100,13 @@ abbrev pub accept_of : Option ℕ → Accept
 accept_of None = record { json = true; td = true }
 accept_of (Some number) = record { json = number == JSON; td = number == TD_JSON }
 
--- a request and the value of Observe, apart from where they lie in memory
+-- a request, the value of Observe, and which block of the request this is and which of the response is wanted, apart
+-- from where they lie in memory
 pub record PlainAsk : Type 0 where
   pub request : PlainRequest
   pub observe : Option ℕ
+  pub block1 : Option Block
+  pub block2 : Option Block
 
 -- What a message of class 0 asks for, if nothing is wrong with its options. Its path is the values of Uri-Path, and
 -- Uri-Query isn't read; nor are the options that ask for a version of a property, for the time being.
@@ -107,4 +122,11 @@ asked m = record {
     conditions = no_conditions;
   };
   observe = number_under observe m.options;
+  block1 = block_under block1 m.options;
+  block2 = block_under block2 m.options;
 }
+
+-- the blocks that are asked are such as may be written (RFC 7959, section 2.2)
+pub record HasBlocks (a : PlainAsk) : Type 0 where
+  pub block1 : IfSome a.block1 IsBlock
+  pub block2 : IfSome a.block2 IsBlock

@@ -1,9 +1,9 @@
--- The options that are known (RFC 7252, section 5.10; RFC 7641, section 2): the least and the most bytes of a value,
--- and whether the option may come more than once.
+-- The options that are known (RFC 7252, section 5.10; RFC 7641, section 2; RFC 7959, section 2.1): the least and the
+-- most bytes of a value, and whether the option may come more than once.
 use Rattle.std.specs.Prelude.{ℕ, List, [], ◌∷◌, length, Bool, true, false, not, ◌==◌, ◌&&◌, ◌||◌, nat_le, Option, Some, None, slice_get}
 use Rattle.std.specs.List.{filter}
 use Rattle.std.specs.Option.{option_map_or}
-use Rattle.coap_msg.specs.declared.constants.TheConstants.{URI_HOST, OBSERVE, URI_PORT, URI_PATH, CONTENT_FORMAT, URI_QUERY, ACCEPT, LONGEST_SEGMENT}
+use Rattle.coap_msg.specs.declared.constants.TheConstants.{URI_HOST, OBSERVE, URI_PORT, URI_PATH, CONTENT_FORMAT, URI_QUERY, ACCEPT, BLOCK1, BLOCK2, LONGEST_SEGMENT}
 use Rattle.coap_msg.specs.Grammar.{CoapOption}
 use Rattle.coap_opts.specs.declared.known.Known.{Known}
 
@@ -23,10 +23,18 @@ content_format = row CONTENT_FORMAT 0 2 false
 abbrev pub accept : Known
 accept = row ACCEPT 0 2 false
 
--- Uri-Host, Observe, Uri-Port, Uri-Path, Content-Format, Uri-Query, Accept
+-- Block2, of a response
+abbrev pub block2 : Known
+block2 = row BLOCK2 0 3 false
+
+-- Block1, of the request
+abbrev pub block1 : Known
+block1 = row BLOCK1 0 3 false
+
+-- Uri-Host, Observe, Uri-Port, Uri-Path, Content-Format, Uri-Query, Accept, Block2, Block1
 abbrev pub known_options : List Known
 known_options =
-    row URI_HOST 1 255 false ∷ observe ∷ row URI_PORT 0 2 false ∷ row URI_PATH 0 LONGEST_SEGMENT true ∷ content_format ∷ row URI_QUERY 0 255 true ∷ accept ∷ []
+    row URI_HOST 1 255 false ∷ observe ∷ row URI_PORT 0 2 false ∷ row URI_PATH 0 LONGEST_SEGMENT true ∷ content_format ∷ row URI_QUERY 0 255 true ∷ accept ∷ block2 ∷ block1 ∷ []
 
 -- the row of an option
 abbrev pub known_of : ℕ → Option Known

@@ -2,14 +2,14 @@
 
 ghost use Rattle.std.specs.Prelude.{◌≡◌, ◌<◌, ◌⊎◌, [], ◌∷◌, Some, IfOk, IfErr, OnOk, slice_get};
 ghost use Rattle.coap_msg.specs.MessageOf.{message_of};
-ghost use Rattle.coap_opts.specs.Reading.{faults_of, verb_of, format_of, accept_of, asked, IsRefusal};
+ghost use Rattle.coap_opts.specs.Reading.{faults_of, verb_of, format_of, accept_of, asked, HasBlocks, IsRefusal};
 ghost use Rattle.coap_opts.specs.PlainAsk.{plain_ask};
 
 use crate::AskFault;
 use crate::found::{Found, note_all, refusal};
 use crate::known::{ACCEPT, CONTENT_FORMAT, OBSERVE};
-use crate::values::numeric;
-use coap_msg::{DELETE, GET, JSON, Message, POST, PUT, TD_JSON};
+use crate::values::{block_under, numeric};
+use coap_msg::{Block, DELETE, GET, JSON, Message, POST, PUT, TD_JSON};
 use std::alloc::Global;
 use thing_ops::{Accept, Conditions, Format, Request, Segments, Verb};
 
@@ -20,6 +20,10 @@ pub struct CoapAsk<'a> {
     pub request: Request<'a>,
     /// The value of Observe (RFC 7641, section 2), where the request has it and it counts.
     pub observe: Option<u32>,
+    /// Which block of the request's body it has (Block1; RFC 7959, section 2.2), where its body comes in blocks.
+    pub block1: Option<Block>,
+    /// Which block of the response is wanted (Block2), where it says so.
+    pub block2: Option<Block>,
 }
 
 /// What a request asks for, or what is wrong with the first of its options that is.
@@ -29,6 +33,7 @@ pub fn request_of<'a>(alloc: Global, message: &Message<'a>) -> Result<CoapAsk<'a
 
     ensures ok { IfOk result (λ ask. (faults_of message.now.options ≡ []) ×
         (plain_ask ask ≡ asked (message_of message.now))) }
+    ensures blocks { IfOk result (λ ask. HasBlocks (plain_ask ask)) }
 
     // It is out of memory only where nothing is wrong with the options.
     ensures fault { IfErr result (λ e. IsRefusal message.now.options e) }
@@ -44,6 +49,8 @@ pub fn request_of<'a>(alloc: Global, message: &Message<'a>) -> Result<CoapAsk<'a
         observe: None,
         format: None,
         accept: None,
+        block2: None,
+        block1: None,
     };
     note_all(&mut found, &message.options)?;
     let request = Request {
@@ -55,8 +62,12 @@ pub fn request_of<'a>(alloc: Global, message: &Message<'a>) -> Result<CoapAsk<'a
         body: message.payload,
         conditions: Conditions::none(alloc),
     };
-    let observe = numeric(OBSERVE, found.observe);
-    Ok(CoapAsk { request, observe })
+    Ok(CoapAsk {
+        request,
+        observe: numeric(OBSERVE, found.observe),
+        block1: block_under(found.block1),
+        block2: block_under(found.block2),
+    })
 }
 
 /// The verb of a code of class 0 (RFC 7252, section 12.1.1).

@@ -13,6 +13,9 @@ pub enum AskFault {
     /// The request is for a proxy: it has Proxy-Uri or Proxy-Scheme (RFC 7252, section 5.10.2).
     #[error("the request is for a proxy")]
     Proxy,
+    /// A Block option says the size that is reserved (RFC 7959, section 2.2).
+    #[error("a block has the reserved size")]
+    Block,
     /// Out of memory.
     #[error("out of memory")]
     NoMemory,

@@ -6,7 +6,7 @@ ghost use Rattle.coap_opts.specs.Found.{first_value, kept_first};
 
 use crate::AskFault;
 use crate::known::option_fault;
-use coap_msg::{ACCEPT, CONTENT_FORMAT, OBSERVE, Options, URI_PATH};
+use coap_msg::{ACCEPT, BLOCK1, BLOCK2, CONTENT_FORMAT, OBSERVE, Options, URI_PATH};
 use thing_ops::{NoMemory, Segments};
 
 /// What was found of the options so far: the path, and the first value of each number.
@@ -20,6 +20,10 @@ pub struct Found<'a> {
     pub format: Option<&'a [u8]>,
     /// The first value of Accept.
     pub accept: Option<&'a [u8]>,
+    /// The first value of Block2.
+    pub block2: Option<&'a [u8]>,
+    /// The first value of Block1.
+    pub block1: Option<&'a [u8]>,
 }
 
 impl<'a> Found<'a> {
@@ -37,12 +41,18 @@ impl<'a> Found<'a> {
             option_or (kept_first self.old.format) (first_value 12 ((number, value.now) ∷ []))) }
         ensures accept { OnOk result (kept_first self.new.accept ≡
             option_or (kept_first self.old.accept) (first_value 17 ((number, value.now) ∷ []))) }
+        ensures block2 { OnOk result (kept_first self.new.block2 ≡
+            option_or (kept_first self.old.block2) (first_value 23 ((number, value.now) ∷ []))) }
+        ensures block1 { OnOk result (kept_first self.new.block1 ≡
+            option_or (kept_first self.old.block1) (first_value 27 ((number, value.now) ∷ []))) }
     {
         match number {
             URI_PATH => return self.path.push(value),
             OBSERVE => self.observe = self.observe.or(Some(value)),
             CONTENT_FORMAT => self.format = self.format.or(Some(value)),
             ACCEPT => self.accept = self.accept.or(Some(value)),
+            BLOCK2 => self.block2 = self.block2.or(Some(value)),
+            BLOCK1 => self.block1 = self.block1.or(Some(value)),
             _ => {}
         }
         Ok(())
@@ -56,11 +66,15 @@ pub fn note_all<'a>(found: &mut Found<'a>, options: &Options<'a>) -> Result<(), 
     requires observe { kept_first found.old.observe ≡ None }
     requires format { kept_first found.old.format ≡ None }
     requires accept { kept_first found.old.accept ≡ None }
+    requires block2 { kept_first found.old.block2 ≡ None }
+    requires block1 { kept_first found.old.block1 ≡ None }
     ensures faultless { OnOk result (faults_of options.now ≡ []) }
     ensures path { OnOk result (found.new.path ≡ values_under 11 options.now) }
     ensures observe { OnOk result (kept_first found.new.observe ≡ first_value 6 options.now) }
     ensures format { OnOk result (kept_first found.new.format ≡ first_value 12 options.now) }
     ensures accept { OnOk result (kept_first found.new.accept ≡ first_value 17 options.now) }
+    ensures block2 { OnOk result (kept_first found.new.block2 ≡ first_value 23 options.now) }
+    ensures block1 { OnOk result (kept_first found.new.block1 ≡ first_value 27 options.now) }
     ensures fault { IfErr result (λ e. IsRefusal options.now e) }
 {
     let mut before = None;

@@ -2,10 +2,12 @@
 
 ghost use Rattle.std.specs.Prelude.{◌≡◌};
 ghost use Rattle.coap_opts.specs.Table.{known_of, has_length, stands_again, may_stand};
-ghost use Rattle.coap_opts.specs.Reading.{fault_of};
+ghost use Rattle.coap_opts.specs.Reading.{fault_of, is_no_block};
 
 use crate::AskFault;
-use coap_msg::{LONGEST_SEGMENT, PROXY_SCHEME, PROXY_URI, URI_HOST, URI_PATH, URI_PORT, URI_QUERY};
+use coap_msg::{
+    LONGEST_SEGMENT, PROXY_SCHEME, PROXY_URI, URI_HOST, URI_PATH, URI_PORT, URI_QUERY, read_block,
+};
 
 /// A row of the table of options (RFC 7252, section 5.10).
 #[derive(Clone, Copy)]
@@ -44,8 +46,24 @@ pub const ACCEPT: Known = Known {
     repeats: false,
 };
 
-/// The table: Uri-Host, Observe, Uri-Port, Uri-Path, Content-Format, Uri-Query and Accept.
-const KNOWN: [Known; 7] = [
+/// Block2 (RFC 7959, section 2.1).
+pub const BLOCK2: Known = Known {
+    number: coap_msg::BLOCK2,
+    shortest: 0,
+    longest: 3,
+    repeats: false,
+};
+
+/// Block1 (RFC 7959, section 2.1).
+pub const BLOCK1: Known = Known {
+    number: coap_msg::BLOCK1,
+    shortest: 0,
+    longest: 3,
+    repeats: false,
+};
+
+/// The table: Uri-Host, Observe, Uri-Port, Uri-Path, Content-Format, Uri-Query, Accept, Block2 and Block1.
+const KNOWN: [Known; 9] = [
     Known {
         number: URI_HOST,
         shortest: 1,
@@ -73,6 +91,8 @@ const KNOWN: [Known; 7] = [
         repeats: true,
     },
     ACCEPT,
+    BLOCK2,
+    BLOCK1,
 ];
 
 /// The row of an option.
@@ -114,6 +134,13 @@ fn is_right(before: Option<u16>, number: u16, value: &[u8]) -> bool
     }
 }
 
+/// Whether an option is a Block option that says no block.
+fn is_no_block(number: u16, value: &[u8]) -> bool
+    ensures { result ≡ is_no_block (number, value.now) }
+{
+    (number == coap_msg::BLOCK1 || number == coap_msg::BLOCK2) && read_block(value).is_none()
+}
+
 /// What is wrong with an option after one of this number.
 pub fn option_fault(before: Option<u16>, number: u16, value: &[u8]) -> Option<AskFault>
     ensures { result ≡ fault_of before (number, value.now) }
@@ -123,6 +150,9 @@ pub fn option_fault(before: Option<u16>, number: u16, value: &[u8]) -> Option<As
     }
     if number % 2 == 1 && !is_right(before, number, value) {
         return Some(AskFault::BadOption(number));
+    }
+    if is_no_block(number, value) {
+        return Some(AskFault::Block);
     }
     None
 }

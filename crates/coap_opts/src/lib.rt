@@ -1,6 +1,6 @@
 //! What a CoAP request asks for: its options (RFC 7252, section 5.10, and RFC 7641, section 2) as a `Request`, which is
-//! what HTTP gives too, and the value of Observe. `request_of` judges the options in their order, by one
-//! table of those that are known. Nothing here sends or answers.
+//! what HTTP gives too, the value of Observe, and which blocks it has and wants (RFC 7959, section 2). `request_of`
+//! judges the options in their order, by one table of those that are known. Nothing here sends or answers.
 //!
 //! ```text
 //! // GET /lamp, which is to be observed and answered in JSON.

@@ -1,10 +1,12 @@
-//! The values of options that are numbers.
+//! The values of options that are numbers, and of those that are blocks.
 
-ghost use Rattle.std.specs.Prelude.{◌≡◌, ◌≤◌, option_map, option_and_then};
+ghost use Rattle.std.specs.Prelude.{◌≡◌, ◌≤◌, ◌<◌, ◌^◌, length, option_map, option_and_then, IfSome};
+ghost use Rattle.coap_msg.specs.Blocks.{IsBlock, block_of};
+ghost use Rattle.coap_msg.specs.Numbers.{number_of};
 ghost use Rattle.coap_opts.specs.Reading.{number_within};
 
 use crate::known::{Known, fits};
-use coap_msg::number_of;
+use coap_msg::{Block, number_of, read_block};
 
 /// The number that the first value of this row's option says, if it is there and counts.
 pub fn numeric(row: Known, value: Option<&[u8]>) -> Option<u32>
@@ -14,5 +16,47 @@ pub fn numeric(row: Known, value: Option<&[u8]>) -> Option<u32>
     match value {
         Some(value) if fits(row, value) => Some(number_of(value)),
         _ => None,
+    }
+}
+
+/// The block that the first value of a Block option says, if it is there.
+pub fn block_under(value: Option<&[u8]>) -> Option<Block>
+    ensures ok { result ≡ option_and_then block_of (option_map (λ v. v.now) value.entry) }
+    ensures block { IfSome result IsBlock }
+{
+    match value {
+        Some(value) => block_of(value),
+        None => None,
+    }
+}
+
+/// The block that a value says.
+fn block_of(value: &[u8]) -> Option<Block>
+    ensures ok { result ≡ block_of value.now }
+    ensures block { IfSome result IsBlock }
+{
+    if value.len() > 3 {
+        return None;
+    }
+    fits_24_bits(value);
+    read_block(value)
+}
+
+/// For the proof: what up to three bytes say has 24 bits.
+fn fits_24_bits(value: &[u8])
+    requires { length value.now ≤ 3 }
+    ensures { number_of value.now < 2 ^ 24 }
+{
+    match value {
+        [] => {}
+        [low] => {
+            let _low = *low;
+        }
+        [high, low] => {
+            let (_high, _low) = (*high, *low);
+        }
+        [high, middle, low, ..] => {
+            let (_high, _middle, _low) = (*high, *middle, *low);
+        }
     }
 }

@@ -18,4 +18,6 @@ loop-number-preserved c =
       observe = first_kept 6 os left rest o (kept_first c.loop-number.found.observe) (kept_first c.note.new.self.observe) c.loop-number.invariant.observe c.in-Some.ensures.steps c.in-Ok.ensures.observe;
       format = first_kept 12 os left rest o (kept_first c.loop-number.found.format) (kept_first c.note.new.self.format) c.loop-number.invariant.format c.in-Some.ensures.steps c.in-Ok.ensures.format;
       accept = first_kept 17 os left rest o (kept_first c.loop-number.found.accept) (kept_first c.note.new.self.accept) c.loop-number.invariant.accept c.in-Some.ensures.steps c.in-Ok.ensures.accept;
+      block2 = first_kept 23 os left rest o (kept_first c.loop-number.found.block2) (kept_first c.note.new.self.block2) c.loop-number.invariant.block2 c.in-Some.ensures.steps c.in-Ok.ensures.block2;
+      block1 = first_kept 27 os left rest o (kept_first c.loop-number.found.block1) (kept_first c.note.new.self.block1) c.loop-number.invariant.block1 c.in-Some.ensures.steps c.in-Ok.ensures.block1;
     }

@@ -13,4 +13,6 @@ invariant-loop-number l = record {
   observe : first_value 6 l.options ≡ option_or (kept_first l.found.observe) (first_value 6 (options_left l.number-iterator));
   format : first_value 12 l.options ≡ option_or (kept_first l.found.format) (first_value 12 (options_left l.number-iterator));
   accept : first_value 17 l.options ≡ option_or (kept_first l.found.accept) (first_value 17 (options_left l.number-iterator));
+  block2 : first_value 23 l.options ≡ option_or (kept_first l.found.block2) (first_value 23 (options_left l.number-iterator));
+  block1 : first_value 27 l.options ≡ option_or (kept_first l.found.block1) (first_value 27 (options_left l.number-iterator));
 }

@@ -15,7 +15,7 @@
 //! body.copy_to(&mut value);
 //! assert_eq!(value, *b"9");
 //!
-//! let reply = Reply { status: 204, content_type: None, location: None, allow: None, length: None, close: false };
+//! let reply = Reply { status: 204, content_type: None, etag: None, location: None, allow: None, length: None, close: false };
 //! let mut out = [0; 64];
 //! assert_eq!(put_reply(&reply, &mut out), Some(27));
 //! assert_eq!(&out[..27], b"HTTP/1.1 204 No Content\r\n\r\n");
@@ -34,6 +34,7 @@
 #![tactic(auto)]
 
 mod chunks;
+mod conditions;
 mod fields;
 mod framing;
 mod heads;

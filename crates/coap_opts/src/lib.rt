@@ -17,6 +17,7 @@
 #![tactic(auto)]
 
 mod ask;
+mod conditions;
 mod fault;
 mod found;
 mod known;

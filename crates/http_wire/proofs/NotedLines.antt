@@ -171,33 +171,6 @@ matched_line noted line tags is said =
     stands_too true = refl
     stands_too false = refl
 
-pub named_line : (noted : Noted) (line : Line) (tags : Tags) → str_eq_ignore_ascii_case line.0 (codes "if-match") ≡ false →
-    str_eq_ignore_ascii_case line.0 (codes "if-none-match") ≡ true →
-    tags ≡ both_tags noted.named (named_in true (slice_split (λ b. b == 44) line.1)) →
-    ◌≡◌ {A = Noted} (record { stands = noted.stands; matched = noted.matched; named = tags }) (noted_then noted (noted_of (line ∷ [])))
-named_line noted line tags isnt is said =
-    let one = values_by (codes "if-match") line false isnt in
-    let other = values_by (codes "if-none-match") line true is in
-    λ i. record {
-      stands = (sym (or-false noted.stands) ∙ ap (λ (b : Bool). noted.stands || (b || false)) (sym isnt)) i;
-      matched = (sym (both_none noted.matched) ∙ ap (λ (vs : List (List ℕ)). both_tags noted.matched (tags_of (items_of vs))) (sym one)) i;
-      named =
-          (said
-          ∙ ap (λ (xs : List (List ℕ)). both_tags noted.named (tags_of (map without_weak xs))) (sym (one_value line.1))
-          ∙ ap (λ (vs : List (List ℕ)). both_tags noted.named (none_match_of vs)) (sym other)) i;
-    }
-
-pub other_line : (noted : Noted) (line : Line) → str_eq_ignore_ascii_case line.0 (codes "if-match") ≡ false →
-    str_eq_ignore_ascii_case line.0 (codes "if-none-match") ≡ false → noted ≡ noted_then noted (noted_of (line ∷ []))
-other_line noted line isnt isnt_too =
-    let one = values_by (codes "if-match") line false isnt in
-    let other = values_by (codes "if-none-match") line false isnt_too in
-    λ i. record {
-      stands = (sym (or-false noted.stands) ∙ ap (λ (b : Bool). noted.stands || (b || false)) (sym isnt)) i;
-      matched = (sym (both_none noted.matched) ∙ ap (λ (vs : List (List ℕ)). both_tags noted.matched (tags_of (items_of vs))) (sym one)) i;
-      named = (sym (both_none noted.named) ∙ ap (λ (vs : List (List ℕ)). both_tags noted.named (none_match_of vs)) (sym other)) i;
-    }
-
 -- ---- what is asked
 
 -- what is noted where nothing was

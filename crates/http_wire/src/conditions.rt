@@ -4,11 +4,12 @@
 ghost use Rattle.std.specs.Prelude.{◌≡◌, ◌≤◌, ◌∷◌, [], ◌==◌, length, true, IfOk, OnOk};
 ghost use Rattle.std.specs.List.{slice_split};
 ghost use Rattle.http_wire.specs.Conditions.{version_of as version_named, is_star as is_star_item, tags_of, conditions_of, reads as reads_alone, asking_lines};
+ghost use Rattle.http_wire.specs.Pieces.{pieces_left};
 ghost use Rattle.http_wire.specs.Asked.{line_in, lines_in, both_tags, noted_of, noted_then, opened as opened_item, named_in, is_quoted as stands_quoted, number_named, asked_by as asked_by_noted};
 
 use crate::Head;
 use crate::fields::{is_alike, trim};
-use crate::lines::{cut, cut_at_each};
+use crate::lines::{Pieces, cut, cut_at_each};
 use servient_base::parse_decimal;
 use std::alloc::Global;
 use thing_ops::{Conditions, NoMemory, Tags, Verb};
@@ -86,10 +87,17 @@ fn note_line(noted: &mut Noted, line: &[u8]) -> Result<(), NoMemory>
 fn note_items(tags: &mut Tags, value: &[u8], weak: bool) -> Result<(), NoMemory>
     ensures { OnOk result (tags.new ≡ both_tags tags.old (named_in weak (slice_split (λ b. b == 44) value.now))) }
 {
-    for item in cut_at_each(b',', value) {
+    for item in items(value) {
         note_item(tags, opened(trim(item), weak))?;
     }
     Ok(())
+}
+
+/// The items of a value.
+fn items(value: &[u8]) -> Pieces<'_>
+    ensures { pieces_left result ≡ slice_split (λ b. b == 44) value.now }
+{
+    cut_at_each(b',', value)
 }
 
 /// Notes what one item names.

@@ -25,7 +25,7 @@ pub struct Noted {
 
 /// What options ask, where some do or none does, and where those of ETag count or don't.
 #[tactic(auto, using(crate::proofs::NotedOptions::none_ask))]
-pub fn conditions(
+pub fn read_conditions(
     alloc: Global,
     options: &Options<'_>,
     some_ask: bool,

@@ -273,9 +273,20 @@ fn version(outcome: &Outcome) -> Option<u32>
     ensures small { IfSome result (λ n. n < 2 ^ 64) }
 {
     match outcome {
-        Outcome::Content { text: _, tag } => *tag,
+        Outcome::Content { text: _, tag } => in_range(*tag),
         Outcome::NotModified(tag) => Some(*tag),
         _ => None,
+    }
+}
+
+/// The same version. For the proof: its range is known once it is read.
+fn in_range(version: Option<u32>) -> Option<u32>
+    ensures same { result ≡ version }
+    ensures small { IfSome result (λ n. n < 2 ^ 64) }
+{
+    match version {
+        Some(version) => Some(version),
+        None => None,
     }
 }
 

@@ -1,6 +1,6 @@
 -- What is noted of options, one after another.
 use Rattle.std.proofs.Common.{◌≡◌, ◌∙◌, ℕ, ◌||◌, Bool, true, false, List, [], ◌∷◌, ◌++◌, map, refl, sym, ap, cond, append_assoc, append-nil}
-use Rattle.std.specs.Prelude.{◌==◌, Option, Some, None, filter_map}
+use Rattle.std.specs.Prelude.{◌==◌, ◌&&◌, Option, Some, None, Result, Ok, Err, OnOk, filter_map}
 use Rattle.std.specs.List.{filter, list_any}
 use Rattle.std.proofs.Math.Bool.{or-false}
 use Rattle.std.proofs.lemmas.Bool.{or_parts}
@@ -86,6 +86,73 @@ pub nothing_before : (counts : Bool) (matched known : Tags) (after : Noted) (os 
     after ≡ noted_then (record { stands = false; matched = matched; known = known; absent = false }) (noted_of counts os) → after ≡ noted_of counts os
 nothing_before counts matched known after os none none_too is =
     is ∙ (λ i. noted_then (record { stands = false; matched = none i; known = none_too i; absent = false }) (noted_of counts os))
+
+-- ---- one option alone
+
+-- what follows of a success
+pub on_ok : {A E P Q : Type 0} (r : Result A E) → OnOk r P → (P → Q) → OnOk r Q
+on_ok (Ok a) holds follows = follows holds
+on_ok (Err e) holds follows = holds
+
+or_true : (b : Bool) → true ≡ (b || true)
+or_true true = refl
+or_true false = refl
+
+nothing_known : (counts : Bool) (noted : Noted) → noted.known ≡ both_tags noted.known (known_by counts [])
+nothing_known counts noted = sym (ap (both_tags noted.known) (known_none counts) ∙ both_none noted.known)
+
+-- If-Match
+pub matched_option : (counts : Bool) (noted : Noted) (number : ℕ) (value : List ℕ) (any : Bool) (list : List ℕ) → IF_MATCH ≡ number →
+    any ≡ (noted.matched.any || is_blank value) → list ≡ noted.matched.list ++ filter_map version_of (value ∷ []) →
+    ◌≡◌ {A = Noted} (record { stands = true; matched = record { any = any; list = list }; known = noted.known; absent = noted.absent })
+    (noted_then noted (noted_of counts ((number, value) ∷ [])))
+matched_option counts noted number value any list is blank said =
+    (λ i. record {
+      stands = or_true noted.stands i;
+      matched = record { any = (blank ∙ ap (λ (b : Bool). noted.matched.any || b) (sym (or-false (is_blank value)))) i; list = said i };
+      known = nothing_known counts noted i;
+      absent = (sym (or-false noted.absent)) i;
+    })
+    ∙ ap (λ (n : ℕ). noted_then noted (noted_of counts ((n, value) ∷ []))) is
+
+-- ETag, where it counts
+pub known_option : (counts : Bool) (noted : Noted) (number : ℕ) (value list : List ℕ) → ETAG ≡ number → true ≡ counts →
+    list ≡ noted.known.list ++ filter_map version_of (value ∷ []) →
+    ◌≡◌ {A = Noted} (record { stands = noted.stands; matched = noted.matched; known = record { any = noted.known.any; list = list }; absent = noted.absent })
+    (noted_then noted (noted_of counts ((number, value) ∷ [])))
+known_option counts noted number value list is too said =
+    (λ i. record {
+      stands = (sym (or-false noted.stands)) i;
+      matched = (sym (both_none noted.matched)) i;
+      known = record { any = (sym (or-false noted.known.any)) i; list = said i };
+      absent = (sym (or-false noted.absent)) i;
+    })
+    ∙ (λ i. noted_then noted (noted_of (too i) ((is i, value) ∷ [])))
+
+-- another option
+other_at : (named etag none counts : Bool) (noted : Noted) (o : CoapOption) → named ≡ false → (etag && counts) ≡ false →
+    ◌≡◌ {A = Noted} (record { stands = noted.stands; matched = noted.matched; known = noted.known; absent = noted.absent || none })
+    (noted_then noted (record {
+      stands = is_there (map (λ (x : CoapOption). x.1) (cond named (o ∷ []) []));
+      matched = tags_of (map (λ (x : CoapOption). x.1) (cond named (o ∷ []) []));
+      known = known_by counts (map (λ (x : CoapOption). x.1) (cond etag (o ∷ []) []));
+      absent = is_there (map (λ (x : CoapOption). x.1) (cond none (o ∷ []) []));
+    }))
+other_at true etag none counts noted o isnt uncounted = absurd cc
+other_at false true none true noted o isnt uncounted = absurd cc
+other_at false true true false noted o isnt uncounted =
+    λ i. record { stands = (sym (or-false noted.stands)) i; matched = (sym (both_none noted.matched)) i; known = (sym (both_none noted.known)) i; absent = noted.absent || true }
+other_at false true false false noted o isnt uncounted =
+    λ i. record { stands = (sym (or-false noted.stands)) i; matched = (sym (both_none noted.matched)) i; known = (sym (both_none noted.known)) i; absent = noted.absent || false }
+other_at false false true counts noted o isnt uncounted =
+    λ i. record { stands = (sym (or-false noted.stands)) i; matched = (sym (both_none noted.matched)) i; known = nothing_known counts noted i; absent = noted.absent || true }
+other_at false false false counts noted o isnt uncounted =
+    λ i. record { stands = (sym (or-false noted.stands)) i; matched = (sym (both_none noted.matched)) i; known = nothing_known counts noted i; absent = noted.absent || false }
+
+pub other_option : (counts : Bool) (noted : Noted) (o : CoapOption) → (o.0 == IF_MATCH) ≡ false → ((o.0 == ETAG) && counts) ≡ false →
+    ◌≡◌ {A = Noted} (record { stands = noted.stands; matched = noted.matched; known = noted.known; absent = noted.absent || (o.0 == IF_NONE_MATCH) })
+    (noted_then noted (noted_of counts (o ∷ [])))
+other_option counts noted o isnt uncounted = other_at (o.0 == IF_MATCH) (o.0 == ETAG) (o.0 == IF_NONE_MATCH) counts noted o isnt uncounted
 
 -- ---- where no option asks
 

@@ -1,7 +1,7 @@
 //! What the options of a request ask of the version of a property (RFC 7252, sections 5.10.6 and 5.10.8). They are gone
 //! over once more only where one of them asks.
 
-ghost use Rattle.std.specs.Prelude.{◌≡◌, ◌≤◌, ◌<◌, ◌++◌, ◌∷◌, [], length, filter_map, IfOk, OnOk, IfErr, true};
+ghost use Rattle.std.specs.Prelude.{◌≡◌, ◌≤◌, ◌<◌, ◌++◌, ◌∷◌, [], length, filter_map, ◌==◌, ◌&&◌, IfOk, OnOk, IfErr, true};
 ghost use Rattle.std.specs.List.{list_any};
 ghost use Rattle.coap_opts.specs.Reading.{version_of as version_said, conditions_by};
 ghost use Rattle.coap_opts.specs.Found.{asks_for_version, noted_of, noted_then, asked_by as asked_by_noted};
@@ -43,11 +43,7 @@ pub fn read_conditions(
 }
 
 /// What options ask.
-fn conditions_in(
-    alloc: Global,
-    options: &Options<'_>,
-    counts: bool,
-) -> Result<Conditions, NoMemory>
+fn conditions_in(alloc: Global, options: &Options<'_>, counts: bool) -> Result<Conditions, NoMemory>
     ensures { IfOk result (λ c. c ≡ conditions_by counts options.now) }
 {
     let mut noted = Noted {
@@ -71,24 +67,26 @@ fn note_options(noted: &mut Noted, options: &Options<'_>, counts: bool) -> Resul
 }
 
 /// Notes what one option says.
-fn note_option(
-    noted: &mut Noted,
-    number: u16,
-    value: &[u8],
-    counts: bool,
-) -> Result<(), NoMemory>
+fn note_option(noted: &mut Noted, number: u16, value: &[u8], counts: bool) -> Result<(), NoMemory>
     ensures { OnOk result (noted.new ≡ noted_then noted.old (noted_of counts ((number, value.now) ∷ []))) }
 {
     if number == IF_MATCH {
         noted.stands = true;
         noted.matched.any = noted.matched.any || value.is_empty();
         push_version(&mut noted.matched.list, value)
-    } else if number == ETAG && counts {
+    } else if is_counted(number, counts) {
         push_version(&mut noted.known.list, value)
     } else {
         noted.absent = noted.absent || number == IF_NONE_MATCH;
         Ok(())
     }
+}
+
+/// Whether an option is an ETag that counts.
+fn is_counted(number: u16, counts: bool) -> bool
+    ensures { result ≡ ((number == ETAG) && counts) }
+{
+    number == ETAG && counts
 }
 
 /// Puts the version that a value says at the end, if it says one.
@@ -116,13 +114,15 @@ fn version_of(value: &[u8]) -> Option<u32>
 fn asked_by(noted: Noted) -> Conditions
     ensures { result ≡ asked_by_noted noted }
 {
+    let Noted {
+        stands,
+        matched,
+        known,
+        absent,
+    } = noted;
     Conditions {
-        if_match: if noted.stands {
-            Some(noted.matched)
-        } else {
-            None
-        },
-        known: noted.known,
-        absent: noted.absent,
+        if_match: if stands { Some(matched) } else { None },
+        known,
+        absent,
     }
 }

@@ -170,10 +170,21 @@ none_under number isnt (o ∷ os) none =
 no_known : (counts : Bool) (values : List (List ℕ)) → values ≡ [] → known_by counts values ≡ no_tags
 no_known counts values none = ap (known_by counts) none ∙ known_none counts
 
+-- what doesn't ask has none of the three numbers
+no_numbers : (o : CoapOption) → asks_for_version o ≡ false → ((o.0 == IF_MATCH) ≡ false) × ((o.0 == ETAG) ≡ false) × ((o.0 == IF_NONE_MATCH) ≡ false)
+no_numbers o isnt =
+    let first = or_parts (o.0 == IF_MATCH) ((o.0 == ETAG) || (o.0 == IF_NONE_MATCH)) isnt in
+    let others = or_parts (o.0 == ETAG) (o.0 == IF_NONE_MATCH) first.1 in
+    (first.0, others.0, others.1)
+
 -- nothing is asked
 pub none_ask : (counts : Bool) (os : List CoapOption) → list_any asks_for_version os ≡ false → no_conditions ≡ conditions_by counts os
 none_ask counts os none =
-    let matched = none_under IF_MATCH (λ o isnt. (or_parts _ _ isnt).0) os none in
-    let known = none_under ETAG (λ o isnt. (or_parts _ _ (or_parts _ _ isnt).1).0) os none in
-    let absent = none_under IF_NONE_MATCH (λ o isnt. (or_parts _ _ (or_parts _ _ isnt).1).1) os none in
-    λ i. record { if_match = (sym (ap match_of matched)) i; known = (sym (no_known counts _ known)) i; absent = (sym (ap is_there absent)) i }
+    let matched = none_under IF_MATCH (λ o isnt. (no_numbers o isnt).0) os none in
+    let known = none_under ETAG (λ o isnt. (no_numbers o isnt).1) os none in
+    let absent = none_under IF_NONE_MATCH (λ o isnt. (no_numbers o isnt).2) os none in
+    λ i. record {
+      if_match = (sym (ap match_of matched)) i;
+      known = (sym (no_known counts (values_under ETAG os) known)) i;
+      absent = (sym (ap is_there absent)) i;
+    }

@@ -18,7 +18,7 @@ kept_first value = option_map (λ v. v.now) value
 
 -- an option asks for a version
 abbrev pub asks_for_version : CoapOption → Bool
-asks_for_version o = (o.0 == IF_MATCH) || (o.0 == ETAG) || (o.0 == IF_NONE_MATCH)
+asks_for_version o = (o.0 == IF_MATCH) || ((o.0 == ETAG) || (o.0 == IF_NONE_MATCH))
 
 -- ---- what is noted of options, one after another
 

@@ -7,17 +7,23 @@ ghost use Rattle.coap_msg.specs.Written.{IsWritten};
 
 use crate::{NoRoom, Opts};
 
-/// The number that up to three bytes say, in network byte order. A caller has asked how many there are.
+/// The number that up to four bytes say, in network byte order. A caller has asked how many there are.
 pub fn number_of(value: &[u8]) -> u32
-    requires { length value.now ≤ 3 }
+    requires { length value.now ≤ 4 }
     ensures { result ≡ number_of value.now }
 {
     match value {
         [] => 0,
         [low] => u32::from(*low),
         [high, low] => 256 * u32::from(*high) + u32::from(*low),
-        [high, middle, low, ..] => {
+        [high, middle, low] => {
             65536 * u32::from(*high) + 256 * u32::from(*middle) + u32::from(*low)
+        }
+        [highest, high, middle, low, ..] => {
+            16777216 * u32::from(*highest)
+                + 65536 * u32::from(*high)
+                + 256 * u32::from(*middle)
+                + u32::from(*low)
         }
     }
 }

@@ -1,1 +1,2 @@
 pub mod FirstValues
+pub mod NotedOptions

@@ -1,4 +1,4 @@
--- How an outcome is replied over HTTP (RFC 9110, sections 8.3, 8.6, 9.3.2, 10.2.1 and 10.2.2).
+-- How an outcome is replied over HTTP (RFC 9110, sections 8.3, 8.6, 8.8.3, 9.3.2, 10.2.1, 10.2.2 and 15.4.5).
 use Rattle.std.specs.Prelude.{ℕ, ◌==◌, List, [], ◌∷◌, ◌++◌, length, codes, Bool, true, false, nat_le, Option, Some, None, unwrap_or, option_map, if◌then◌else◌}
 use Rattle.thing_ops.specs.declared.outcome.Outcome.{Outcome}
 use Rattle.thing_ops.specs.declared.outcome.Outcome.TheVariants as outcome
@@ -24,6 +24,12 @@ abbrev pub media_type_of : Outcome → Option (List ℕ)
 media_type_of (outcome.Description description true) = Some (codes "application/td+json")
 media_type_of o = type_of_payload (answer_of o).payload
 
+-- the version of a property that was read, whose entity tag is sent
+abbrev pub version_of : Outcome → Option ℕ
+version_of (outcome.Content text tag) = tag
+version_of (outcome.NotModified tag) = Some tag
+version_of o = None
+
 -- the place of what was made: of an invocation, or of an entry of the directory
 abbrev pub location_of : Outcome → Option (List ℕ)
 location_of (outcome.Started place status) = Some (path_text place)
@@ -40,6 +46,7 @@ abbrev pub head_of : ℕ → Bool → Option (List ℕ) → Outcome → PlainRep
 head_of status closes location o = record {
   status = status;
   content_type = media_type_of o;
+  etag = version_of o;
   location = location;
   allow = allow_of o;
   size = Some (length (payload_of o));
@@ -92,6 +99,7 @@ abbrev pub fault_head : ℕ → List ℕ
 fault_head status = http_reply (record {
   status = status;
   content_type = Some (codes "text/plain;charset=utf-8");
+  etag = None;
   location = None;
   allow = None;
   size = Some (length (fault_body status));
@@ -103,7 +111,7 @@ fault_reply status = fault_head status ++ fault_body status
 
 -- the 100 reply, which has no payload (RFC 9110, section 15.2.1)
 abbrev pub continue_reply : List ℕ
-continue_reply = http_reply (record { status = 100; content_type = None; location = None; allow = None; size = None; close = false })
+continue_reply = http_reply (record { status = 100; content_type = None; etag = None; location = None; allow = None; size = None; close = false })
 
 -- the head of the 100 reply, or of the reply to a fault with another status
 abbrev pub status_head : ℕ → List ℕ

@@ -65,7 +65,7 @@ pub use laws::{
     blocks_are_read_again, no_fault, one_fault, one_message, one_spelling, read_blocks_are_blocks,
 };
 pub use message::{Message, MsgFault, RequestType, Type4};
-pub use numbers::{number_of, put_number, write_number};
+pub use numbers::{number_of, put_number};
 pub use options::{Options, OptionsIter};
 pub use opts::{NoRoom, Opts, put_segment};
 pub use transmission::{MOST_RETRANSMISSIONS, first_timeout};

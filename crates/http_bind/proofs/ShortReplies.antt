@@ -41,16 +41,16 @@ field_short name (Some value) few short = omega (arith, few, short, length-appen
 size_short : (t : Bool) (o : Option ℕ) → IfSome o (λ n. n < 2 ^ 64) → IfSome (option_map decimal (cond t None o)) (λ t. length t ≤ 64)
 size_short true o small = tt
 size_short false None small = tt
-size_short false (Some n) small = let few = length-decimal-le 20 n (omega arith) (omega (arith, small)) small in omega (arith, few)
+size_short false (Some n) small = let few = length-decimal-le 10 n (omega arith) (omega (arith, small)) (omega (arith, small)) in omega (arith, few)
 
 closing_short : (t : Bool) → IfSome (closing t) (λ t. length t ≤ 64)
 closing_short true = omega arith
 closing_short false = tt
 
-tag_short : (o : Option ℕ) → IfSome o (λ n. n < 2 ^ 64) → IfSome (option_map entity_tag o) (λ t. length t ≤ 64)
+tag_short : (o : Option ℕ) → IfSome o (λ n. n < 2 ^ 32) → IfSome (option_map entity_tag o) (λ t. length t ≤ 64)
 tag_short None small = tt
 tag_short (Some n) small =
-    let few = length-decimal-le 20 n (omega arith) (omega (arith, small)) small in omega (arith, few, length-append (decimal n) (34 ∷ []))
+    let few = length-decimal-le 10 n (omega arith) (omega (arith, small)) (omega (arith, small)) in omega (arith, few, length-append (decimal n) (34 ∷ []))
 
 lines_short : (a b d e f g : List ℕ) → length a ≤ 130 → length b ≤ 130 → length d ≤ 130 → length e ≤ 130 → length f ≤ 130 → length g ≤ 130 →
     length (a ++ (b ++ (d ++ (e ++ (f ++ (g ++ [])))))) ≤ 780

@@ -4,7 +4,7 @@ use Rattle.thing_ops.specs.declared.outcome.Outcome.{Outcome}
 use Rattle.thing_ops.specs.declared.outcome.Outcome.TheVariants as outcome
 use Rattle.thing_ops.specs.declared.verb.Verb.{Verb}
 use Rattle.thing_ops.specs.declared.verb.Verb.TheVariants as verb
-use Rattle.thing_ops.specs.Outcomes.{Payload, text, word, nothing, answer_of, payload_of}
+use Rattle.thing_ops.specs.Outcomes.{Payload, text, word, nothing, answer_of, payload_of, version_of}
 use Rattle.thing_ops.specs.Verbs.{verbs_in, names_of}
 use Rattle.http_wire.specs.Writing.{PlainReply, http_reply}
 use Rattle.http_bind.specs.Places.{path_text}
@@ -23,12 +23,6 @@ type_of_payload nothing = None
 abbrev pub media_type_of : Outcome → Option (List ℕ)
 media_type_of (outcome.Description description true) = Some (codes "application/td+json")
 media_type_of o = type_of_payload (answer_of o).payload
-
--- the version of a property that was read, whose entity tag is sent
-abbrev pub version_of : Outcome → Option ℕ
-version_of (outcome.Content text tag) = tag
-version_of (outcome.NotModified tag) = Some tag
-version_of o = None
 
 -- the place of what was made: of an invocation, or of an entry of the directory
 abbrev pub location_of : Outcome → Option (List ℕ)

@@ -15,7 +15,7 @@ PutsPlaced status closes o now None =
 -- A reply without a place, whose other fields are short.
 pub record IsShortReply (r : PlainReply) : Type 0 where
   pub content_type : IfSome r.content_type (λ t. length t ≤ 64)
-  pub etag : IfSome r.etag (λ n. n < 2 ^ 64)
+  pub etag : IfSome r.etag (λ n. n < 2 ^ 32)
   pub location : r.location ≡ None
   pub allow : IfSome r.allow (λ t. length t ≤ 64)
   pub size : IfSome r.size (λ n. n < 2 ^ 64)

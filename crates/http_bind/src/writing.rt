@@ -1,11 +1,11 @@
 //! The head and the payload of replies, written into a caller's room.
 
-ghost use Rattle.std.specs.Prelude.{◌≡◌, ◌≤◌, ◌<◌, ◌^◌, ◌⊎◌, ◌∷◌, [], codes, length, option_map, take, Some, None, IsSome, IfSome};
+ghost use Rattle.std.specs.Prelude.{◌≡◌, ◌≤◌, ◌⊎◌, ◌∷◌, [], codes, length, option_map, take, Some, None, IsSome};
 ghost use Rattle.thing_ops.specs.Outcomes.{answer_of, payload_of, HasStatus};
 ghost use Rattle.http_wire.specs.Writing.{http_reply, phrase_of};
 ghost use Rattle.http_wire.specs.Replies.{plain_reply};
 ghost use Rattle.http_bind.specs.Places.{path_text};
-ghost use Rattle.http_bind.specs.Replying.{media_type_of, version_of, location_of, allow_of, head_of, head_with, reply_head, longest_reply_head, fault_word as word_of_fault, fault_body, status_head};
+ghost use Rattle.http_bind.specs.Replying.{media_type_of, location_of, allow_of, head_of, head_with, reply_head, longest_reply_head, fault_word as word_of_fault, fault_body, status_head};
 ghost use Rattle.http_bind.specs.Streams.{woken_by};
 ghost use Rattle.http_bind.specs.Written.{PutsPlaced, IsShortReply, head_of_text};
 ghost use Rattle.thing_ops.specs.declared.outcome.Outcome.TheVariants as outcome;
@@ -180,7 +180,7 @@ fn put_at(outcome: &Outcome, place: &[u8], basics: Basics, out: &mut [u8]) -> Op
     let reply = Reply {
         status: basics.status,
         content_type: media_type(outcome),
-        etag: version(outcome),
+        etag: outcome.version(),
         location: Some(place),
         allow: None,
         length: Some(basics.size),
@@ -201,7 +201,7 @@ fn put_plain(outcome: &Outcome, basics: Basics, out: &mut [u8]) -> usize
     let reply = Reply {
         status: basics.status,
         content_type: media_type(outcome),
-        etag: version(outcome),
+        etag: outcome.version(),
         location: None,
         allow: allow(outcome, &mut room),
         length: Some(basics.size),
@@ -264,29 +264,6 @@ fn media_type(outcome: &Outcome) -> Option<&'static str>
         | Outcome::HasId
         | Outcome::DirectoryFull
         | Outcome::Memory => Some(PLAIN_TEXT),
-    }
-}
-
-/// The version of a property that was read, whose entity tag is sent.
-fn version(outcome: &Outcome) -> Option<u32>
-    ensures version { result ≡ version_of outcome.now }
-    ensures small { IfSome result (λ n. n < 2 ^ 64) }
-{
-    match outcome {
-        Outcome::Content { text: _, tag } => in_range(*tag),
-        Outcome::NotModified(tag) => Some(*tag),
-        _ => None,
-    }
-}
-
-/// The same version. For the proof: its range is known once it is read.
-fn in_range(version: Option<u32>) -> Option<u32>
-    ensures same { result ≡ version }
-    ensures small { IfSome result (λ n. n < 2 ^ 64) }
-{
-    match version {
-        Some(version) => Some(version),
-        None => None,
     }
 }
 

@@ -48,6 +48,22 @@ short_length n low =
     let three : nat_lt n 16777216 ≡ true = grind (arith, nat_tests) in
     subst (λ (b : Bool). length (bytes_at n (nat_lt n 1) (nat_lt n 256) (nat_lt n 65536) b) ≤ 3) (sym three) (short_at n (nat_lt n 1) (nat_lt n 256) (nat_lt n 65536))
 
+-- a number above 0 has a first byte, which isn't 0, and three more at most
+first_at : (n : ℕ) (none one two three : Bool) → nat_lt n 1 ≡ none → nat_lt n 256 ≡ one → nat_lt n 65536 ≡ two → nat_lt n 16777216 ≡ three → 0 < n
+    → (b : ℕ) × (rest : List ℕ) × (bytes_at n none one two three ≡ b ∷ rest) × (0 < b) × (length rest ≤ 3)
+first_at n true one two three a b c d some = absurd (let zero : n ≡ 0 = grind (arith, nat_tests) in omega (arith, zero, some))
+first_at n false true two three a b c d some = (n, [], refl, some, omega arith)
+first_at n false false true three a b c d some =
+    let many : 256 ≤ n = grind (arith, nat_tests) in (n / 256, n % 256 ∷ [], refl, omega arith, omega arith)
+first_at n false false false true a b c d some =
+    let many : 65536 ≤ n = grind (arith, nat_tests) in (n / 65536, (n / 256 % 256) ∷ (n % 256) ∷ [], refl, omega arith, omega arith)
+first_at n false false false false a b c d some =
+    let many : 16777216 ≤ n = grind (arith, nat_tests) in
+    (n / 16777216, (n / 65536 % 256) ∷ (n / 256 % 256) ∷ (n % 256) ∷ [], refl, omega arith, omega arith)
+
+pub first_byte : (n : ℕ) → 0 < n → (b : ℕ) × (rest : List ℕ) × (number_bytes n ≡ b ∷ rest) × (0 < b) × (length rest ≤ 3)
+first_byte n some = first_at n (nat_lt n 1) (nat_lt n 256) (nat_lt n 65536) (nat_lt n 16777216) refl refl refl refl some
+
 -- numbers of one byte and of two, as they are written
 short_one : (n : ℕ) → 0 < n → n < 256 → n % 256 ∷ [] ≡ number_bytes n
 short_one n some one =

@@ -1,10 +1,10 @@
 -- What a CoAP request asks for, and what can be wrong with its options (RFC 7252, sections 5.4, 5.8 and 5.10; RFC 7959,
 -- section 2).
-use Rattle.std.specs.Prelude.{◌≡◌, ◌⊎◌, ℕ, ◌%◌, List, [], ◌∷◌, map, Bool, true, false, not, length, ◌==◌, ◌&&◌, ◌||◌, Option, Some, None, option_and_then, slice_get, slice_index, nat_le, filter_map, is_some, IfSome, if◌then◌else◌}
+use Rattle.std.specs.Prelude.{◌≡◌, ◌⊎◌, ◌<◌, ◌^◌, ℕ, ◌%◌, List, [], ◌∷◌, map, Bool, true, false, not, length, ◌==◌, ◌&&◌, ◌||◌, Option, Some, None, option_and_then, slice_get, slice_index, nat_le, filter_map, is_some, IfSome, if◌then◌else◌}
 use Rattle.std.specs.List.{filter, list_any}
 use Rattle.coap_msg.specs.declared.constants.TheConstants.{IF_MATCH, ETAG, IF_NONE_MATCH, URI_PATH, BLOCK1, BLOCK2, PROXY_URI, PROXY_SCHEME, GET, POST, PUT, DELETE, JSON, TD_JSON}
 use Rattle.coap_msg.specs.Grammar.{CoapOption, CoapMessage}
-use Rattle.coap_msg.specs.Numbers.{number_of}
+use Rattle.coap_msg.specs.Numbers.{number_of, number_bytes}
 use Rattle.coap_msg.specs.declared.block.Block.{Block}
 use Rattle.coap_msg.specs.Blocks.{IsBlock, block_of}
 use Rattle.thing_ops.specs.declared.verb.Verb.{Verb}
@@ -89,6 +89,10 @@ block_under k os = option_and_then block_of (slice_get (values_under k.number os
 abbrev pub version_of : List ℕ → Option ℕ
 version_of value =
     if nat_le 1 (length value) && nat_le (length value) 4 && not (slice_index value 0 == 0) then Some (number_of value) else None
+
+-- the tag of a version, its number (coap_bind/specs/Writing.antt), is read as that version
+abbrev pub TagsAreReadAgain : Type 0
+TagsAreReadAgain = (version : ℕ) → 0 < version → version < 2 ^ 32 → version_of (number_bytes version) ≡ Some version
 
 -- there is a value
 abbrev pub is_there : List (List ℕ) → Bool

@@ -313,7 +313,7 @@ reply_at u o observe head next false e token place fits unobserved =
 -- what is no notification registers nobody
 never_registers : (wants : Observing) (o : Outcome) (target : Option ℕ) (t : ℕ) → may_notify o ≡ false → effect_of wants o target ≡ effect.Registers t → ⊥
 never_registers observing.Unchanged o target t no is = absurd cc
-never_registers observing.Registers o target t no is = absurd (let e = sym (ap (λ (b : Bool). if b then registering target else effect.Nothing) no) ∙ is in cc)
+never_registers observing.Registers o target t no is = absurd (let wrong : effect.Nothing ≡ effect.Registers t = sym (ap (λ (b : Bool). if b then registering target else effect.Nothing) no) ∙ is in cc)
 never_registers observing.Deregisters o target t no is = at (is_memory o) is
   where
     at : (b : Bool) → (if b then effect.Nothing else effect.Cancels) ≡ effect.Registers t → ⊥

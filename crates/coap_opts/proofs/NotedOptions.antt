@@ -1,8 +1,7 @@
 -- What is noted of options, one after another.
-use Rattle.std.proofs.Common.{◌≡◌, ◌∙◌, ℕ, ◌||◌, Bool, true, false, List, [], ◌∷◌, ◌++◌, map, refl, sym, ap, cond, append_assoc, append-nil}
-use Rattle.std.specs.Prelude.{◌==◌, ◌&&◌, Option, Some, None, Result, Ok, Err, OnOk, filter_map}
+use Rattle.std.proofs.Common.{◌≡◌, ◌∙◌, ℕ, ◌||◌, Bool, true, false, List, [], ◌∷◌, ◌++◌, map, refl, sym, ap, cond, append_assoc}
+use Rattle.std.specs.Prelude.{◌==◌}
 use Rattle.std.specs.List.{filter, list_any}
-use Rattle.std.proofs.Math.Bool.{or-false}
 use Rattle.std.proofs.lemmas.Bool.{or_parts}
 use Rattle.std.proofs.lemmas.List.Elements.{filter_map-append}
 use Rattle.std.proofs.lemmas.List.Folds.{list_any-append}
@@ -32,9 +31,6 @@ known_more true xs ys = λ i. record { any = false; list = filter_map-append ver
 
 both_assoc : (a b c : Tags) → both_tags (both_tags a b) c ≡ both_tags a (both_tags b c)
 both_assoc a b c = λ i. record { any = or_assoc a.any b.any c.any i; list = append_assoc a.list b.list c.list i }
-
-both_none : (a : Tags) → both_tags a no_tags ≡ a
-both_none a = λ i. record { any = or-false a.any i; list = append-nil a.list i }
 
 noted_first : (counts : Bool) (o : CoapOption) (os : List CoapOption) → noted_of counts (o ∷ os) ≡ noted_then (noted_of counts (o ∷ [])) (noted_of counts os)
 noted_first counts o os = λ i. record {
@@ -67,92 +63,11 @@ known_none : (counts : Bool) → known_by counts [] ≡ no_tags
 known_none true = refl
 known_none false = refl
 
-noted_none : (counts : Bool) (a : Noted) → noted_then a (noted_of counts []) ≡ a
-noted_none counts a = λ i. record {
-  stands = or-false a.stands i;
-  matched = both_none a.matched i;
-  known = (ap (both_tags a.known) (known_none counts) ∙ both_none a.known) i;
-  absent = or-false a.absent i;
-}
-
--- no option more
-pub options_kept : (counts : Bool) (before now : Noted) (all left : List CoapOption) →
-    noted_then before (noted_of counts all) ≡ noted_then now (noted_of counts left) → left ≡ [] → now ≡ noted_then before (noted_of counts all)
-options_kept counts before now all left so_far is =
-    sym (noted_none counts now) ∙ ap (λ (os : List CoapOption). noted_then now (noted_of counts os)) (sym is) ∙ sym so_far
-
 -- what is noted where nothing was
 pub nothing_before : (counts : Bool) (matched known : Tags) (after : Noted) (os : List CoapOption) → matched ≡ no_tags → known ≡ no_tags →
     after ≡ noted_then (record { stands = false; matched = matched; known = known; absent = false }) (noted_of counts os) → after ≡ noted_of counts os
 nothing_before counts matched known after os none none_too is =
     is ∙ (λ i. noted_then (record { stands = false; matched = none i; known = none_too i; absent = false }) (noted_of counts os))
-
--- ---- one option alone
-
--- what follows of a success
-pub on_ok : {A E P Q : Type 0} (r : Result A E) → OnOk r P → (P → Q) → OnOk r Q
-on_ok (Ok a) holds follows = follows holds
-on_ok (Err e) holds follows = holds
-
-or_true : (b : Bool) → true ≡ (b || true)
-or_true true = refl
-or_true false = refl
-
-nothing_known : (counts : Bool) (noted : Noted) → noted.known ≡ both_tags noted.known (known_by counts [])
-nothing_known counts noted = sym (ap (both_tags noted.known) (known_none counts) ∙ both_none noted.known)
-
--- If-Match
-pub matched_option : (counts : Bool) (noted : Noted) (number : ℕ) (value : List ℕ) (any : Bool) (list : List ℕ) → IF_MATCH ≡ number →
-    any ≡ (noted.matched.any || is_blank value) → list ≡ noted.matched.list ++ filter_map version_of (value ∷ []) →
-    ◌≡◌ {A = Noted} (record { stands = true; matched = record { any = any; list = list }; known = noted.known; absent = noted.absent })
-    (noted_then noted (noted_of counts ((number, value) ∷ [])))
-matched_option counts noted number value any list is blank said =
-    (λ i. record {
-      stands = or_true noted.stands i;
-      matched = record { any = (blank ∙ ap (λ (b : Bool). noted.matched.any || b) (sym (or-false (is_blank value)))) i; list = said i };
-      known = nothing_known counts noted i;
-      absent = (sym (or-false noted.absent)) i;
-    })
-    ∙ ap (λ (n : ℕ). noted_then noted (noted_of counts ((n, value) ∷ []))) is
-
--- ETag, where it counts
-pub known_option : (counts : Bool) (noted : Noted) (number : ℕ) (value list : List ℕ) → ETAG ≡ number → true ≡ counts →
-    list ≡ noted.known.list ++ filter_map version_of (value ∷ []) →
-    ◌≡◌ {A = Noted} (record { stands = noted.stands; matched = noted.matched; known = record { any = noted.known.any; list = list }; absent = noted.absent })
-    (noted_then noted (noted_of counts ((number, value) ∷ [])))
-known_option counts noted number value list is too said =
-    (λ i. record {
-      stands = (sym (or-false noted.stands)) i;
-      matched = (sym (both_none noted.matched)) i;
-      known = record { any = (sym (or-false noted.known.any)) i; list = said i };
-      absent = (sym (or-false noted.absent)) i;
-    })
-    ∙ (λ i. noted_then noted (noted_of (too i) ((is i, value) ∷ [])))
-
--- another option
-other_at : (named etag none counts : Bool) (noted : Noted) (o : CoapOption) → named ≡ false → (etag && counts) ≡ false →
-    ◌≡◌ {A = Noted} (record { stands = noted.stands; matched = noted.matched; known = noted.known; absent = noted.absent || none })
-    (noted_then noted (record {
-      stands = is_there (map (λ (x : CoapOption). x.1) (cond named (o ∷ []) []));
-      matched = tags_of (map (λ (x : CoapOption). x.1) (cond named (o ∷ []) []));
-      known = known_by counts (map (λ (x : CoapOption). x.1) (cond etag (o ∷ []) []));
-      absent = is_there (map (λ (x : CoapOption). x.1) (cond none (o ∷ []) []));
-    }))
-other_at true etag none counts noted o isnt uncounted = absurd cc
-other_at false true none true noted o isnt uncounted = absurd cc
-other_at false true true false noted o isnt uncounted =
-    λ i. record { stands = (sym (or-false noted.stands)) i; matched = (sym (both_none noted.matched)) i; known = (sym (both_none noted.known)) i; absent = noted.absent || true }
-other_at false true false false noted o isnt uncounted =
-    λ i. record { stands = (sym (or-false noted.stands)) i; matched = (sym (both_none noted.matched)) i; known = (sym (both_none noted.known)) i; absent = noted.absent || false }
-other_at false false true counts noted o isnt uncounted =
-    λ i. record { stands = (sym (or-false noted.stands)) i; matched = (sym (both_none noted.matched)) i; known = nothing_known counts noted i; absent = noted.absent || true }
-other_at false false false counts noted o isnt uncounted =
-    λ i. record { stands = (sym (or-false noted.stands)) i; matched = (sym (both_none noted.matched)) i; known = nothing_known counts noted i; absent = noted.absent || false }
-
-pub other_option : (counts : Bool) (noted : Noted) (o : CoapOption) → (o.0 == IF_MATCH) ≡ false → ((o.0 == ETAG) && counts) ≡ false →
-    ◌≡◌ {A = Noted} (record { stands = noted.stands; matched = noted.matched; known = noted.known; absent = noted.absent || (o.0 == IF_NONE_MATCH) })
-    (noted_then noted (noted_of counts (o ∷ [])))
-other_option counts noted o isnt uncounted = other_at (o.0 == IF_MATCH) (o.0 == ETAG) (o.0 == IF_NONE_MATCH) counts noted o isnt uncounted
 
 -- ---- where no option asks
 

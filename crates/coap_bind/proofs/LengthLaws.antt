@@ -1,5 +1,5 @@
 -- How long replies and notifications are, and that they fit their room.
-use Rattle.std.proofs.Common.{◌≡◌, ℕ, ◌+◌, ◌*◌, ◌-◌, ◌/◌, ◌%◌, ◌≤◌, ◌<◌, ◌⊎◌, ◌∙◌, ◌||◌, Bool, true, false, inl, inr, Option, Some, None, List, [], ◌∷◌, ◌++◌, length, drop, refl, sym, ap, subst, arith, append_assoc, length-append, length-take, length-drop}
+use Rattle.std.proofs.Common.{◌≡◌, ℕ, ◌+◌, ◌*◌, ◌-◌, ◌≤◌, ◌<◌, ◌⊎◌, ◌∙◌, ◌||◌, Bool, true, false, inl, inr, Option, Some, None, List, [], ◌∷◌, ◌++◌, length, drop, refl, sym, ap, subst, arith, append_assoc, length-append, length-take, length-drop}
 use Rattle.std.specs.Prelude.{nat_lt, All, IfSome, Result, Ok, Err, OnErr, if◌then◌else◌}
 use Rattle.std.proofs.lemmas.List.{append-nil}
 use Rattle.std.specs.Result.{IsOk}
@@ -31,11 +31,8 @@ use Rattle.coap_bind.specs.declared.observing.Observing.{Observing}
 use Rattle.coap_bind.specs.declared.observing.Observing.TheVariants as observing
 use Rattle.coap_bind.specs.declared.observing.Effect.{Effect}
 use Rattle.coap_bind.specs.declared.observing.Effect.TheVariants as effect
-use Rattle.coap_bind.specs.declared.head.OpenAsk.{OpenAsk}
-use Rattle.coap_bind.specs.declared.server.Server.{Server}
 use Rattle.coap_observe.specs.Watching.{Watching}
 use Rattle.coap_bind.specs.Observing.{effect_of, is_memory, may_notify, registering, Watches, leaves, cancels, registers}
-use Rattle.coap_bind.specs.Telling.{HasRoom, MayAnswer}
 use Rattle.coap_bind.specs.Laws.{HasShortPlace, RepliesFit}
 
 -- ---- one option

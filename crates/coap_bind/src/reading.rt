@@ -277,6 +277,7 @@ fn put_block_of(
     }
     let told = Told {
         code: CONTENT,
+        version: body.tag,
         format: body.format,
         portion: portion_at(block, body.bytes),
     };

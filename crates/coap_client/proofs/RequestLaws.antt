@@ -1,6 +1,6 @@
 -- Laws of the requests that a client sends, over all that it did from its beginning.
-use Rattle.std.proofs.Common.{◌≡◌, ◌≢◌, ℕ, ◌+◌, ◌/◌, ◌%◌, ◌<◌, ◌≤◌, ◌∙◌, Bool, true, false, cond, Option, Some, None, List, [], ◌∷◌, ◌++◌, length, get_or, set, inl, inr, refl, sym, ap, subst, arith}
-use Rattle.std.specs.Prelude.{nat_lt, All}
+use Rattle.std.proofs.Common.{◌≡◌, ◌≢◌, ℕ, ◌+◌, ◌%◌, ◌<◌, ◌≤◌, ◌∙◌, Bool, true, false, cond, Option, Some, None, List, [], ◌∷◌, ◌++◌, length, get_or, set, inl, inr, refl, sym, ap, subst, arith}
+use Rattle.std.specs.Prelude.{All}
 use Rattle.std.specs.Int.{to_be_bytes, w64}
 use Rattle.std.proofs.lemmas.Bool.{cases_lt}
 use Rattle.std.proofs.lemmas.Bool.Decides.{eqb_tells}
@@ -11,7 +11,7 @@ use Rattle.coap_msg.specs.declared.endpoint.Endpoint.{Endpoint}
 use Rattle.coap_msg.specs.declared.constants.TheConstants.{URI_PATH}
 use Rattle.coap_msg.specs.Endpoints.{is_same_endpoint}
 use Rattle.coap_msg.specs.Grammar.{AreInOrder, IsWellFormed}
-use Rattle.coap_msg.specs.Numbers.{number_bytes}
+use Rattle.coap_msg.proofs.NumberValues.{number_length}
 use Rattle.coap_msg.specs.Opts.{segment_options}
 use Rattle.coap_client.specs.declared.outstanding.Outstanding.{Outstanding}
 use Rattle.coap_client.specs.declared.observation.Observation.{Observation}
@@ -223,17 +223,9 @@ ids_differ sent s did few =
 
 -- ---- options in order
 
-short_at : (n : ℕ) (b c : Bool) → length (cond b [] (cond c (n ∷ []) ((n / 256) ∷ (n % 256) ∷ []))) ≤ 2
-short_at n true c = omega arith
-short_at n false true = omega arith
-short_at n false false = omega arith
-
-short : (n : ℕ) → length (number_bytes n) ≤ 2
-short n = short_at n (nat_lt n 1) (nat_lt n 256)
-
 format_in_order : (last : ℕ) (format : Option ℕ) → last ≤ 12 → AreInOrder last (format_option format)
 format_in_order last None h = tt
-format_in_order last (Some n) h = let bound = short n in (record { order = h; number = omega arith; value = omega arith }, tt)
+format_in_order last (Some n) h = let bound = number_length n in (record { order = h; number = omega arith; value = omega arith }, tt)
 
 path_in_order : (last : ℕ) (path : List (List ℕ)) (format : Option ℕ) → last ≤ 11 → All (λ segment. length segment ≤ 255) path
     → AreInOrder last (segment_options URI_PATH path ++ format_option format)

@@ -100,7 +100,7 @@ fn put_format(options: &mut Opts<'_>, format: Option<u16>) -> Result<(), NoRoom>
     ensures { PutsOptions (format_option format) result options.old options.new }
 {
     match format {
-        Some(number) => put_number(options, CONTENT_FORMAT, number),
+        Some(number) => put_number(options, CONTENT_FORMAT, u32::from(number)),
         None => Ok(()),
     }
 }

@@ -25,7 +25,7 @@ use Rattle.coap_client.specs.Exchange.{at_moment, Delivers, of_message, of_fault
 use Rattle.coap_client.proofs.RequestLaws.{last_is_outstanding, ids_differ}
 use Rattle.coap_client.proofs.RegistrationLaws.{registration_is_observed}
 use Rattle.coap_bind.specs.Server.{is_request}
-use Rattle.coap_bind.specs.Writing.{Reply, notification}
+use Rattle.coap_bind.specs.Writing.{Reply, reply_options, notification}
 use Rattle.servient_world.specs.World.{client_place, server_place, Purpose, copy_of, reply_to, notice_for, other, Datagram, Act, answered, observed, reset, AskEnd, Value, WorldState, latest, with_sent, end_by, taken_by}
 use Rattle.servient_world.proofs.Places.{at_end}
 use Rattle.servient_world.proofs.Holds.{Holds}
@@ -101,9 +101,9 @@ for_client w d (notice_for k q e) is to = (k, inr (q, is))
 for_client w d other is to = absurd (is.0 to)
 
 -- the act of a reply with options
-act_of_reply : (acts : List Act) (k : ℕ) (r : Reply) → IsWhy acts k r → (r.options ≡ [] → ⊥) → (x : Act) × Contains acts x × (x.ask ≡ k)
-act_of_reply acts k r (inl full) some = absurd (some (ap (λ (x : Reply). x.options) full))
-act_of_reply acts k r (inr (inl none)) some = absurd (some (ap (λ (x : Reply). x.options) none))
+act_of_reply : (acts : List Act) (k : ℕ) (r : Reply) → IsWhy acts k r → (reply_options r ≡ [] → ⊥) → (x : Act) × Contains acts x × (x.ask ≡ k)
+act_of_reply acts k r (inl full) some = absurd (some (ap (λ (x : Reply). reply_options x) full))
+act_of_reply acts k r (inr (inl none)) some = absurd (some (ap (λ (x : Reply). reply_options x) none))
 act_of_reply acts k r (inr (inr act)) some = (act.0, act.1, act.2)
 
 pub exact_taken : (capacity : ℕ) (d : Datagram) (w : WorldState) (told : Delivered) (old new : List ℕ) (t : State) → Holds capacity w → length w.asks ≤ 65536 → Exact w

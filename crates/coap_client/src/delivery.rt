@@ -120,7 +120,7 @@ impl State {
 /// The news of a message with this meaning.
 fn news_of<'b>(meaning: Meaning, message: &Message<'b>) -> News<'b>
     ensures news { IsNews meaning (message_of message.now) result }
-    ensures block { SaysBlock result.entry }
+    ensures block { SaysBlock result }
 {
     match meaning {
         Meaning::Value(_sequence) => News::Value(message.payload),

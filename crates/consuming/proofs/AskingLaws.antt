@@ -29,7 +29,7 @@ use Rattle.consuming.specs.Deeds.{happen, Sight, sight, Shows, ShowsHappenings, 
 use Rattle.consuming.specs.HttpWaiting.{waiting_on}
 use Rattle.consuming.specs.declared.blocks.Blocks.{Blocks}
 use Rattle.consuming.specs.Asking.{first_blocks}
-use Rattle.consuming.specs.Blockwise.{Transferred}
+use Rattle.consuming.specs.Blockwise.{Transferred, nothing_joined}
 use Rattle.consuming.specs.CoapWaiting.{client_now, asking_with, IsSent}
 use Rattle.consuming.specs.Waiting.{Awaits, most_events}
 use Rattle.consuming.specs.Consuming as whole
@@ -116,6 +116,13 @@ find_memory o c input host n m q at_host finds =
 
 pub client_memory : (o : Operation) (c : Chosen) (input : Option (List ℕ)) (s : Sight) → Shows (λ deeds. AsksByCoap o c input deeds ended.NoMemory) s s put.Done
 client_memory o c input s = record { deeds = []; holds = whole.client_memory refl refl; shows = shows_none s }
+
+-- what is handed in is that with which it begins
+pub coap_same : (o : Operation) (c : Chosen) (t : Transferred) (input : Option (List ℕ)) (r : Consumed) (a b : Sight) (p : Put) → t ≡ nothing_joined input → Shows (λ deeds. AsksByCoap o c t.input deeds r) a b p → Shows (λ deeds. AsksByCoap o c input deeds r) a b p
+coap_same o c t input r a b p is asks = record { deeds = asks.deeds; holds = subst (λ (x : Option (List ℕ)). AsksByCoap o c x asks.deeds r) (ap (λ (x : Transferred). x.input) is) asks.holds; shows = asks.shows }
+
+pub joined_nothing : (t : Transferred) (input : Option (List ℕ)) → t ≡ nothing_joined input → t ≡ nothing_joined t.input
+joined_nothing t input is = is ∙ ap (λ (x : Transferred). nothing_joined x.input) (sym is)
 
 -- ## The whole
 

@@ -141,7 +141,7 @@ put_further c w v b hs r (is_no_further f refused none ends) = ap put_in (sym en
 
 -- the step and what came back, as one
 as_one : {A B : Type 0} (x : A × B) (a : A) (b : B) → a ≡ x.0 → b ≡ x.1 → x ≡ (a, b)
-as_one x a b e f = ap (λ y. (y, x.1)) (sym e) ∙ ap (λ y. (a, y)) (sym f)
+as_one x a b e f = λ i. (sym e i, sym f i)
 
 pub answer_leads_on : (o : Operation) (c : Chosen) (w u v : CoapWaiting) (code : ℕ) (block2 : Option Block) (payload : List ℕ) (joins : Bool) (b : Blocks) (r : Option Consumed) (n m : NetSeen) (q : OutSeen) → joins ≡ is_joined c
     → step.Ask b ≡ (after_answer joins w.transfer code block2 payload).0 → u ≡ with_joined w (after_answer joins w.transfer code block2 payload).1

@@ -119,7 +119,8 @@ impl CoapWaiting {
         ensures in_time { self.new.client.moment ≤ self.new.moment }
     {
         match news {
-            News::Nothing | News::Old => None,
+            News::Nothing => None,
+            News::Old => None,
             News::Reset => Some(Consumed::Other(Outcome::Reset)),
             News::Answered(code, block2, payload) => {
                 let answer = Answer {

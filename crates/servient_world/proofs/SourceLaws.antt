@@ -204,7 +204,7 @@ source_of w i d p m q payload y (notice_of k q0 place is n_of) says spells e sam
 told_source : (w : WorldState) (i : ℕ) (d : Datagram) (p : Purpose) (m : CoapMessage) (n : News) → Sourced w → IsFor w i d p → SaysIt w.acts w.emitted d p → Spells m d.bytes
     → IsNews (meaning (at_moment w.moment w.client) d.from m) m n → All (IsSource w.acts w.emitted) (taken_by p n)
 told_source w i d p m (news.Value payload) y it says spells is = source_of w i d p m is.0 payload.now y it says spells is.1 is.2
-told_source w i d p m (news.Answered code payload) y it says spells is = All-nil (IsSource w.acts w.emitted)
+told_source w i d p m (news.Answered code block payload) y it says spells is = All-nil (IsSource w.acts w.emitted)
 told_source w i d p m news.Old y it says spells is = All-nil (IsSource w.acts w.emitted)
 told_source w i d p m news.Reset y it says spells is = All-nil (IsSource w.acts w.emitted)
 told_source w i d p m news.Nothing y it says spells is = All-nil (IsSource w.acts w.emitted)

@@ -1,12 +1,13 @@
-use Rattle.std.proofs.Common.{rules}
+use Rattle.std.proofs.Common.{refl}
 use Rattle.consuming.specs.Deeds.{sight}
-use Rattle.consuming.proofs.HearingLaws.{value_follows, answer_follows}
+use Rattle.consuming.proofs.HearingLaws.{nothing_follows, reset_follows}
 use Rattle.consuming.proofs.coap_waiting.CoapWaiting.follow.Goals as goal
 
-pub returns-then-is_value-clause-follows : goal.returns-then-is_value-clause-follows
-returns-then-is_value-clause-follows g c =
-    value_follows _ _ _ _ _ _ _ _ (sight (g.N.Net.seen c.args.net.now) (g.O.Out.seen c.args.out.now)) (g.N.Net.seen c.args.net.now) (g.N.Net.seen c.after_value.new.net) (g.O.Out.seen c.close-consumed.new.out) c.in-Some.ensures (search rules) (c.close-consumed.ensures (g.N.Net.seen c.args.net.now)) c.after_value.ensures.ends
+pub returns-in-Nothing-clause-follows : goal.returns-in-Nothing-clause-follows
+returns-in-Nothing-clause-follows g c = nothing_follows _ _ _ _ (sight (g.N.Net.seen c.args.net.now) (g.O.Out.seen c.args.out.now)) (refl, refl, refl)
 
-pub returns-else-is_value-clause-follows : goal.returns-else-is_value-clause-follows
-returns-else-is_value-clause-follows g c =
-    answer_follows _ _ _ _ _ _ _ (sight (g.N.Net.seen c.args.net.now) (g.O.Out.seen c.args.out.now)) (sight (g.N.Net.seen c.args.net.now) (g.O.Out.seen c.close-consumed.new.out)) c.in-Some.ensures (search rules) (c.close-consumed.ensures (g.N.Net.seen c.args.net.now))
+pub returns-in-Old-clause-follows : goal.returns-in-Old-clause-follows
+returns-in-Old-clause-follows g c = nothing_follows _ _ _ _ (sight (g.N.Net.seen c.args.net.now) (g.O.Out.seen c.args.out.now)) (refl, refl, refl)
+
+pub returns-in-Reset-clause-follows : goal.returns-in-Reset-clause-follows
+returns-in-Reset-clause-follows g c = reset_follows _ _ _ _ _ (sight (g.N.Net.seen c.args.net.now) (g.O.Out.seen c.args.out.now)) refl

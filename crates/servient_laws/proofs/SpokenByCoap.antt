@@ -208,7 +208,7 @@ read_by_coap q can =
           (ap (λ (vs : List (List ℕ)). accept_of (option_and_then (number_within accept) (slice_get vs 0))) (other_values ACCEPT q.path os refl) ∙ rest.accept_is)
           (ap (λ (vs : List (List ℕ)). format_of (option_and_then (number_within content_format) (slice_get vs 0))) (other_values CONTENT_FORMAT q.path os refl) ∙ rest.format_is can.format)
           (asks_nothing _ (segment_options URI_PATH q.path ++ os) (other_values IF_MATCH q.path os refl ∙ rest.if_match)
-              (other_values ETAG q.path os refl ∙ rest.etag) (other_values IF_NONE_MATCH q.path os refl ∙ rest.if_none_match)
+          (other_values ETAG q.path os refl ∙ rest.etag) (other_values IF_NONE_MATCH q.path os refl ∙ rest.if_none_match)
           ∙ sym can.conditions);
     }
   where

@@ -31,19 +31,24 @@ use Rattle.servient_cli.specs.Replaying.{plan_name, ReadsInputs, run_events, Run
 use Rattle.servient_cli.specs.Checking.{Checks, IsFaultlessDescription, Judges}
 use Rattle.servient_cli.specs.Deriving.{ReadsPlanned, Derives, derived_of, Prints, DerivesAndPrints}
 use Rattle.servient_outside.specs.Out.{OutSeen, NoWriteFailed}
-use Rattle.servient_cli.specs.Command.{IsFaultless, HasFaultlessFiles, IsReported, Ends, NothingFailed, IsWell, Does, Commands, EndsAndReports, consumption_in, is_consuming, is_networked, is_serving, is_no_command, is_command, words_memory}
+use Rattle.servient_cli.specs.Command.{IsFaultless, HasFaultlessFiles, IsReported, Ends, NothingFailed, IsAnswered, IsWell, Does, Commands, EndsAndReports, consumption_in, is_consuming, is_networked, is_serving, is_no_command, is_command, words_memory}
 use Rattle.servient_cli.proofs.FaultlessStages.{GoesOn, EndsWell, by_memory, same_status, HasTrouble, what_trouble, rose_some, then_well, read_well, tree_well, judge_well, derive_well, print_well, planned_well, with_events, inputs_well, run_on_well}
+use Rattle.servient_base.specs.Count.{Rose}
+use Rattle.servient_cli.proofs.FaultlessConsuming.{IsConsumed, MayEnd, consume_well}
 use Rattle.servient_cli.proofs.ServedStages.{IsServed, serving_well}
 use Rattle.servient_cli.proofs.StormStages.{storm_well}
 
--- the command did what it is for, was out of memory, or served and has spent its budget
+-- the command did what it is for, was out of memory, served and has spent its budget, or consumed another Thing
+abbrev IsDoneBy : Option Command → Outcome (Unit {0}) → Type 0
+IsDoneBy command o = EndsWell o ⊎ ((is_serving command ≡ true) × (o ≡ ends 8)) ⊎ ((is_consuming command ≡ true) × IsConsumed o)
+
 abbrev IsDone : Command → Outcome (Unit {0}) → Type 0
-IsDone command o = EndsWell o ⊎ ((is_serving (Some command) ≡ true) × (o ≡ ends 8))
+IsDone command o = IsDoneBy (Some command) o
 
 served_done : (plan : List ℕ) (events idle : ℕ) (o : Outcome (Unit {0})) → IsServed o → IsDone (Serve plan events idle) o
 served_done plan events idle o (inl zero_is) = inl (inl zero_is)
 served_done plan events idle o (inr (inl nine)) = inl (inr nine)
-served_done plan events idle o (inr (inr eight)) = inr (refl, eight)
+served_done plan events idle o (inr (inr eight)) = inr (inl (refl, eight))
 
 -- a command with whose files nothing is wrong
 does_well : (held : Option (List HeldFile)) (files : List HeldFile) (kinds : List Kind) (command : Command) (seen : List Deed) (o : Outcome (Unit {0})) → held ≡ Some files → HasFaultlessFiles files kinds command → ¬ (HasTrouble seen) → Does held kinds command seen o → IsDone command o
@@ -71,19 +76,17 @@ does_well held files kinds (Derive plan) seen o is_held fine quiet stage = inl (
     any_things r (inl goes) = inl (goes.0, tt, goes.2)
     any_things r (inr nine) = inr nine
 does_well held files kinds (Serve plan events idle) seen o is_held fine quiet stage = served_done plan events idle o (serving_well held files kinds plan events idle fine seen o is_held quiet stage)
-does_well held files kinds (Consume consumption) seen o is_held fine quiet stage = absurd fine
+does_well held files kinds (Consume consumption) seen o is_held fine quiet stage = inr (inr (refl, consume_well held files consumption fine seen o is_held quiet stage))
 does_well held files kinds (Storm seed events) seen o is_held fine quiet stage = inl (storm_well kinds seed events fine seen o quiet stage)
 
 command_well : (held : Option (List HeldFile)) (kinds : List Kind) (words : List (List ℕ)) (seen : List Deed) (o : Outcome (Unit {0})) → IsFaultless words held kinds → ¬ (HasTrouble seen) → Commands held kinds words seen o
-    → EndsWell o ⊎ ((is_serving (meaning_of words) ≡ true) × (o ≡ ends 8))
+    → IsDoneBy (meaning_of words) o
 command_well held kinds words seen o fine quiet (is_no_command none end) =
     let no : None ≡ Some fine.command = sym none ∙ fine.meaning in absurd cc
 command_well held kinds words seen o fine quiet (is_command command meaning does) =
     let same : command ≡ fine.command = same_Some command fine.command (sym meaning ∙ fine.meaning) in
-    elim (does_well held fine.files kinds fine.command seen o fine.told fine.faultless quiet (subst (λ (x : Command). Does held kinds x seen o) same does)) [
-      | inl well ↦ inl well
-      | inr spent ↦ inr (ap is_serving fine.meaning ∙ spent.0, spent.1)
-    ]
+    subst (λ (x : Option Command). IsDoneBy x o) (sym fine.meaning)
+    (does_well held fine.files kinds fine.command seen o fine.told fine.faultless quiet (subst (λ (x : Command). Does held kinds x seen o) same does))
 command_well held kinds words seen o fine quiet (words_memory out) = inl (inr out.1)
 
 -- how stages came out, and what was reported of it
@@ -160,16 +163,24 @@ pub refusal_is : (words : List (List ℕ)) (fault : WordsFault) → Reads {A = C
 refusal_is words fault refused is = subst (λ (x : WordsFault). Reads {A = Command} (meaning_of words) (Err x)) is refused
 
 -- where nothing is wrong and nothing failed, the whole call ends well
-pub ends_well : (words : List (List ℕ)) (before now : Around) (out out_now : OutSeen) (result : ℕ) → Ends words before now out out_now result → IsFaultless words before.files.held (kinds_of before.outside.slots) → NothingFailed before now out out_now → IsWell words result
-ends_well words before now out out_now result e fine kept = elim e.reported [
+pub ends_well : (words : List (List ℕ)) (before now : Around) (out out_now : OutSeen) (result : ℕ) → Ends words before now out out_now result → IsFaultless words before.files.held (kinds_of before.outside.slots) → NothingFailed before now out out_now
+    → (result ≡ 7 → Rose out.faults out_now.faults) → IsWell words result
+ends_well words before now out out_now result e fine kept output = elim e.reported [
   | inl done ↦ elim (command_well before.files.held (kinds_of before.outside.slots) words e.seen (ends e.status) fine (λ trouble. quiet (what_trouble e.seen trouble)) e.stage) [
     | inl (inl well) ↦ inl (done.0 ∙ same_status e.status 0 well)
     | inl (inr nine) ↦ inr (inl (done.0 ∙ same_status e.status 9 nine))
-    | inr spent ↦ inr (inr (spent.0, done.0 ∙ same_status e.status 8 spent.1))
+    | inr (inl spent) ↦ inr (inr (inl (spent.0, done.0 ∙ same_status e.status 8 spent.1)))
+    | inr (inr (consumes, (n, is, may))) ↦ consumed_well consumes n (done.0 ∙ same_status e.status n is) may
   ]
   | inr failed ↦ absurd (kept.no_write failed.1)
 ]
   where
+    consumed_well : is_consuming (meaning_of words) ≡ true → (n : ℕ) → result ≡ n → MayEnd n → IsWell words result
+    consumed_well consumes n same (inl zero) = inl (same ∙ zero)
+    consumed_well consumes n same (inr (inl nine)) = inr (inl (same ∙ nine))
+    consumed_well consumes n same (inr (inr (inl seven))) = absurd (kept.no_write (output (same ∙ seven)))
+    consumed_well consumes n same (inr (inr (inr answered))) = inr (inr (inr (consumes, subst IsAnswered (sym same) answered)))
+
     quiet : HasFailed e.seen ⊎ (1 ≤ break_count (happened_in (sightings_in e.seen))) → ⊥
     quiet (inl failed) = kept.no_read (e.shows.failed failed)
     quiet (inr broken) = kept.no_call (rose_some _ _ _ broken e.shows.outside.net.faults)

@@ -43,8 +43,9 @@ use Rattle.servient_cli.specs.declared.ending.Ended.TheVariants as ended
 use Rattle.servient_cli.specs.Stages.{Deed, did_write, HasFailed, reads_in, sightings_in, text_in, written_in, Outcome, goes_on, ends, AndThen, ends_first, goes_further, Around, around, ShowsDeeds}
 use Rattle.servient_cli.specs.Ending.{ComesOut, Performs, status_of, text_of, final_status, final_text}
 use Rattle.servient_cli.specs.Command.{IsReported, EndsAndReports}
-use Rattle.servient_cli.specs.Consuming.{ReadsDescription, ConsumesBy, ConsumesThing, Chooses, is_chosen, has_no_affordance, has_no_form, choose_memory, OperatesOn, deeds_of, line_after, IsAskedFor, Operates, has_ended, line_memory, IsEndOf, EndsPrinting}
+use Rattle.servient_cli.specs.Consuming.{ReadsDescription, ConsumesBy, ConsumesThing, Chooses, is_chosen, has_no_affordance, has_no_form, choose_memory, OperatesOn, deeds_of, line_after, status_after, IsAskedFor, Operates, has_ended, line_memory, IsEndOf, EndsPrinting}
 use Rattle.servient_cli.proofs.StageLaws.{line_alone, shows_network, shows_then, shows_wrote}
+use Rattle.servient_cli.proofs.UsageStages.{EndsPlainly, description_not, choose_not}
 
 -- ---- an operation's deeds as those of a command
 
@@ -89,6 +90,19 @@ unprinted_ends consumed.Unprinted result (inr is) failed = absurd (is.0 refl)
 unprinted_ends consumed.Spent result is failed = absurd cc
 unprinted_ends consumed.NoMemory result is failed = absurd cc
 
+printed_not : (r : Consumed) → status_after r ≡ 7 → put_of r ≡ put.Failed
+printed_not consumed.Done seven = absurd (omega (arith, seven))
+printed_not (consumed.Other x) seven = absurd (omega (arith, seven))
+printed_not consumed.Silent seven = absurd (omega (arith, seven))
+printed_not consumed.Failed seven = absurd (omega (arith, seven))
+printed_not consumed.Unprinted seven = refl
+printed_not consumed.Spent seven = absurd (omega (arith, seven))
+printed_not consumed.NoMemory seven = absurd (omega (arith, seven))
+
+ends_unprinted : (r : Consumed) (result : Result Ending Ended) → IsEndOf r result → final_status result ≡ 7 → put_of r ≡ put.Failed
+ends_unprinted r result (inl is) seven = printed_not r (sym is.0 ∙ seven)
+ends_unprinted r result (inr is) seven = let bad : 9 ≡ 7 = sym is.1 ∙ seven in absurd (omega (arith, bad))
+
 end_stage : (k : Consumption) (tree : Tree) (input : Option Tree) (c : Chosen) (x : Operation) (r : Consumed) (deeds : List operation.Deed) (result : Result Ending Ended) → IsAskedFor k tree input x → Consumes x c deeds r → IsEndOf r result
     → Operates k tree input c (deeds_of deeds ++ did_write (final_text result) ∷ []) (ends (final_status result))
 end_stage k tree input c x r deeds result asked consumes (inl is) =
@@ -111,6 +125,7 @@ operated files n m slots o q k tree input c x r result asked shows is =
       wrote = shows.shows.out;
       text_is = flat_map-append written_in (deeds_of shows.deeds) (did_write line ∷ []) ∙ ap (λ (t : List ℕ). t ++ text_in (did_write line ∷ [])) (text_written shows.deeds) ∙ ap (λ (t : List ℕ). operation.text_in shows.deeds ++ t) (line_alone line);
       failed = unprinted_ends r result is;
+      unprinted = ends_unprinted r result is;
     }
 
 pub outcome_ends : (x : ConsumedOutcome) (made : Result Ending AllocError) (e : Ended) → IfOk made (λ y. (y.status ≡ 10) × (y.text ≡ line_after (consumed.Other x))) → MatchResult made (λ y. e ≡ ended.With y) (λ _. e ≡ ended.NoMemory) → IsEndOf (consumed.Other x) (Err e)
@@ -119,8 +134,9 @@ outcome_ends x (Err none) e is comes = inr ((λ no. absurd cc), ap status_of com
 
 -- ---- one stage after another
 
-pub error_prints : {A : Type 0} (P : List Deed → Outcome A → Type 0) (Q : A → List Deed → Outcome (Unit {0}) → Type 0) (a b : Around) (o : OutSeen) (e : Ended) → Performs P a b (Err e) → EndsPrinting (AndThen P Q) a b o o (Err e)
-error_prints P Q a b o e p = record {
+pub error_prints : {A : Type 0} (P : List Deed → Outcome A → Type 0) (Q : A → List Deed → Outcome (Unit {0}) → Type 0) (a b : Around) (o : OutSeen) (e : Ended)
+    → ((s : List Deed) (r : Outcome A) → P s r → EndsPlainly r) → Performs P a b (Err e) → EndsPrinting (AndThen P Q) a b o o (Err e)
+error_prints P Q a b o e plain p = record {
   seen = p.seen;
   stage = ends_first (status_of e) p.stage refl;
   shows = p.shows;
@@ -129,6 +145,7 @@ error_prints P Q a b o e p = record {
   wrote = out_none o;
   text_is = p.text_is;
   failed = λ failed. absurd cc;
+  unprinted = λ seven. absurd ((plain p.seen (ends (status_of e)) p.stage).1 seven);
 }
 
 pub then_prints : {A : Type 0} (P : List Deed → Outcome A → Type 0) (Q : A → List Deed → Outcome (Unit {0}) → Type 0) (a b c : Around) (o q : OutSeen) (value : A) (r : Result Ending Ended) → ComesOut P a b (goes_on value) [] → EndsPrinting (Q value) b c o q r → EndsPrinting (AndThen P Q) a c o q r
@@ -141,6 +158,7 @@ then_prints P Q a b c o q value r first second = record {
   wrote = second.wrote;
   text_is = flat_map-append written_in first.seen second.seen ∙ ap (λ (before : List ℕ). before ++ text_in second.seen) first.text_is ∙ second.text_is;
   failed = second.failed;
+  unprinted = second.unprinted;
 }
 
 -- ---- the report
@@ -191,10 +209,17 @@ printing_reported P before now out out_now later r result e reported more fits =
   no_failure = subst (λ (t : List ℕ). NoWriteFailed out later t) (sym e.text_is) (no_write_failed_then out out_now later e.answer e.printed (final_text r) e.wrote.fits fits);
 }
 
+-- it is reported by 7 where the output failed alone
+pub printing_failed : (P : List Deed → Outcome (Unit {0}) → Type 0) (before now : Around) (out out_now later : OutSeen) (r : Result Ending Ended) (result : ℕ) → EndsPrinting P before now out out_now r → IsReported (final_status r) (final_text r) out_now later result → out_now.faults ≤ later.faults
+    → result ≡ 7 → Rose out.faults later.faults
+printing_failed P before now out out_now later r result e (inl done) more seven =
+    later_rose out.faults out_now.faults later.faults (e.wrote.failed (e.unprinted (sym done.0 ∙ seven))) more
+printing_failed P before now out out_now later r result e (inr broke) more seven = then_rose out.faults out_now.faults later.faults e.wrote.faults broke.1
+
 -- ---- the stages of `consume`
 
 pub described_error : (held : Option (List HeldFile)) (k : Consumption) (name : List ℕ) (a b : Around) (o : OutSeen) (e : Ended) → name ≡ k.description → Performs {A = Tree} (ReadsDescription held name) a b (Err e) → EndsPrinting (ConsumesThing held k) a b o o (Err e)
-described_error held k name a b o e is p = error_prints (ReadsDescription held k.description) (ConsumesBy held k) a b o e (subst (λ (n : List ℕ). Performs {A = Tree} (ReadsDescription held n) a b (Err e)) is p)
+described_error held k name a b o e is p = error_prints (ReadsDescription held k.description) (ConsumesBy held k) a b o e (description_not held k.description) (subst (λ (n : List ℕ). Performs {A = Tree} (ReadsDescription held n) a b (Err e)) is p)
 
 pub described_then : (held later : Option (List HeldFile)) (k : Consumption) (name : List ℕ) (a b c : Around) (o q : OutSeen) (tree : Tree) (r : Result Ending Ended) → name ≡ k.description → later ≡ held → ComesOut {A = Tree} (ReadsDescription held name) a b (goes_on tree) [] → EndsPrinting (ConsumesBy later k tree) b c o q r
     → EndsPrinting (ConsumesThing held k) a c o q r
@@ -236,7 +261,7 @@ chooses_alike k tree input x only a b o text s asked p = record {
 pub form_error : (k : Consumption) (tree : Tree) (input : Option Tree) (x : Operation) (only : Option Scheme) (a : Around) (o : OutSeen) (e : Ended) → k.scheme ≡ only → IsAskedFor k tree input x → Performs {A = Chosen} (Chooses x.tree.now x.op x.name.now only) a a (Err e)
     → EndsPrinting (OperatesOn k tree input) a a o o (Err e)
 form_error k tree input x only a o e s asked p =
-    error_prints (Chooses tree (form_operation k.operation) k.name k.scheme) (Operates k tree input) a a o e (chooses_alike k tree input x only a a (ends (status_of e)) (text_of e) s asked p)
+    error_prints (Chooses tree (form_operation k.operation) k.name k.scheme) (Operates k tree input) a a o e (choose_not tree (form_operation k.operation) k.name k.scheme) (chooses_alike k tree input x only a a (ends (status_of e)) (text_of e) s asked p)
 
 pub form_then : (k : Consumption) (tree : Tree) (input : Option Tree) (x : Operation) (only : Option Scheme) (a b : Around) (o q : OutSeen) (c : Chosen) (r : Result Ending Ended) → k.scheme ≡ only → IsAskedFor k tree input x → ComesOut (Chooses x.tree.now x.op x.name.now only) a a (goes_on c) []
     → EndsPrinting (Operates k tree input c) a b o q r → EndsPrinting (OperatesOn k tree input) a b o q r

@@ -126,7 +126,7 @@ then_well Well memory P Q Good seen o quiet p q (goes_further (value, both)) =
     ]
 
 -- the same of stages that may go on
-then_goes : {A B : Type 0} (P : List Deed → Outcome A → Type 0) (Q : A → List Deed → Outcome B → Type 0) (Good : A → Type 0) (Fine : B → Type 0) (seen : List Deed) (o : Outcome B) → ¬ (HasTrouble seen)
+pub then_goes : {A B : Type 0} (P : List Deed → Outcome A → Type 0) (Q : A → List Deed → Outcome B → Type 0) (Good : A → Type 0) (Fine : B → Type 0) (seen : List Deed) (o : Outcome B) → ¬ (HasTrouble seen)
     → ((s : List Deed) (r : Outcome A) → ¬ (HasTrouble s) → P s r → GoesOn Good r) → ((value : A) → Good value → (s : List Deed) → ¬ (HasTrouble s) → Q value s o → GoesOn Fine o) → AndThen P Q seen o → GoesOn Fine o
 then_goes P Q Good Fine seen o quiet p q (ends_first status stage is) = elim (p seen (ends status) quiet stage) [
   | inl goes ↦ absurd (on_no_end goes.0 status goes.2)
@@ -175,7 +175,7 @@ tree_well name content v seen o read (is_tree tree is saw goes) = inl (tree, sam
 tree_well name content v seen o read (has_no_tree what none why end) = absurd cc
 tree_well name content v seen o read (tree_memory end) = inr end.1
 
-no_fault : (faults : List (ℕ × List ℕ)) (number : ℕ) (pointer : List ℕ) → faults ≡ [] → slice_get faults 0 ≡ Some (number, pointer) → ⊥
+pub no_fault : (faults : List (ℕ × List ℕ)) (number : ℕ) (pointer : List ℕ) → faults ≡ [] → slice_get faults 0 ≡ Some (number, pointer) → ⊥
 no_fault [] number pointer none some = absurd cc
 no_fault (f ∷ fs) number pointer none some = absurd cc
 

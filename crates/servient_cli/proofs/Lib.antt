@@ -14,3 +14,4 @@ mod ModelStages
 mod CountLaws
 mod StormStages
 mod MergeLaws
+mod FaultlessConsuming

@@ -1,5 +1,6 @@
--- No stage of a command ends with status 2, so that this status is left to words that are no command.
-use Rattle.std.proofs.Common.{◌≡◌, ◌*◌, ◌⊎◌, ◌∙◌, ℕ, List, [], ◌∷◌, Option, Some, None, ap, arith, inl, inr, sym}
+-- No stage of a command ends with status 2, so that this status is left to words that are no command; nor does one end
+-- with 7, but for an operation whose payload can't be printed, so that this status is left to the output.
+use Rattle.std.proofs.Common.{◌≡◌, ◌*◌, subst, refl, false, ◌⊎◌, ◌∙◌, ℕ, List, [], ◌∷◌, Option, Some, None, ap, arith, inl, inr, sym}
 use Rattle.command_words.specs.declared.command.Command.{Command}
 use Rattle.command_words.specs.declared.command.Command.TheVariants.{Replay, Serve, Derive, Check, Consume, Storm}
 use Rattle.wot_json.specs.declared.tree.Tree.{Tree}
@@ -36,171 +37,193 @@ use Rattle.servient_cli.specs.Checking.{Checks, Judges, is_valid, is_refused, ju
 use Rattle.servient_cli.specs.Deriving.{IsPlanned, is_planned, ReadsPlanned, Prints, is_printed, print_memory, DerivesAndPrints, ReadsPlan, is_plan, is_no_plan, plan_memory, AddsModel, is_added, is_not_added, add_memory, TakesModel, TakesModels, Derives, is_derived, derive_memory}
 use Rattle.servient_cli.specs.Deriving as plans
 use Rattle.servient_outside.specs.Out.{OutSeen}
-use Rattle.servient_cli.specs.Command.{Commands, Does, Ends, IsNoCommand, is_command, is_no_command, words_memory}
+use Rattle.servient_base.specs.Count.{Rose}
+use Rattle.command_words.specs.Grammar.{meaning_of}
+use Rattle.command_words.specs.declared.fault.WordsFault.{WordsFault}
+use Rattle.command_words.specs.declared.fault.WordsFault.TheVariants.{Usage, NoMemory}
+use Rattle.servient_cli.specs.declared.ending.Ended.{Ended}
+use Rattle.servient_cli.specs.Words.{EndsAs}
+use Rattle.servient_cli.specs.Ending.{status_of as ended_status}
+use Rattle.servient_cli.specs.Command.{Commands, Does, Ends, IsNoCommand, IsReported, is_consuming, is_command, is_no_command, words_memory}
 
-abbrev status_of : {A : Type 0} → Outcome A → ℕ
+abbrev pub status_of : {A : Type 0} → Outcome A → ℕ
 status_of (goes_on value) = 0
 status_of (ends status) = status
 
--- the stage doesn't end so
-abbrev NotUsage : {A : Type 0} → Outcome A → Type 0
-NotUsage o = ¬ (status_of o ≡ 2)
+-- none of these two
+abbrev pub IsPlain : ℕ → Type 0
+IsPlain n = (¬ (n ≡ 2)) × (¬ (n ≡ 7))
 
-by_status : {A : Type 0} (o : Outcome A) (n : ℕ) → o ≡ ends n → ¬ (n ≡ 2) → NotUsage o
-by_status o n is other = λ two. other (sym (ap status_of is) ∙ two)
+abbrev NotTwo : ℕ → Type 0
+NotTwo n = ¬ (n ≡ 2)
 
-goes_by : {A : Type 0} (o : Outcome A) (value : A) → o ≡ goes_on value → NotUsage o
-goes_by o value is = λ two. let bad : 0 ≡ 2 = sym (ap status_of is) ∙ two in absurd (omega (arith, bad))
+-- the stage ends with none of them
+abbrev pub EndsPlainly : {A : Type 0} → Outcome A → Type 0
+EndsPlainly o = IsPlain (status_of o)
+
+by_status : {A : Type 0} (o : Outcome A) (n : ℕ) → o ≡ ends n → IsPlain n → EndsPlainly o
+by_status o n is plain = subst IsPlain (sym (ap status_of is)) plain
+
+goes_by : {A : Type 0} (o : Outcome A) (value : A) → o ≡ goes_on value → EndsPlainly o
+goes_by o value is = by_value (status_of o) (ap status_of is)
+  where
+    by_value : (n : ℕ) → n ≡ 0 → IsPlain n
+    by_value n zero = ((λ two. absurd (omega (arith, two, zero))), (λ seven. absurd (omega (arith, seven, zero))))
+
+then_so : {A B : Type 0} (Good : ℕ → Type 0) (P : List Deed → Outcome A → Type 0) (Q : A → List Deed → Outcome B → Type 0) (seen : List Deed) (o : Outcome B)
+    → ((s : List Deed) (r : Outcome A) → P s r → Good (status_of r)) → ((value : A) (s : List Deed) (r : Outcome B) → Q value s r → Good (status_of r))
+    → AndThen P Q seen o → Good (status_of o)
+then_so Good P Q seen o first next (ends_first status p is) = subst Good (sym (ap status_of is)) (first seen (ends status) p)
+then_so Good P Q seen o first next (goes_further (value, both)) = next value both.second o both.other
 
 then_not : {A B : Type 0} (P : List Deed → Outcome A → Type 0) (Q : A → List Deed → Outcome B → Type 0) (seen : List Deed) (o : Outcome B)
-    → ((s : List Deed) (r : Outcome A) → P s r → NotUsage r) → ((value : A) (s : List Deed) (r : Outcome B) → Q value s r → NotUsage r)
-    → AndThen P Q seen o → NotUsage o
-then_not P Q seen o first next (ends_first status p is) = by_status o status is (first seen (ends status) p)
-then_not P Q seen o first next (goes_further (value, both)) = next value both.second o both.other
+    → ((s : List Deed) (r : Outcome A) → P s r → EndsPlainly r) → ((value : A) (s : List Deed) (r : Outcome B) → Q value s r → EndsPlainly r)
+    → AndThen P Q seen o → EndsPlainly o
+then_not P Q seen o first next stage = then_so IsPlain P Q seen o first next stage
 
-file_not : (held : Option (List HeldFile)) (limit : ℕ) (name : List ℕ) (seen : List Deed) (o : Outcome (List ℕ)) → ReadsFile held limit name seen o → NotUsage o
+file_not : (held : Option (List HeldFile)) (limit : ℕ) (name : List ℕ) (seen : List Deed) (o : Outcome (List ℕ)) → ReadsFile held limit name seen o → EndsPlainly o
 file_not held limit name seen o (is_read content a b d is) = goes_by o content is
-file_not held limit name seen o (is_absent a e) = by_status o 3 e.1 (omega arith)
-file_not held limit name seen o (is_unreadable e) = by_status o 3 e.1 (omega arith)
-file_not held limit name seen o (is_long a e) = by_status o 4 e.1 (omega arith)
-file_not held limit name seen o (file_memory first a e) = by_status o 9 e.1 (omega arith)
+file_not held limit name seen o (is_absent a e) = by_status o 3 e.1 (omega arith, omega arith)
+file_not held limit name seen o (is_unreadable e) = by_status o 3 e.1 (omega arith, omega arith)
+file_not held limit name seen o (is_long a e) = by_status o 4 e.1 (omega arith, omega arith)
+file_not held limit name seen o (file_memory first a e) = by_status o 9 e.1 (omega arith, omega arith)
 
-tree_not : (name content : List ℕ) (seen : List Deed) (o : Outcome Tree) → ReadsTree name content seen o → NotUsage o
+tree_not : (name content : List ℕ) (seen : List Deed) (o : Outcome Tree) → ReadsTree name content seen o → EndsPlainly o
 tree_not name content seen o (is_tree tree a b is) = goes_by o tree is
-tree_not name content seen o (has_no_tree what a b e) = by_status o 4 e.1 (omega arith)
-tree_not name content seen o (tree_memory e) = by_status o 9 e.1 (omega arith)
+tree_not name content seen o (has_no_tree what a b e) = by_status o 4 e.1 (omega arith, omega arith)
+tree_not name content seen o (tree_memory e) = by_status o 9 e.1 (omega arith, omega arith)
 
-script_not : (name content : List ℕ) (seen : List Deed) (o : Outcome (List EventWithBytes)) → ReadsScript name content seen o → NotUsage o
+script_not : (name content : List ℕ) (seen : List Deed) (o : Outcome (List EventWithBytes)) → ReadsScript name content seen o → EndsPlainly o
 script_not name content seen o (is_script events a b d is) = goes_by o events is
-script_not name content seen o (is_no_script line a b e) = by_status o 4 e.1 (omega arith)
-script_not name content seen o (script_memory e) = by_status o 9 e.1 (omega arith)
+script_not name content seen o (is_no_script line a b e) = by_status o 4 e.1 (omega arith, omega arith)
+script_not name content seen o (script_memory e) = by_status o 9 e.1 (omega arith, omega arith)
 
-run_not : (budget : ℕ) (events : List EventWithBytes) (exchanges : ℕ) (site : Site) (seen : List Deed) (o : Outcome (Unit {0})) → RunsScript budget events exchanges site seen o → NotUsage o
-run_not budget events exchanges site seen o (is_whole ran end a b e) = by_status o 0 e.1 (omega arith)
-run_not budget events exchanges site seen o (is_spent ran end a b e) = by_status o 8 e.1 (omega arith)
-run_not budget events exchanges site seen o (run_memory ran end count b e) = by_status o 9 e.1 (omega arith)
+run_not : (budget : ℕ) (events : List EventWithBytes) (exchanges : ℕ) (site : Site) (seen : List Deed) (o : Outcome (Unit {0})) → RunsScript budget events exchanges site seen o → EndsPlainly o
+run_not budget events exchanges site seen o (is_whole ran end a b e) = by_status o 0 e.1 (omega arith, omega arith)
+run_not budget events exchanges site seen o (is_spent ran end a b e) = by_status o 8 e.1 (omega arith, omega arith)
+run_not budget events exchanges site seen o (run_memory ran end count b e) = by_status o 9 e.1 (omega arith, omega arith)
 
-expose_not : (name : List ℕ) (kinds : List Kind) (slots : Slots) (things : List (List ℕ × Json)) (seen : List Deed) (o : Outcome Site) → Exposes name kinds slots things seen o → NotUsage o
+expose_not : (name : List ℕ) (kinds : List Kind) (slots : Slots) (things : List (List ℕ × Json)) (seen : List Deed) (o : Outcome Site) → Exposes name kinds slots things seen o → EndsPlainly o
 expose_not name kinds slots things seen o (is_exposed a b is) = goes_by o _ is
-expose_not name kinds slots things seen o (is_misfit fault a b e) = by_status o 4 e.1 (omega arith)
-expose_not name kinds slots things seen o (expose_memory e) = by_status o 9 e.1 (omega arith)
+expose_not name kinds slots things seen o (is_misfit fault a b e) = by_status o 4 e.1 (omega arith, omega arith)
+expose_not name kinds slots things seen o (expose_memory e) = by_status o 9 e.1 (omega arith, omega arith)
 
-judge_not : (tree : Tree) (seen : List Deed) (o : Outcome (Unit {0})) → Judges tree seen o → NotUsage o
-judge_not tree seen o (is_valid a e) = by_status o 0 e.1 (omega arith)
-judge_not tree seen o (is_refused number pointer a e) = by_status o 5 e.1 (omega arith)
-judge_not tree seen o (judge_memory e) = by_status o 9 e.1 (omega arith)
+judge_not : (tree : Tree) (seen : List Deed) (o : Outcome (Unit {0})) → Judges tree seen o → EndsPlainly o
+judge_not tree seen o (is_valid a e) = by_status o 0 e.1 (omega arith, omega arith)
+judge_not tree seen o (is_refused number pointer a e) = by_status o 5 e.1 (omega arith, omega arith)
+judge_not tree seen o (judge_memory e) = by_status o 9 e.1 (omega arith, omega arith)
 
-plan_not : (name : List ℕ) (tree : Tree) (seen : List Deed) (o : Outcome Plan) → ReadsPlan name tree seen o → NotUsage o
+plan_not : (name : List ℕ) (tree : Tree) (seen : List Deed) (o : Outcome Plan) → ReadsPlan name tree seen o → EndsPlainly o
 plan_not name tree seen o (is_plan plan a b is) = goes_by o plan is
-plan_not name tree seen o (is_no_plan pointer a e) = by_status o 4 e.1 (omega arith)
-plan_not name tree seen o (plan_memory e) = by_status o 9 e.1 (omega arith)
+plan_not name tree seen o (is_no_plan pointer a e) = by_status o 4 e.1 (omega arith, omega arith)
+plan_not name tree seen o (plan_memory e) = by_status o 9 e.1 (omega arith, omega arith)
 
-add_not : (models : Models) (url file : List ℕ) (tree : Tree) (seen : List Deed) (o : Outcome Models) → AddsModel models url file tree seen o → NotUsage o
+add_not : (models : Models) (url file : List ℕ) (tree : Tree) (seen : List Deed) (o : Outcome Models) → AddsModel models url file tree seen o → EndsPlainly o
 add_not models url file tree seen o (is_added a b is) = goes_by o _ is
-add_not models url file tree seen o (is_not_added what a e) = by_status o 4 e.1 (omega arith)
-add_not models url file tree seen o (add_memory e) = by_status o 9 e.1 (omega arith)
+add_not models url file tree seen o (is_not_added what a e) = by_status o 4 e.1 (omega arith, omega arith)
+add_not models url file tree seen o (add_memory e) = by_status o 9 e.1 (omega arith, omega arith)
 
-take_not : (held : Option (List HeldFile)) (model : List ℕ × List ℕ) (models : Models) (seen : List Deed) (o : Outcome Models) → TakesModel held model models seen o → NotUsage o
+take_not : (held : Option (List HeldFile)) (model : List ℕ × List ℕ) (models : Models) (seen : List Deed) (o : Outcome Models) → TakesModel held model models seen o → EndsPlainly o
 take_not held model models seen o stage =
     then_not (ReadsFile held longest_json model.1) (λ content. AndThen (ReadsTree model.1 content) (AddsModel models model.0 model.1)) seen o
     (file_not held longest_json model.1)
     (λ content s r p. then_not (ReadsTree model.1 content) (AddsModel models model.0 model.1) s r (tree_not model.1 content) (add_not models model.0 model.1) p) stage
 
-models_not : (held : Option (List HeldFile)) (left : List (List ℕ × List ℕ)) (models : Models) (seen : List Deed) (o : Outcome Models) → TakesModels held left models seen o → NotUsage o
+models_not : (held : Option (List HeldFile)) (left : List (List ℕ × List ℕ)) (models : Models) (seen : List Deed) (o : Outcome Models) → TakesModels held left models seen o → EndsPlainly o
 models_not held [] models seen o stage = goes_by o models stage.1
 models_not held (model ∷ left) models seen o stage =
     then_not (TakesModel held model models) (TakesModels held left) seen o (take_not held model models) (models_not held left) stage
 
-derive_not : (p : Planned) (seen : List Deed) (o : Outcome (List (List ℕ × Json))) → Derives p seen o → NotUsage o
+derive_not : (p : Planned) (seen : List Deed) (o : Outcome (List (List ℕ × Json))) → Derives p seen o → EndsPlainly o
 derive_not p seen o (is_derived things a b is) = goes_by o things is
-derive_not p seen o (plans.is_refused fault a e) = by_status o 5 e.1 (omega arith)
-derive_not p seen o (derive_memory e) = by_status o 9 e.1 (omega arith)
+derive_not p seen o (plans.is_refused fault a e) = by_status o 5 e.1 (omega arith, omega arith)
+derive_not p seen o (derive_memory e) = by_status o 9 e.1 (omega arith, omega arith)
 
-print_not : (things : List (List ℕ × Json)) (seen : List Deed) (o : Outcome (Unit {0})) → Prints things seen o → NotUsage o
-print_not things seen o (is_printed e) = by_status o 0 e.1 (omega arith)
-print_not things seen o (print_memory e) = by_status o 9 e.1 (omega arith)
+print_not : (things : List (List ℕ × Json)) (seen : List Deed) (o : Outcome (Unit {0})) → Prints things seen o → EndsPlainly o
+print_not things seen o (is_printed e) = by_status o 0 e.1 (omega arith, omega arith)
+print_not things seen o (print_memory e) = by_status o 9 e.1 (omega arith, omega arith)
 
-whole_not : (plan : Plan) (models : Models) (seen : List Deed) (o : Outcome Planned) → IsPlanned plan models seen o → NotUsage o
+whole_not : (plan : Plan) (models : Models) (seen : List Deed) (o : Outcome Planned) → IsPlanned plan models seen o → EndsPlainly o
 whole_not plan models seen o (is_planned a is) = goes_by o _ is
 
-planned_not : (held : Option (List HeldFile)) (name : List ℕ) (seen : List Deed) (o : Outcome Planned) → ReadsPlanned held name seen o → NotUsage o
+planned_not : (held : Option (List HeldFile)) (name : List ℕ) (seen : List Deed) (o : Outcome Planned) → ReadsPlanned held name seen o → EndsPlainly o
 planned_not held name seen o stage =
     then_not (ReadsFile held longest_json name) (λ content. AndThen (ReadsTree name content) (λ tree. AndThen (ReadsPlan name tree) (λ plan. AndThen (TakesModels held plan.models []) (IsPlanned plan)))) seen o (file_not held longest_json name)
     (λ content s r p. then_not (ReadsTree name content) (λ tree. AndThen (ReadsPlan name tree) (λ plan. AndThen (TakesModels held plan.models []) (IsPlanned plan))) s r (tree_not name content)
     (λ tree s2 r2 p2. then_not (ReadsPlan name tree) (λ plan. AndThen (TakesModels held plan.models []) (IsPlanned plan)) s2 r2 (plan_not name tree)
     (λ plan s3 r3 p3. then_not (TakesModels held plan.models []) (IsPlanned plan) s3 r3 (models_not held plan.models []) (whole_not plan) p3) p2) p) stage
 
-plans_not : (held : Option (List HeldFile)) (plan : Option (List ℕ)) (seen : List Deed) (o : Outcome Planned) → Plans held plan seen o → NotUsage o
+plans_not : (held : Option (List HeldFile)) (plan : Option (List ℕ)) (seen : List Deed) (o : Outcome Planned) → Plans held plan seen o → EndsPlainly o
 plans_not held None seen o (is_built_in a is) = goes_by o _ is
-plans_not held None seen o (built_in_memory e) = by_status o 9 e.1 (omega arith)
+plans_not held None seen o (built_in_memory e) = by_status o 9 e.1 (omega arith, omega arith)
 plans_not held (Some name) seen o stage = planned_not held name seen o stage
 
-read_not : (p : Planned) (events : List EventWithBytes) (seen : List Deed) (o : Outcome Inputs) → HasRead p events seen o → NotUsage o
+read_not : (p : Planned) (events : List EventWithBytes) (seen : List Deed) (o : Outcome Inputs) → HasRead p events seen o → EndsPlainly o
 read_not p events seen o (has_read a is) = goes_by o _ is
 
-inputs_not : (held : Option (List HeldFile)) (plan : Option (List ℕ)) (script : List ℕ) (seen : List Deed) (o : Outcome Inputs) → ReadsInputs held plan script seen o → NotUsage o
+inputs_not : (held : Option (List HeldFile)) (plan : Option (List ℕ)) (script : List ℕ) (seen : List Deed) (o : Outcome Inputs) → ReadsInputs held plan script seen o → EndsPlainly o
 inputs_not held plan script seen o stage =
     then_not (Plans held plan) (λ p. AndThen (ReadsEvents held script) (HasRead p)) seen o (plans_not held plan)
     (λ p s r st. then_not (ReadsEvents held script) (HasRead p) s r
     (λ s2 r2 st2. then_not (ReadsFile held longest_script script) (ReadsScript script) s2 r2 (file_not held longest_script script) (script_not script) st2) (read_not p) st) stage
 
-open_not : (name : List ℕ) (kinds : List Kind) (p : Planned) (seen : List Deed) (o : Outcome Site) → Opens name kinds p seen o → NotUsage o
+open_not : (name : List ℕ) (kinds : List Kind) (p : Planned) (seen : List Deed) (o : Outcome Site) → Opens name kinds p seen o → EndsPlainly o
 open_not name kinds p seen o stage = then_not (Derives p) (Exposes name kinds p.plan.slots) seen o (derive_not p) (expose_not name kinds p.plan.slots) stage
 
-run_on_not : (name : List ℕ) (kinds : List Kind) (budget : ℕ) (read : Inputs) (seen : List Deed) (o : Outcome (Unit {0})) → RunsOn name kinds budget read seen o → NotUsage o
+run_on_not : (name : List ℕ) (kinds : List Kind) (budget : ℕ) (read : Inputs) (seen : List Deed) (o : Outcome (Unit {0})) → RunsOn name kinds budget read seen o → EndsPlainly o
 run_on_not name kinds budget read seen o stage =
     then_not (Opens name kinds read.planned) (RunsScript budget read.events read.planned.plan.exchanges) seen o (open_not name kinds read.planned) (run_not budget read.events read.planned.plan.exchanges) stage
 
-listen_not : (place : Place) (seen : List Deed) (o : Outcome (Unit {0})) → Listens place seen o → NotUsage o
+listen_not : (place : Place) (seen : List Deed) (o : Outcome (Unit {0})) → Listens place seen o → EndsPlainly o
 listen_not place seen o (is_listening a is) = goes_by o tt is
-listen_not place seen o (cannot_listen e) = by_status o 6 e.1 (omega arith)
-listen_not place seen o (place_memory e) = by_status o 9 e.1 (omega arith)
-listen_not place seen o (listen_memory e) = by_status o 9 e.1 (omega arith)
+listen_not place seen o (cannot_listen e) = by_status o 6 e.1 (omega arith, omega arith)
+listen_not place seen o (place_memory e) = by_status o 9 e.1 (omega arith, omega arith)
+listen_not place seen o (listen_memory e) = by_status o 9 e.1 (omega arith, omega arith)
 
-serve_not : (budget exchanges : ℕ) (site : Site) (seen : List Deed) (o : Outcome (Unit {0})) → ServesEvents budget exchanges site seen o → NotUsage o
-serve_not budget exchanges site seen o (has_served served.Stopped ran end serves e) = by_status o 0 e.1 (omega arith)
-serve_not budget exchanges site seen o (has_served served.Failed ran end serves e) = by_status o 6 e.1 (omega arith)
-serve_not budget exchanges site seen o (has_served served.Spent ran end serves e) = by_status o 8 e.1 (omega arith)
+serve_not : (budget exchanges : ℕ) (site : Site) (seen : List Deed) (o : Outcome (Unit {0})) → ServesEvents budget exchanges site seen o → EndsPlainly o
+serve_not budget exchanges site seen o (has_served served.Stopped ran end serves e) = by_status o 0 e.1 (omega arith, omega arith)
+serve_not budget exchanges site seen o (has_served served.Failed ran end serves e) = by_status o 6 e.1 (omega arith, omega arith)
+serve_not budget exchanges site seen o (has_served served.Spent ran end serves e) = by_status o 8 e.1 (omega arith, omega arith)
 
-serving_not : (name : List ℕ) (kinds : List Kind) (budget idle : ℕ) (p : Planned) (seen : List Deed) (o : Outcome (Unit {0})) → ServesPlanned name kinds budget idle p seen o → NotUsage o
+serving_not : (name : List ℕ) (kinds : List Kind) (budget idle : ℕ) (p : Planned) (seen : List Deed) (o : Outcome (Unit {0})) → ServesPlanned name kinds budget idle p seen o → EndsPlainly o
 serving_not name kinds budget idle p seen o stage =
     then_not (Opens name kinds p) (λ site. AndThen (Listens (place_of p.plan (idle * 1000))) (λ _. ServesEvents budget p.plan.exchanges site)) seen o (open_not name kinds p)
     (λ site s r st. then_not (Listens (place_of p.plan (idle * 1000))) (λ _. ServesEvents budget p.plan.exchanges site) s r (listen_not (place_of p.plan (idle * 1000)))
     (λ u. serve_not budget p.plan.exchanges site) st) stage
 
-storm_run_not : (seed n exchanges : ℕ) (site : Site) (seen : List Deed) (o : Outcome (Unit {0})) → RunsStorm seed n exchanges site seen o → NotUsage o
-storm_run_not seed n exchanges site seen o (is_counted ran end a e) = by_status o 0 e.1 (omega arith)
-storm_run_not seed n exchanges site seen o (storm_memory ran end count a e) = by_status o 9 e.1 (omega arith)
+storm_run_not : (seed n exchanges : ℕ) (site : Site) (seen : List Deed) (o : Outcome (Unit {0})) → RunsStorm seed n exchanges site seen o → EndsPlainly o
+storm_run_not seed n exchanges site seen o (is_counted ran end a e) = by_status o 0 e.1 (omega arith, omega arith)
+storm_run_not seed n exchanges site seen o (storm_memory ran end count a e) = by_status o 9 e.1 (omega arith, omega arith)
 
-storm_not : (kinds : List Kind) (seed n : ℕ) (seen : List Deed) (o : Outcome (Unit {0})) → Storms kinds seed n seen o → NotUsage o
+storm_not : (kinds : List Kind) (seed n : ℕ) (seen : List Deed) (o : Outcome (Unit {0})) → Storms kinds seed n seen o → EndsPlainly o
 storm_not kinds seed n seen o stage =
     then_not TakesBuiltIn (λ p. StormsOn kinds seed n (with_few_exchanges p)) seen o (plans_not None None)
     (λ p s r st. then_not (Opens (plan_name None) kinds (with_few_exchanges p)) (RunsStorm seed n STORM_EXCHANGES) s r (open_not (plan_name None) kinds (with_few_exchanges p)) (storm_run_not seed n STORM_EXCHANGES) st) stage
 
-described_not : (tree : Tree) (seen : List Deed) (o : Outcome Tree) → TakesDescription tree seen o → NotUsage o
+described_not : (tree : Tree) (seen : List Deed) (o : Outcome Tree) → TakesDescription tree seen o → EndsPlainly o
 described_not tree seen o (is_taken a b is) = goes_by o tree is
-described_not tree seen o (has_fault number pointer a e) = by_status o 5 e.1 (omega arith)
-described_not tree seen o (description_memory e) = by_status o 9 e.1 (omega arith)
+described_not tree seen o (has_fault number pointer a e) = by_status o 5 e.1 (omega arith, omega arith)
+described_not tree seen o (description_memory e) = by_status o 9 e.1 (omega arith, omega arith)
 
-description_not : (held : Option (List HeldFile)) (name : List ℕ) (seen : List Deed) (o : Outcome Tree) → ReadsDescription held name seen o → NotUsage o
+pub description_not : (held : Option (List HeldFile)) (name : List ℕ) (seen : List Deed) (o : Outcome Tree) → ReadsDescription held name seen o → EndsPlainly o
 description_not held name seen o stage =
     then_not (ReadsFile held longest_json name) (DescriptionIn name) seen o (file_not held longest_json name)
     (λ content s r p. then_not (ReadsTree name content) TakesDescription s r (tree_not name content) described_not p) stage
 
-has_input_not : (tree : Tree) (seen : List Deed) (o : Outcome (Option Tree)) → HasInput tree seen o → NotUsage o
+has_input_not : (tree : Tree) (seen : List Deed) (o : Outcome (Option Tree)) → HasInput tree seen o → EndsPlainly o
 has_input_not tree seen o (has_input a is) = goes_by o (Some tree) is
 
-input_not : (held : Option (List HeldFile)) (name : Option (List ℕ)) (seen : List Deed) (o : Outcome (Option Tree)) → ReadsInput held name seen o → NotUsage o
+pub input_not : (held : Option (List HeldFile)) (name : Option (List ℕ)) (seen : List Deed) (o : Outcome (Option Tree)) → ReadsInput held name seen o → EndsPlainly o
 input_not held None seen o (has_no_input a is) = goes_by o None is
 input_not held (Some name) seen o stage =
     then_not (ReadsValue held name) HasInput seen o
     (λ s r p. then_not (ReadsFile held longest_json name) (ReadsTree name) s r (file_not held longest_json name) (tree_not name) p) has_input_not stage
 
-choose_not : (tree : Tree) (op : Op) (name : List ℕ) (only : Option Scheme) (seen : List Deed) (o : Outcome Chosen) → Chooses tree op name only seen o → NotUsage o
+pub choose_not : (tree : Tree) (op : Op) (name : List ℕ) (only : Option Scheme) (seen : List Deed) (o : Outcome Chosen) → Chooses tree op name only seen o → EndsPlainly o
 choose_not tree op name only seen o (is_chosen c a b is) = goes_by o c is
-choose_not tree op name only seen o (has_no_affordance a e) = by_status o 12 e.1 (omega arith)
-choose_not tree op name only seen o (has_no_form a e) = by_status o 12 e.1 (omega arith)
-choose_not tree op name only seen o (choose_memory e) = by_status o 9 e.1 (omega arith)
+choose_not tree op name only seen o (has_no_affordance a e) = by_status o 12 e.1 (omega arith, omega arith)
+choose_not tree op name only seen o (has_no_form a e) = by_status o 12 e.1 (omega arith, omega arith)
+choose_not tree op name only seen o (choose_memory e) = by_status o 9 e.1 (omega arith, omega arith)
 
 status_not : (r : Consumed) → ¬ (status_after r ≡ 2)
 status_not consumed.Done = λ two. absurd (omega (arith, two))
@@ -211,29 +234,39 @@ status_not consumed.Unprinted = λ two. absurd (omega (arith, two))
 status_not consumed.Spent = λ two. absurd (omega (arith, two))
 status_not consumed.NoMemory = λ two. absurd (omega (arith, two))
 
-operate_not : (k : Consumption) (tree : Tree) (input : Option Tree) (c : Chosen) (seen : List Deed) (o : Outcome (Unit {0})) → Operates k tree input c seen o → NotUsage o
-operate_not k tree input c seen o (has_ended x r deeds a b e) = by_status o (status_after r) e.1 (status_not r)
-operate_not k tree input c seen o (line_memory x r deeds a b e) = by_status o 9 e.1 (omega arith)
+-- of an operation only the first is said
+operate_not : (k : Consumption) (tree : Tree) (input : Option Tree) (c : Chosen) (seen : List Deed) (o : Outcome (Unit {0})) → Operates k tree input c seen o → NotTwo (status_of o)
+operate_not k tree input c seen o (has_ended x r deeds a b e) = subst NotTwo (sym (ap status_of e.1)) (status_not r)
+operate_not k tree input c seen o (line_memory x r deeds a b e) = (by_status o 9 e.1 (omega arith, omega arith)).0
 
-consume_not : (held : Option (List HeldFile)) (k : Consumption) (seen : List Deed) (o : Outcome (Unit {0})) → ConsumesThing held k seen o → NotUsage o
+consume_not : (held : Option (List HeldFile)) (k : Consumption) (seen : List Deed) (o : Outcome (Unit {0})) → ConsumesThing held k seen o → NotTwo (status_of o)
 consume_not held k seen o stage =
-    then_not (ReadsDescription held k.description) (ConsumesBy held k) seen o (description_not held k.description)
-    (λ tree s r p. then_not (ReadsInput held k.input) (OperatesOn k tree) s r (input_not held k.input)
-    (λ input s2 r2 p2. then_not (Chooses tree (form_operation k.operation) k.name k.scheme) (Operates k tree input) s2 r2 (choose_not tree (form_operation k.operation) k.name k.scheme) (operate_not k tree input) p2) p) stage
+    then_so NotTwo (ReadsDescription held k.description) (ConsumesBy held k) seen o (λ s r p. (description_not held k.description s r p).0)
+    (λ tree s r p. then_so NotTwo (ReadsInput held k.input) (OperatesOn k tree) s r (λ s2 r2 p2. (input_not held k.input s2 r2 p2).0)
+    (λ input s2 r2 p2. then_so NotTwo (Chooses tree (form_operation k.operation) k.name k.scheme) (Operates k tree input) s2 r2
+    (λ s3 r3 p3. (choose_not tree (form_operation k.operation) k.name k.scheme s3 r3 p3).0) (operate_not k tree input) p2) p) stage
 
-does_not_end_so : (held : Option (List HeldFile)) (kinds : List Kind) (command : Command) (seen : List Deed) (o : Outcome (Unit {0})) → Does held kinds command seen o → NotUsage o
-does_not_end_so held kinds (Replay script plan events) seen o stage =
+ends_plainly : (held : Option (List HeldFile)) (kinds : List Kind) (command : Command) (seen : List Deed) (o : Outcome (Unit {0})) → is_consuming (Some command) ≡ false → Does held kinds command seen o → EndsPlainly o
+ends_plainly held kinds (Replay script plan events) seen o other stage =
     then_not (ReadsInputs held plan script) (RunsOn (plan_name plan) kinds events) seen o (inputs_not held plan script) (run_on_not (plan_name plan) kinds events) stage
-does_not_end_so held kinds (Check description) seen o stage =
+ends_plainly held kinds (Check description) seen o other stage =
     then_not (ReadsFile held longest_json description) (Checks description) seen o (file_not held longest_json description)
     (λ content s r p. then_not (ReadsTree description content) Judges s r (tree_not description content) judge_not p) stage
-does_not_end_so held kinds (Derive plan) seen o stage =
+ends_plainly held kinds (Derive plan) seen o other stage =
     then_not (ReadsPlanned held plan) DerivesAndPrints seen o (planned_not held plan)
     (λ p s r st. then_not (Derives p) Prints s r (derive_not p) print_not st) stage
-does_not_end_so held kinds (Serve plan events idle) seen o stage =
+ends_plainly held kinds (Serve plan events idle) seen o other stage =
     then_not (ReadsPlanned held plan) (ServesPlanned plan kinds events idle) seen o (planned_not held plan) (serving_not plan kinds events idle) stage
+ends_plainly held kinds (Storm seed events) seen o other stage = storm_not kinds seed events seen o stage
+ends_plainly held kinds (Consume consumption) seen o other stage = absurd cc
+
+does_not_end_so : (held : Option (List HeldFile)) (kinds : List Kind) (command : Command) (seen : List Deed) (o : Outcome (Unit {0})) → Does held kinds command seen o → NotTwo (status_of o)
+does_not_end_so held kinds (Replay script plan events) seen o stage = (ends_plainly held kinds (Replay script plan events) seen o refl stage).0
+does_not_end_so held kinds (Check description) seen o stage = (ends_plainly held kinds (Check description) seen o refl stage).0
+does_not_end_so held kinds (Derive plan) seen o stage = (ends_plainly held kinds (Derive plan) seen o refl stage).0
+does_not_end_so held kinds (Serve plan events idle) seen o stage = (ends_plainly held kinds (Serve plan events idle) seen o refl stage).0
+does_not_end_so held kinds (Storm seed events) seen o stage = (ends_plainly held kinds (Storm seed events) seen o refl stage).0
 does_not_end_so held kinds (Consume consumption) seen o stage = consume_not held consumption seen o stage
-does_not_end_so held kinds (Storm seed events) seen o stage = storm_not kinds seed events seen o stage
 
 -- the words lead to status 2 exactly where they are no command, unless it is out of memory for them
 two_is_no_command : (held : Option (List HeldFile)) (kinds : List Kind) (words : List (List ℕ)) (seen : List Deed) (status : ℕ) → Commands held kinds words seen (ends status)
@@ -261,3 +294,25 @@ usage_is_exact words before now out out_now result e =
         (λ none. inr (inl failed.0)),
       )
     ]
+
+-- ---- status 7
+
+never_seven : (held : Option (List HeldFile)) (kinds : List Kind) (words : List (List ℕ)) (seen : List Deed) (status : ℕ) → is_consuming (meaning_of words) ≡ false → Commands held kinds words seen (ends status) → ¬ (status ≡ 7)
+never_seven held kinds words seen status other (is_no_command none e) = λ seven. let bad : 2 ≡ 7 = sym (ap status_of e.1) ∙ seven in absurd (omega (arith, bad))
+never_seven held kinds words seen status other (is_command command meaning stage) =
+    (ends_plainly held kinds command seen (ends status) (sym (ap is_consuming meaning) ∙ other) stage).1
+never_seven held kinds words seen status other (words_memory e) = λ seven. let bad : 9 ≡ 7 = sym (ap status_of e.1) ∙ seven in absurd (omega (arith, bad))
+
+-- where nothing is consumed, that is the output's
+pub output_failed : (words : List (List ℕ)) (before now : Around) (out out_now : OutSeen) (result : ℕ) → Ends words before now out out_now result → is_consuming (meaning_of words) ≡ false → result ≡ 7 → Rose out.faults out_now.faults
+output_failed words before now out out_now result e other seven = elim e.reported [
+  | inl done ↦ absurd (never_seven before.files.held (kinds_of before.outside.slots) words e.seen e.status other e.stage (sym done.0 ∙ seven))
+  | inr failed ↦ failed.1
+]
+
+-- nor is a refusal of words reported so, but by the output
+pub refusal_failed : (out out_now : OutSeen) (fault : WordsFault) (e : Ended) (text : List ℕ) (result : ℕ) → EndsAs fault e → IsReported (ended_status e) text out out_now result → result ≡ 7 → Rose out.faults out_now.faults
+refusal_failed out out_now Usage e text result is (inl done) seven = let bad : 2 ≡ 7 = sym (ap ended_status is) ∙ sym done.0 ∙ seven in absurd (omega (arith, bad))
+refusal_failed out out_now NoMemory e text result is (inl done) seven = let bad : 9 ≡ 7 = sym (ap ended_status is) ∙ sym done.0 ∙ seven in absurd (omega (arith, bad))
+refusal_failed out out_now Usage e text result is (inr failed) seven = failed.1
+refusal_failed out out_now NoMemory e text result is (inr failed) seven = failed.1

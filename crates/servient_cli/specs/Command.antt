@@ -11,12 +11,17 @@
 use Rattle.std.specs.Prelude.{◌≡◌, ◌≤◌, ◌⊎◌, ℕ, Bool, true, false, List, [], ◌++◌, Option, Some, None, Ok, length}
 use Rattle.servient_base.specs.Count.{Rose}
 use Rattle.wot_json.specs.Tree.{Json}
+use Rattle.wot_json.specs.Reading.{tree_of}
+use Rattle.wot_terms.specs.Faults.{faults_of}
 use Rattle.wot_terms.specs.declared.kind.Kind.{Kind}
+use Rattle.wot_consumer.specs.declared.chosen.Chosen.{Chosen}
+use Rattle.wot_consumer.specs.Choice.{IsChosen, wanted}
 use Rattle.thing_site.specs.Site.{expose_faults}
 use Rattle.thing_site.specs.Exposing.{kinds_of}
 use Rattle.command_words.specs.Grammar.{meaning_of}
 use Rattle.command_words.specs.declared.command.Command.{Command}
 use Rattle.command_words.specs.declared.command.Consumption.{Consumption}
+use Rattle.command_words.specs.Operations.{form_operation}
 use Rattle.command_words.specs.declared.command.Command.TheVariants.{Replay, Serve, Check, Derive, Consume, Storm}
 use Rattle.servient_outside.specs.declared.files.HeldFile.{HeldFile}
 use Rattle.servient_outside.specs.Told.{Continues}
@@ -154,6 +159,19 @@ pub record IsFaultlessStorm (kinds : List Kind) : Type 0 where
   pub derived_is : derived_of built_in ≡ Ok things
   pub fits : expose_faults kinds built_in.plan.slots things ≡ []
 
+-- nothing is wrong with the value that is handed in, if a file is named: it is a JSON text
+abbrev pub HoldsInput : List HeldFile → Option (List ℕ) → Type 0
+HoldsInput files None = Unit {0}
+HoldsInput files (Some name) = HoldsFaultless files longest_json name (λ content. (value : Json) × (tree_of content ≡ Some value))
+
+-- nothing is wrong with a consumption: the description has no fault, nothing is wrong with the value, and a form qualifies
+pub record IsFaultlessConsumption (files : List HeldFile) (k : Consumption) : Type 0 where
+  pub tree : Json
+  pub described : HoldsFaultless files longest_json k.description (λ content. (tree_of content ≡ Some tree) × (faults_of tree ≡ []))
+  pub input : HoldsInput files k.input
+  pub chosen : Chosen
+  pub chosen_is : IsChosen tree (wanted (form_operation k.operation) k.scheme) k.name chosen
+
 -- nothing is wrong with the files that a command reads, nor with what it makes of them
 abbrev pub HasFaultlessFiles : List HeldFile → List Kind → Command → Type 0
 HasFaultlessFiles files kinds (Replay script plan events) = IsFaultlessReplay files kinds script plan events
@@ -161,10 +179,9 @@ HasFaultlessFiles files kinds (Serve plan events idle) = IsFaultlessServing file
 HasFaultlessFiles files kinds (Check description) = HoldsFaultless files longest_json description IsFaultlessDescription
 HasFaultlessFiles files kinds (Derive plan) = IsFaultlessDerivation files plan
 HasFaultlessFiles files kinds (Storm seed events) = IsFaultlessStorm kinds
-HasFaultlessFiles files kinds (Consume consumption) = ⊥
+HasFaultlessFiles files kinds (Consume consumption) = IsFaultlessConsumption files consumption
 
--- Nothing is wrong with the words, the files and the rack: the words mean a command, and nothing is wrong with it. How
--- `consume` ends is the other Thing's business too, so nothing is said of it here.
+-- Nothing is wrong with the words, the files and the rack: the words mean a command, and nothing is wrong with it.
 pub record IsFaultless (words : List (List ℕ)) (held : Option (List HeldFile)) (kinds : List Kind) : Type 0 where
   pub command : Command
   pub meaning : meaning_of words ≡ Some command
@@ -178,6 +195,13 @@ pub record NothingFailed (before now : Around) (out out_now : OutSeen) : Type 0 
   pub no_call : ¬ (Rose before.outside.net.faults now.outside.net.faults)
   pub no_write : ¬ (Rose out.faults out_now.faults)
 
--- The command did what it is for, or was out of memory; serving may have spent its budget.
+-- how `consume` may also end, which the other Thing decides: by what came in place of a success, by silence, or by more
+-- events than are awaited
+abbrev pub IsAnswered : ℕ → Type 0
+IsAnswered result = (result ≡ 10) ⊎ (result ≡ 11) ⊎ (result ≡ 8)
+
+-- The command did what it is for, or was out of memory; serving may have spent its budget, and what is consumed may have
+-- answered otherwise.
 abbrev pub IsWell : List (List ℕ) → ℕ → Type 0
-IsWell words result = (result ≡ 0) ⊎ (result ≡ 9) ⊎ ((is_serving (meaning_of words) ≡ true) × (result ≡ 8))
+IsWell words result =
+    (result ≡ 0) ⊎ (result ≡ 9) ⊎ ((is_serving (meaning_of words) ≡ true) × (result ≡ 8)) ⊎ ((is_consuming (meaning_of words) ≡ true) × IsAnswered result)

@@ -152,7 +152,7 @@ IsEndOf r result =
     (final_status result ≡ status_after r) × (final_text result ≡ line_after r) ⊎ (¬ (r ≡ consumed.Unprinted)) × (final_status result ≡ 9) × (final_text result ≡ memory_line)
 
 -- A command came out with a status and a text to write, and the outside shows what it did. It has written a part of what
--- it wrote, or couldn't, and then it ends by that.
+-- it wrote, or couldn't, and then, and only then, it ends by that.
 pub record ComesOutPrinting (P : List Deed → Outcome (Unit {0}) → Type 0) (before now : Around) (out out_now : OutSeen) (status : ℕ) (text : List ℕ) : Type 0 where
   pub seen : List Deed
   pub stage : P seen (ends status)
@@ -162,6 +162,7 @@ pub record ComesOutPrinting (P : List Deed → Outcome (Unit {0}) → Type 0) (b
   pub wrote : OutShows out out_now answer printed
   pub text_is : text_in seen ≡ printed ++ text
   pub failed : answer ≡ put.Failed → (status ≡ 7) × (text ≡ [])
+  pub unprinted : status ≡ 7 → answer ≡ put.Failed
 
 abbrev pub EndsPrinting : (List Deed → Outcome (Unit {0}) → Type 0) → Around → Around → OutSeen → OutSeen → Result Ending Ended → Type 0
 EndsPrinting P before now out out_now result = ComesOutPrinting P before now out out_now (final_status result) (final_text result)

@@ -4,6 +4,7 @@ ghost use Rattle.std.specs.Prelude.{◌≡◌, ◌≢◌, ◌≤◌, ◌⊎◌, 
 ghost use Rattle.thing_site.specs.Exposing.{kinds_of};
 ghost use Rattle.servient_cli.specs.Stages.{around};
 ghost use Rattle.command_words.specs.Grammar.{meaning_of};
+ghost use Rattle.servient_base.specs.Count.{Rose};
 ghost use Rattle.servient_outside.specs.Out.{NoWriteFailed};
 ghost use Rattle.servient_core.specs.Trace.{outside};
 ghost use Rattle.thing_handler.specs.Handler.{Seen};
@@ -48,8 +49,8 @@ pub fn servient_main<F: Files, N: Net, R: Handlers, O: Out>(
         (around (F.seen files.new) (outside (N.seen net.new) (R.slots rack.new)))
         (O.seen out.old)
         (O.seen out.new) result }
-    // Where nothing is wrong and nothing failed, the command does what it is for, unless it is out of memory; and
-    // serving may spend its budget.
+    // Where nothing is wrong and nothing failed, the command does what it is for, unless it is out of memory; but
+    // serving may spend its budget, and what is consumed may answer otherwise.
     ensures complete { IsFaultless words.now (F.seen files.old).held (kinds_of (R.slots rack.old))
         → NothingFailed
         (around (F.seen files.old) (outside (N.seen net.old) (R.slots rack.old)))
@@ -59,6 +60,8 @@ pub fn servient_main<F: Files, N: Net, R: Handlers, O: Out>(
         → IsWell words.now result }
     // Status 2 says that the words are no command, and nothing else does, unless the output failed or it was out of memory, which may come before anything is read: reading the words takes memory too.
     ensures usage { (result ≡ 2 → IsNoCommand words.now) × (IsNoCommand words.now → (result ≡ 2) ⊎ (result ≡ 7) ⊎ (result ≡ 9)) }
+    // Status 7 says that the output failed, which its count records.
+    ensures output { result ≡ 7 → Rose (O.seen out.old).faults (O.seen out.new).faults }
     // A storm has no more events than its budget: the last of them is the Stop.
     ensures storm { is_storm (meaning_of words.now) ≡ true → result ≢ 8 }
     // Where no plan is served and nothing is consumed, nothing is done to the network.
@@ -97,9 +100,10 @@ fn consume_and_report<F: Files, N: Net, O: Out>(
     net: &mut N,
     out: &mut O,
 ) -> u8
-    ensures { (slots : List Seen) → EndsAndReports (ConsumesThing (F.seen files.old).held consumption.now)
+    ensures ends { (slots : List Seen) → EndsAndReports (ConsumesThing (F.seen files.old).held consumption.now)
         (around (F.seen files.old) (outside (N.seen net.old) slots)) (around (F.seen files.new) (outside (N.seen net.new) slots))
         (O.seen out.old) (O.seen out.new) result }
+    ensures output { result ≡ 7 → Rose (O.seen out.old).faults (O.seen out.new).faults }
 {
     let ended = consume_thing(alloc, consumption, files, net, out);
     report(out, &ended)

@@ -4,6 +4,7 @@ use Rattle.servient_core.specs.Trace.{outside}
 use Rattle.servient_cli.specs.Stages.{around}
 use Rattle.servient_cli.specs.Consuming.{ReadsInput, OperatesOn}
 use Rattle.servient_cli.proofs.ConsumingStages.{described_error, described_then, error_prints, then_prints}
+use Rattle.servient_cli.proofs.UsageStages.{input_not}
 use Rattle.servient_cli.proofs.consumption.consume_thing.Goals as goal
 
 pub returns-in_err-tree : goal.returns-in_err-tree
@@ -27,7 +28,7 @@ returns-in_err-input g c = λ slots.
     let e = c.in_err-input.field-0.0 in
     let error = err_from_is_err_and c.from_residual-in_err-input.result c.from_residual-in_err-input.ensures.1 in
     rw (error.1, error.2) (described_then held later k c.as_str.result.now a b d out out tree (Err e) c.as_str.ensures c.in_ok-tree.ensures.held (c.in_ok-tree.ensures.stage w)
-    (error_prints (ReadsInput later k.input) (OperatesOn k tree) b d out e (c.in_err-input.ensures w)))
+    (error_prints (ReadsInput later k.input) (OperatesOn k tree) b d out e (input_not later k.input) (c.in_err-input.ensures w)))
 
 pub returns : goal.returns
 returns g c = λ slots.

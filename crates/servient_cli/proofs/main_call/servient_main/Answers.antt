@@ -1,8 +1,9 @@
 use Rattle.std.proofs.Common.{sym}
 use Rattle.servient_core.specs.Trace.{outside}
 use Rattle.servient_cli.specs.Stages.{around}
-use Rattle.servient_cli.proofs.CommandStages.{built_ends, consume_ends, refusal_ends, ends_well}
-use Rattle.servient_cli.proofs.UsageStages.{usage_is_exact}
+use Rattle.servient_cli.specs.Ending.{text_of}
+use Rattle.servient_cli.proofs.CommandStages.{built_ends, consume_ends, other_is_not, refusal_ends, ends_well}
+use Rattle.servient_cli.proofs.UsageStages.{output_failed, refusal_failed, usage_is_exact}
 use Rattle.servient_cli.proofs.StormStages.{never_spent}
 use Rattle.servient_cli.proofs.main_call.servient_main.Goals as goal
 
@@ -14,7 +15,7 @@ returns-in-Some-clause-ends g c =
     let out = g.O.Out.seen c.args.out.now in
     let out_now = g.O.Out.seen c.consume_and_report.new.out in
     let result = c.consume_and_report.result in
-    let whole = consume_ends c.args.words.now before now out out_now c.in-Ok.command c.in-Some.consumption.now result c.in-Ok.ensures (sym c.in-Some.ensures) (c.consume_and_report.ensures slots) in
+    let whole = consume_ends c.args.words.now before now out out_now c.in-Ok.command c.in-Some.consumption.now result c.in-Ok.ensures (sym c.in-Some.ensures) (c.consume_and_report.ensures.ends slots) in
     whole
 
 pub returns-in-Some-clause-usage : goal.returns-in-Some-clause-usage
@@ -25,8 +26,22 @@ returns-in-Some-clause-usage g c =
     let out = g.O.Out.seen c.args.out.now in
     let out_now = g.O.Out.seen c.consume_and_report.new.out in
     let result = c.consume_and_report.result in
-    let whole = consume_ends c.args.words.now before now out out_now c.in-Ok.command c.in-Some.consumption.now result c.in-Ok.ensures (sym c.in-Some.ensures) (c.consume_and_report.ensures slots) in
+    let whole = consume_ends c.args.words.now before now out out_now c.in-Ok.command c.in-Some.consumption.now result c.in-Ok.ensures (sym c.in-Some.ensures) (c.consume_and_report.ensures.ends slots) in
     usage_is_exact c.args.words.now before now out out_now result whole
+
+pub returns-in-Some-clause-complete : goal.returns-in-Some-clause-complete
+returns-in-Some-clause-complete g c = λ fine kept.
+    let slots = g.R.Handlers.slots c.args.rack.now in
+    let before = around (g.F.Files.seen c.args.files.now) (outside (g.N.Net.seen c.args.net.now) slots) in
+    let now = around (g.F.Files.seen c.consume_and_report.new.files) (outside (g.N.Net.seen c.consume_and_report.new.net) slots) in
+    let out = g.O.Out.seen c.args.out.now in
+    let out_now = g.O.Out.seen c.consume_and_report.new.out in
+    let result = c.consume_and_report.result in
+    let whole = consume_ends c.args.words.now before now out out_now c.in-Ok.command c.in-Some.consumption.now result c.in-Ok.ensures (sym c.in-Some.ensures) (c.consume_and_report.ensures.ends slots) in
+    ends_well c.args.words.now before now out out_now result whole fine kept c.consume_and_report.ensures.output
+
+pub returns-in-Some-clause-output : goal.returns-in-Some-clause-output
+returns-in-Some-clause-output g c = c.consume_and_report.ensures.output
 
 pub returns-in-Ok-clause-ends : goal.returns-in-Ok-clause-ends
 returns-in-Ok-clause-ends g c =
@@ -47,6 +62,17 @@ returns-in-Ok-clause-complete g c = λ fine kept.
     let result = c.report.result in
     let whole = built_ends c.args.words.now before now out out_now c.in-Ok.command c.run_command.result result c.in-Ok.ensures c.run_command.ensures.ends c.report.ensures.reported c.report.ensures.no_failure in
     ends_well c.args.words.now before now out out_now result whole fine kept
+    (output_failed c.args.words.now before now out out_now result whole (other_is_not c.args.words.now c.in-Ok.command c.in-Ok.ensures (sym c.in-None.ensures)))
+
+pub returns-in-Ok-clause-output : goal.returns-in-Ok-clause-output
+returns-in-Ok-clause-output g c =
+    let before = around (g.F.Files.seen c.args.files.now) (outside (g.N.Net.seen c.args.net.now) (g.R.Handlers.slots c.args.rack.now)) in
+    let now = around (g.F.Files.seen c.run_command.new.files) (outside (g.N.Net.seen c.run_command.new.net) (g.R.Handlers.slots c.run_command.new.rack)) in
+    let out = g.O.Out.seen c.args.out.now in
+    let out_now = g.O.Out.seen c.report.new.out in
+    let result = c.report.result in
+    let whole = built_ends c.args.words.now before now out out_now c.in-Ok.command c.run_command.result result c.in-Ok.ensures c.run_command.ensures.ends c.report.ensures.reported c.report.ensures.no_failure in
+    output_failed c.args.words.now before now out out_now result whole (other_is_not c.args.words.now c.in-Ok.command c.in-Ok.ensures (sym c.in-None.ensures))
 
 pub returns-in-Ok-clause-usage : goal.returns-in-Ok-clause-usage
 returns-in-Ok-clause-usage g c =
@@ -77,3 +103,18 @@ returns-clause-ends g c =
     let result = c.report-in-Err.result in
     let whole = refusal_ends c.args.words.now before out out_now c.in-Err.fault c.from.result result c.in-Err.ensures c.from.ensures c.report-in-Err.ensures.reported c.report-in-Err.ensures.no_failure in
     whole
+
+pub returns-clause-complete : goal.returns-clause-complete
+returns-clause-complete g c = λ fine kept.
+    let before = around (g.F.Files.seen c.args.files.now) (outside (g.N.Net.seen c.args.net.now) (g.R.Handlers.slots c.args.rack.now)) in
+    let now = before in
+    let out = g.O.Out.seen c.args.out.now in
+    let out_now = g.O.Out.seen c.report-in-Err.new.out in
+    let result = c.report-in-Err.result in
+    let whole = refusal_ends c.args.words.now before out out_now c.in-Err.fault c.from.result result c.in-Err.ensures c.from.ensures c.report-in-Err.ensures.reported c.report-in-Err.ensures.no_failure in
+    ends_well c.args.words.now before now out out_now result whole fine kept
+    (refusal_failed out out_now c.in-Err.fault c.from.result (text_of c.from.result) result c.from.ensures c.report-in-Err.ensures.reported)
+
+pub returns-clause-output : goal.returns-clause-output
+returns-clause-output g c =
+    refusal_failed (g.O.Out.seen c.args.out.now) (g.O.Out.seen c.report-in-Err.new.out) c.in-Err.fault c.from.result (text_of c.from.result) c.report-in-Err.result c.from.ensures c.report-in-Err.ensures.reported

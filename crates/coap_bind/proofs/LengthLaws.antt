@@ -309,9 +309,9 @@ reply_at u o observe head next false e token place fits unobserved =
 
 -- what is no notification registers nobody
 never_registers : (wants : Observing) (o : Outcome) (target : Option ℕ) (t : ℕ) → may_notify o ≡ false → effect_of wants o target ≡ effect.Registers t → ⊥
-never_registers observing.Unchanged o target t no is = absurd cc
-never_registers observing.Registers o target t no is = absurd (let wrong : effect.Nothing ≡ effect.Registers t = sym (ap (λ (b : Bool). if b then registering target else effect.Nothing) no) ∙ is in cc)
-never_registers observing.Deregisters o target t no is = at (is_memory o) is
+never_registers observing.Unchanged o target t quiet is = absurd cc
+never_registers observing.Registers o target t quiet is = absurd (let wrong : effect.Nothing ≡ effect.Registers t = sym (ap (λ (b : Bool). if b then registering target else effect.Nothing) quiet) ∙ is in cc)
+never_registers observing.Deregisters o target t quiet is = at (is_memory o) is
   where
     at : (b : Bool) → (if b then effect.Nothing else effect.Cancels) ≡ effect.Registers t → ⊥
     at true e = absurd cc
@@ -326,8 +326,8 @@ no_sequence does from token old new observe (registers target r is did says) nev
 pub replies_fit : RepliesFit
 replies_fit ask o target s may place observe watchers watches =
     reply_at ask.blocks o observe ask.request.head s.next_id (nat_lt (most_bytes ask.blocks o) (length (payload_of o))) refl may.token place may.blocks
-    (λ no. no_sequence (effect_of ask.observing o target) ask.from ask.request.head.token s.watchers watchers observe watches
-    (λ t. never_registers ask.observing o target t no))
+    (λ quiet. no_sequence (effect_of ask.observing o target) ask.from ask.request.head.token s.watchers watchers observe watches
+    (λ t. never_registers ask.observing o target t quiet))
 
 -- ---- which of both a reply is
 

@@ -191,8 +191,15 @@ answer_is_long o c w v code block2 payload joins a joined says =
 
 -- ## What follows other news
 
-pub nothing_follows : (o : Operation) (c : Chosen) (w : CoapWaiting) (n : News) (a : Sight) → Follows o c w n [] None w → Shows (λ deeds. Follows o c w n deeds None w) a a put.Done
-nothing_follows o c w n a says = record { deeds = []; holds = says; shows = shows_none a }
+pub nothing_follows : (o : Operation) (c : Chosen) (w : CoapWaiting) (n x : News) (a : Sight) → n ≡ x → Follows o c w x [] None w → Shows (λ deeds. Follows o c w n deeds None w) a a put.Done
+nothing_follows o c w n x a is says = record { deeds = []; holds = subst (λ (y : News). Follows o c w y [] None w) (sym is) says; shows = shows_none a }
+
+pub news_follow : (o : Operation) (c : Chosen) (w v : CoapWaiting) (n x : News) (r : Option Consumed) (a b : Sight) (p : Put) → n ≡ x → Shows (λ deeds. Follows o c w x deeds r v) a b p → Shows (λ deeds. Follows o c w n deeds r v) a b p
+news_follow o c w v n x r a b p is follows = record {
+  deeds = follows.deeds;
+  holds = subst (λ (y : News). Follows o c w y follows.deeds r v) (sym is) follows.holds;
+  shows = follows.shows;
+}
 
 pub reset_follows : (o : Operation) (c : Chosen) (w v : CoapWaiting) (n : News) (a : Sight) → n ≡ news.Reset → Shows (λ deeds. Follows o c w n deeds (Some (ended.Other outcome.Reset)) v) a a put.Done
 reset_follows o c w v n a is = record {

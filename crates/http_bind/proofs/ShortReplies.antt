@@ -41,7 +41,7 @@ field_short name (Some value) few short = omega (arith, few, short, length-appen
 size_short : (t : Bool) (o : Option ℕ) → IfSome o (λ n. n < 2 ^ 64) → IfSome (option_map decimal (cond t None o)) (λ t. length t ≤ 64)
 size_short true o small = tt
 size_short false None small = tt
-size_short false (Some n) small = let few = length-decimal-le 10 n (omega arith) (omega (arith, small)) (omega (arith, small)) in omega (arith, few)
+size_short false (Some n) small = let few = length-decimal-le 20 n (omega arith) (omega (arith, small)) (omega (arith, small)) in omega (arith, few)
 
 closing_short : (t : Bool) → IfSome (closing t) (λ t. length t ≤ 64)
 closing_short true = omega arith

@@ -1,7 +1,7 @@
 //! Tables of the bindings: CoAP messages, what they ask for, exchanges, watchers, and the server with its notifications
-//! and blocks;
-//! HTTP requests and replies at the front of a stream, the targets of requests, the heads of replies, outcomes, and the
-//! connections of an HTTP server. Each argument names a file: the table of that name.
+//! and blocks; HTTP requests and replies at the front of a stream, the targets of requests, what they ask of versions,
+//! the heads of replies, outcomes, and the connections of an HTTP server. Each argument names a file: the table of that
+//! name.
 //!
 //! A row is what is given, ` => `, and what comes of it. The program prints each row with what does come of it, and
 //! each other line as it is: so it prints its files, if all is right. Most rows stand alone. In some files rows are
@@ -12,6 +12,7 @@
 #![tactic(auto)]
 
 mod asks;
+mod conditions;
 mod connections;
 mod crowds;
 mod datagrams;
@@ -48,10 +49,12 @@ fn put_said(text: &mut String, alloc: Global, table: &str, bytes: &[u8]) -> Resu
 /// The same of a row that stands alone.
 fn put_row(text: &mut String, alloc: Global, table: &str, given: &str) -> Result<(), AllocError> {
     match table {
-        "replies" => replies::put(text, given),
+        "replies" | "tags" => replies::put(text, given),
         "outcomes" => places::put(text, alloc, given),
         "asks" => asks::put(text, alloc, given),
         "ids" => ids::put(text, alloc, given),
+        "conditions" => conditions::put_of_lines(text, alloc, given),
+        "versions" => conditions::put_of_options(text, alloc, given),
         "streams" => streams::put(text, alloc, given),
         _ => put_said(
             text,
@@ -122,9 +125,13 @@ fn put_histories(
 /// The lines of a table.
 fn put_table(text: &mut String, alloc: Global, table: &str, lines: &str) -> Result<(), AllocError> {
     match table {
-        "exchanges" | "watchers" | "datagrams" | "observations" | "blocks" | "connections" => {
-            put_histories(text, alloc, table, lines)
-        }
+        "exchanges"
+        | "watchers"
+        | "datagrams"
+        | "observations"
+        | "blocks"
+        | "connections"
+        | "tagged" => { put_histories(text, alloc, table, lines) }
         _ => put_rows(text, alloc, table, lines),
     }
 }

@@ -1,4 +1,5 @@
-//! Outcomes of requests, by words: the name of an outcome, and after a colon what it carries.
+//! Outcomes of requests, by words: the name of an outcome, and after a colon what it carries. `Tagged:2:7` is the value 7
+//! whose version is 2.
 
 ghost use Rattle.std.specs.Prelude.{IfOk};
 ghost use Rattle.thing_ops.specs.Outcomes.{HasCode};
@@ -48,6 +49,22 @@ pub fn number_in(text: &str) -> u16 {
     u16::try_from(number(Some(text))).unwrap_or(0)
 }
 
+/// The version of these digits.
+fn version_in(digits: &str) -> u32 {
+    digits.parse::<u32>().unwrap_or(0)
+}
+
+/// A value and its version.
+fn tagged(alloc: Global, carried: &str) -> Result<Outcome, AllocError>
+    ensures { IfOk result (λ o. HasCode o × HasShortPlace o) }
+{
+    let (version, text) = carried.split_once(':').unwrap_or(("0", carried));
+    Ok(Outcome::Content {
+        text: copied(alloc, text)?,
+        tag: Some(version_in(version)),
+    })
+}
+
 /// The verbs of a property that is read and written.
 pub fn property_verbs() -> Allow {
     Allow {
@@ -66,6 +83,7 @@ fn plain(name: &str, carried: &str) -> Outcome
     ensures place { HasShortPlace result }
 {
     match name {
+        "NotModified" => Outcome::NotModified(version_in(carried)),
         "Empty" => Outcome::Empty,
         "Changed" => Outcome::Changed,
         "Deleted" => Outcome::Deleted,
@@ -96,6 +114,7 @@ pub fn outcome_of(alloc: Global, word: &str) -> Result<Outcome, AllocError>
             text: copied(alloc, carried)?,
             tag: None,
         }),
+        "Tagged" => tagged(alloc, carried),
         "Output" => Ok(Outcome::Output(copied(alloc, carried)?)),
         "Td" => Ok(Outcome::Description(copied(alloc, carried)?, true)),
         "Description" => Ok(Outcome::Description(copied(alloc, carried)?, false)),

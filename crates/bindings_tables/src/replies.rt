@@ -1,4 +1,4 @@
-//! Heads of HTTP replies: the status, and of `type`, `location`, `allow`, `length` and `close` what a reply has, each
+//! Heads of HTTP replies: the status, and of `type`, `etag`, `location`, `allow`, `length` and `close` what a reply has, each
 //! after ` | `; and the bytes of the head.
 
 use crate::runs;
@@ -19,6 +19,10 @@ fn with_field<'a>(reply: Reply<'a>, field: &'a str) -> Reply<'a> {
     match name {
         "type" => Reply {
             content_type: Some(value),
+            ..reply
+        },
+        "etag" => Reply {
+            etag: value.parse::<u32>().ok(),
             ..reply
         },
         "location" => Reply {
@@ -47,6 +51,7 @@ fn reply_of(given: &str) -> Reply<'_> {
     let mut reply = Reply {
         status: status_of(fields.next()),
         content_type: None,
+        etag: None,
         location: None,
         allow: None,
         length: None,

@@ -1,6 +1,7 @@
 //! What an HTTP server with one value says on its connections. The value is 7 at first: GET reads it, or gives the
 //! query where there is one, PUT writes it, POST changes nothing, and no other method is taken. A request to a path of
-//! two segments of which the first is `waits` waits for the target whose number is the second, a digit.
+//! two segments of which the first is `waits` waits for the target whose number is the second, a digit; of one whose
+//! first segment is `versions` the second says which version the value has.
 //!
 //! The room that requests are read in is lent to all functions here, since to take it anew for each message
 //! costs more than all else.
@@ -75,16 +76,55 @@ fn target_of(request: &Request<'_>) -> Option<u32> {
     }
 }
 
+/// The version that the value has for a request, if it has one.
+fn version_of(request: &Request<'_>) -> Option<u32> {
+    if request.path.get(0) != Some(b"versions".as_slice()) {
+        return None;
+    }
+    let digits = request.path.get(1)?;
+    str::from_utf8(digits).ok()?.parse::<u32>().ok()
+}
+
 /// What a request comes to.
 fn perform(request: &Request<'_>, talk: &mut Talk) -> Result<Outcome, AllocError> {
     match target_of(request) {
         Some(target) => Ok(Outcome::Wait(target)),
-        None => perform_on_value(request, talk),
+        None => judge(request, talk),
+    }
+}
+
+/// What comes of what a request asks of the version, if it has one, and else of the value.
+fn judge(request: &Request<'_>, talk: &mut Talk) -> Result<Outcome, AllocError> {
+    let tag = version_of(request);
+    match tag {
+        Some(version) if is_refused(request, version) => Ok(Outcome::PreconditionFailed),
+        Some(version) if reads(request) && request.conditions.known.has(version) => {
+            Ok(Outcome::NotModified(version))
+        }
+        _ => perform_on_value(request, tag, talk),
+    }
+}
+
+/// Whether a request only reads.
+fn reads(request: &Request<'_>) -> bool {
+    matches!(request.verb, Verb::Get | Verb::Head)
+}
+
+/// Whether the version isn't what a request asks.
+fn is_refused(request: &Request<'_>, version: u32) -> bool {
+    if reads(request) {
+        request.conditions.fails(version)
+    } else {
+        request.conditions.fails_to_write(version)
     }
 }
 
 /// What the one value is asked.
-fn perform_on_value(request: &Request<'_>, talk: &mut Talk) -> Result<Outcome, AllocError> {
+fn perform_on_value(
+    request: &Request<'_>,
+    tag: Option<u32>,
+    talk: &mut Talk,
+) -> Result<Outcome, AllocError> {
     match request.verb {
         Verb::Get | Verb::Head => {
             let text = if request.query.is_empty() {
@@ -94,7 +134,7 @@ fn perform_on_value(request: &Request<'_>, talk: &mut Talk) -> Result<Outcome, A
             };
             Ok(Outcome::Content {
                 text: Bytes::copy_of(talk.alloc, text)?,
-                tag: None,
+                tag,
             })
         }
         Verb::Put => {

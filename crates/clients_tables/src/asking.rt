@@ -1,11 +1,12 @@
 //! What a client is asked, in words, and what it sends.
 
-ghost use Rattle.std.specs.Prelude.{◌≤◌, ◌≢◌, ◌<◌, length, All, IfOk};
+ghost use Rattle.std.specs.Prelude.{◌≤◌, ◌≢◌, ◌<◌, length, All, IfOk, IfSome};
+ghost use Rattle.coap_msg.specs.Blocks.{IsBlock};
 ghost use Rattle.coap_client.specs.Asking.{MayAsk, asking_of};
 
 use case_notation::{bytes_of, number, put_message};
 use coap_client::{Ask, Client};
-use coap_msg::{Endpoint, LONGEST_MESSAGE};
+use coap_msg::{Block, Endpoint, LONGEST_MESSAGE};
 use std::alloc::{AllocError, Global};
 use std::fmt::Write;
 use thing_ops::Segments;
@@ -17,7 +18,9 @@ pub struct Asked<'a> {
     observe: Option<bool>,
     method: &'a str,
     pub path: &'a str,
-    format: Option<u16>,
+    format: Option<&'a str>,
+    block2: Option<&'a str>,
+    block1: Option<&'a str>,
     payload: &'a str,
 }
 
@@ -39,15 +42,42 @@ fn observe_of(word: &str) -> Option<bool> {
     }
 }
 
-/// The content format at the beginning of these words, if there is one, and what comes after it.
-fn format_of(words: &str) -> (Option<u16>, &str) {
-    match words.strip_prefix("Content-Format=") {
+/// The number of the option of this name at the beginning of these words, if it is there, and what comes after it.
+fn option_of<'a>(name: &str, words: &'a str) -> (Option<&'a str>, &'a str) {
+    match words.strip_prefix(name) {
         Some(rest) => {
             let (digits, payload) = rest.split_once(' ').unwrap_or((rest, "-"));
-            (digits.parse::<u16>().ok(), payload)
+            (Some(digits), payload)
         }
         None => (None, words),
     }
+}
+
+/// The content format of these digits.
+fn format_of(digits: Option<&str>) -> Option<u16> {
+    match digits {
+        Some(digits) => digits.parse::<u16>().ok(),
+        None => None,
+    }
+}
+
+/// The block that a number says (RFC 7959, section 2.2); none where it says none.
+fn block_of(digits: Option<&str>) -> Option<Block>
+    ensures { IfSome result IsBlock }
+{
+    let value = match digits {
+        Some(digits) => number(Some(digits)),
+        None => return None,
+    };
+    let szx = (value % 8) as u8;
+    if value >= 1 << 24 || szx > 6 {
+        return None;
+    }
+    Some(Block {
+        number: (value / 16) as u32,
+        more: value / 8 % 2 == 1,
+        szx,
+    })
 }
 
 /// What is asked by the word of a step and the words after it.
@@ -56,13 +86,17 @@ pub fn asked_of<'a>(word: &'a str, words: &'a str) -> Asked<'a> {
     let peer = endpoint_of(fields.next().unwrap_or(""));
     let method = fields.next().unwrap_or("");
     let path = fields.next().unwrap_or("/");
-    let (format, payload) = format_of(fields.next().unwrap_or("-"));
+    let (format, words) = option_of("Content-Format=", fields.next().unwrap_or("-"));
+    let (block2, words) = option_of("Block2=", words);
+    let (block1, payload) = option_of("Block1=", words);
     Asked {
         peer,
         observe: observe_of(word),
         method,
         path,
         format,
+        block2,
+        block1,
         payload,
     }
 }
@@ -102,7 +136,9 @@ pub fn ask_of<'a>(asked: Asked<'_>, path: &'a Segments, payload: &'a [u8]) -> As
         code: code_of(asked.method),
         path,
         observe: asked.observe,
-        format: asked.format,
+        format: format_of(asked.format),
+        block1: block_of(asked.block1),
+        block2: block_of(asked.block2),
         payload,
     }
 }

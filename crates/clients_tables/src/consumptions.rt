@@ -5,8 +5,8 @@
 //! OPERATION NAME VALUE | EVENT | EVENT => ..  the acts, what is printed and how it ends; `-` for no value
 //! ```
 //!
-//! `OPERATION*N` awaits N values. The events are those of `network.rt`; the first connection that is dialled has the
-//! number 0, and every host is found at host1.
+//! `OPERATION*N` awaits N values. A value is written as bytes are, so that one may be long. The events are those of
+//! `network.rt`; the first connection that is dialled has the number 0, and every host is found at host1.
 
 ghost use Rattle.std.specs.Prelude.{IsTrue};
 ghost use Rattle.wot_json.specs.Meaning.{json_of};
@@ -15,9 +15,10 @@ ghost use Rattle.wot_consumer.specs.Operations.{is_consumed};
 ghost use Rattle.consuming.specs.Answers.{CanBeAsked};
 ghost use Rattle.consuming.specs.Asking.{IsChoice};
 
+use crate::asking::put_sent;
 use crate::descriptions::{description_of, op_of, value_of};
 use crate::network::network_of;
-use case_notation::{number, put as put_bytes, put_message};
+use case_notation::{bytes_of, number, put as put_bytes};
 use consuming::{Consumed, Operation, Outcome, Status, consume};
 use servient_outside::{Act, Calls, OutMemory};
 use std::alloc::{AllocError, Global};
@@ -27,7 +28,7 @@ use wot_json::Tree;
 use wot_terms::Op;
 
 /// How many bytes of output are kept.
-const MOST_OUTPUT: usize = 65_536;
+const MOST_OUTPUT: usize = 131_072;
 
 /// Writes an act.
 fn put_act(text: &mut String, act: &Act) -> Result<(), AllocError> {
@@ -36,8 +37,7 @@ fn put_act(text: &mut String, act: &Act) -> Result<(), AllocError> {
         Act::Looked(host, port, _) => write!(text, "looks up {}:{port}, ", host.as_str()),
         Act::Sent(_, bytes) => write!(text, "sends {} bytes, ", bytes.len()),
         Act::Datagram(_, bytes) => {
-            text.push_str("sends ")?;
-            put_message(text, bytes.as_slice())?;
+            put_sent(text, bytes.as_slice())?;
             text.push_str(", ")
         }
         _ => text.push_str("does something else, "),
@@ -155,7 +155,8 @@ fn put_row(
     requires valid { IsValid (json_of tree) }
     requires consumed { IsTrue (is_consumed op) }
 {
-    let input = value_of(alloc, value_in(words).as_bytes())?;
+    let bytes = bytes_of(alloc, value_in(words))?;
+    let input = value_of(alloc, bytes.as_slice())?;
     let asked = Asked { tree, op, input };
     put_asked(text, alloc, &asked, words)
 }

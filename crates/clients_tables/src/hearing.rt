@@ -5,16 +5,29 @@ ghost use Rattle.std.specs.Prelude.{◌≤◌};
 use crate::asking::{endpoint_of, put_sent};
 use case_notation::{message_of, put as put_bytes};
 use coap_client::{Client, Due, News};
-use coap_msg::{Endpoint, LONGEST_MESSAGE};
+use coap_msg::{Block, Endpoint, LONGEST_MESSAGE};
 use std::alloc::{AllocError, Global};
 use std::fmt::Write;
+
+/// The block that a response says, as the number of its option (RFC 7959, section 2.2).
+fn put_block(text: &mut String, block: Option<Block>) -> Result<(), AllocError> {
+    match block {
+        Some(block) => {
+            let more = if block.more { 8 } else { 0 };
+            let number = u64::from(block.number) * 16 + more + u64::from(block.szx);
+            write!(text, "Block2={number} ")
+        }
+        None => Ok(()),
+    }
+}
 
 /// The news.
 fn put_news(text: &mut String, news: News<'_>) -> Result<(), AllocError> {
     match news {
         News::Nothing => text.push_str("nothing"),
-        News::Answered(code, payload) => {
+        News::Answered(code, block2, payload) => {
             write!(text, "answered {}.{:02} ", code / 32, code % 32)?;
+            put_block(text, block2)?;
             put_bytes(text, payload)
         }
         News::Value(payload) => {

@@ -1,5 +1,6 @@
 //! Tables of the clients. The files `choices`, `judgements`, `http_requests` and `consumptions` have rows, as the modules of these names
-//! say: what is given, ` => `, and what comes of it; `given TEXT` is what the rows after it are about.
+//! say: what is given, ` => `, and what comes of it; `given TEXT` is what the rows after it are about. `transfers` has rows like
+//! those of `consumptions`, in which bodies travel in blocks.
 //!
 //! Each other file has histories of a CoAP client: what it is asked, what comes to it and what is due, a step a line,
 //! and after ` => ` what it sends and its news. An empty line ends one, and the next client is new. Each argument names
@@ -7,7 +8,7 @@
 //! its files, if all is right.
 //!
 //! - `first id N`: before the first step, the id of the first message where that isn't 0;
-//! - `at MOMENT request HOST METHOD PATH`, perhaps `Content-Format=N` and a payload: asks for something;
+//! - `at MOMENT request HOST METHOD PATH`, perhaps `Content-Format=N`, `Block2=N`, `Block1=N` and a payload: asks for something;
 //! - `at MOMENT observe ..` and `at MOMENT unobserve ..`: the same with Observe 0 and 1;
 //! - `at MOMENT hears HOST` and a message: a datagram comes;
 //! - `at MOMENT due`: does what is due;

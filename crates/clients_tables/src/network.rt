@@ -4,6 +4,8 @@
 //! MOMENT bytes CONNECTION BYTES   bytes on a connection
 //! MOMENT ended CONNECTION         a connection has ended
 //! MOMENT data HOST MESSAGE        a datagram, its message in words
+//! MOMENT blocks COUNT HOST BYTE   the blocks of 1,024 such bytes with the numbers from 0 on, after each of which others follow: each is
+//!                                 the response to the request with its number as ID and token
 //! MOMENT tick | MOMENT stop       time goes by, and the end of all
 //! fails N                         call N of the network that may fail does
 //! ```
@@ -80,6 +82,36 @@ fn push_datagram(
     push_event(events, alloc, moment, what, bytes.as_slice())
 }
 
+/// Puts the response with this number at the end.
+fn push_block(
+    events: &mut Events,
+    alloc: Global,
+    moment: u64,
+    words: &str,
+    number: u64,
+) -> Result<(), AllocError> {
+    let (host, byte) = words.split_once(' ').unwrap_or((words, "x"));
+    let value = number.saturating_mul(16).saturating_add(14);
+    let message = format!(in alloc;
+        "{host} ACK 2.05 {number} {number:016x} Content-Format=50 Block2={value} {byte}\\*1024;"
+    )?;
+    push_datagram(events, alloc, moment, message.as_str())
+}
+
+/// Puts so many blocks at the end.
+fn push_blocks(
+    events: &mut Events,
+    alloc: Global,
+    moment: u64,
+    words: &str,
+) -> Result<(), AllocError> {
+    let (count, words) = words.split_once(' ').unwrap_or((words, ""));
+    for index in 0..number(Some(count)) {
+        push_block(events, alloc, moment, words, index)?;
+    }
+    Ok(())
+}
+
 /// Puts what came on a connection at the end, or a tick or a stop.
 fn push_other(
     events: &mut Events,
@@ -103,6 +135,7 @@ fn push(events: &mut Events, alloc: Global, words: &str) -> Result<(), AllocErro
     let rest = fields.next().unwrap_or("0");
     match word {
         "data" => push_datagram(events, alloc, moment, rest),
+        "blocks" => push_blocks(events, alloc, moment, rest),
         _ => push_other(events, alloc, moment, word, rest),
     }
 }

@@ -7,7 +7,7 @@ use std::alloc::{AllocError, Global};
 pub fn is_table(name: &str) -> bool {
     matches!(
         name,
-        "choices" | "judgements" | "http_requests" | "consumptions"
+        "choices" | "judgements" | "http_requests" | "consumptions" | "transfers"
     )
 }
 
@@ -23,7 +23,7 @@ fn put_row(
     text.push_str(" => ")?;
     match table {
         "choices" => choices::put(text, alloc, shared, given),
-        "consumptions" => consumptions::put(text, alloc, shared, given),
+        "consumptions" | "transfers" => consumptions::put(text, alloc, shared, given),
         "judgements" => judgements::put(text, alloc, shared, given),
         _ => http_requests::put(text, alloc, given),
     }

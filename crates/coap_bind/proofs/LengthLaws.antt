@@ -1,14 +1,16 @@
 -- How long replies and notifications are, and that they fit their room.
-use Rattle.std.proofs.Common.{◌≡◌, ℕ, ◌+◌, ◌*◌, ◌-◌, ◌/◌, ◌%◌, ◌≤◌, ◌<◌, ◌⊎◌, ◌∙◌, ◌||◌, Bool, true, false, inl, inr, Option, Some, None, List, [], ◌∷◌, ◌++◌, length, drop, refl, sym, ap, subst, arith, append_assoc, length-append, length-take, length-drop}
+use Rattle.std.proofs.Common.{◌≡◌, ℕ, ◌+◌, ◌*◌, ◌-◌, ◌≤◌, ◌<◌, ◌⊎◌, ◌∙◌, ◌||◌, Bool, true, false, inl, inr, Option, Some, None, List, [], ◌∷◌, ◌++◌, length, drop, refl, sym, ap, subst, arith, append_assoc, length-append, length-take, length-drop}
 use Rattle.std.specs.Prelude.{nat_lt, All, IfSome, Result, Ok, Err, OnErr, if◌then◌else◌}
 use Rattle.std.proofs.lemmas.List.{append-nil}
 use Rattle.std.specs.Result.{IsOk}
 use Rattle.std.specs.Option.{option_map_or}
 use Rattle.std.proofs.lemmas.List.Elements.{All-nil, All-cons, All-head, All-tail}
 use Rattle.std.proofs.lemmas.Bool.Decides.{nat_tests}
-use Rattle.coap_msg.specs.declared.constants.TheConstants.{OBSERVE, LOCATION_PATH, CONTENT_FORMAT, BLOCK1, BLOCK2, JSON, LONGEST_TOKEN, LONGEST_SEGMENT, LONGEST_PAYLOAD, LONGEST_MESSAGE}
+use Rattle.coap_msg.specs.declared.constants.TheConstants.{ETAG, OBSERVE, LOCATION_PATH, CONTENT_FORMAT, BLOCK1, BLOCK2, JSON, LONGEST_TOKEN, LONGEST_SEGMENT, LONGEST_PAYLOAD, LONGEST_MESSAGE}
+use Rattle.coap_msg.specs.declared.endpoint.Endpoint.{Endpoint}
 use Rattle.coap_msg.specs.Blocks.{block_bytes, block_number, block_size, block_start}
-use Rattle.coap_msg.proofs.BlockValues.{short_length, sizes}
+use Rattle.coap_msg.proofs.BlockValues.{sizes}
+use Rattle.coap_msg.proofs.NumberValues.{number_length}
 use Rattle.coap_msg.specs.Numbers.{number_bytes}
 use Rattle.coap_msg.proofs.OptionParts.{longer}
 use Rattle.coap_msg.specs.declared.opts.NoRoom.{NoRoom}
@@ -16,7 +18,7 @@ use Rattle.coap_msg.specs.Opts.{WrittenOptions, PutsOptions, segment_options}
 use Rattle.coap_msg.specs.Grammar.{CoapOption, CoapMessage, extended, option_spelling, options_spelling, payload_spelling, spelling}
 use Rattle.thing_ops.specs.declared.outcome.Outcome.{Outcome}
 use Rattle.thing_ops.specs.declared.outcome.Outcome.TheVariants.{Started}
-use Rattle.thing_ops.specs.Outcomes.{payload_of, text_of}
+use Rattle.thing_ops.specs.Outcomes.{payload_of, text_of, version_of}
 use Rattle.coap_bind.specs.declared.head.RequestHead.{RequestHead}
 use Rattle.coap_blocks.specs.Bodies.{longest_body}
 use Rattle.coap_bind.specs.declared.blocks.BlockOption.{BlockOption}
@@ -24,7 +26,13 @@ use Rattle.coap_bind.specs.declared.blocks.BlockOption.TheVariants as option
 use Rattle.coap_bind.specs.declared.blocks.BlockUse.{BlockUse}
 use Rattle.coap_bind.specs.declared.blocks.BlockUse.TheVariants as blocks
 use Rattle.coap_bind.specs.Blocks.{IsUse, Portion, all_of, answer_reply, block_options, content_format, first_block, given_portion, is_in_blocks, is_representation, most_bytes, option_of, portion_at, portion_of, reply_with, with_block}
-use Rattle.coap_bind.specs.Writing.{place_of, text_format, format_options, sequence_bytes, observe_options, observed, long_reply, coap_reply}
+use Rattle.coap_bind.specs.Writing.{place_of, text_format, format_options, etag_options, observe_options, observed, long_reply, coap_reply}
+use Rattle.coap_bind.specs.declared.observing.Observing.{Observing}
+use Rattle.coap_bind.specs.declared.observing.Observing.TheVariants as observing
+use Rattle.coap_bind.specs.declared.observing.Effect.{Effect}
+use Rattle.coap_bind.specs.declared.observing.Effect.TheVariants as effect
+use Rattle.coap_observe.specs.Watching.{Watching}
+use Rattle.coap_bind.specs.Observing.{effect_of, is_memory, may_notify, registering, Watches, leaves, cancels, registers}
 use Rattle.coap_bind.specs.Laws.{HasShortPlace, RepliesFit}
 
 -- ---- one option
@@ -69,9 +77,9 @@ low_option last o low size =
 
 -- ---- the option of a block
 
-block_spelled : (b : BlockOption) (last : ℕ) → length (option_spelling last (option_of b)) ≤ 5
-block_spelled (option.Block2 b) last = let few = short_length (block_number b) in let l = low_option last (BLOCK2, block_bytes b) (omega arith) (omega arith) in omega arith
-block_spelled (option.Block1 b) last = let few = short_length (block_number b) in let l = low_option last (BLOCK1, block_bytes b) (omega arith) (omega arith) in omega arith
+block_spelled : (b : BlockOption) (last : ℕ) → length (option_spelling last (option_of b)) ≤ 6
+block_spelled (option.Block2 b) last = let few = number_length (block_number b) in let l = low_option last (BLOCK2, block_bytes b) (omega arith) (omega arith) in omega arith
+block_spelled (option.Block1 b) last = let few = number_length (block_number b) in let l = low_option last (BLOCK1, block_bytes b) (omega arith) (omega arith) in omega arith
 
 pushed_length : (n last : ℕ) (os : List CoapOption) (o : CoapOption) → ((l : ℕ) → length (option_spelling l o) ≤ n)
     → length (options_spelling last (os ++ o ∷ [])) ≤ length (options_spelling last os) + n
@@ -80,15 +88,18 @@ pushed_length n last (x ∷ os) o few =
     let rest = pushed_length n x.0 os o few in
     omega (arith, length-append (option_spelling last x) (options_spelling x.0 os), length-append (option_spelling last x) (options_spelling x.0 (os ++ o ∷ [])))
 
--- it adds at most five bytes
-block_length : (b : Option BlockOption) (last : ℕ) (os : List CoapOption) → length (options_spelling last (with_block b os)) ≤ length (options_spelling last os) + 5
+-- it adds at most six bytes
+block_length : (b : Option BlockOption) (last : ℕ) (os : List CoapOption) → length (options_spelling last (with_block b os)) ≤ length (options_spelling last os) + 6
 block_length None last os = omega arith
-block_length (Some b) last os = pushed_length 5 last os (option_of b) (block_spelled b)
+block_length (Some b) last os = pushed_length 6 last os (option_of b) (block_spelled b)
 
 -- it stands after all others
 pub block_after : (b : Option BlockOption) (os ps : List CoapOption) → os ++ with_block b ps ≡ (os ++ ps) ++ block_options b
 block_after None os ps = sym (append-nil (os ++ ps))
 block_after (Some b) os ps = sym (append_assoc os ps (option_of b ∷ []))
+
+pub block_last : (b : Option BlockOption) (os ps qs : List CoapOption) → os ++ (ps ++ with_block b qs) ≡ (os ++ (ps ++ qs)) ++ block_options b
+block_last b os ps qs = ap (λ (l : List CoapOption). os ++ l) (block_after b ps qs) ∙ sym (append_assoc os (ps ++ qs) (block_options b))
 
 pub block_alone : (b : Option BlockOption) (os : List CoapOption) → with_block b os ≡ os ++ block_options b
 block_alone None os = sym (append-nil os)
@@ -119,49 +130,58 @@ place_length last more (segment ∷ place) os low short rest =
 
 -- ---- the format
 
-few_bytes : (b c : Bool) (n : ℕ) → length (if b then [] else if c then n ∷ [] else (n / 256) ∷ (n % 256) ∷ []) ≤ 2
-few_bytes true c n = omega arith
-few_bytes false true n = omega arith
-few_bytes false false n = omega arith
-
-pub format_value : (n : ℕ) → length (number_bytes n) ≤ 2
-format_value n = few_bytes (nat_lt n 1) (nat_lt n 256) n
-
 format_at : (last n : ℕ) (value : List ℕ) (text : Option (List ℕ)) → last ≤ 8 → length value ≤ n → n < 13
     → length (options_spelling last (option_map_or (λ _. (CONTENT_FORMAT, value) ∷ []) text [])) ≤ 1 + n
 format_at last n value None low short few = omega arith
 format_at last n value (Some text) low short few = let one = short_option last (CONTENT_FORMAT, value) [] (omega arith) (omega arith) in omega arith
 
--- ---- Observe
-
-pub sequence_value_at : (n : ℕ) (b : Bool) → length (if b then number_bytes n else (n / 65536) ∷ (n / 256 % 256) ∷ (n % 256) ∷ []) ≤ 3
-sequence_value_at n true = let two = format_value n in omega arith
-sequence_value_at n false = omega arith
+-- ---- ETag and Observe
 
 observe_length : (observe : Option ℕ) (os : List CoapOption) (n : ℕ) → ((l : ℕ) → l ≤ 8 → length (options_spelling l os) ≤ n)
-    → length (options_spelling 0 (observe_options observe ++ os)) ≤ 4 + n
-observe_length None os n rest = let r = rest 0 (omega arith) in omega arith
-observe_length (Some sequence) os n rest =
-    let value : length (sequence_bytes sequence) ≤ 3 = sequence_value_at sequence (nat_lt sequence 65536) in
-    let one = short_option 0 (OBSERVE, sequence_bytes sequence) (options_spelling 6 os) (omega arith) (omega arith) in
+    → (last : ℕ) → last ≤ 6 → length (options_spelling last (observe_options observe ++ os)) ≤ 5 + n
+observe_length None os n rest last low = let r = rest last (omega arith) in omega arith
+observe_length (Some sequence) os n rest last low =
+    let value = number_length sequence in
+    let one = short_option last (OBSERVE, number_bytes sequence) (options_spelling 6 os) (omega arith) (omega arith) in
     let r = rest 6 (omega arith) in
     omega arith
 
--- no segment is longer than the options, with Observe before them or without
-pub segments_after_observe : (observe : Option ℕ) (n : ℕ) (place : List (List ℕ)) (os : List CoapOption)
-    → length (options_spelling 0 (observe_options observe ++ (segment_options LOCATION_PATH place ++ os))) ≤ n → All (λ segment. length segment ≤ n) place
-segments_after_observe None n place os h = segments_within 0 n place os h
-segments_after_observe (Some sequence) n place os h =
-    let rest : List ℕ = options_spelling 6 (segment_options LOCATION_PATH place ++ os) in
-    let both = length-append (option_spelling 0 (OBSERVE, sequence_bytes sequence)) (options_spelling 6 (segment_options LOCATION_PATH place ++ os)) in
-    segments_within 6 n place os (omega arith)
+tag_length : (version : Option ℕ) (os : List CoapOption) (n : ℕ) → ((l : ℕ) → l ≤ 6 → length (options_spelling l os) ≤ n)
+    → length (options_spelling 0 (etag_options version ++ os)) ≤ 5 + n
+tag_length None os n rest = let r = rest 0 (omega arith) in omega arith
+tag_length (Some v) os n rest =
+    let value = number_length v in
+    let one = short_option 0 (ETAG, number_bytes v) (options_spelling 4 os) (omega arith) (omega arith) in
+    let r = rest 4 (omega arith) in
+    omega arith
+
+-- what follows some options is no longer than all
+behind : (last n : ℕ) (os ps : List CoapOption) → length (options_spelling last (os ++ ps)) ≤ n → (l : ℕ) × (length (options_spelling l ps) ≤ n)
+behind last n [] ps h = (last, h)
+behind last n (o ∷ os) ps h = let both = length-append (option_spelling last o) (options_spelling o.0 (os ++ ps)) in behind o.0 n os ps (omega arith)
+
+-- no segment is longer than the options, with what stands before them
+pub segments_behind : (n : ℕ) (os ps : List CoapOption) (place : List (List ℕ)) (rest : List CoapOption)
+    → length (options_spelling 0 (os ++ (ps ++ (segment_options LOCATION_PATH place ++ rest)))) ≤ n → All (λ segment. length segment ≤ n) place
+segments_behind n os ps place rest h =
+    let one = behind 0 n os (ps ++ (segment_options LOCATION_PATH place ++ rest)) h in
+    let two = behind one.0 n ps (segment_options LOCATION_PATH place ++ rest) one.1 in
+    segments_within two.0 n place rest two.1
 
 -- ---- a whole reply
 
--- what is started has a short place, a short status and the shortest format, and nothing else has a place
-pub place_bound : (o : Outcome) → HasShortPlace o
-    → (place_of o ≡ []) ⊎ ((length (place_of o) ≤ 4) × All (λ segment. length segment ≤ LONGEST_SEGMENT) (place_of o) × (length (payload_of o) ≤ 100) × (text_format o ≡ JSON))
-place_bound (Started place status) h = inr (h.0, h.1, h.2, refl)
+-- What is started has a short place, a short status and the shortest format, no version, and is no notification. Nothing
+-- else has a place.
+pub record IsShortStart (o : Outcome) : Type 0 where
+  pub few : length (place_of o) ≤ 4
+  pub short : All (λ segment. length segment ≤ LONGEST_SEGMENT) (place_of o)
+  pub status : length (payload_of o) ≤ 100
+  pub json : text_format o ≡ JSON
+  pub no_version : version_of o ≡ None
+  pub no_notice : may_notify o ≡ false
+
+pub place_bound : (o : Outcome) → HasShortPlace o → (place_of o ≡ []) ⊎ IsShortStart o
+place_bound (Started place status) h = inr (record { few = h.0; short = h.1; status = h.2; json = refl; no_version = refl; no_notice = refl })
 place_bound _ h = inl refl
 
 payload_length : (payload : List ℕ) → length (payload_spelling payload) ≤ 1 + length payload
@@ -175,24 +195,44 @@ all_lengths token options payload = length-append token (options ++ payload) ∙
 abbrev rest_bound : Outcome → ℕ → Type 0
 rest_bound o n = (l : ℕ) → l ≤ 8 → length (options_spelling l (segment_options LOCATION_PATH (place_of o) ++ format_options o)) ≤ n
 
-no_place_bound : (o : Outcome) → place_of o ≡ [] → rest_bound o 3
+no_place_bound : (o : Outcome) → place_of o ≡ [] → rest_bound o 5
 no_place_bound o none l low =
     let count = ap (λ place. length (options_spelling l (segment_options LOCATION_PATH place ++ format_options o))) none in
-    let format = format_at l 2 (number_bytes (text_format o)) (text_of o) low (format_value (text_format o)) (omega arith) in
+    let format = format_at l 4 (number_bytes (text_format o)) (text_of o) low (number_length (text_format o)) (omega arith) in
     omega arith
 
-short_place_bound : (o : Outcome) → length (place_of o) ≤ 4 → All (λ segment. length segment ≤ LONGEST_SEGMENT) (place_of o) → text_format o ≡ JSON → rest_bound o 1030
-short_place_bound o few short json l low =
-    let one : length (number_bytes (text_format o)) ≤ 1 = omega (arith, ap (λ n. length (number_bytes n)) json) in
-    let options = place_length l 2 (place_of o) (format_options o) low short (λ k under. format_at k 1 (number_bytes (text_format o)) (text_of o) under one (omega arith)) in
+short_place_bound : (o : Outcome) → IsShortStart o → rest_bound o 1030
+short_place_bound o start l low =
+    let few = start.few in
+    let one : length (number_bytes (text_format o)) ≤ 1 = omega (arith, ap (λ n. length (number_bytes n)) start.json) in
+    let options = place_length l 2 (place_of o) (format_options o) low start.short (λ k under. format_at k 1 (number_bytes (text_format o)) (text_of o) under one (omega arith)) in
     omega arith
+
+-- the options behind ETag and Observe, with that of a block
+abbrev rest_of : Outcome → Portion → List CoapOption
+rest_of o p = with_block p.block (segment_options LOCATION_PATH (place_of o) ++ format_options o)
+
+with_block_bound : (o : Outcome) (p : Portion) (n : ℕ) → rest_bound o n → (l : ℕ) → l ≤ 8 → length (options_spelling l (rest_of o p)) ≤ n + 6
+with_block_bound o p n bound l low =
+    let a = bound l low in let b = block_length p.block l (segment_options LOCATION_PATH (place_of o) ++ format_options o) in omega arith
 
 part_length : (o : Outcome) (p : Portion) (observe : Option ℕ) (head : RequestHead) (next n : ℕ) → rest_bound o n
-    → length (spelling (coap_reply (observed observe (reply_with p o)) head next)) ≤ 14 + n + length head.token + length p.payload
+    → length (spelling (coap_reply (observed observe (reply_with p o)) head next)) ≤ 21 + n + length head.token + length p.payload
 part_length o p observe head next n bound =
-    let rest = segment_options LOCATION_PATH (place_of o) ++ format_options o in
-    let all = all_lengths head.token (options_spelling 0 (observe_options observe ++ with_block p.block rest)) (payload_spelling p.payload) in
-    let options = observe_length observe (with_block p.block rest) (n + 5) (λ l low. let a = bound l low in let b = block_length p.block l rest in omega arith) in
+    let all = all_lengths head.token (options_spelling 0 (etag_options (version_of o) ++ (observe_options observe ++ rest_of o p))) (payload_spelling p.payload) in
+    let options = tag_length (version_of o) (observe_options observe ++ rest_of o p) (n + 11) (λ l low. let r = observe_length observe (rest_of o p) (n + 6) (with_block_bound o p n bound) l low in omega arith) in
+    let payload = payload_length p.payload in
+    omega arith
+
+-- without a version and without Observe
+bare_length : (o : Outcome) (p : Portion) (observe : Option ℕ) (head : RequestHead) (next n : ℕ) → rest_bound o n → version_of o ≡ None → observe ≡ None
+    → length (spelling (coap_reply (observed observe (reply_with p o)) head next)) ≤ 11 + n + length head.token + length p.payload
+bare_length o p observe head next n bound no_version no_observe =
+    let os : List CoapOption = etag_options (version_of o) ++ (observe_options observe ++ rest_of o p) in
+    let bare : os ≡ rest_of o p = ap (λ (v : Option ℕ). etag_options v ++ (observe_options observe ++ rest_of o p)) no_version ∙ ap (λ (n : Option ℕ). observe_options n ++ rest_of o p) no_observe in
+    let count = ap (λ (l : List CoapOption). length (options_spelling 0 l)) bare in
+    let all = all_lengths head.token (options_spelling 0 os) (payload_spelling p.payload) in
+    let options = with_block_bound o p n bound 0 (omega arith) in
     let payload = payload_length p.payload in
     omega arith
 
@@ -201,12 +241,12 @@ abbrev pub IsShortFor : Outcome → List ℕ → Type 0
 IsShortFor o part = (length part ≤ LONGEST_PAYLOAD) × (length part ≤ length (payload_of o))
 
 part_fits : (o : Outcome) (p : Portion) (observe : Option ℕ) (head : RequestHead) (next : ℕ) → length head.token ≤ LONGEST_TOKEN → IsShortFor o p.payload
-    → (place_of o ≡ []) ⊎ ((length (place_of o) ≤ 4) × All (λ segment. length segment ≤ LONGEST_SEGMENT) (place_of o) × (length (payload_of o) ≤ 100) × (text_format o ≡ JSON))
+    → (may_notify o ≡ false → observe ≡ None) → (place_of o ≡ []) ⊎ IsShortStart o
     → length (spelling (coap_reply (observed observe (reply_with p o)) head next)) ≤ LONGEST_MESSAGE
-part_fits o p observe head next token short (inl none) = let l = part_length o p observe head next 3 (no_place_bound o none) in let s = short.0 in omega arith
-part_fits o p observe head next token short (inr h) =
-    let l = part_length o p observe head next 1030 (short_place_bound o h.0 h.1 h.3) in
-    let status = h.2 in
+part_fits o p observe head next token short unobserved (inl none) = let l = part_length o p observe head next 5 (no_place_bound o none) in let s = short.0 in omega arith
+part_fits o p observe head next token short unobserved (inr start) =
+    let l = bare_length o p observe head next 1030 (short_place_bound o start) start.no_version (unobserved start.no_notice) in
+    let status = start.status in
     let s = short.1 in
     omega arith
 
@@ -214,7 +254,7 @@ long_fits : (observe : Option ℕ) (head : RequestHead) (next : ℕ) → length 
     → length (spelling (coap_reply (observed observe long_reply) head next)) ≤ LONGEST_MESSAGE
 long_fits observe head next token =
     let all = all_lengths head.token (options_spelling 0 (observe_options observe ++ [])) (payload_spelling long_reply.payload) in
-    let options = observe_length observe [] 0 (λ l low. omega arith) in
+    let options = observe_length observe [] 0 (λ l low. omega arith) 0 (omega arith) in
     omega arith
 
 -- ---- parts of payloads
@@ -260,14 +300,34 @@ portion_short (blocks.Gives g) o fits few = at (is_representation o) few
 portion_short (blocks.Joined b) o fits few = (few, omega arith)
 
 reply_at : (u : BlockUse) (o : Outcome) (observe : Option ℕ) (head : RequestHead) (next : ℕ) (b : Bool) → nat_lt (most_bytes u o) (length (payload_of o)) ≡ b
-    → length head.token ≤ LONGEST_TOKEN → HasShortPlace o → IsUse u
+    → length head.token ≤ LONGEST_TOKEN → HasShortPlace o → IsUse u → (may_notify o ≡ false → observe ≡ None)
     → length (spelling (coap_reply (observed observe (if b then long_reply else reply_with (portion_of u o) o)) head next)) ≤ LONGEST_MESSAGE
-reply_at u o observe head next true e token place fits = long_fits observe head next token
-reply_at u o observe head next false e token place fits =
-    part_fits o (portion_of u o) observe head next token (portion_short u o fits (under (most_bytes u o) (length (payload_of o)) false e refl)) (place_bound o place)
+reply_at u o observe head next true e token place fits unobserved = long_fits observe head next token
+reply_at u o observe head next false e token place fits unobserved =
+    part_fits o (portion_of u o) observe head next token (portion_short u o fits (under (most_bytes u o) (length (payload_of o)) false e refl)) unobserved
+    (place_bound o place)
+
+-- what is no notification registers nobody
+never_registers : (wants : Observing) (o : Outcome) (target : Option ℕ) (t : ℕ) → may_notify o ≡ false → effect_of wants o target ≡ effect.Registers t → ⊥
+never_registers observing.Unchanged o target t quiet is = absurd cc
+never_registers observing.Registers o target t quiet is = absurd (let wrong : effect.Nothing ≡ effect.Registers t = sym (ap (λ (b : Bool). if b then registering target else effect.Nothing) quiet) ∙ is in cc)
+never_registers observing.Deregisters o target t quiet is = at (is_memory o) is
+  where
+    at : (b : Bool) → (if b then effect.Nothing else effect.Cancels) ≡ effect.Registers t → ⊥
+    at true e = absurd cc
+    at false e = absurd cc
+
+no_sequence : (does : Effect) (from : Endpoint) (token : List ℕ) (old new : Watching) (observe : Option ℕ)
+    → Watches does from token old observe new → ((t : ℕ) → does ≡ effect.Registers t → ⊥) → observe ≡ None
+no_sequence does from token old new observe (leaves is none same) never = none
+no_sequence does from token old new observe (cancels is none gone) never = none
+no_sequence does from token old new observe (registers target r is did says) never = absurd (never target is)
 
 pub replies_fit : RepliesFit
-replies_fit o observe u head next token place fits = reply_at u o observe head next (nat_lt (most_bytes u o) (length (payload_of o))) refl token place fits
+replies_fit ask o target s may place observe watchers watches =
+    reply_at ask.blocks o observe ask.request.head s.next_id (nat_lt (most_bytes ask.blocks o) (length (payload_of o))) refl may.token place may.blocks
+    (λ quiet. no_sequence (effect_of ask.observing o target) ask.from ask.request.head.token s.watchers watchers observe watches
+    (λ t. never_registers ask.observing o target t quiet))
 
 -- ---- which of both a reply is
 
@@ -276,18 +336,18 @@ answer_is u o few = let t : nat_lt (most_bytes u o) (length (payload_of o)) ≡ 
 
 -- ---- a notification
 
-content_length : (l : ℕ) → l ≤ 8 → length (options_spelling l ((CONTENT_FORMAT, number_bytes JSON) ∷ [])) ≤ 4
+content_length : (l : ℕ) → l ≤ 8 → length (options_spelling l ((CONTENT_FORMAT, number_bytes JSON) ∷ [])) ≤ 5
 content_length l low =
-    let value = format_value JSON in
-    let one = option_length l (CONTENT_FORMAT, number_bytes JSON) [] (omega arith) (omega arith) in
+    let value = number_length JSON in
+    let one = short_option l (CONTENT_FORMAT, number_bytes JSON) [] (omega arith) (omega arith) in
     omega arith
 
 -- its options
-pub notification_options_length : (sequence : ℕ) → length (options_spelling 0 (observe_options (Some sequence) ++ (CONTENT_FORMAT, number_bytes JSON) ∷ [])) ≤ 9
-notification_options_length sequence = let l = observe_length (Some sequence) ((CONTENT_FORMAT, number_bytes JSON) ∷ []) 4 content_length in omega arith
+pub notification_options_length : (sequence : ℕ) → length (options_spelling 0 (observe_options (Some sequence) ++ (CONTENT_FORMAT, number_bytes JSON) ∷ [])) ≤ 16
+notification_options_length sequence = let l = observe_length (Some sequence) ((CONTENT_FORMAT, number_bytes JSON) ∷ []) 5 content_length 0 (omega arith) in omega arith
 
 -- a message with so few options, whose token and payload are no longer than they may be
-pub message_fits : (m : CoapMessage) → length m.token ≤ LONGEST_TOKEN → length (options_spelling 0 m.options) ≤ 9 → length m.payload ≤ LONGEST_PAYLOAD
+pub message_fits : (m : CoapMessage) → length m.token ≤ LONGEST_TOKEN → length (options_spelling 0 m.options) ≤ 16 → length m.payload ≤ LONGEST_PAYLOAD
     → length (spelling m) ≤ LONGEST_MESSAGE
 message_fits m few options short =
     let all = all_lengths m.token (options_spelling 0 m.options) (payload_spelling m.payload) in
@@ -295,23 +355,27 @@ message_fits m few options short =
     omega arith
 
 -- the options of a reply to a request that isn't acted on
-pub told_format : (format : Option ℕ) → length (options_spelling 0 (content_format format)) ≤ 4
-told_format None = omega arith
-told_format (Some n) = let value = format_value n in let one = short_option 0 (CONTENT_FORMAT, number_bytes n) [] (omega arith) (omega arith) in omega arith
+format_length : (format : Option ℕ) (l : ℕ) → l ≤ 6 → length (options_spelling l (content_format format)) ≤ 5
+format_length None l low = omega arith
+format_length (Some n) l low = let value = number_length n in let one = short_option l (CONTENT_FORMAT, number_bytes n) [] (omega arith) (omega arith) in omega arith
 
-pub told_length : (format : Option ℕ) (b : Option BlockOption) → length (options_spelling 0 (content_format format ++ block_options b)) ≤ 9
-told_length format b =
-    let L : List CoapOption → Type 0 = λ os. length (options_spelling 0 os) ≤ 9 in
-    let few = told_format format in
-    let more = block_length b 0 (content_format format) in
-    subst L (block_alone b (content_format format)) (omega arith)
+pub told_options : (version format : Option ℕ) → length (options_spelling 0 (etag_options version ++ content_format format)) ≤ 10
+told_options version format = let l = tag_length version (content_format format) 5 (format_length format) in omega arith
+
+pub told_length : (version format : Option ℕ) (b : Option BlockOption) → length (options_spelling 0 ((etag_options version ++ content_format format) ++ block_options b)) ≤ 16
+told_length version format b =
+    let L : List CoapOption → Type 0 = λ os. length (options_spelling 0 os) ≤ 16 in
+    let few = told_options version format in
+    let more = block_length b 0 (etag_options version ++ content_format format) in
+    subst L (block_alone b (etag_options version ++ content_format format)) (omega arith)
 
 -- where options fit with that of a block, they fit without it
-pub without_block : (b : Option BlockOption) (os ps : List CoapOption) (n : ℕ) → length (options_spelling 0 (os ++ with_block b ps)) ≤ n → length (options_spelling 0 (os ++ ps)) ≤ n
-without_block b os ps n fits =
+pub without_block : (b : Option BlockOption) (os ps qs : List CoapOption) (n : ℕ)
+    → length (options_spelling 0 (os ++ (ps ++ with_block b qs))) ≤ n → length (options_spelling 0 (os ++ (ps ++ qs))) ≤ n
+without_block b os ps qs n fits =
     let L : List CoapOption → Type 0 = λ l. length (options_spelling 0 l) ≤ n in
-    let whole : L ((os ++ ps) ++ block_options b) = subst L (block_after b os ps) fits in
-    let fewer = longer 0 (os ++ ps) (block_options b) in
+    let whole : L ((os ++ (ps ++ qs)) ++ block_options b) = subst L (block_last b os ps qs) fits in
+    let fewer = longer 0 (os ++ (ps ++ qs)) (block_options b) in
     omega arith
 
 -- ---- what has room is written

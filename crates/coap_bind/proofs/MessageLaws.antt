@@ -9,7 +9,7 @@ use Rattle.coap_msg.specs.declared.message.RequestType.{RequestType}
 use Rattle.coap_msg.specs.declared.message.RequestType.TheVariants.{Confirmable, NonConfirmable}
 use Rattle.coap_msg.specs.Grammar.{CoapOption, AreInOrder}
 use Rattle.coap_msg.specs.Blocks.{block_number}
-use Rattle.coap_msg.proofs.BlockValues.{short_length}
+use Rattle.coap_msg.proofs.NumberValues.{number_length}
 use Rattle.coap_msg.specs.Numbers.{number_bytes}
 use Rattle.coap_msg.specs.Opts.{segment_options}
 use Rattle.thing_ops.specs.declared.outcome.Outcome.{Outcome}
@@ -19,10 +19,10 @@ use Rattle.coap_bind.specs.declared.blocks.BlockOption.{BlockOption}
 use Rattle.coap_bind.specs.declared.blocks.BlockOption.TheVariants as option
 use Rattle.coap_bind.specs.declared.blocks.BlockUse.{BlockUse}
 use Rattle.coap_bind.specs.Blocks.{Portion, answer_reply, block_options, most_bytes, portion_of, reply_with}
-use Rattle.coap_bind.specs.Writing.{Reply, long_reply, whole_reply, place_of, text_format, format_options, sequence_bytes, observe_options, reply_id}
+use Rattle.coap_bind.specs.Writing.{Reply, long_reply, whole_reply, place_of, text_format, format_options, etag_options, observe_options, reply_id}
 use Rattle.coap_bind.specs.Laws.{HasShortPlace}
 use Rattle.coap_bind.specs.Messages.{RepliesAreMessages, NotificationsAreMessages}
-use Rattle.coap_bind.proofs.LengthLaws.{block_alone, format_value, sequence_value_at, place_bound}
+use Rattle.coap_bind.proofs.LengthLaws.{block_alone, place_bound}
 
 -- ---- options in order
 
@@ -36,10 +36,10 @@ AreLast os = (last : ℕ) → last ≤ 12 → AreInOrder last os
 
 block_in_order : (b : Option BlockOption) → AreLast (block_options b)
 block_in_order None last low = tt
-block_in_order (Some (option.Block2 b)) last low = let few = short_length (block_number b) in (record { order = omega arith; number = omega arith; value = omega arith }, tt)
-block_in_order (Some (option.Block1 b)) last low = let few = short_length (block_number b) in (record { order = omega arith; number = omega arith; value = omega arith }, tt)
+block_in_order (Some (option.Block2 b)) last low = let few = number_length (block_number b) in (record { order = omega arith; number = omega arith; value = omega arith }, tt)
+block_in_order (Some (option.Block1 b)) last low = let few = number_length (block_number b) in (record { order = omega arith; number = omega arith; value = omega arith }, tt)
 
-format_in_order : (value : List ℕ) (text : Option (List ℕ)) (os : List CoapOption) → length value ≤ 2 → AreLast os → AreLater (option_map_or (λ _. (CONTENT_FORMAT, value) ∷ []) text [] ++ os)
+format_in_order : (value : List ℕ) (text : Option (List ℕ)) (os : List CoapOption) → length value ≤ 4 → AreLast os → AreLater (option_map_or (λ _. (CONTENT_FORMAT, value) ∷ []) text [] ++ os)
 format_in_order value None os short rest last low = rest last (omega arith)
 format_in_order value (Some text) os short rest last low = (record { order = omega arith; number = omega arith; value = omega arith }, rest 12 (omega arith))
 
@@ -52,15 +52,21 @@ place_in_order (segment ∷ place) os all rest last low =
       place_in_order place os (All-tail (λ (s : List ℕ). length s ≤ LONGEST_SEGMENT) segment place all) rest 8 (omega arith),
     )
 
-observe_in_order : (observe : Option ℕ) (os : List CoapOption) → AreLater os → AreInOrder 0 (observe_options observe ++ os)
-observe_in_order None os rest = rest 0 (omega arith)
-observe_in_order (Some n) os rest =
-    let value : length (sequence_bytes n) ≤ 3 = sequence_value_at n (nat_lt n 65536) in
+observe_in_order : (observe : Option ℕ) (os : List CoapOption) → AreLater os → (last : ℕ) → last ≤ 6 → AreInOrder last (observe_options observe ++ os)
+observe_in_order None os rest last low = rest last (omega arith)
+observe_in_order (Some n) os rest last low =
+    let value = number_length n in
     (record { order = omega arith; number = omega arith; value = omega arith }, rest 6 (omega arith))
+
+tag_in_order : (version : Option ℕ) (os : List CoapOption) → ((last : ℕ) → last ≤ 6 → AreInOrder last os) → AreInOrder 0 (etag_options version ++ os)
+tag_in_order None os rest = rest 0 (omega arith)
+tag_in_order (Some v) os rest =
+    let value = number_length v in
+    (record { order = omega arith; number = omega arith; value = omega arith }, rest 4 (omega arith))
 
 -- the format of an outcome, and then the option of a block
 format_then : (o : Outcome) (b : Option BlockOption) → AreLater (format_options o ++ block_options b)
-format_then o b = format_in_order (number_bytes (text_format o)) (text_of o) (block_options b) (format_value (text_format o)) (block_in_order b)
+format_then o b = format_in_order (number_bytes (text_format o)) (text_of o) (block_options b) (number_length (text_format o)) (block_in_order b)
 
 no_place_in_order : (o : Outcome) (b : Option BlockOption) (place : List (List ℕ)) → place ≡ [] → AreLater (segment_options LOCATION_PATH place ++ (format_options o ++ block_options b))
 no_place_in_order o b place none =
@@ -69,7 +75,7 @@ no_place_in_order o b place none =
 apart_in_order : (o : Outcome) (b : Option BlockOption) → HasShortPlace o → AreLater (segment_options LOCATION_PATH (place_of o) ++ (format_options o ++ block_options b))
 apart_in_order o b short = elim (place_bound o short) [
   | inl none ↦ no_place_in_order o b (place_of o) none
-  | inr some ↦ place_in_order (place_of o) (format_options o ++ block_options b) some.1 (format_then o b)
+  | inr some ↦ place_in_order (place_of o) (format_options o ++ block_options b) some.short (format_then o b)
 ]
 
 part_in_order : (o : Outcome) (p : Portion) → HasShortPlace o → AreLater (reply_with p o).options
@@ -159,7 +165,8 @@ replies_are_messages o observe u head next code short id token counter =
       class = inr is.class;
       id = id_at head.kind head.id next id counter;
       token = token;
-      options = observe_in_order observe r.options (in_order_at (nat_lt (most_bytes u o) (length (payload_of o))) (reply_with (portion_of u o) o) (part_in_order o (portion_of u o) short));
+      options = tag_in_order r.version (observe_options observe ++ r.options)
+          (observe_in_order observe r.options (in_order_at (nat_lt (most_bytes u o) (length (payload_of o))) (reply_with (portion_of u o) o) (part_in_order o (portion_of u o) short)));
       empty = λ none. absurd (some_code r.code is none);
     }
 
@@ -176,6 +183,6 @@ notifications_are_messages n value sendable id =
       id = id;
       token = omega arith;
       options = observe_in_order (Some n.sequence) ((CONTENT_FORMAT, number_bytes JSON) ∷ [])
-          (λ last low. (record { order = omega arith; number = omega arith; value = let two = format_value JSON in omega arith }, tt));
+          (λ last low. (record { order = omega arith; number = omega arith; value = let few = number_length JSON in omega arith }, tt)) 0 (omega arith);
       empty = λ none. absurd (omega arith);
     }

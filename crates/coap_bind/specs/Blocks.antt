@@ -9,7 +9,7 @@ use Rattle.coap_msg.specs.Grammar.{CoapOption}
 use Rattle.coap_msg.specs.Numbers.{number_bytes}
 use Rattle.thing_ops.specs.declared.outcome.Outcome.{Outcome}
 use Rattle.thing_ops.specs.declared.outcome.Outcome.TheVariants as outcome
-use Rattle.thing_ops.specs.Outcomes.{coap, payload_of}
+use Rattle.thing_ops.specs.Outcomes.{coap, payload_of, version_of}
 use Rattle.coap_blocks.specs.Bodies.{Body, Content, longest_body, with_body}
 use Rattle.coap_blocks.specs.Paths.{largest_path, path_size}
 use Rattle.coap_blocks.specs.declared.added.Added.{Added}
@@ -135,7 +135,7 @@ most_bytes (blocks.Joined b) o = LONGEST_PAYLOAD
 
 -- a reply with a part of the payload of an outcome
 abbrev pub reply_with : Portion → Outcome → Reply
-reply_with p o = record { code = (whole_reply o).code; options = with_block p.block (whole_reply o).options; payload = p.payload }
+reply_with p o = record (whole_reply o) { options = with_block p.block (whole_reply o).options; payload = p.payload }
 
 -- What is said of an outcome: a payload that is too long for a body, and for a message where it isn't given in blocks, is
 -- refused.
@@ -144,9 +144,9 @@ answer_reply u o = if nat_lt (most_bytes u o) (length (payload_of o)) then long_
 
 -- ---- bodies that are kept for later blocks
 
--- an outcome as a body that is kept: the code 2.05, the content format and the payload
+-- an outcome as a body that is kept: the code 2.05, the content format, the version and the payload
 abbrev pub outcome_content : Outcome → Content
-outcome_content o = record { code = coap 2 05; format = Some (text_format o); tag = None; bytes = payload_of o }
+outcome_content o = record { code = coap 2 05; format = Some (text_format o); tag = version_of o; bytes = payload_of o }
 
 abbrev pub body_of : Endpoint → List (List ℕ) → ℕ → Outcome → Body
 body_of from path now o = record { from = from; path = path; content = outcome_content o; moment = now }
@@ -172,9 +172,9 @@ abbrev pub content_format : Option ℕ → List CoapOption
 content_format None = []
 content_format (Some format) = (CONTENT_FORMAT, number_bytes format) ∷ []
 
--- a reply with a part of a body; each body that is kept is one of 2.05
+-- a reply with a part of a body; each body that is kept is one of 2.05, and a later block has its tag again (section 2.4)
 abbrev pub content_reply : Portion → Content → Reply
-content_reply p c = record { code = coap 2 05; options = with_block p.block (content_format c.format); payload = p.payload }
+content_reply p c = record { code = coap 2 05; version = c.tag; options = with_block p.block (content_format c.format); payload = p.payload }
 
 -- the reply to a request for a later block, where this body is kept for it
 abbrev pub later_reply : Block → Option Content → Reply
@@ -183,7 +183,7 @@ later_reply b (Some c) = if nat_lt (block_start b) (length c.bytes) then content
 
 -- others are to come after a block of a request (section 2.9.1)
 abbrev pub continue_reply : Block → Reply
-continue_reply b = record { code = coap 2 31; options = option_of (option.Block1 b) ∷ []; payload = [] }
+continue_reply b = record { code = coap 2 31; version = None; options = option_of (option.Block1 b) ∷ []; payload = [] }
 
 -- The reply to a block of a request: 2.31 where others are to come, and none where the body is whole,
 -- since an act is to come.

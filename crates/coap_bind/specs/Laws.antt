@@ -1,20 +1,17 @@
 -- Laws of the server, over all that it does from its beginning (RFC 7252, sections 4.5 and 4.6).
 use Rattle.std.specs.Prelude.{◌≡◌, ◌≤◌, ℕ, true, false, Option, Some, None, List, [], ◌∷◌, ◌++◌, length, Contains, All}
 use Rattle.coap_msg.specs.declared.endpoint.Endpoint.{Endpoint}
-use Rattle.coap_msg.specs.declared.constants.TheConstants.{LONGEST_TOKEN, LONGEST_SEGMENT, LONGEST_MESSAGE}
-use Rattle.coap_msg.specs.Grammar.{CoapMessage, Spells, spelling}
+use Rattle.coap_msg.specs.declared.constants.TheConstants.{LONGEST_SEGMENT}
+use Rattle.coap_msg.specs.Grammar.{CoapMessage, Spells}
 use Rattle.coap_exchange.specs.Admission.{Arrival, is_duplicate_of, admitted_among}
 use Rattle.coap_exchange.specs.Table.{Exchange, exchange_in, StandsFor}
 use Rattle.thing_ops.specs.declared.outcome.Outcome.{Outcome}
 use Rattle.thing_ops.specs.declared.outcome.Outcome.TheVariants.{Started}
 use Rattle.coap_observe.specs.declared.notice.Notice.{Notice}
 use Rattle.coap_opts.specs.Reading.{PlainAsk}
-use Rattle.coap_bind.specs.declared.head.RequestHead.{RequestHead}
 use Rattle.coap_bind.specs.declared.head.OpenAsk.{OpenAsk}
 use Rattle.coap_bind.specs.declared.server.Server.{Server}
-use Rattle.coap_bind.specs.declared.blocks.BlockUse.{BlockUse}
-use Rattle.coap_bind.specs.Blocks.{IsUse, answer_reply}
-use Rattle.coap_bind.specs.Writing.{observed, coap_reply}
+use Rattle.coap_bind.specs.Telling.{HasRoom, MayAnswer}
 use Rattle.coap_bind.specs.Server.{start, is_request, arrival, Heard, asked, Hears, Answers, with_emitted, SendsNext}
 
 -- these are the requests of a datagram: one, if it is a request, and else none
@@ -74,9 +71,7 @@ abbrev pub AsksAreOpen : Type 0
 AsksAreOpen =
     (from : Endpoint) (bytes : List ℕ) (now : ℕ) (what : PlainAsk) (ask : OpenAsk) (s t : Server) → Hears from bytes now (asked what ask) s t → IsOpen ask t
 
--- A reply has at most 1,152 bytes (RFC 7252, section 4.6), with Observe and without, in blocks and whole, unless the place
--- of what was started is long.
+-- A reply has at most 1,152 bytes (RFC 7252, section 4.6), with a tag and without, whatever the watchers are, in blocks
+-- and whole, unless the place of what was started is long.
 abbrev pub RepliesFit : Type 0
-RepliesFit =
-    (o : Outcome) (observe : Option ℕ) (blocks : BlockUse) (head : RequestHead) (next : ℕ) → length head.token ≤ LONGEST_TOKEN → HasShortPlace o → IsUse blocks
-    → length (spelling (coap_reply (observed observe (answer_reply blocks o)) head next)) ≤ LONGEST_MESSAGE
+RepliesFit = (ask : OpenAsk) (o : Outcome) (target : Option ℕ) (s : Server) → MayAnswer ask s → HasShortPlace o → HasRoom ask o target s

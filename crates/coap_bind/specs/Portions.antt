@@ -24,4 +24,4 @@ HoldsBlock o = IfSome o (λ b. IsBlock (block_said b))
 
 -- a reply without an outcome
 abbrev pub told_reply : Told → Reply
-told_reply t = record { code = t.code; options = with_block t.portion.block (content_format t.format); payload = t.portion.payload.now }
+told_reply t = record { code = t.code; version = t.version; options = with_block t.portion.block (content_format t.format); payload = t.portion.payload.now }

@@ -1,34 +1,35 @@
 -- What the reply to a request and a notification are on the wire (RFC 7252, sections 4.2, 4.4, 5.2, 5.3.1 and 5.10;
 -- RFC 7641, sections 2, 3.2 and 4.2).
-use Rattle.std.specs.Prelude.{ℕ, ◌/◌, ◌%◌, nat_lt, true, Option, Some, None, List, [], ◌∷◌, ◌++◌, length, take, codes, unwrap_or, if◌then◌else◌}
+use Rattle.std.specs.Prelude.{ℕ, nat_lt, true, Option, Some, None, List, [], ◌∷◌, ◌++◌, length, take, codes, unwrap_or, if◌then◌else◌}
 use Rattle.std.specs.Fmt.{decimal}
 use Rattle.std.specs.Option.{option_map_or}
 use Rattle.coap_msg.specs.declared.message.Type4.{Type4}
 use Rattle.coap_msg.specs.declared.message.Type4.TheVariants.{Con, Non, Ack}
 use Rattle.coap_msg.specs.declared.message.RequestType.{RequestType}
 use Rattle.coap_msg.specs.declared.message.RequestType.TheVariants.{Confirmable, NonConfirmable}
-use Rattle.coap_msg.specs.declared.constants.TheConstants.{OBSERVE, LOCATION_PATH, CONTENT_FORMAT, BAD_OPTION, INTERNAL_SERVER_ERROR, SERVICE_UNAVAILABLE, PROXYING_NOT_SUPPORTED, JSON, TD_JSON, LONGEST_PAYLOAD}
+use Rattle.coap_msg.specs.declared.constants.TheConstants.{ETAG, OBSERVE, LOCATION_PATH, CONTENT_FORMAT, BAD_OPTION, INTERNAL_SERVER_ERROR, SERVICE_UNAVAILABLE, PROXYING_NOT_SUPPORTED, JSON, TD_JSON, LONGEST_PAYLOAD}
 use Rattle.coap_msg.specs.Grammar.{CoapOption, CoapMessage}
 use Rattle.coap_msg.specs.Numbers.{number_bytes}
 use Rattle.coap_msg.specs.Opts.{segment_options}
 use Rattle.coap_msg.specs.Requests.{request_type}
 use Rattle.thing_ops.specs.declared.outcome.Outcome.{Outcome}
 use Rattle.thing_ops.specs.declared.outcome.Outcome.TheVariants as outcome
-use Rattle.thing_ops.specs.Outcomes.{coap, answer_of, payload_of, text_of}
+use Rattle.thing_ops.specs.Outcomes.{coap, answer_of, payload_of, text_of, version_of}
 use Rattle.coap_observe.specs.declared.notice.Notice.{Notice}
 use Rattle.coap_bind.specs.declared.head.RequestHead.{RequestHead}
 
 -- ---- what a reply says
 
--- a code, options and a payload
+-- a code, the version of the property that was read, if it has a tag, further options and a payload
 pub record Reply : Type 0 where
   pub code : ℕ
+  pub version : Option ℕ
   pub options : List CoapOption
   pub payload : List ℕ
 
 -- a word for a person to read, which has no content format (section 5.5.2)
 abbrev pub word_reply : ℕ → List ℕ → Reply
-word_reply code word = record { code = code; options = []; payload = word }
+word_reply code word = record { code = code; version = None; options = []; payload = word }
 
 -- the server's own replies: as many exchanges live as may; the request is for a proxy (section 5.10.2); a critical
 -- option is bad (section 5.4.1); the payload would be too long
@@ -58,27 +59,37 @@ text_format _ = JSON
 abbrev pub format_options : Outcome → List CoapOption
 format_options o = option_map_or (λ _. (CONTENT_FORMAT, number_bytes (text_format o)) ∷ []) (text_of o) []
 
--- what is said of an outcome, if its payload isn't too long; the options are in order of their numbers: one
+-- what is said of an outcome, if its payload isn't too long; the further options are in order of their numbers: one
 -- Location-Path for each segment of the place (section 5.10.7), and the format
 abbrev pub whole_reply : Outcome → Reply
-whole_reply o = record { code = unwrap_or (answer_of o).code 0; options = segment_options LOCATION_PATH (place_of o) ++ format_options o; payload = payload_of o }
+whole_reply o = record {
+  code = unwrap_or (answer_of o).code 0;
+  version = version_of o;
+  options = segment_options LOCATION_PATH (place_of o) ++ format_options o;
+  payload = payload_of o;
+}
 
 -- What is said of an outcome. A payload has at most 1,024 bytes (section 4.6).
 abbrev pub reply_of : Outcome → Reply
 reply_of o = if nat_lt LONGEST_PAYLOAD (length (payload_of o)) then long_reply else whole_reply o
 
--- ---- Observe
+-- ---- ETag and Observe
 
--- a sequence number, which has 24 bits, in as few bytes as say it, in network byte order (RFC 7252, section 3.2)
-abbrev pub sequence_bytes : ℕ → List ℕ
-sequence_bytes n = if nat_lt n 65536 then number_bytes n else (n / 65536) ∷ (n / 256 % 256) ∷ (n % 256) ∷ []
+-- ETag, where there is a version: the number of the version is its tag (section 5.10.6.1)
+abbrev pub etag_options : Option ℕ → List CoapOption
+etag_options None = []
+etag_options (Some version) = (ETAG, number_bytes version) ∷ []
 
 -- Observe, where a sequence number is said (RFC 7641, section 2)
 abbrev pub observe_options : Option ℕ → List CoapOption
 observe_options None = []
-observe_options (Some n) = (OBSERVE, sequence_bytes n) ∷ []
+observe_options (Some n) = (OBSERVE, number_bytes n) ∷ []
 
--- a reply with Observe before its other options, of which none has a lower number
+-- all options of a reply, in order of their numbers
+abbrev pub reply_options : Reply → List CoapOption
+reply_options r = etag_options r.version ++ r.options
+
+-- a reply with Observe before its further options, of which none has a lower number
 abbrev pub observed : Option ℕ → Reply → Reply
 observed observe r = record r { options = observe_options observe ++ r.options }
 
@@ -108,12 +119,12 @@ coap_reply r head next = record {
   code = r.code;
   id = reply_id head.kind head.id next;
   token = head.token;
-  options = r.options;
+  options = reply_options r;
   payload = r.payload;
 }
 
 -- A notification: a Confirmable message with the token of the registration that says a value of its target and the
--- value's place in the order of all (RFC 7641, sections 3.2, 4.2 and 4.5).
+-- value's place in the order of all (RFC 7641, sections 3.2, 4.2 and 4.5). It has no tag.
 abbrev pub notification : Notice → List ℕ → CoapMessage
 notification n value = record {
   kind = Con;

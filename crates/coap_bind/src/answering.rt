@@ -82,7 +82,6 @@ impl Server {
     fn watch(&mut self, ask: &OpenAsk, effect: Effect) -> Option<u32>
         ensures watches { Watches effect ask.now.from ask.now.request.head.token self.old.watchers result self.new.watchers }
         ensures same { self.new ≡ with_watchers self.new.watchers self.old }
-        ensures bound { IfSome result (λ n. n < 2 ^ 24) }
     {
         let token = ask.request.head.token.as_bytes();
         match effect {
@@ -107,7 +106,6 @@ impl Server {
         requires slot { IsAwaited request.now.slot self.old.exchanges }
         requires code { HasCode said.outcome.now }
         requires blocks { IsUse said.blocks.now }
-        requires sequence { IfSome said.observe (λ n. n < 2 ^ 24) }
         requires short { (said.observe ≡ None) ⊎ (length (payload_of said.outcome.now) ≤ LONGEST_PAYLOAD) }
         requires room { length (spelling (coap_reply (observed said.observe (answer_reply said.blocks.now said.outcome.now)) request.now.head self.old.next_id)) ≤ LONGEST_MESSAGE }
         ensures { RepliesAs (observed said.entry.observe (answer_reply said.entry.blocks.now said.entry.outcome.now)) request.now result out.old out.new self.old self.new }
@@ -244,7 +242,7 @@ fn kept_body(szx: Option<u8>, outcome: &Outcome) -> Option<Whole<'_>>
     }
 }
 
-/// A response with the code 2.05 and this payload, that of its outcome.
+/// A response with the code 2.05, this payload and the version, those of its outcome.
 fn whole_of<'a>(outcome: &Outcome, bytes: &'a [u8]) -> Whole<'a>
     requires { bytes.now ≡ payload_of outcome.now }
     ensures { content_of result ≡ outcome_content outcome.now }
@@ -252,7 +250,7 @@ fn whole_of<'a>(outcome: &Outcome, bytes: &'a [u8]) -> Whole<'a>
     Whole {
         code: CONTENT,
         format: Some(text_format(outcome)),
-        tag: None,
+        tag: outcome.version(),
         bytes,
     }
 }

@@ -107,6 +107,7 @@ impl Server {
     {
         let told = Told {
             code: CONTINUE,
+            version: None,
             format: None,
             portion: Portion {
                 block: Some(BlockOption::Block1(block)),

@@ -47,8 +47,8 @@ pub fn asks_are_open()
     ensures { AsksAreOpen }
 {}
 
-/// A reply has at most 1,152 bytes (RFC 7252, section 4.6), with Observe and without, unless the place of what was
-/// started is long.
+/// A reply has at most 1,152 bytes (RFC 7252, section 4.6), with a tag and without, whatever the watchers are, in blocks
+/// and whole, unless the place of what was started is long.
 pub fn replies_fit()
     ensures { RepliesFit }
 {}

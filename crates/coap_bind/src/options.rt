@@ -1,18 +1,19 @@
 //! Writing the options of replies and of notifications, one part after another.
 
-ghost use Rattle.std.specs.Prelude.{◌≡◌, ◌≤◌, ◌<◌, ◌^◌, ◌++◌, [], ◌∷◌, Some, length, slice_index_or, All, OnOk, IfSome, if◌then◌else◌};
+ghost use Rattle.std.specs.Prelude.{◌≡◌, ◌≤◌, ◌++◌, [], ◌∷◌, Some, length, slice_index_or, All, OnOk, if◌then◌else◌};
 ghost use Rattle.coap_msg.specs.Blocks.{IsBlock, block_bytes};
 ghost use Rattle.coap_msg.specs.Grammar.{largest_number};
 ghost use Rattle.coap_msg.specs.Numbers.{number_bytes};
 ghost use Rattle.coap_msg.specs.Opts.{last_number, PutsOptions, segment_options};
 ghost use Rattle.coap_bind.specs.Blocks.{block_options, content_format};
 ghost use Rattle.coap_bind.specs.Portions.{HoldsBlock};
-ghost use Rattle.coap_bind.specs.Writing.{place_of, format_options, text_format, sequence_bytes, observe_options};
+ghost use Rattle.coap_bind.specs.Writing.{place_of, format_options, text_format, etag_options, observe_options};
+ghost use Rattle.thing_ops.specs.Outcomes.{version_of};
 
 use crate::blocks::BlockOption;
 use coap_msg::{
-    BLOCK1, BLOCK2, Block, CONTENT_FORMAT, JSON, LOCATION_PATH, NoRoom, OBSERVE, Opts, TD_JSON,
-    put_number, put_segment, write_block,
+    BLOCK1, BLOCK2, Block, CONTENT_FORMAT, ETAG, JSON, LOCATION_PATH, NoRoom, OBSERVE, Opts,
+    TD_JSON, put_number, put_segment, write_block,
 };
 use thing_ops::{Outcome, Segments};
 
@@ -23,7 +24,42 @@ pub fn put_options(
     options: &mut Opts<'_>,
 ) -> Result<(), NoRoom>
     requires empty { options.old.list ≡ [] }
-    requires sequence { IfSome observe (λ n. n < 2 ^ 24) }
+    requires segments { All (λ segment. length segment ≤ largest_number) (place_of outcome.now) }
+    ensures ok { PutsOptions (etag_options (version_of outcome.now) ++ (observe_options observe ++ (segment_options LOCATION_PATH (place_of outcome.now) ++ format_options outcome.now))) result options.old options.new }
+    ensures last { OnOk result (last_number 0 options.new.list ≤ CONTENT_FORMAT) }
+{
+    put_tag(outcome.version(), options)?;
+    put_behind_tag(observe, outcome, options)
+}
+
+/// Writes the options of a notification, where none are written yet.
+pub fn put_notification_options(sequence: u32, options: &mut Opts<'_>) -> Result<(), NoRoom>
+    requires { options.old.list ≡ [] }
+    ensures { PutsOptions (observe_options (Some sequence) ++ (CONTENT_FORMAT, number_bytes JSON) ∷ []) result options.old options.new }
+{
+    put_observe(Some(sequence), options)?;
+    put_number(options, CONTENT_FORMAT, u32::from(JSON))
+}
+
+/// Writes ETag, where there is a version and no option is written yet.
+fn put_tag(version: Option<u32>, options: &mut Opts<'_>) -> Result<(), NoRoom>
+    requires { options.old.list ≡ [] }
+    ensures ok { PutsOptions (etag_options version) result options.old options.new }
+    ensures last { OnOk result (last_number 0 options.new.list ≤ ETAG) }
+{
+    match version {
+        Some(version) => put_number(options, ETAG, version),
+        None => Ok(()),
+    }
+}
+
+/// Writes the options of an outcome's reply that follow ETag.
+fn put_behind_tag(
+    observe: Option<u32>,
+    outcome: &Outcome,
+    options: &mut Opts<'_>,
+) -> Result<(), NoRoom>
+    requires order { last_number 0 options.old.list ≤ ETAG }
     requires segments { All (λ segment. length segment ≤ largest_number) (place_of outcome.now) }
     ensures ok { PutsOptions (observe_options observe ++ (segment_options LOCATION_PATH (place_of outcome.now) ++ format_options outcome.now)) result options.old options.new }
     ensures last { OnOk result (last_number 0 options.new.list ≤ CONTENT_FORMAT) }
@@ -32,43 +68,16 @@ pub fn put_options(
     put_rest(outcome, options)
 }
 
-/// Writes the options of a notification, where none are written yet.
-pub fn put_notification_options(sequence: u32, options: &mut Opts<'_>) -> Result<(), NoRoom>
-    requires empty { options.old.list ≡ [] }
-    requires sequence { sequence < 2 ^ 24 }
-    ensures { PutsOptions (observe_options (Some sequence) ++ (CONTENT_FORMAT, number_bytes JSON) ∷ []) result options.old options.new }
-{
-    put_observe(Some(sequence), options)?;
-    put_number(options, CONTENT_FORMAT, JSON)
-}
-
 /// Writes Observe, where a sequence number is said.
 fn put_observe(observe: Option<u32>, options: &mut Opts<'_>) -> Result<(), NoRoom>
-    requires empty { options.old.list ≡ [] }
-    requires sequence { IfSome observe (λ n. n < 2 ^ 24) }
+    requires { last_number 0 options.old.list ≤ ETAG }
     ensures ok { PutsOptions (observe_options observe) result options.old options.new }
     ensures last { OnOk result (last_number 0 options.new.list ≤ OBSERVE) }
 {
     match observe {
-        Some(sequence) => put_sequence(sequence, options),
+        Some(sequence) => put_number(options, OBSERVE, sequence),
         None => Ok(()),
     }
-}
-
-/// Writes Observe with a sequence number.
-fn put_sequence(sequence: u32, options: &mut Opts<'_>) -> Result<(), NoRoom>
-    requires empty { options.old.list ≡ [] }
-    requires sequence { sequence < 2 ^ 24 }
-    ensures ok { PutsOptions ((OBSERVE, sequence_bytes sequence) ∷ []) result options.old options.new }
-    ensures last { OnOk result (last_number 0 options.new.list ≡ OBSERVE) }
-{
-    if sequence < 65_536 {
-        return put_number(options, OBSERVE, sequence as u16);
-    }
-    let high = (sequence / 65_536) as u8;
-    let middle = (sequence / 256 % 256) as u8;
-    let low = (sequence % 256) as u8;
-    options.push(OBSERVE, &[high, middle, low])
 }
 
 /// Writes the options of an outcome's reply that follow Observe.
@@ -118,7 +127,7 @@ fn put_format(outcome: &Outcome, options: &mut Opts<'_>) -> Result<(), NoRoom>
     ensures last { OnOk result (last_number 0 options.new.list ≤ CONTENT_FORMAT) }
 {
     match outcome.text() {
-        Some(_) => put_number(options, CONTENT_FORMAT, text_format(outcome)),
+        Some(_) => put_number(options, CONTENT_FORMAT, u32::from(text_format(outcome))),
         None => Ok(()),
     }
 }
@@ -133,14 +142,29 @@ pub fn text_format(outcome: &Outcome) -> u16
     }
 }
 
-/// Writes a content format, where there is one and no option is written yet.
-pub fn put_content_format(format: Option<u16>, options: &mut Opts<'_>) -> Result<(), NoRoom>
-    requires empty { options.old.list ≡ [] }
+/// Writes the options of a body that is kept, where none are written yet: ETag, where it has a version, and
+/// Content-Format, where it has a format.
+pub fn put_content_options(
+    version: Option<u32>,
+    format: Option<u16>,
+    options: &mut Opts<'_>,
+) -> Result<(), NoRoom>
+    requires { options.old.list ≡ [] }
+    ensures ok { PutsOptions (etag_options version ++ content_format format) result options.old options.new }
+    ensures last { OnOk result (last_number 0 options.new.list ≤ CONTENT_FORMAT) }
+{
+    put_tag(version, options)?;
+    put_content_format(format, options)
+}
+
+/// Writes a content format, where there is one.
+fn put_content_format(format: Option<u16>, options: &mut Opts<'_>) -> Result<(), NoRoom>
+    requires { last_number 0 options.old.list ≤ ETAG }
     ensures ok { PutsOptions (content_format format) result options.old options.new }
     ensures last { OnOk result (last_number 0 options.new.list ≤ CONTENT_FORMAT) }
 {
     match format {
-        Some(format) => put_number(options, CONTENT_FORMAT, format),
+        Some(format) => put_number(options, CONTENT_FORMAT, u32::from(format)),
         None => Ok(()),
     }
 }

@@ -15,9 +15,6 @@ use coap_opts::{AskFault, CoapAsk, request_of};
 use std::alloc::Global;
 use thing_ops::{NoMemory, Outcome, Segments};
 
-/// How many bytes a path has for which memory is taken at once.
-const USUAL_PATH: usize = 64;
-
 impl Server {
     ghost use Rattle.std.specs.Prelude.{◌≡◌, ◌<◌, ◌≤◌, ◌/◌, ◌⊎◌, true, length, option_map, slice_get, IfSome, Some};
     ghost use Rattle.coap_msg.specs.Blocks.{IsBlock};
@@ -183,7 +180,7 @@ impl Server {
     }
 }
 
-ghost use Rattle.std.specs.Prelude.{◌≡◌, ◌+◌, ◌<◌, length, option_map, take, Some, IfOk, OnOk};
+ghost use Rattle.std.specs.Prelude.{◌≡◌, ◌<◌, length, option_map, Some, IfOk};
 ghost use Rattle.coap_msg.specs.Blocks.{IsBlock};
 ghost use Rattle.coap_msg.specs.Grammar.{spelling};
 ghost use Rattle.coap_msg.specs.Written.{IsWritten};
@@ -205,7 +202,7 @@ fn use_of(
         return Ok(BlockUse::Whole);
     }
     Ok(BlockUse::Gives(Giving {
-        path: copied(alloc, &ask.request.path)?,
+        path: ask.request.path.copied(alloc)?,
         szx: size_of(block2_of(observing, ask)),
         moment: arrived.now,
     }))
@@ -218,29 +215,6 @@ fn size_of(block: Option<Block>) -> Option<u8>
     match block {
         Some(block) => Some(block.szx),
         None => None,
-    }
-}
-
-/// A copy of a path.
-fn copied(alloc: Global, path: &Segments) -> Result<Segments, NoMemory>
-    ensures { IfOk result (λ s. s ≡ path.now) }
-{
-    let mut copy = Segments::with_capacity(alloc, USUAL_PATH)?;
-    for index in 0..path.len() {
-        push_next(&mut copy, path, index)?;
-    }
-    Ok(copy)
-}
-
-/// Puts the segment of a path with this number after those before it.
-fn push_next(copy: &mut Segments, path: &Segments, index: usize) -> Result<(), NoMemory>
-    requires within { index < length path.now }
-    requires so_far { copy.old ≡ take index path.now }
-    ensures { OnOk result (copy.new ≡ take (index + 1) path.now) }
-{
-    match path.get(index) {
-        Some(segment) => copy.push(segment),
-        None => Ok(()),
     }
 }
 
@@ -277,6 +251,7 @@ fn put_block_of(
     }
     let told = Told {
         code: CONTENT,
+        version: body.tag,
         format: body.format,
         portion: portion_at(block, body.bytes),
     };

@@ -11,7 +11,7 @@ ghost use Rattle.coap_msg.specs.Written.{IsWritten};
 
 use crate::blocks::BlockUse;
 use crate::head::RequestHead;
-use crate::options::{put_block, put_content_format, put_notification_options, put_options};
+use crate::options::{put_block, put_content_options, put_notification_options, put_options};
 use crate::portion::{Portion, most_bytes, portion_of};
 use coap_msg::{
     INTERNAL_SERVER_ERROR, LONGEST_MESSAGE, LONGEST_PAYLOAD, Opts, Plain, RequestType, Type4,
@@ -39,6 +39,8 @@ pub struct Said<'a> {
 pub struct Told<'a> {
     /// The code.
     pub code: u8,
+    /// The version of what it has, if that has a tag.
+    pub version: Option<u32>,
     /// The content format of what it has, if that has one.
     pub format: Option<u16>,
     /// What it has.
@@ -98,7 +100,6 @@ pub fn put_outcome(
     out: &mut [u8; LONGEST_MESSAGE],
 ) -> usize
     requires code { HasCode said.outcome.now }
-    requires sequence { IfSome said.observe (λ n. n < 2 ^ 24) }
     requires blocks { IsUse said.blocks.now }
     requires short { (said.observe ≡ None) ⊎ (length (payload_of said.outcome.now) ≤ LONGEST_PAYLOAD) }
     requires room { length (spelling (coap_reply (observed said.observe (answer_reply said.blocks.now said.outcome.now)) head.now next_id)) ≤ LONGEST_MESSAGE }
@@ -131,7 +132,6 @@ fn put_portion(
 ) -> usize
     requires code { HasCode said.outcome.now }
     requires block { HoldsBlock portion.block }
-    requires sequence { IfSome said.observe (λ n. n < 2 ^ 24) }
     requires room { length (spelling (coap_reply (observed said.observe (reply_with (portion_seen portion) said.outcome.now)) head.now next_id)) ≤ LONGEST_MESSAGE }
     ensures { IsWritten (spelling (coap_reply (observed said.entry.observe (reply_with (portion_seen portion.entry) said.entry.outcome.now)) head.now next_id)) result out.old out.new }
 {
@@ -164,7 +164,7 @@ pub fn put_told(
 {
     let mut room = [0u8; LONGEST_MESSAGE];
     let mut options = Opts::on(&mut room);
-    put_content_format(told.format, &mut options).unwrap();
+    put_content_options(told.version, told.format, &mut options).unwrap();
     put_block(told.portion.block, &mut options).unwrap();
     let message = Plain {
         kind: kind_of_reply(head.kind),

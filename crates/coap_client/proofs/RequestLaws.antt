@@ -1,6 +1,6 @@
 -- Laws of the requests that a client sends, over all that it did from its beginning.
-use Rattle.std.proofs.Common.{◌≡◌, ◌≢◌, ℕ, ◌+◌, ◌/◌, ◌%◌, ◌<◌, ◌≤◌, ◌∙◌, Bool, true, false, cond, Option, Some, None, List, [], ◌∷◌, ◌++◌, length, get_or, set, inl, inr, refl, sym, ap, subst, arith}
-use Rattle.std.specs.Prelude.{nat_lt, All}
+use Rattle.std.proofs.Common.{◌≡◌, ◌≢◌, ℕ, ◌+◌, ◌%◌, ◌<◌, ◌≤◌, ◌∙◌, Bool, true, false, cond, Option, Some, None, List, [], ◌∷◌, ◌++◌, length, get_or, set, inl, inr, refl, sym, ap, subst, arith}
+use Rattle.std.specs.Prelude.{All}
 use Rattle.std.specs.Int.{to_be_bytes, w64}
 use Rattle.std.proofs.lemmas.Bool.{cases_lt}
 use Rattle.std.proofs.lemmas.Bool.Decides.{eqb_tells}
@@ -8,10 +8,12 @@ use Rattle.std.proofs.lemmas.List.{get_or-set_other, length-set, length_push, ge
 use Rattle.std.proofs.lemmas.List.Elements.{All-head, All-tail, All-nil, All-push, All-contains}
 use Rattle.std.proofs.lemmas.Option.{same_Some}
 use Rattle.coap_msg.specs.declared.endpoint.Endpoint.{Endpoint}
-use Rattle.coap_msg.specs.declared.constants.TheConstants.{URI_PATH}
+use Rattle.coap_msg.specs.declared.block.Block.{Block}
+use Rattle.coap_msg.specs.declared.constants.TheConstants.{URI_PATH, BLOCK1}
+use Rattle.coap_msg.specs.Blocks.{block_number}
 use Rattle.coap_msg.specs.Endpoints.{is_same_endpoint}
 use Rattle.coap_msg.specs.Grammar.{AreInOrder, IsWellFormed}
-use Rattle.coap_msg.specs.Numbers.{number_bytes}
+use Rattle.coap_msg.proofs.NumberValues.{number_length}
 use Rattle.coap_msg.specs.Opts.{segment_options}
 use Rattle.coap_client.specs.declared.outstanding.Outstanding.{Outstanding}
 use Rattle.coap_client.specs.declared.observation.Observation.{Observation}
@@ -20,7 +22,7 @@ use Rattle.coap_client.specs.declared.meaning.Meaning.{Meaning}
 use Rattle.coap_client.specs.declared.meaning.Meaning.TheVariants as meant
 use Rattle.coap_client.specs.declared.due.Due.{Due}
 use Rattle.coap_client.specs.declared.due.Due.TheVariants as due
-use Rattle.coap_client.specs.Asking.{Asking, observe_option, format_option, message_for}
+use Rattle.coap_client.specs.Asking.{Asking, observe_option, format_option, block_option, both_blocks, message_for}
 use Rattle.coap_client.specs.Exchange.{at_moment, request_for, token_for, Asks, ComesDue, Delivers, of_message, of_fault, after}
 use Rattle.coap_client.specs.Answers.{meaning}
 use Rattle.coap_client.specs.Names.{IsNextId, is_used, is_recent, kept_token, token_after}
@@ -223,32 +225,37 @@ ids_differ sent s did few =
 
 -- ---- options in order
 
-short_at : (n : ℕ) (b c : Bool) → length (cond b [] (cond c (n ∷ []) ((n / 256) ∷ (n % 256) ∷ []))) ≤ 2
-short_at n true c = omega arith
-short_at n false true = omega arith
-short_at n false false = omega arith
+-- a block takes three bytes at most
+block1_in_order : (last : ℕ) (block : Option Block) → last ≤ 27 → AreInOrder last (block_option BLOCK1 block)
+block1_in_order last None h = tt
+block1_in_order last (Some b) h = let bound = number_length (block_number b) in (record { order = h; number = omega arith; value = omega arith }, tt)
 
-short : (n : ℕ) → length (number_bytes n) ≤ 2
-short n = short_at n (nat_lt n 1) (nat_lt n 256)
+blocks_in_order : (last : ℕ) (block2 block1 : Option Block) → last ≤ 23 → AreInOrder last (both_blocks block2 block1)
+blocks_in_order last None block1 h = block1_in_order last block1 (omega arith)
+blocks_in_order last (Some b) block1 h = let bound = number_length (block_number b) in (record { order = h; number = omega arith; value = omega arith }, block1_in_order 23 block1 (omega arith))
 
-format_in_order : (last : ℕ) (format : Option ℕ) → last ≤ 12 → AreInOrder last (format_option format)
-format_in_order last None h = tt
-format_in_order last (Some n) h = let bound = short n in (record { order = h; number = omega arith; value = omega arith }, tt)
+-- what comes after the path: the format and the blocks
+rest_in_order : (last : ℕ) (a : Asking) → last ≤ 12 → AreInOrder last (format_option a.format ++ both_blocks a.block2 a.block1)
+rest_in_order last a h = format_in_order last a.format h
+  where
+    format_in_order : (last : ℕ) (format : Option ℕ) → last ≤ 12 → AreInOrder last (format_option format ++ both_blocks a.block2 a.block1)
+    format_in_order last None h = blocks_in_order last a.block2 a.block1 (omega arith)
+    format_in_order last (Some n) h = let bound = number_length n in (record { order = h; number = omega arith; value = omega arith }, blocks_in_order 12 a.block2 a.block1 (omega arith))
 
-path_in_order : (last : ℕ) (path : List (List ℕ)) (format : Option ℕ) → last ≤ 11 → All (λ segment. length segment ≤ 255) path
-    → AreInOrder last (segment_options URI_PATH path ++ format_option format)
-path_in_order last [] format h all = format_in_order last format (omega arith)
-path_in_order last (segment ∷ path) format h all =
+path_in_order : (last : ℕ) (path : List (List ℕ)) (a : Asking) → last ≤ 11 → All (λ segment. length segment ≤ 255) path
+    → AreInOrder last (segment_options URI_PATH path ++ (format_option a.format ++ both_blocks a.block2 a.block1))
+path_in_order last [] a h all = rest_in_order last a (omega arith)
+path_in_order last (segment ∷ path) a h all =
     let bound : length segment ≤ 255 = All-head (λ (s : List ℕ). length s ≤ 255) segment path all in
-    (record { order = h; number = omega arith; value = omega arith }, path_in_order 11 path format (omega arith) (All-tail (λ (s : List ℕ). length s ≤ 255) segment path all))
+    (record { order = h; number = omega arith; value = omega arith }, path_in_order 11 path a (omega arith) (All-tail (λ (s : List ℕ). length s ≤ 255) segment path all))
 
-options_in_order : (observe : Option Bool) (path : List (List ℕ)) (format : Option ℕ) → All (λ segment. length segment ≤ 255) path
-    → AreInOrder 0 (observe_option observe ++ (segment_options URI_PATH path ++ format_option format))
-options_in_order None path format all = path_in_order 0 path format (omega arith) all
-options_in_order (Some true) path format all =
-    (record { order = omega arith; number = omega arith; value = omega arith }, path_in_order 6 path format (omega arith) all)
-options_in_order (Some false) path format all =
-    (record { order = omega arith; number = omega arith; value = omega arith }, path_in_order 6 path format (omega arith) all)
+options_in_order : (observe : Option Bool) (a : Asking) → All (λ segment. length segment ≤ 255) a.path
+    → AreInOrder 0 (observe_option observe ++ (segment_options URI_PATH a.path ++ (format_option a.format ++ both_blocks a.block2 a.block1)))
+options_in_order None a all = path_in_order 0 a.path a (omega arith) all
+options_in_order (Some true) a all =
+    (record { order = omega arith; number = omega arith; value = omega arith }, path_in_order 6 a.path a (omega arith) all)
+options_in_order (Some false) a all =
+    (record { order = omega arith; number = omega arith; value = omega arith }, path_in_order 6 a.path a (omega arith) all)
 
 -- ---- tokens
 
@@ -294,7 +301,7 @@ asks_are_messages sent s t now peer a n old new did may asks =
       class = inl (omega arith);
       id = let is = asks.next.id_is in omega arith;
       token = token;
-      options = options_in_order a.observe a.path a.format may.segments;
+      options = options_in_order a.observe a may.segments;
       empty = λ e. absurd (may.code e);
     } in
     record {

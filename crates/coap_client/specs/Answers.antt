@@ -1,11 +1,14 @@
 -- Which messages a client takes, and what each message means to it (RFC 7252, sections 4.2 and
--- 5.3.2; RFC 7641, section 3).
-use Rattle.std.specs.Prelude.{◌-◌, ◌/◌, ◌^◌, ◌==◌, ◌&&◌, ◌||◌, ℕ, nat_lt, nat_le, length, Bool, true, false, List, [], ◌∷◌, Option, Some, None, if◌then◌else◌}
+-- 5.3.2; RFC 7641, section 3; RFC 7959, section 2).
+use Rattle.std.specs.Prelude.{◌-◌, ◌/◌, ◌^◌, ◌==◌, ◌&&◌, ◌||◌, ℕ, nat_lt, nat_le, length, map, Bool, true, false, List, [], ◌∷◌, Option, Some, None, option_map, is_some, unwrap_or, if◌then◌else◌}
+use Rattle.std.specs.List.{filter}
 use Rattle.std.specs.Str.{bytes_eq}
+use Rattle.coap_msg.specs.declared.block.Block.{Block}
+use Rattle.coap_msg.specs.Blocks.{block_of}
 use Rattle.coap_msg.specs.declared.endpoint.Endpoint.{Endpoint}
 use Rattle.coap_msg.specs.declared.message.Type4.{Type4}
 use Rattle.coap_msg.specs.declared.message.Type4.TheVariants.{Con, Non, Ack, Rst}
-use Rattle.coap_msg.specs.declared.constants.TheConstants.{OBSERVE}
+use Rattle.coap_msg.specs.declared.constants.TheConstants.{OBSERVE, BLOCK2}
 use Rattle.coap_msg.specs.Grammar.{CoapOption, CoapMessage}
 use Rattle.coap_msg.specs.Numbers.{number_of}
 use Rattle.coap_client.specs.declared.outstanding.Outstanding.{Outstanding}
@@ -42,6 +45,26 @@ is_from_server (Some o) from id = is_same_endpoint from o.peer && id == o.id
 abbrev pub is_response_class : ℕ → Bool
 is_response_class class = class == 2 || class == 4 || class == 5
 
+-- the values of all Block2 options, in their order
+abbrev pub block2_values : List CoapOption → List (List ℕ)
+block2_values os = map (λ o. o.1) (filter (λ o. o.0 == BLOCK2) os)
+
+-- What is read of these values: of none that there is no block, of one the block that it says. Nothing is read of one that
+-- says no block (RFC 7959, section 2.2), nor of several, since the option doesn't repeat (RFC 7252, section 5.4.5).
+abbrev pub block2_in : List (List ℕ) → Option (Option Block)
+block2_in [] = Some None
+block2_in (value ∷ []) = option_map (λ b. Some b) (block_of value)
+block2_in (value ∷ other ∷ values) = None
+
+-- which block of its body a response has, where its options say one
+abbrev pub block2_of : List CoapOption → Option Block
+block2_of os = unwrap_or (block2_in (block2_values os)) None
+
+-- A response: a message of one of the three classes. One whose Block2 can't be read is none, since the option is critical
+-- (RFC 7252, section 5.4.1).
+abbrev pub is_response : CoapMessage → Bool
+is_response m = is_response_class (m.code / 32) && is_some (block2_in (block2_values m.options))
+
 -- An acknowledgement carries a response only with the message ID of the outstanding request (section 5.2.1), also where
 -- its token is that of the observation: so a late one of a registration is no new value. A Reset carries none.
 abbrev pub may_carry : Option Outstanding → Type4 → ℕ → Bool
@@ -53,7 +76,7 @@ may_carry o Rst id = false
 -- A message is taken.
 abbrev pub takes : State → Endpoint → CoapMessage → Bool
 takes s from m =
-    is_response_class (m.code / 32) && may_carry s.outstanding m.kind m.id
+    is_response m && may_carry s.outstanding m.kind m.id
     && (is_for_request s.outstanding from m.token || is_for_observation s.observation from m.token)
 
 -- ---- what a message means

@@ -34,7 +34,8 @@ use Rattle.coap_client.specs.declared.due.Due.TheVariants as due
 use Rattle.coap_client.specs.Asking.{Asking, message_for}
 use Rattle.coap_client.specs.Times.{deadline, retransmissions_by}
 use Rattle.coap_client.specs.Names.{IsNextId, AreAllUsed, kept_token, token_after}
-use Rattle.coap_client.specs.Answers.{is_for_request, is_for_observation, takes, meaning}
+use Rattle.coap_client.specs.Answers.{is_for_request, is_for_observation, takes, block2_of, meaning}
+use Rattle.coap_msg.specs.Blocks.{IsBlock}
 use Rattle.coap_msg.specs.Empty.{empty_reply, rejection_of}
 use Rattle.coap_msg.specs.Written.{IsWritten, IsReplied}
 
@@ -181,11 +182,20 @@ after s from token meant.Foreign = s
 
 -- the news of a message
 abbrev pub IsNews : Meaning → CoapMessage → News → Type 0
-IsNews meaning m (news.Answered code payload) = (meaning ≡ meant.Response) × (code ≡ m.code) × (payload.now ≡ m.payload)
+IsNews meaning m (news.Answered code block payload) =
+    (meaning ≡ meant.Response) × (code ≡ m.code) × (block ≡ block2_of m.options) × (payload.now ≡ m.payload)
 IsNews meaning m (news.Value payload) = (sequence : ℕ) × (meaning ≡ meant.Value sequence) × (payload.now ≡ m.payload)
 IsNews meaning m news.Old = meaning ≡ meant.Old
 IsNews meaning m news.Reset = meaning ≡ meant.Reset
 IsNews meaning m news.Nothing = (meaning ≡ meant.Received) ⊎ (meaning ≡ meant.Foreign)
+
+-- a block that news say is one that an option can say
+abbrev pub SaysBlock : News → Type 0
+SaysBlock (news.Answered code block payload) = IfSome block IsBlock
+SaysBlock (news.Value payload) = Unit {0}
+SaysBlock news.Old = Unit {0}
+SaysBlock news.Reset = Unit {0}
+SaysBlock news.Nothing = Unit {0}
 
 -- What bytes from an endpoint do: their news and whether there is a reply, which is written, and the state
 -- afterwards.

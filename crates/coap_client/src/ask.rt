@@ -1,15 +1,16 @@
 //! What is asked of a server, and the message that asks for it.
 
-ghost use Rattle.std.specs.Prelude.{◌≡◌, ◌≤◌, ◌<◌, ◌++◌, Bool, [], ◌∷◌, length, slice_index_or, All, IfOk, OnOk, OnErr, take};
+ghost use Rattle.std.specs.Prelude.{◌≡◌, ◌≤◌, ◌<◌, ◌++◌, Bool, [], ◌∷◌, length, slice_index_or, All, IfOk, IfSome, OnOk, OnErr, take};
+ghost use Rattle.coap_msg.specs.Blocks.{IsBlock, block_bytes};
 ghost use Rattle.coap_msg.specs.Grammar.{options_spelling, spelling};
 ghost use Rattle.coap_msg.specs.Opts.{last_number, PutsOptions, segment_options};
 ghost use Rattle.coap_msg.specs.Written.{IsWritten};
 ghost use Rattle.coap_msg.specs.declared.constants.TheConstants.{LONGEST_SEGMENT};
-ghost use Rattle.coap_client.specs.Asking.{MayAsk, asking_of, observe_option, format_option, options_for, message_for};
+ghost use Rattle.coap_client.specs.Asking.{MayAsk, asking_of, observe_option, format_option, block_option, both_blocks, options_for, message_for};
 
 use coap_msg::{
-    CONTENT_FORMAT, LONGEST_MESSAGE, NoRoom, OBSERVE, Opts, Plain, Type4, URI_PATH, encode,
-    put_number, put_segment,
+    BLOCK1, BLOCK2, Block, CONTENT_FORMAT, LONGEST_MESSAGE, NoRoom, OBSERVE, Opts, Plain, Type4,
+    URI_PATH, encode, put_number, put_segment, write_block,
 };
 use thing_ops::Segments;
 
@@ -24,6 +25,10 @@ pub struct Ask<'a> {
     pub observe: Option<bool>,
     /// The content format of the payload (RFC 7252, section 12.3).
     pub format: Option<u16>,
+    /// Which block of its body this is, where that goes in blocks (Block1; RFC 7959, section 2.1).
+    pub block1: Option<Block>,
+    /// Which block of the response is wanted, where that isn't the first (Block2).
+    pub block2: Option<Block>,
     /// The payload.
     pub payload: &'a [u8],
 }
@@ -62,7 +67,27 @@ fn put_options(ask: &Ask<'_>, options: &mut Opts<'_>) -> Result<(), NoRoom>
 {
     put_observe(options, ask.observe)?;
     put_path(options, ask.path)?;
-    put_format(options, ask.format)
+    put_rest(ask, options)
+}
+
+/// Writes the options of an ask that come after its path.
+fn put_rest(ask: &Ask<'_>, options: &mut Opts<'_>) -> Result<(), NoRoom>
+    requires ask { MayAsk (asking_of ask.now) }
+    requires order { last_number 0 options.old.list ≤ URI_PATH }
+    ensures { PutsOptions (format_option ask.now.format ++ both_blocks ask.now.block2 ask.now.block1) result options.old options.new }
+{
+    put_format(options, ask.format)?;
+    put_blocks(ask, options)
+}
+
+/// Writes Block2 and Block1.
+fn put_blocks(ask: &Ask<'_>, options: &mut Opts<'_>) -> Result<(), NoRoom>
+    requires ask { MayAsk (asking_of ask.now) }
+    requires order { last_number 0 options.old.list ≤ CONTENT_FORMAT }
+    ensures { PutsOptions (both_blocks ask.now.block2 ask.now.block1) result options.old options.new }
+{
+    put_block(options, BLOCK2, ask.block2)?;
+    put_block(options, BLOCK1, ask.block1)
 }
 
 /// Writes Observe.
@@ -97,10 +122,37 @@ fn put_path(options: &mut Opts<'_>, path: &Segments) -> Result<(), NoRoom>
 /// Writes Content-Format.
 fn put_format(options: &mut Opts<'_>, format: Option<u16>) -> Result<(), NoRoom>
     requires { last_number 0 options.old.list ≤ URI_PATH }
-    ensures { PutsOptions (format_option format) result options.old options.new }
+    ensures ok { PutsOptions (format_option format) result options.old options.new }
+    ensures last { OnOk result (last_number 0 options.new.list ≤ CONTENT_FORMAT) }
 {
     match format {
-        Some(number) => put_number(options, CONTENT_FORMAT, number),
+        Some(number) => put_number(options, CONTENT_FORMAT, u32::from(number)),
         None => Ok(()),
     }
+}
+
+/// Writes the option of this number that says a block, where there is one.
+fn put_block(options: &mut Opts<'_>, number: u16, block: Option<Block>) -> Result<(), NoRoom>
+    requires order { last_number 0 options.old.list ≤ number }
+    requires block { IfSome block IsBlock }
+    ensures ok { PutsOptions (block_option number block) result options.old options.new }
+    ensures last { OnOk result (last_number 0 options.new.list ≤ number) }
+{
+    match block {
+        Some(block) => put_block_value(options, number, block),
+        None => Ok(()),
+    }
+}
+
+/// Writes the option of this number that says a block.
+#[tactic(auto, using(coap_msg::proofs::OptionParts::last_written))]
+fn put_block_value(options: &mut Opts<'_>, number: u16, block: Block) -> Result<(), NoRoom>
+    requires order { last_number 0 options.old.list ≤ number }
+    requires block { IsBlock block }
+    ensures ok { PutsOptions ((number, block_bytes block) ∷ []) result options.old options.new }
+    ensures last { OnOk result (last_number 0 options.new.list ≡ number) }
+{
+    let mut value = [0; 3];
+    let size = write_block(block, &mut value);
+    options.push(number, &value[..size])
 }

@@ -28,7 +28,7 @@ impl Model for Client {
 impl Client {
     ghost use Rattle.std.specs.Prelude.{◌≡◌, ◌≤◌, IfOk, IfErr, OnErr, is_some};
     ghost use Rattle.coap_client.specs.Asking.{MayAsk, asking_of};
-    ghost use Rattle.coap_client.specs.Exchange.{IsNew, at_moment, Asks, IsRefused, Delivers, ComesDue};
+    ghost use Rattle.coap_client.specs.Exchange.{IsNew, at_moment, Asks, IsRefused, Delivers, SaysBlock, ComesDue};
 
     /// A client whose first message has this id. All its memory is taken here.
     pub fn new(alloc: Global, first_id: u16) -> Result<Client, NoMemory>
@@ -78,6 +78,7 @@ impl Client {
     ) -> Delivered<'b>
         requires { self.old.moment ≤ now }
         ensures ok { Delivers (at_moment now self.old) from bytes.now result out.old out.new self.new }
+        ensures block { SaysBlock result.news }
         ensures moment { self.new.moment ≡ now }
     {
         self.state.moment = now;

@@ -2,8 +2,9 @@
 
 ghost use Rattle.std.specs.Prelude.{◌≡◌};
 ghost use Rattle.coap_msg.specs.MessageOf.{message_of};
-ghost use Rattle.coap_client.specs.Exchange.{IsNews};
+ghost use Rattle.coap_client.specs.Exchange.{IsNews, SaysBlock};
 
+use crate::block2::block2_of;
 use crate::meaning::Meaning;
 use crate::observation::Latest;
 use crate::state::State;
@@ -13,7 +14,7 @@ use coap_msg::{Endpoint, LONGEST_MESSAGE, Message, decode, put_empty_reply, put_
 impl State {
     ghost use Rattle.std.specs.Prelude.{◌≡◌};
     ghost use Rattle.coap_msg.specs.MessageOf.{message_of};
-    ghost use Rattle.coap_client.specs.Exchange.{Delivers, IsNews, after, registered, valued, answered, received};
+    ghost use Rattle.coap_client.specs.Exchange.{Delivers, IsNews, SaysBlock, after, registered, valued, answered, received};
     ghost use Rattle.coap_msg.specs.Empty.{empty_reply};
     ghost use Rattle.coap_msg.specs.Written.{IsReplied};
     ghost use Rattle.coap_client.specs.Answers.{takes, meaning};
@@ -25,7 +26,8 @@ impl State {
         bytes: &'b [u8],
         out: &mut [u8; LONGEST_MESSAGE],
     ) -> Delivered<'b>
-        ensures { Delivers self.old from bytes.now result out.old out.new self.new }
+        ensures ok { Delivers self.old from bytes.now result out.old out.new self.new }
+        ensures block { SaysBlock result.news }
     {
         match decode(bytes) {
             Ok(message) => self.receive(from, &message, out),
@@ -46,6 +48,7 @@ impl State {
         ensures reply { IsReplied (empty_reply message.now.kind message.now.id (takes self.old from (message_of message.now)))
             result.reply out.old out.new }
         ensures news { IsNews (meaning self.old from (message_of message.now)) (message_of message.now) result.news }
+        ensures block { SaysBlock result.news }
         ensures after { self.new ≡ after self.old from message.now.token.now (meaning self.old from (message_of message.now)) }
     {
         let taken = self.takes(from, message);
@@ -116,12 +119,15 @@ impl State {
 
 /// The news of a message with this meaning.
 fn news_of<'b>(meaning: Meaning, message: &Message<'b>) -> News<'b>
-    ensures { IsNews meaning (message_of message.now) result }
+    ensures news { IsNews meaning (message_of message.now) result }
+    ensures block { SaysBlock result }
 {
     match meaning {
         Meaning::Value(_sequence) => News::Value(message.payload),
         Meaning::Old => News::Old,
-        Meaning::Response => News::Answered(message.code, message.payload),
+        Meaning::Response => {
+            News::Answered(message.code, block2_of(&message.options), message.payload)
+        }
         Meaning::Reset => News::Reset,
         Meaning::Received | Meaning::Foreign => News::Nothing,
     }

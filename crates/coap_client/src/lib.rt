@@ -1,4 +1,4 @@
-//! The exchanges of a CoAP client (RFC 7252; RFC 7641): it asks, sends again until there is a response, and observes.
+//! The exchanges of a CoAP client (RFC 7252; RFC 7641; RFC 7959): it asks, sends again until there is a response, and observes.
 //! The client has no clock and no socket: moments and datagrams are handed in, and what is to be sent is written into
 //! the caller's room. It takes memory once, when it is made. `Client`, `Ask`, `Delivered` and `Due` carry everything.
 //!
@@ -8,7 +8,7 @@
 //! let mut client = Client::new(alloc, 0)?;
 //! let mut room = [0; 1152];
 //! // GET /lamp, to be observed.
-//! let ask = Ask { code: 1, path: &path, observe: Some(true), format: None, payload: b"" };
+//! let ask = Ask { code: 1, path: &path, observe: Some(true), format: None, block1: None, block2: None, payload: b"" };
 //! let size = client.request(now, peer, &ask, &mut room)?;
 //! send(peer, &room[..size]);
 //! // For each datagram that comes:
@@ -34,6 +34,7 @@
 
 mod ask;
 mod asking;
+mod block2;
 mod client;
 mod delivery;
 mod due;

@@ -2,8 +2,9 @@
 
 ghost use Rattle.std.specs.Prelude.{◌≡◌, ◌/◌, IsTrue, ◌↔◌};
 ghost use Rattle.coap_msg.specs.MessageOf.{message_of};
-ghost use Rattle.coap_client.specs.Answers.{is_response_class, number_within, sequence_of};
+ghost use Rattle.coap_client.specs.Answers.{is_response as is_response_seen, is_response_class, number_within, sequence_of};
 
+use crate::block2::block2_in;
 use crate::observation::Observation;
 use crate::outstanding::Outstanding;
 use crate::state::State;
@@ -35,7 +36,7 @@ impl State {
     pub fn takes(&self, from: Endpoint, message: &Message<'_>) -> bool
         ensures { result ≡ takes self.now from (message_of message.now) }
     {
-        is_response_class(message.code / 32)
+        is_response(message)
             && self.may_carry(message.kind, message.id)
             && (self.is_for_request(from, message.token)
                 || self.is_for_observation(from, message.token))
@@ -159,6 +160,14 @@ impl State {
             None => false,
         }
     }
+}
+
+/// Whether a message is a response: of one of their classes, and what it says of blocks can be read (RFC 7252, section
+/// 5.4.1).
+fn is_response(message: &Message<'_>) -> bool
+    ensures { result ≡ is_response_seen (message_of message.now) }
+{
+    is_response_class(message.code / 32) && block2_in(&message.options).is_some()
 }
 
 /// Whether messages of a class are responses (RFC 7252, section 5.9).

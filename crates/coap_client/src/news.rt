@@ -1,5 +1,7 @@
 //! The news that a datagram brings, and the reply to it.
 
+use coap_msg::Block;
+
 /// What a datagram that was delivered brings.
 #[derive(Clone, Copy, Debug)]
 pub struct Delivered<'b> {
@@ -14,8 +16,9 @@ pub struct Delivered<'b> {
 pub enum News<'b> {
     /// Nothing that a user could use.
     Nothing,
-    /// A response, with its code and its payload. The request and the observation that it belongs to have ended.
-    Answered(u8, &'b [u8]),
+    /// A response, with its code, the block of its body that its Block2 says (RFC 7959, section 2.1), and its payload. The
+    /// request and the observation that it belongs to have ended.
+    Answered(u8, Option<Block>, &'b [u8]),
     /// A value of what is observed, newer than all before it (RFC 7641, section 3.4).
     Value(&'b [u8]),
     /// A value that isn't newer than one that came.

@@ -8,4 +8,5 @@ pub mod FaultLaws
 pub mod OneFault
 pub mod OptionParts
 pub mod SameEndpoints
+pub mod NumberValues
 pub mod BlockValues

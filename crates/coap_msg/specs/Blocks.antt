@@ -1,7 +1,7 @@
 -- The value of a Block option (RFC 7959, section 2.2).
 use Rattle.std.specs.Prelude.{◌≡◌, ◌+◌, ◌*◌, ◌/◌, ◌%◌, ◌^◌, ◌<◌, ◌≤◌, ◌==◌, ℕ, List, length, nat_lt, Option, Some, None, if◌then◌else◌}
 use Rattle.coap_msg.specs.declared.block.Block.{Block}
-use Rattle.coap_msg.specs.Numbers.{number_of, short_number_bytes}
+use Rattle.coap_msg.specs.Numbers.{number_of, number_bytes}
 
 -- a block whose number has 20 bits, and whose size is one of the seven there are: SZX 7 is reserved
 pub record IsBlock (b : Block) : Type 0 where
@@ -22,7 +22,7 @@ block_number b = 16 * b.number + (if b.more then 8 else 0) + b.szx
 
 -- the bytes of a block, from 0 to 3
 abbrev pub block_bytes : Block → List ℕ
-block_bytes b = short_number_bytes (block_number b)
+block_bytes b = number_bytes (block_number b)
 
 -- the block that a number says
 abbrev pub block_in : ℕ → Option Block

@@ -6,10 +6,11 @@ abbrev pub number_of : List ℕ → ℕ
 number_of [] = 0
 number_of (b ∷ bytes) = 256 ^ length bytes * b + number_of bytes
 
--- a number below 65,536 in as few bytes as say it, in network byte order; 0 in none
+-- a number below 2^32 in as few bytes as say it, in network byte order; 0 in none
 abbrev pub number_bytes : ℕ → List ℕ
-number_bytes n = if nat_lt n 1 then [] else if nat_lt n 256 then n ∷ [] else (n / 256) ∷ (n % 256) ∷ []
-
--- a number below 2^24 in as few bytes as say it, in network byte order; 0 in none
-abbrev pub short_number_bytes : ℕ → List ℕ
-short_number_bytes n = if nat_lt n 65536 then number_bytes n else (n / 65536) ∷ (n / 256 % 256) ∷ (n % 256) ∷ []
+number_bytes n =
+    if nat_lt n 1 then []
+    else if nat_lt n 256 then n ∷ []
+    else if nat_lt n 65536 then (n / 256) ∷ (n % 256) ∷ []
+    else if nat_lt n 16777216 then (n / 65536) ∷ (n / 256 % 256) ∷ (n % 256) ∷ []
+    else (n / 16777216) ∷ (n / 65536 % 256) ∷ (n / 256 % 256) ∷ (n % 256) ∷ []

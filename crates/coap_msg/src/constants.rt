@@ -20,8 +20,17 @@ pub const LONGEST_DATAGRAM: usize = 1280;
 
 // ---- the numbers of options (RFC 7252, section 12.2; RFC 7641, section 2; RFC 7959, section 2.1)
 
+/// The entity-tag of a version that is to be there.
+pub const IF_MATCH: u16 = 1;
+
 /// The host that a request is for.
 pub const URI_HOST: u16 = 3;
+
+/// The entity-tag of a version that is sent, or that the sender has.
+pub const ETAG: u16 = 4;
+
+/// That nothing is there.
+pub const IF_NONE_MATCH: u16 = 5;
 
 /// To observe, and the sequence number of a notification.
 pub const OBSERVE: u16 = 6;

@@ -51,10 +51,11 @@ mod transmission;
 pub use block::{Block, read_block, write_block};
 pub use bounded::BoundedBytes;
 pub use constants::{
-    ACCEPT, BAD_OPTION, BLOCK1, BLOCK2, CONTENT_FORMAT, DELETE, EMPTY, GET, INTERNAL_SERVER_ERROR,
-    JSON, LOCATION_PATH, LONGEST_DATAGRAM, LONGEST_MESSAGE, LONGEST_PAYLOAD, LONGEST_SEGMENT,
-    LONGEST_TOKEN, OBSERVE, POST, PROXY_SCHEME, PROXY_URI, PROXYING_NOT_SUPPORTED, PUT,
-    SERVICE_UNAVAILABLE, TD_JSON, URI_HOST, URI_PATH, URI_PORT, URI_QUERY,
+    ACCEPT, BAD_OPTION, BLOCK1, BLOCK2, CONTENT_FORMAT, DELETE, EMPTY, ETAG, GET, IF_MATCH,
+    IF_NONE_MATCH, INTERNAL_SERVER_ERROR, JSON, LOCATION_PATH, LONGEST_DATAGRAM, LONGEST_MESSAGE,
+    LONGEST_PAYLOAD, LONGEST_SEGMENT, LONGEST_TOKEN, OBSERVE, POST, PROXY_SCHEME, PROXY_URI,
+    PROXYING_NOT_SUPPORTED, PUT, SERVICE_UNAVAILABLE, TD_JSON, URI_HOST, URI_PATH, URI_PORT,
+    URI_QUERY,
 };
 pub use decoding::decode;
 pub use empty::{put_empty_reply, put_rejection};
@@ -64,7 +65,7 @@ pub use laws::{
     blocks_are_read_again, no_fault, one_fault, one_message, one_spelling, read_blocks_are_blocks,
 };
 pub use message::{Message, MsgFault, RequestType, Type4};
-pub use numbers::{number_of, put_number, write_number};
+pub use numbers::{number_of, put_number};
 pub use options::{Options, OptionsIter};
 pub use opts::{NoRoom, Opts, put_segment};
 pub use transmission::{MOST_RETRANSMISSIONS, first_timeout};

@@ -1,7 +1,7 @@
 -- The first value of an option, and what comes after it.
 use Rattle.std.proofs.Common.{◌≡◌, ◌∙◌, ℕ, Bool, true, false, Option, Some, None, List, [], ◌∷◌, ◌++◌, map, refl, sym, ap, append_assoc}
-use Rattle.std.specs.Prelude.{◌==◌, slice_get, if◌then◌else◌}
-use Rattle.std.specs.List.{filter}
+use Rattle.std.specs.Prelude.{◌==◌, ◌||◌, slice_get, if◌then◌else◌}
+use Rattle.std.specs.List.{filter, list_any}
 use Rattle.std.specs.Option.{option_or}
 use Rattle.coap_msg.specs.Grammar.{CoapOption}
 use Rattle.coap_opts.specs.declared.fault.AskFault.{AskFault}
@@ -64,3 +64,17 @@ first_kept number os left rest o before after so_far is noted =
     ∙ ap (λ (l : List CoapOption). option_or before (first_value number l)) is
     ∙ first_more number o rest before
     ∙ ap (λ (x : Option (List ℕ)). option_or x (first_value number rest)) (sym noted)
+
+or_again : (a b c : Bool) → (a || (b || c)) ≡ ((a || b) || c)
+or_again true b c = refl
+or_again false b c = refl
+
+-- whether some option passes a test
+pub any_kept : (test : CoapOption → Bool) (os left rest : List CoapOption) (o : CoapOption) (before after : Bool)
+    → list_any test os ≡ (before || list_any test left) → left ≡ o ∷ rest → after ≡ (before || test o)
+    → list_any test os ≡ (after || list_any test rest)
+any_kept test os left rest o before after so_far is noted =
+    so_far
+    ∙ ap (λ (l : List CoapOption). before || list_any test l) is
+    ∙ or_again before (test o) (list_any test rest)
+    ∙ ap (λ (b : Bool). b || list_any test rest) (sym noted)

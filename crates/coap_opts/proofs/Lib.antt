@@ -1,1 +1,3 @@
 pub mod FirstValues
+pub mod NotedOptions
+pub mod WrittenTags

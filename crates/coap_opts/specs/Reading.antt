@@ -1,10 +1,10 @@
 -- What a CoAP request asks for, and what can be wrong with its options (RFC 7252, sections 5.4, 5.8 and 5.10; RFC 7959,
 -- section 2).
-use Rattle.std.specs.Prelude.{◌≡◌, ◌⊎◌, ℕ, ◌%◌, List, [], ◌∷◌, map, Bool, true, not, ◌==◌, ◌&&◌, ◌||◌, Option, Some, None, option_and_then, slice_get, is_some, IfSome, if◌then◌else◌}
-use Rattle.std.specs.List.{filter}
-use Rattle.coap_msg.specs.declared.constants.TheConstants.{URI_PATH, BLOCK1, BLOCK2, PROXY_URI, PROXY_SCHEME, GET, POST, PUT, DELETE, JSON, TD_JSON}
+use Rattle.std.specs.Prelude.{◌≡◌, ◌⊎◌, ◌<◌, ◌^◌, ℕ, ◌%◌, List, [], ◌∷◌, map, Bool, true, false, not, length, ◌==◌, ◌&&◌, ◌||◌, Option, Some, None, option_and_then, slice_get, slice_index, nat_le, filter_map, is_some, IfSome, if◌then◌else◌}
+use Rattle.std.specs.List.{filter, list_any}
+use Rattle.coap_msg.specs.declared.constants.TheConstants.{IF_MATCH, ETAG, IF_NONE_MATCH, URI_PATH, BLOCK1, BLOCK2, PROXY_URI, PROXY_SCHEME, GET, POST, PUT, DELETE, JSON, TD_JSON}
 use Rattle.coap_msg.specs.Grammar.{CoapOption, CoapMessage}
-use Rattle.coap_msg.specs.Numbers.{number_of}
+use Rattle.coap_msg.specs.Numbers.{number_of, number_bytes}
 use Rattle.coap_msg.specs.declared.block.Block.{Block}
 use Rattle.coap_msg.specs.Blocks.{IsBlock, block_of}
 use Rattle.thing_ops.specs.declared.verb.Verb.{Verb}
@@ -12,7 +12,9 @@ use Rattle.thing_ops.specs.declared.verb.Verb.TheVariants as verb
 use Rattle.thing_ops.specs.declared.request.Accept.{Accept}
 use Rattle.thing_ops.specs.declared.request.Format.{Format}
 use Rattle.thing_ops.specs.declared.request.Format.TheVariants as format
-use Rattle.thing_ops.specs.Conditions.{no_conditions}
+use Rattle.thing_ops.specs.declared.conditions.Tags.{Tags}
+use Rattle.thing_ops.specs.declared.conditions.Conditions.{Conditions}
+use Rattle.thing_ops.specs.Conditions.{no_tags}
 use Rattle.thing_ops.specs.Requests.{PlainRequest}
 use Rattle.coap_opts.specs.declared.fault.AskFault.{AskFault}
 use Rattle.coap_opts.specs.declared.fault.AskFault.TheVariants as fault
@@ -80,6 +82,60 @@ number_under k os = option_and_then (number_within k) (slice_get (values_under k
 abbrev pub block_under : Known → List CoapOption → Option Block
 block_under k os = option_and_then block_of (slice_get (values_under k.number os) 0)
 
+-- ---- what is asked of a version
+
+-- The version that a value says: the number that its bytes are, of which there are 1 to 4, the first not 0. Any other
+-- value says none.
+abbrev pub version_of : List ℕ → Option ℕ
+version_of value =
+    if nat_le 1 (length value) && nat_le (length value) 4 && not (slice_index value 0 == 0) then Some (number_of value) else None
+
+-- the tag of a version, its number (coap_bind/specs/Writing.antt), is read as that version
+abbrev pub TagsAreReadAgain : Type 0
+TagsAreReadAgain = (version : ℕ) → 0 < version → version < 2 ^ 32 → version_of (number_bytes version) ≡ Some version
+
+-- there is a value
+abbrev pub is_there : List (List ℕ) → Bool
+is_there [] = false
+is_there (value ∷ values) = true
+
+-- a value of no bytes
+abbrev pub is_blank : List ℕ → Bool
+is_blank value = length value == 0
+
+-- the versions that the values of If-Match say, or any: a value is empty (section 5.10.8.1)
+abbrev pub tags_of : List (List ℕ) → Tags
+tags_of values = record { any = list_any is_blank values; list = filter_map version_of values }
+
+-- what If-Match asks, where it is there
+abbrev pub match_of : List (List ℕ) → Option Tags
+match_of values = if is_there values then Some (tags_of values) else None
+
+-- the versions that the values of ETag say, where they count
+abbrev pub known_by : Bool → List (List ℕ) → Tags
+known_by false values = no_tags
+known_by true values = record { any = false; list = filter_map version_of values }
+
+-- the options ask this, where those of ETag count or don't; If-None-Match asks that nothing is there (section 5.10.8.2)
+abbrev pub conditions_by : Bool → List CoapOption → Conditions
+conditions_by counts os = record {
+  if_match = match_of (values_under IF_MATCH os);
+  known = known_by counts (values_under ETAG os);
+  absent = is_there (values_under IF_NONE_MATCH os);
+}
+
+-- The value of Observe of a request that registers (RFC 7641, section 2): its notifications are new, so that no version
+-- of which its sender knows is asked for.
+abbrev pub registers : Option ℕ → Bool
+registers None = false
+registers (Some value) = value == 0
+
+-- ETag counts in a GET that doesn't register (section 5.10.6.2).
+abbrev pub conditions_of : ℕ → List CoapOption → Conditions
+conditions_of code os = conditions_by (code == GET && not (registers (number_under observe os))) os
+
+-- ---- what is asked
+
 -- the verb of a code of class 0 (section 12.1.1)
 abbrev pub verb_of : ℕ → Verb
 verb_of code =
@@ -109,7 +165,7 @@ pub record PlainAsk : Type 0 where
   pub block2 : Option Block
 
 -- What a message of class 0 asks for, if nothing is wrong with its options. Its path is the values of Uri-Path, and
--- Uri-Query isn't read; nor are the options that ask for a version of a property, for the time being.
+-- Uri-Query isn't read.
 abbrev pub asked : CoapMessage → PlainAsk
 asked m = record {
   request = record {
@@ -119,7 +175,7 @@ asked m = record {
     accept = accept_of (number_under accept m.options);
     format = format_of (number_under content_format m.options);
     body = m.payload;
-    conditions = no_conditions;
+    conditions = conditions_of m.code m.options;
   };
   observe = number_under observe m.options;
   block1 = block_under block1 m.options;

@@ -3,7 +3,7 @@
 use Rattle.std.specs.Prelude.{ℕ, List, [], ◌∷◌, length, Bool, true, false, not, ◌==◌, ◌&&◌, ◌||◌, nat_le, Option, Some, None, slice_get}
 use Rattle.std.specs.List.{filter}
 use Rattle.std.specs.Option.{option_map_or}
-use Rattle.coap_msg.specs.declared.constants.TheConstants.{URI_HOST, OBSERVE, URI_PORT, URI_PATH, CONTENT_FORMAT, URI_QUERY, ACCEPT, BLOCK1, BLOCK2, LONGEST_SEGMENT}
+use Rattle.coap_msg.specs.declared.constants.TheConstants.{IF_MATCH, URI_HOST, ETAG, IF_NONE_MATCH, OBSERVE, URI_PORT, URI_PATH, CONTENT_FORMAT, URI_QUERY, ACCEPT, BLOCK1, BLOCK2, LONGEST_SEGMENT}
 use Rattle.coap_msg.specs.Grammar.{CoapOption}
 use Rattle.coap_opts.specs.declared.known.Known.{Known}
 
@@ -31,10 +31,10 @@ block2 = row BLOCK2 0 3 false
 abbrev pub block1 : Known
 block1 = row BLOCK1 0 3 false
 
--- Uri-Host, Observe, Uri-Port, Uri-Path, Content-Format, Uri-Query, Accept, Block2, Block1
+-- If-Match, Uri-Host, ETag, If-None-Match, Observe, Uri-Port, Uri-Path, Content-Format, Uri-Query, Accept, Block2, Block1
 abbrev pub known_options : List Known
 known_options =
-    row URI_HOST 1 255 false ∷ observe ∷ row URI_PORT 0 2 false ∷ row URI_PATH 0 LONGEST_SEGMENT true ∷ content_format ∷ row URI_QUERY 0 255 true ∷ accept ∷ block2 ∷ block1 ∷ []
+    row IF_MATCH 0 8 true ∷ row URI_HOST 1 255 false ∷ row ETAG 1 8 true ∷ row IF_NONE_MATCH 0 0 false ∷ observe ∷ row URI_PORT 0 2 false ∷ row URI_PATH 0 LONGEST_SEGMENT true ∷ content_format ∷ row URI_QUERY 0 255 true ∷ accept ∷ block2 ∷ block1 ∷ []
 
 -- the row of an option
 abbrev pub known_of : ℕ → Option Known

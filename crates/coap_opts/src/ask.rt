@@ -1,17 +1,18 @@
 //! What a CoAP request asks for, read from its message.
 
-ghost use Rattle.std.specs.Prelude.{◌≡◌, ◌<◌, ◌⊎◌, [], ◌∷◌, Some, IfOk, IfErr, OnOk, slice_get};
+ghost use Rattle.std.specs.Prelude.{◌≡◌, ◌<◌, ◌⊎◌, ◌==◌, ◌&&◌, not, [], ◌∷◌, Some, IfOk, IfErr, OnOk, slice_get};
 ghost use Rattle.coap_msg.specs.MessageOf.{message_of};
-ghost use Rattle.coap_opts.specs.Reading.{faults_of, verb_of, format_of, accept_of, asked, HasBlocks, IsRefusal};
+ghost use Rattle.coap_opts.specs.Reading.{faults_of, verb_of, registers as registers_by, format_of, accept_of, asked, HasBlocks, IsRefusal};
 ghost use Rattle.coap_opts.specs.PlainAsk.{plain_ask};
 
 use crate::AskFault;
+use crate::conditions::read_conditions;
 use crate::found::{Found, note_all, refusal};
 use crate::known::{ACCEPT, CONTENT_FORMAT, OBSERVE};
 use crate::values::{block_under, numeric};
 use coap_msg::{Block, DELETE, GET, JSON, Message, POST, PUT, TD_JSON};
 use std::alloc::Global;
-use thing_ops::{Accept, Conditions, Format, Request, Segments, Verb};
+use thing_ops::{Accept, Format, Request, Segments, Verb};
 
 /// What a CoAP request asks for. It borrows the body from the message.
 #[derive(Debug, Drop)]
@@ -51,8 +52,12 @@ pub fn request_of<'a>(alloc: Global, message: &Message<'a>) -> Result<CoapAsk<'a
         accept: None,
         block2: None,
         block1: None,
+        conditional: false,
     };
     note_all(&mut found, &message.options)?;
+    let observe = numeric(OBSERVE, found.observe);
+    let counts = counts_tags(message.code, observe);
+    let conditions = read_conditions(alloc, &message.options, found.conditional, counts)?;
     let request = Request {
         verb: verb(message.code),
         path: found.path,
@@ -60,14 +65,28 @@ pub fn request_of<'a>(alloc: Global, message: &Message<'a>) -> Result<CoapAsk<'a
         accept: accept(numeric(ACCEPT, found.accept)),
         format: format(numeric(CONTENT_FORMAT, found.format)),
         body: message.payload,
-        conditions: Conditions::none(alloc),
+        conditions,
     };
     Ok(CoapAsk {
         request,
-        observe: numeric(OBSERVE, found.observe),
+        observe,
         block1: block_under(found.block1),
         block2: block_under(found.block2),
     })
+}
+
+/// Whether the options ETag of a request count, where the value of its Observe is this one.
+fn counts_tags(code: u8, observe: Option<u32>) -> bool
+    ensures { result ≡ (code == GET && not (registers_by observe)) }
+{
+    code == GET && !registers(observe)
+}
+
+/// Whether a request with this value of Observe registers (RFC 7641, section 2).
+fn registers(observe: Option<u32>) -> bool
+    ensures { result ≡ registers_by observe }
+{
+    matches!(observe, Some(0))
 }
 
 /// The verb of a code of class 0 (RFC 7252, section 12.1.1).

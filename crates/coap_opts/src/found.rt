@@ -1,12 +1,16 @@
 //! What is found of the options of a request, in one go over them.
 
-ghost use Rattle.std.specs.Prelude.{◌≡◌, ◌++◌, [], ◌∷◌, OnOk, IfErr, Some};
+ghost use Rattle.std.specs.Prelude.{◌≡◌, ◌++◌, [], ◌∷◌, false, OnOk, IfErr, Some};
+ghost use Rattle.std.specs.List.{list_any};
 ghost use Rattle.coap_opts.specs.Reading.{faults_of, values_under, IsRefusal};
-ghost use Rattle.coap_opts.specs.Found.{first_value, kept_first};
+ghost use Rattle.coap_opts.specs.Found.{first_value, kept_first, asks_for_version};
 
 use crate::AskFault;
 use crate::known::option_fault;
-use coap_msg::{ACCEPT, BLOCK1, BLOCK2, CONTENT_FORMAT, OBSERVE, Options, URI_PATH};
+use coap_msg::{
+    ACCEPT, BLOCK1, BLOCK2, CONTENT_FORMAT, ETAG, IF_MATCH, IF_NONE_MATCH, OBSERVE, Options,
+    URI_PATH,
+};
 use thing_ops::{NoMemory, Segments};
 
 /// What was found of the options so far: the path, and the first value of each number.
@@ -24,13 +28,15 @@ pub struct Found<'a> {
     pub block2: Option<&'a [u8]>,
     /// The first value of Block1.
     pub block1: Option<&'a [u8]>,
+    /// An option asks for a version.
+    pub conditional: bool,
 }
 
 impl<'a> Found<'a> {
-    ghost use Rattle.std.specs.Prelude.{◌≡◌, ◌++◌, [], ◌∷◌, OnOk};
+    ghost use Rattle.std.specs.Prelude.{◌≡◌, ◌++◌, ◌||◌, [], ◌∷◌, OnOk};
     ghost use Rattle.std.specs.Option.{option_or};
     ghost use Rattle.coap_opts.specs.Reading.{values_under};
-    ghost use Rattle.coap_opts.specs.Found.{first_value, kept_first};
+    ghost use Rattle.coap_opts.specs.Found.{first_value, kept_first, asks_for_version};
 
     /// Notes one more option.
     fn note(&mut self, number: u16, value: &'a [u8]) -> Result<(), NoMemory>
@@ -45,6 +51,7 @@ impl<'a> Found<'a> {
             option_or (kept_first self.old.block2) (first_value 23 ((number, value.now) ∷ []))) }
         ensures block1 { OnOk result (kept_first self.new.block1 ≡
             option_or (kept_first self.old.block1) (first_value 27 ((number, value.now) ∷ []))) }
+        ensures conditional { OnOk result (self.new.conditional ≡ (self.old.conditional || asks_for_version (number, value.now))) }
     {
         match number {
             URI_PATH => return self.path.push(value),
@@ -53,6 +60,7 @@ impl<'a> Found<'a> {
             ACCEPT => self.accept = self.accept.or(Some(value)),
             BLOCK2 => self.block2 = self.block2.or(Some(value)),
             BLOCK1 => self.block1 = self.block1.or(Some(value)),
+            IF_MATCH | ETAG | IF_NONE_MATCH => self.conditional = true,
             _ => {}
         }
         Ok(())
@@ -68,6 +76,7 @@ pub fn note_all<'a>(found: &mut Found<'a>, options: &Options<'a>) -> Result<(), 
     requires accept { kept_first found.old.accept ≡ None }
     requires block2 { kept_first found.old.block2 ≡ None }
     requires block1 { kept_first found.old.block1 ≡ None }
+    requires conditional { found.old.conditional ≡ false }
     ensures faultless { OnOk result (faults_of options.now ≡ []) }
     ensures path { OnOk result (found.new.path ≡ values_under 11 options.now) }
     ensures observe { OnOk result (kept_first found.new.observe ≡ first_value 6 options.now) }
@@ -75,6 +84,7 @@ pub fn note_all<'a>(found: &mut Found<'a>, options: &Options<'a>) -> Result<(), 
     ensures accept { OnOk result (kept_first found.new.accept ≡ first_value 17 options.now) }
     ensures block2 { OnOk result (kept_first found.new.block2 ≡ first_value 23 options.now) }
     ensures block1 { OnOk result (kept_first found.new.block1 ≡ first_value 27 options.now) }
+    ensures conditional { OnOk result (found.new.conditional ≡ list_any asks_for_version options.now) }
     ensures fault { IfErr result (λ e. IsRefusal options.now e) }
 {
     let mut before = None;

@@ -6,7 +6,8 @@ ghost use Rattle.coap_opts.specs.Reading.{fault_of, is_no_block};
 
 use crate::AskFault;
 use coap_msg::{
-    LONGEST_SEGMENT, PROXY_SCHEME, PROXY_URI, URI_HOST, URI_PATH, URI_PORT, URI_QUERY, read_block,
+    ETAG, IF_MATCH, IF_NONE_MATCH, LONGEST_SEGMENT, PROXY_SCHEME, PROXY_URI, URI_HOST, URI_PATH,
+    URI_PORT, URI_QUERY, read_block,
 };
 
 /// A row of the table of options (RFC 7252, section 5.10).
@@ -62,12 +63,31 @@ pub const BLOCK1: Known = Known {
     repeats: false,
 };
 
-/// The table: Uri-Host, Observe, Uri-Port, Uri-Path, Content-Format, Uri-Query, Accept, Block2 and Block1.
-const KNOWN: [Known; 9] = [
+/// The table: If-Match, Uri-Host, ETag, If-None-Match, Observe, Uri-Port, Uri-Path, Content-Format, Uri-Query, Accept,
+/// Block2 and Block1.
+const KNOWN: [Known; 12] = [
+    Known {
+        number: IF_MATCH,
+        shortest: 0,
+        longest: 8,
+        repeats: true,
+    },
     Known {
         number: URI_HOST,
         shortest: 1,
         longest: 255,
+        repeats: false,
+    },
+    Known {
+        number: ETAG,
+        shortest: 1,
+        longest: 8,
+        repeats: true,
+    },
+    Known {
+        number: IF_NONE_MATCH,
+        shortest: 0,
+        longest: 0,
         repeats: false,
     },
     OBSERVE,

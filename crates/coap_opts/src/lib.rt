@@ -13,14 +13,17 @@
 //! ```
 //!
 //! The contract in a sentence: the answer is `asked` of `specs/Reading.antt`, or else the first fault of
-//! `faults_of`, or is out of memory. Memory is taken by the path alone.
+//! `faults_of`, or is out of memory. The law: the tag of a version is read as that version. Memory is taken for the path and for the versions that a request names.
 #![tactic(auto)]
 
 mod ask;
+mod conditions;
 mod fault;
 mod found;
 mod known;
+mod laws;
 mod values;
 
 pub use ask::{CoapAsk, request_of};
 pub use fault::AskFault;
+pub use laws::tags_are_read_again;

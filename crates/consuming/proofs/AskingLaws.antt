@@ -1,5 +1,5 @@
 -- What is seen of the whole of an operation.
-use Rattle.std.proofs.Common.{◌≡◌, ℕ, List, [], ◌∷◌, ◌++◌, Bool, true, false, Option, Some, refl, sym, subst, ◌∙◌, append-nil}
+use Rattle.std.proofs.Common.{◌≡◌, ℕ, List, [], ◌∷◌, ◌++◌, Option, Some, refl, sym, ap, subst, ◌∙◌, append-nil}
 use Rattle.std.specs.Prelude.{option_map}
 use Rattle.wot_forms.specs.declared.scheme.Scheme.{Scheme}
 use Rattle.wot_forms.specs.declared.scheme.Scheme.TheVariants as scheme
@@ -7,7 +7,9 @@ use Rattle.wot_json.specs.Json.{text_of}
 use Rattle.wot_consumer.specs.declared.chosen.Chosen.{Chosen}
 use Rattle.wot_consumer.specs.Messages.{request_bytes}
 use Rattle.coap_msg.specs.declared.endpoint.Endpoint.{Endpoint}
-use Rattle.coap_client.specs.Asking.{Asking}
+use Rattle.coap_client.specs.declared.fault.ClientFault.{ClientFault}
+use Rattle.coap_client.specs.declared.fault.ClientFault.TheVariants as client_fault
+use Rattle.coap_client.specs.Exchange.{IsRefused}
 use Rattle.servient_outside.specs.declared.net.Act.TheVariants as act
 use Rattle.servient_outside.specs.declared.net.Dialled.TheVariants as dialled
 use Rattle.servient_outside.specs.declared.net.Found.TheVariants as found
@@ -25,11 +27,15 @@ use Rattle.consuming.specs.declared.waiting.Waiting.TheVariants.{Http, Coap}
 use Rattle.consuming.specs.declared.coap_waiting.CoapWaiting.{CoapWaiting}
 use Rattle.consuming.specs.Deeds.{happen, Sight, sight, Shows, ShowsHappenings, put_of}
 use Rattle.consuming.specs.HttpWaiting.{waiting_on}
-use Rattle.consuming.specs.CoapWaiting.{Sends}
+use Rattle.consuming.specs.declared.blocks.Blocks.{Blocks}
+use Rattle.consuming.specs.Asking.{first_blocks}
+use Rattle.consuming.specs.Blockwise.{Transferred, nothing_joined}
+use Rattle.consuming.specs.CoapWaiting.{client_now, asking_with, IsSent}
 use Rattle.consuming.specs.Waiting.{Awaits, most_events}
 use Rattle.consuming.specs.Consuming as whole
 use Rattle.consuming.specs.Consuming.{AsksByHttp, AsksByCoap, AsksPeer, AsksBy, AsksOrNot, IsFresh, Consumes, TakesInput, input_of}
 use Rattle.consuming.proofs.DeedLaws.{shows_none, shows_then, shows_net}
+use Rattle.consuming.proofs.HearingLaws.{is_no_room}
 
 -- ## Over HTTP
 
@@ -65,26 +71,32 @@ http_same o c request bytes other r a b p is same asks = record { deeds = asks.d
 
 -- ## Over CoAP
 
-pub peer_asked : (o : Operation) (c : Chosen) (a b : Asking) (w v : CoapWaiting) (x : Waiting) (fits : Bool) (r : Consumed) (n m : NetSeen) (q : OutSeen) (d : Sight) → a ≡ b → fits ≡ true → x ≡ Coap v → ShowsHappenings (λ hs. Sends w a hs fits v) n m
-    → Shows (Awaits o c r most_events x) (sight m q) d (put_of r) → Shows (λ deeds. AsksPeer o c b w deeds r) (sight n q) d (put_of r)
-peer_asked o c a b w v x fits r n m q d same fit is sends awaits = record {
+-- the blocks of the first request
+first_asked : (o : Operation) (input : Option (List ℕ)) (peer : Endpoint) (w : CoapWaiting) → IsFresh o input peer w → w.transfer.asked ≡ first_blocks w.transfer.input
+first_asked o input peer w fresh = ap (λ (t : Transferred). t.asked) fresh.transfer ∙ ap (λ (t : Transferred). first_blocks t.input) (sym fresh.transfer)
+
+pub peer_asked : (o : Operation) (c : Chosen) (input : Option (List ℕ)) (peer : Endpoint) (w v : CoapWaiting) (b : Blocks) (x : Waiting) (r : Consumed) (n m : NetSeen) (q : OutSeen) (d : Sight) → IsFresh o input peer w → b ≡ w.transfer.asked → x ≡ Coap v
+    → ShowsHappenings (λ hs. IsSent c w b hs v) n m → Shows (Awaits o c r most_events x) (sight m q) d (put_of r) → Shows (λ deeds. AsksPeer o c w deeds r) (sight n q) d (put_of r)
+peer_asked o c input peer w v b x r n m q d fresh first is sends awaits = record {
   deeds = happen sends.happened ++ awaits.deeds;
-  holds = whole.is_asked sends.happened v awaits.deeds (subst (λ (t : Bool). Sends w b sends.happened t v) fit (subst (λ (y : Asking). Sends w y sends.happened fits v) same sends.holds))
+  holds = whole.is_asked sends.happened v awaits.deeds (subst (λ (y : Blocks). IsSent c w y sends.happened v) (first ∙ first_asked o input peer w fresh) sends.holds)
       (subst (λ (y : Waiting). Awaits o c r most_events y awaits.deeds) is awaits.holds) refl;
   shows = shows_then (sight n q) (sight m q) d (put_of r) (happen sends.happened) awaits.deeds (shows_net n m q sends.happened sends.shows) awaits.shows;
 }
 
-pub asked_too_long : (o : Operation) (c : Chosen) (a b : Asking) (w v : CoapWaiting) (fits : Bool) (n m : NetSeen) (q : OutSeen) → a ≡ b → fits ≡ false → ShowsHappenings (λ hs. Sends w a hs fits v) n m
-    → Shows (λ deeds. AsksPeer o c b w deeds (ended.Other outcome.Long)) (sight n q) (sight m q) put.Done
-asked_too_long o c a b w v fits n m q same fit sends = record {
+pub asked_too_long : (o : Operation) (c : Chosen) (input : Option (List ℕ)) (peer : Endpoint) (w : CoapWaiting) (b : Blocks) (f : ClientFault) (n m : NetSeen) (q : OutSeen) → IsFresh o input peer w → b ≡ w.transfer.asked
+    → ShowsHappenings (λ hs. IsRefused (client_now w) w.peer (asking_with c w b) f × (hs ≡ [])) n m → Shows (λ deeds. AsksPeer o c w deeds (ended.Other outcome.Long)) (sight n q) (sight m q) put.Done
+asked_too_long o c input peer w b f n m q fresh first sends = record {
   deeds = happen sends.happened;
-  holds = whole.is_long sends.happened v (subst (λ (t : Bool). Sends w b sends.happened t v) fit (subst (λ (y : Asking). Sends w y sends.happened fits v) same sends.holds)) refl refl;
+  holds = whole.is_long (is_no_room w.client w.moment w.peer (asking_with c w (first_blocks w.transfer.input)) f fresh.new
+      (subst (λ (y : Blocks). IsRefused (client_now w) w.peer (asking_with c w y) f) (first ∙ first_asked o input peer w fresh) sends.holds.0))
+      (ap happen sends.holds.1) refl;
   shows = shows_net n m q sends.happened sends.shows;
 }
 
-pub coap_found : (o : Operation) (c : Chosen) (a : Asking) (host : List ℕ) (peer : Endpoint) (w : CoapWaiting) (r : Consumed) (n m : NetSeen) (q : OutSeen) (b : Sight) → host ≡ c.host → IsFresh o peer w → NetShows n m (finds_as host c.port (found.At peer))
-    → Shows (λ deeds. AsksPeer o c a w deeds r) (sight m q) b (put_of r) → Shows (λ deeds. AsksByCoap o c a deeds r) (sight n q) b (put_of r)
-coap_found o c a host peer w r n m q b at_host fresh finds asks =
+pub coap_found : (o : Operation) (c : Chosen) (input : Option (List ℕ)) (host : List ℕ) (peer : Endpoint) (w : CoapWaiting) (r : Consumed) (n m : NetSeen) (q : OutSeen) (b : Sight) → host ≡ c.host → IsFresh o input peer w → NetShows n m (finds_as host c.port (found.At peer))
+    → Shows (λ deeds. AsksPeer o c w deeds r) (sight m q) b (put_of r) → Shows (λ deeds. AsksByCoap o c input deeds r) (sight n q) b (put_of r)
+coap_found o c input host peer w r n m q b at_host fresh finds asks =
     let shown : NetShows n m (finds_as c.host c.port (found.At peer)) = subst (λ (x : List ℕ). NetShows n m (finds_as x c.port (found.At peer))) at_host finds in
     record {
       deeds = happen (finds_as c.host c.port (found.At peer)) ++ asks.deeds;
@@ -92,18 +104,25 @@ coap_found o c a host peer w r n m q b at_host fresh finds asks =
       shows = shows_then (sight n q) (sight m q) b (put_of r) (happen (finds_as c.host c.port (found.At peer))) asks.deeds (shows_net n m q (finds_as c.host c.port (found.At peer)) shown) asks.shows;
     }
 
-pub not_found : (o : Operation) (c : Chosen) (a : Asking) (host : List ℕ) (n m : NetSeen) (q : OutSeen) → host ≡ c.host → NetShows n m (finds_as host c.port found.Failed) → Shows (λ deeds. AsksByCoap o c a deeds ended.Failed) (sight n q) (sight m q) put.Done
-not_found o c a host n m q at_host finds =
+pub not_found : (o : Operation) (c : Chosen) (input : Option (List ℕ)) (host : List ℕ) (n m : NetSeen) (q : OutSeen) → host ≡ c.host → NetShows n m (finds_as host c.port found.Failed) → Shows (λ deeds. AsksByCoap o c input deeds ended.Failed) (sight n q) (sight m q) put.Done
+not_found o c input host n m q at_host finds =
     let shown : NetShows n m (finds_as c.host c.port found.Failed) = subst (λ (x : List ℕ). NetShows n m (finds_as x c.port found.Failed)) at_host finds in
     record { deeds = happen (finds_as c.host c.port found.Failed); holds = whole.not_found refl refl; shows = shows_net n m q (finds_as c.host c.port found.Failed) shown }
 
-pub find_memory : (o : Operation) (c : Chosen) (a : Asking) (host : List ℕ) (n m : NetSeen) (q : OutSeen) → host ≡ c.host → NetShows n m (finds_as host c.port found.NoMemory) → Shows (λ deeds. AsksByCoap o c a deeds ended.NoMemory) (sight n q) (sight m q) put.Done
-find_memory o c a host n m q at_host finds =
+pub find_memory : (o : Operation) (c : Chosen) (input : Option (List ℕ)) (host : List ℕ) (n m : NetSeen) (q : OutSeen) → host ≡ c.host → NetShows n m (finds_as host c.port found.NoMemory) → Shows (λ deeds. AsksByCoap o c input deeds ended.NoMemory) (sight n q) (sight m q) put.Done
+find_memory o c input host n m q at_host finds =
     let shown : NetShows n m (finds_as c.host c.port found.NoMemory) = subst (λ (x : List ℕ). NetShows n m (finds_as x c.port found.NoMemory)) at_host finds in
     record { deeds = happen (finds_as c.host c.port found.NoMemory); holds = whole.find_memory refl refl; shows = shows_net n m q (finds_as c.host c.port found.NoMemory) shown }
 
-pub client_memory : (o : Operation) (c : Chosen) (a : Asking) (s : Sight) → Shows (λ deeds. AsksByCoap o c a deeds ended.NoMemory) s s put.Done
-client_memory o c a s = record { deeds = []; holds = whole.client_memory refl refl; shows = shows_none s }
+pub client_memory : (o : Operation) (c : Chosen) (input : Option (List ℕ)) (s : Sight) → Shows (λ deeds. AsksByCoap o c input deeds ended.NoMemory) s s put.Done
+client_memory o c input s = record { deeds = []; holds = whole.client_memory refl refl; shows = shows_none s }
+
+-- what is handed in is that with which it begins
+pub coap_same : (o : Operation) (c : Chosen) (t : Transferred) (input : Option (List ℕ)) (r : Consumed) (a b : Sight) (p : Put) → t ≡ nothing_joined input → Shows (λ deeds. AsksByCoap o c t.input deeds r) a b p → Shows (λ deeds. AsksByCoap o c input deeds r) a b p
+coap_same o c t input r a b p is asks = record { deeds = asks.deeds; holds = subst (λ (x : Option (List ℕ)). AsksByCoap o c x asks.deeds r) (ap (λ (x : Transferred). x.input) is) asks.holds; shows = asks.shows }
+
+pub joined_nothing : (t : Transferred) (input : Option (List ℕ)) → t ≡ nothing_joined input → t ≡ nothing_joined t.input
+joined_nothing t input is = is ∙ ap (λ (x : Transferred). nothing_joined x.input) (sym is)
 
 -- ## The whole
 

@@ -16,8 +16,9 @@ use Rattle.wot_json.specs.Tree.{Json}
 use Rattle.wot_json.specs.Meaning.{json_of}
 use Rattle.wot_consumer.specs.Choice.{IsFirst, IsChosen, base_of, wanted}
 use Rattle.coap_client.specs.Asking.{Asking, MayAsk}
+use Rattle.consuming.specs.declared.blocks.Blocks.{Blocks}
 use Rattle.consuming.specs.declared.operation.Operation.{Operation}
-use Rattle.consuming.specs.Asking.{method_code, asking_for, cancelling, IsChoice}
+use Rattle.consuming.specs.Asking.{method_code, asking_for, cancelling, AreBlocks, IsAskable, IsChoice}
 
 -- the method is one that has a code
 abbrev HasCode : Verb → Type 0
@@ -69,16 +70,22 @@ chosen_can_be_sent t o only name c chosen = first_can_be_sent o only (base_of t)
 choice_can_be_sent : (o : Operation) (c : Chosen) → IsChoice o c → CanBeSent c
 choice_can_be_sent o c choice = chosen_can_be_sent (json_of o.tree.now) o.op choice.0 o.name.now c choice.1
 
-pub choice_is_sendable : (o : Operation) (c : Chosen) → IsChoice o c → c.scheme ≡ scheme.Coap → AreSendable scheme.Coap c.path
-choice_is_sendable o c choice is = subst (λ (s : Scheme). AreSendable s c.path) is (choice_can_be_sent o c choice).path
-
-pub choice_may_be_asked : (o : Operation) (c : Chosen) (a : Asking) (body : Option (List ℕ)) → a ≡ asking_for c body → IsChoice o c → c.scheme ≡ scheme.Coap → MayAsk a
-choice_may_be_asked o c a body same choice is = subst MayAsk (sym same) (record {
+pub choice_is_askable : (o : Operation) (c : Chosen) → IsChoice o c → c.scheme ≡ scheme.Coap → IsAskable c
+choice_is_askable o c choice is = record {
   code = (choice_can_be_sent o c choice).code.0;
   class = (choice_can_be_sent o c choice).code.1;
-  segments = choice_is_sendable o c choice is;
+  path = subst (λ (s : Scheme). AreSendable s c.path) is (choice_can_be_sent o c choice).path;
+}
+
+pub askable_may_be_asked : (c : Chosen) (a : Asking) (input : Option (List ℕ)) (b : Blocks) → a ≡ asking_for c input b → IsAskable c → AreBlocks b → MayAsk a
+askable_may_be_asked c a input b same askable are = subst MayAsk (sym same) (record {
+  code = askable.code;
+  class = askable.class;
+  segments = askable.path;
+  block1 = are.block1;
+  block2 = are.block2;
 })
 
 -- no further values are asked for by GET
 pub cancelling_may_be_asked : (c : Chosen) (a : Asking) → a ≡ cancelling c → AreSendable scheme.Coap c.path → MayAsk a
-cancelling_may_be_asked c a same path = subst MayAsk (sym same) (record { code = λ none. absurd cc; class = omega arith; segments = path })
+cancelling_may_be_asked c a same path = subst MayAsk (sym same) (record { code = λ none. absurd cc; class = omega arith; segments = path; block1 = tt; block2 = tt })

@@ -1,6 +1,7 @@
 -- What one event does: the parts of it put together.
 use Rattle.std.proofs.Common.{◌≡◌, ◌≤◌, ℕ, List, [], ◌∷◌, ◌++◌, take, length, Bool, true, false, Option, Some, None, refl, sym, ap, subst, ◌∙◌, arith, inl, inr}
 use Rattle.std.specs.Prelude.{cond, max, nat_le, slice_index_or, IfSome, IsNone, IsSome}
+use Rattle.coap_msg.specs.declared.block.Block.{Block}
 use Rattle.coap_msg.specs.declared.endpoint.Endpoint.{Endpoint}
 use Rattle.coap_msg.specs.Grammar.{CoapMessage}
 use Rattle.coap_msg.specs.Written.{IsReplied}
@@ -8,6 +9,7 @@ use Rattle.coap_client.specs.declared.state.State.{State}
 use Rattle.coap_client.specs.declared.fault.ClientFault.{ClientFault}
 use Rattle.coap_client.specs.declared.fault.ClientFault.TheVariants as client_fault
 use Rattle.coap_client.specs.declared.news.News.{News}
+use Rattle.coap_client.specs.declared.news.News.TheVariants as news
 use Rattle.coap_client.specs.declared.news.Delivered.{Delivered}
 use Rattle.coap_client.specs.declared.due.Due.TheVariants as due
 use Rattle.coap_client.specs.Asking.{Asking}
@@ -30,16 +32,20 @@ use Rattle.consuming.specs.declared.consumed.Outcome.{Outcome}
 use Rattle.consuming.specs.declared.consumed.Outcome.TheVariants as outcome
 use Rattle.consuming.specs.declared.answers.Verdict.{Verdict}
 use Rattle.consuming.specs.declared.answers.Verdict.TheVariants as verdict
+use Rattle.consuming.specs.declared.blocks.Blocks.{Blocks}
+use Rattle.consuming.specs.declared.block_transfer.NextStep.TheVariants as step
+use Rattle.consuming.specs.declared.consumed.Status.TheVariants as status
 use Rattle.consuming.specs.declared.http_waiting.HttpWaiting.{HttpWaiting}
 use Rattle.consuming.specs.declared.coap_waiting.CoapWaiting.{CoapWaiting}
 use Rattle.consuming.specs.declared.waiting.Waiting.{Waiting}
 use Rattle.consuming.specs.declared.waiting.Waiting.TheVariants.{Http, Coap}
 use Rattle.consuming.specs.Deeds.{happen, text_in, printed, Sight, sight, ShowsDeeds, Shows, ShowsHappenings, put_of, put_in}
-use Rattle.consuming.specs.Answers.{Closes, ReceivesAs}
+use Rattle.consuming.specs.Answers.{AnswersAs, Closes, ReceivesAs}
 use Rattle.consuming.specs.HttpWaiting.{Brings, bytes_came, at_deadline, after_event, HearsByHttp, has_come, has_not_come}
 use Rattle.consuming.specs.Asking.{cancelling}
 use Rattle.consuming.specs.CoapWaiting as coap
-use Rattle.consuming.specs.CoapWaiting.{client_now, replied, DeliversNews, delivers, VerdictOn, Cancels, AfterValue, goes_on_observing, is_last, Follows, says_nothing, is_answer, has_value, Meets, is_datagram, is_stop, FallsDue, is_quiet, goes_again, is_over, HearsByCoap, ends_by_it, then_due, Sends}
+use Rattle.consuming.specs.Blockwise.{after_answer, is_joined, whole_payload}
+use Rattle.consuming.specs.CoapWaiting.{client_now, asking_with, with_joined, replied, DeliversNews, delivers, IsSent, AsksFurther, is_further, is_no_further, FollowsAnswer, leads_on, is_whole, is_malformed, is_long, Cancels, AfterValue, goes_on_observing, is_last, FollowsValue, is_judged, Follows, Meets, is_datagram, is_stop, FallsDue, is_quiet, goes_again, is_over, HearsByCoap, ends_by_it, then_due}
 use Rattle.consuming.specs.Waiting.{Hears, by_http, by_coap}
 use Rattle.consuming.proofs.DeedLaws.{shows_none, shows_then, shows_net, shows_then_net, shows_text}
 
@@ -119,20 +125,88 @@ put_after : (c : Chosen) (w : CoapWaiting) (by_it : Consumed) (hs : List Happeni
 put_after c w by_it hs r v (goes_on_observing more none ends is) = put_awaiting w.left by_it more ∙ ap put_in (sym ends)
 put_after c w by_it hs r v (is_last last cancels ends) = ap put_in (sym ends)
 
-pub value_follows : (o : Operation) (c : Chosen) (w v : CoapWaiting) (news : News) (said : Verdict) (by_it : Consumed) (r : Option Consumed) (a : Sight) (m k : NetSeen) (q : OutSeen) → VerdictOn o news (Some said) → coap.is_value news ≡ true
-    → Shows (λ deeds. Closes said deeds by_it) a (sight m q) (put_of by_it) → ShowsHappenings (λ hs. AfterValue c w by_it hs r v) m k → Shows (λ deeds. Follows o c w news deeds r v) a (sight k q) (put_in r)
-value_follows o c w v news said by_it r a m k q says value closes after = record {
+pub value_follows : (o : Operation) (c : Chosen) (w v : CoapWaiting) (payload : List ℕ) (said : Verdict) (by_it : Consumed) (r : Option Consumed) (a : Sight) (m k : NetSeen) (q : OutSeen) → AnswersAs o (status.Coap 69) payload said
+    → Shows (λ deeds. Closes said deeds by_it) a (sight m q) (put_of by_it) → ShowsHappenings (λ hs. AfterValue c w by_it hs r v) m k → Shows (λ deeds. FollowsValue o c w payload deeds r v) a (sight k q) (put_in r)
+value_follows o c w v payload said by_it r a m k q says closes after = record {
   deeds = closes.deeds ++ happen after.happened;
-  holds = has_value said by_it closes.deeds after.happened says value closes.holds after.holds refl;
+  holds = is_judged said by_it closes.deeds after.happened says closes.holds after.holds refl;
   shows = subst (λ (p : Put). ShowsDeeds a (sight k q) p (closes.deeds ++ happen after.happened)) (put_after c w by_it after.happened r v after.holds) (shows_then_net a m k q (put_of by_it) closes.deeds after.happened closes.shows after.shows);
 }
 
-pub answer_follows : (o : Operation) (c : Chosen) (w v : CoapWaiting) (news : News) (said : Verdict) (by_it : Consumed) (a b : Sight) → VerdictOn o news (Some said) → coap.is_value news ≡ false → Shows (λ deeds. Closes said deeds by_it) a b (put_of by_it)
-    → Shows (λ deeds. Follows o c w news deeds (Some by_it) v) a b (put_of by_it)
-answer_follows o c w v news said by_it a b says value closes = record { deeds = closes.deeds; holds = is_answer said by_it says value closes.holds refl; shows = closes.shows }
+-- ## What follows an answer
 
-pub nothing_follows : (o : Operation) (c : Chosen) (w : CoapWaiting) (news : News) (a : Sight) → VerdictOn o news None → Shows (λ deeds. Follows o c w news deeds None w) a a put.Done
-nothing_follows o c w news a says = record { deeds = []; holds = says_nothing says refl refl refl; shows = shows_none a }
+put_further : (c : Chosen) (w v : CoapWaiting) (b : Blocks) (hs : List Happening) (r : Option Consumed) → AsksFurther c w b hs r v → put.Done ≡ put_in r
+put_further c w v b hs r (is_further sent goes_on) = ap put_in (sym goes_on)
+put_further c w v b hs r (is_no_further f refused none ends) = ap put_in (sym ends)
+
+-- the step and what came back, as one
+as_one : {A B : Type 0} (x : A × B) (a : A) (b : B) → a ≡ x.0 → b ≡ x.1 → x ≡ (a, b)
+as_one x a b e f = λ i. (sym e i, sym f i)
+
+pub answer_leads_on : (o : Operation) (c : Chosen) (w u v : CoapWaiting) (code : ℕ) (block2 : Option Block) (payload : List ℕ) (joins : Bool) (b : Blocks) (r : Option Consumed) (n m : NetSeen) (q : OutSeen) → joins ≡ is_joined c
+    → step.Ask b ≡ (after_answer joins w.transfer code block2 payload).0 → u ≡ with_joined w (after_answer joins w.transfer code block2 payload).1
+    → ShowsHappenings (λ hs. AsksFurther c u b hs r v) n m → Shows (λ deeds. FollowsAnswer o c w code block2 payload deeds r v) (sight n q) (sight m q) (put_in r)
+answer_leads_on o c w u v code block2 payload joins b r n m q joined says takes asks =
+    let P : Bool → Type 0 = λ j. (after_answer j w.transfer code block2 payload ≡ (step.Ask b, (after_answer joins w.transfer code block2 payload).1)) in
+    record {
+      deeds = happen asks.happened;
+      holds = leads_on b (after_answer joins w.transfer code block2 payload).1 asks.happened (subst P joined (as_one _ (step.Ask b) (after_answer joins w.transfer code block2 payload).1 says refl))
+          (subst (λ (x : CoapWaiting). AsksFurther c x b asks.happened r v) takes asks.holds) refl;
+      shows = subst (λ (p : Put). ShowsDeeds (sight n q) (sight m q) p (happen asks.happened)) (put_further c u v b asks.happened r asks.holds) (shows_net n m q asks.happened asks.shows);
+    }
+
+pub answer_is_whole : (o : Operation) (c : Chosen) (w v : CoapWaiting) (code : ℕ) (block2 : Option Block) (payload whole : List ℕ) (joins : Bool) (said : Verdict) (by_it : Consumed) (a b : Sight) → joins ≡ is_joined c
+    → step.Judge ≡ (after_answer joins w.transfer code block2 payload).0 → whole ≡ whole_payload joins (with_joined w (after_answer joins w.transfer code block2 payload).1).transfer payload
+    → AnswersAs o (status.Coap code) whole said → Shows (λ deeds. Closes said deeds by_it) a b (put_of by_it)
+    → Shows (λ deeds. FollowsAnswer o c w code block2 payload deeds (Some by_it) v) a b (put_of by_it)
+answer_is_whole o c w v code block2 payload whole joins said by_it a b joined says is answers closes =
+    let P : Bool → Type 0 = λ j. (after_answer j w.transfer code block2 payload ≡ (step.Judge, (after_answer joins w.transfer code block2 payload).1)) in
+    let Q : Bool → Type 0 = λ j. AnswersAs o (status.Coap code) (whole_payload j (with_joined w (after_answer joins w.transfer code block2 payload).1).transfer payload) said in
+    record {
+      deeds = closes.deeds;
+      holds = is_whole (after_answer joins w.transfer code block2 payload).1 said by_it (subst P joined (as_one _ step.Judge (after_answer joins w.transfer code block2 payload).1 says refl))
+          (subst Q joined (subst (λ (x : List ℕ). AnswersAs o (status.Coap code) x said) is answers)) closes.holds refl;
+      shows = closes.shows;
+    }
+
+pub answer_is_malformed : (o : Operation) (c : Chosen) (w v : CoapWaiting) (code : ℕ) (block2 : Option Block) (payload : List ℕ) (joins : Bool) (a : Sight) → joins ≡ is_joined c
+    → step.Malformed ≡ (after_answer joins w.transfer code block2 payload).0 → Shows (λ deeds. FollowsAnswer o c w code block2 payload deeds (Some (ended.Other outcome.Malformed)) v) a a put.Done
+answer_is_malformed o c w v code block2 payload joins a joined says =
+    let P : Bool → Type 0 = λ j. (after_answer j w.transfer code block2 payload ≡ (step.Malformed, (after_answer joins w.transfer code block2 payload).1)) in
+    record {
+      deeds = [];
+      holds = is_malformed (after_answer joins w.transfer code block2 payload).1 (subst P joined (as_one _ step.Malformed (after_answer joins w.transfer code block2 payload).1 says refl)) refl refl;
+      shows = shows_none a;
+    }
+
+pub answer_is_long : (o : Operation) (c : Chosen) (w v : CoapWaiting) (code : ℕ) (block2 : Option Block) (payload : List ℕ) (joins : Bool) (a : Sight) → joins ≡ is_joined c
+    → step.Long ≡ (after_answer joins w.transfer code block2 payload).0 → Shows (λ deeds. FollowsAnswer o c w code block2 payload deeds (Some (ended.Other outcome.Long)) v) a a put.Done
+answer_is_long o c w v code block2 payload joins a joined says =
+    let P : Bool → Type 0 = λ j. (after_answer j w.transfer code block2 payload ≡ (step.Long, (after_answer joins w.transfer code block2 payload).1)) in
+    record {
+      deeds = [];
+      holds = is_long (after_answer joins w.transfer code block2 payload).1 (subst P joined (as_one _ step.Long (after_answer joins w.transfer code block2 payload).1 says refl)) refl refl;
+      shows = shows_none a;
+    }
+
+-- ## What follows other news
+
+pub nothing_follows : (o : Operation) (c : Chosen) (w : CoapWaiting) (n x : News) (a : Sight) → n ≡ x → Follows o c w x [] None w → Shows (λ deeds. Follows o c w n deeds None w) a a put.Done
+nothing_follows o c w n x a is says = record { deeds = []; holds = subst (λ (y : News). Follows o c w y [] None w) (sym is) says; shows = shows_none a }
+
+pub news_follow : (o : Operation) (c : Chosen) (w v : CoapWaiting) (n x : News) (r : Option Consumed) (a b : Sight) (p : Put) → n ≡ x → Shows (λ deeds. Follows o c w x deeds r v) a b p → Shows (λ deeds. Follows o c w n deeds r v) a b p
+news_follow o c w v n x r a b p is follows = record {
+  deeds = follows.deeds;
+  holds = subst (λ (y : News). Follows o c w y follows.deeds r v) (sym is) follows.holds;
+  shows = follows.shows;
+}
+
+pub reset_follows : (o : Operation) (c : Chosen) (w v : CoapWaiting) (n : News) (a : Sight) → n ≡ news.Reset → Shows (λ deeds. Follows o c w n deeds (Some (ended.Other outcome.Reset)) v) a a put.Done
+reset_follows o c w v n a is = record {
+  deeds = [];
+  holds = subst (λ (x : News). Follows o c w x [] (Some (ended.Other outcome.Reset)) v) (sym is) (refl, refl);
+  shows = shows_none a;
+}
 
 -- ## The answers' ends
 
@@ -148,23 +222,48 @@ value_is_last c w v by_it n m last cancels = record { happened = cancels.happene
 
 -- ## The request
 
-pub request_sent : (w v : CoapWaiting) (a : Asking) (size : ℕ) (old new sent : List ℕ) (s : State) (n m : NetSeen) → Asks (client_now w) w.peer a size old new s → sent ≡ take size new → v ≡ record w { client = s } → NetShows n m (did (act.Datagram w.peer sent) ∷ [])
-    → ShowsHappenings (λ hs. Sends w a hs true v) n m
-request_sent w v a size old new sent s n m asks is same shows = record { happened = did (act.Datagram w.peer sent) ∷ []; holds = coap.is_sent size old new s asks (ap (λ (x : List ℕ). did (act.Datagram w.peer x) ∷ []) is) refl same; shows = shows }
+pub request_sent : (c : Chosen) (w v : CoapWaiting) (b : Blocks) (a : Asking) (size : ℕ) (old new sent : List ℕ) (s : State) (n m : NetSeen) → a ≡ asking_with c w b → Asks (client_now w) w.peer a size old new s → sent ≡ take size new
+    → v ≡ record w { client = s; transfer = record w.transfer { asked = b } } → NetShows n m (did (act.Datagram w.peer sent) ∷ []) → ShowsHappenings (λ hs. IsSent c w b hs v) n m
+request_sent c w v b a size old new sent s n m at_ask asks is same shows = record {
+  happened = did (act.Datagram w.peer sent) ∷ [];
+  holds = record {
+    size = size;
+    old = old;
+    new = new;
+    client = s;
+    asks = subst (λ (x : Asking). Asks (client_now w) w.peer x size old new s) at_ask asks;
+    happens = ap (λ (x : List ℕ). did (act.Datagram w.peer x) ∷ []) is;
+    waits = same;
+  };
+  shows = shows;
+}
 
 -- a client that did nothing yet refuses what is too long, and nothing else
 missing : {A : Type 0} (o : Option A) → o ≡ None → IsSome o → ⊥
 missing o none some = cc
 
-is_no_room : (s : State) (moment : ℕ) (peer : Endpoint) (a : Asking) (f : ClientFault) → IsNew 0 s → IsRefused (at_moment moment s) peer a f → IsRefused (at_moment moment s) peer a client_fault.NoRoom
+pub is_no_room : (s : State) (moment : ℕ) (peer : Endpoint) (a : Asking) (f : ClientFault) → IsNew 0 s → IsRefused (at_moment moment s) peer a f → IsRefused (at_moment moment s) peer a client_fault.NoRoom
 is_no_room s moment peer a client_fault.Busy new refused = absurd (missing s.outstanding new.outstanding refused)
 is_no_room s moment peer a client_fault.IdsUsed new refused =
     let used : is_recent moment (slice_index_or s.uses 0 None) ≡ true = refused.1 0 (omega arith) in
     let free : is_recent moment (slice_index_or s.uses 0 None) ≡ false = ap (is_recent moment) (new.unused 0) in absurd cc
 is_no_room s moment peer a client_fault.NoRoom new refused = refused
 
-pub request_refused : (w v : CoapWaiting) (a : Asking) (f : ClientFault) (n : NetSeen) → IsNew 0 w.client → IsRefused (client_now w) w.peer a f → ShowsHappenings (λ hs. Sends w a hs false v) n n
-request_refused w v a f n new refused = record { happened = []; holds = coap.is_too_long (is_no_room w.client w.moment w.peer a f new refused) refl refl; shows = net_shows_none n }
+pub request_refused : (c : Chosen) (w : CoapWaiting) (b : Blocks) (a : Asking) (f : ClientFault) (n : NetSeen) → a ≡ asking_with c w b → IsRefused (client_now w) w.peer a f
+    → ShowsHappenings (λ hs. IsRefused (client_now w) w.peer (asking_with c w b) f × (hs ≡ [])) n n
+request_refused c w b a f n at_ask refused = record {
+  happened = [];
+  holds = (subst (λ (x : Asking). IsRefused (client_now w) w.peer x f) at_ask refused, refl);
+  shows = net_shows_none n;
+}
+
+-- a further request is sent, or refused
+pub asked_further : (c : Chosen) (w v : CoapWaiting) (b : Blocks) (n m : NetSeen) → ShowsHappenings (λ hs. IsSent c w b hs v) n m → ShowsHappenings (λ hs. AsksFurther c w b hs None v) n m
+asked_further c w v b n m sends = record { happened = sends.happened; holds = is_further sends.holds refl; shows = sends.shows }
+
+pub asked_no_further : (c : Chosen) (w v : CoapWaiting) (b : Blocks) (f : ClientFault) (n m : NetSeen) → ShowsHappenings (λ hs. IsRefused (client_now w) w.peer (asking_with c w b) f × (hs ≡ [])) n m
+    → ShowsHappenings (λ hs. AsksFurther c w b hs (Some (ended.Other outcome.Long)) v) n m
+asked_no_further c w v b f n m refuses = record { happened = refuses.happened; holds = is_no_further f refuses.holds.0 refuses.holds.1 refl; shows = refuses.shows }
 
 -- ## What falls due
 

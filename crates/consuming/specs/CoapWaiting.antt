@@ -1,11 +1,11 @@
 -- A response over CoAP is awaited, or the values of a property that is observed (RFC 7252, section 5.2; RFC 7641, section
--- 3): what each event does. What the client does with a datagram, and what falls due, are its own steps (`Delivers`,
--- `ComesDue`, `Asks` of `coap_client`).
-use Rattle.std.specs.Prelude.{◌≡◌, ◌-◌, ℕ, max, nat_lt, List, [], ◌∷◌, ◌++◌, take, Bool, true, false, Option, Some, None}
+-- 3; RFC 7959, section 2): what each event does. What the client does with a datagram, and what falls due, are its own
+-- steps (`Delivers`, `ComesDue`, `Asks` of `coap_client`).
+use Rattle.std.specs.Prelude.{◌≡◌, ◌-◌, ℕ, max, nat_lt, List, [], ◌∷◌, ◌++◌, take, Bool, true, false, Option, Some, None, Result, Ok, Err}
+use Rattle.coap_msg.specs.declared.block.Block.{Block}
 use Rattle.coap_msg.specs.declared.endpoint.Endpoint.{Endpoint}
 use Rattle.coap_client.specs.declared.state.State.{State}
 use Rattle.coap_client.specs.declared.fault.ClientFault.{ClientFault}
-use Rattle.coap_client.specs.declared.fault.ClientFault.TheVariants as client_fault
 use Rattle.coap_client.specs.Asking.{Asking}
 use Rattle.coap_client.specs.declared.news.News.{News}
 use Rattle.coap_client.specs.declared.news.News.TheVariants as news
@@ -25,22 +25,38 @@ use Rattle.consuming.specs.declared.consumed.Outcome.TheVariants as outcome
 use Rattle.consuming.specs.declared.consumed.Status.TheVariants as status
 use Rattle.consuming.specs.declared.answers.Verdict.{Verdict}
 use Rattle.consuming.specs.declared.answers.Verdict.TheVariants as verdict
+use Rattle.consuming.specs.declared.blocks.Blocks.{Blocks}
+use Rattle.consuming.specs.declared.block_transfer.NextStep.TheVariants as step
 use Rattle.consuming.specs.declared.coap_waiting.CoapWaiting.{CoapWaiting}
 use Rattle.consuming.specs.Deeds.{Deed, happen}
 use Rattle.consuming.specs.Answers.{AnswersAs, Closes}
-use Rattle.consuming.specs.Asking.{cancelling}
+use Rattle.consuming.specs.Asking.{asking_for, cancelling}
+use Rattle.consuming.specs.Blockwise.{after_answer, is_joined, whole_payload}
 
 -- the client at the moment of what is awaited
 abbrev pub client_now : CoapWaiting → State
 client_now w = at_moment w.moment w.client
 
--- ## The request
+-- ## The requests
 
--- The first request is sent, where it fits into a message: what happens, and how it waits afterwards.
-pub data Sends (w : CoapWaiting) (a : Asking) (happened : List Happening) (fits : Bool) (v : CoapWaiting) : Type 0 where
-  is_sent : (n : ℕ) (old new : List ℕ) (s : State) → Asks (client_now w) w.peer a n old new s → happened ≡ did (act.Datagram w.peer (take n new)) ∷ []
-      → fits ≡ true → v ≡ record w { client = s } → Sends w a happened fits v
-  is_too_long : IsRefused (client_now w) w.peer a client_fault.NoRoom → happened ≡ [] → fits ≡ false → Sends w a happened fits v
+-- what is asked with these blocks
+abbrev pub asking_with : Chosen → CoapWaiting → Blocks → Asking
+asking_with c w b = asking_for c w.transfer.input b
+
+-- A request with these blocks is sent: what happens, and how it waits afterwards.
+pub record IsSent (c : Chosen) (w : CoapWaiting) (b : Blocks) (happened : List Happening) (v : CoapWaiting) : Type 0 where
+  pub size : ℕ
+  pub old : List ℕ
+  pub new : List ℕ
+  pub client : State
+  pub asks : Asks (client_now w) w.peer (asking_with c w b) size old new client
+  pub happens : happened ≡ did (act.Datagram w.peer (take size new)) ∷ []
+  pub waits : v ≡ record w { client = client; transfer = record w.transfer { asked = b } }
+
+-- it is sent, or the client refuses it for this
+abbrev pub Sends : Chosen → CoapWaiting → Blocks → List Happening → Result (Unit {0}) ClientFault → CoapWaiting → Type 0
+Sends c w b happened (Ok _) v = IsSent c w b happened v
+Sends c w b happened (Err f) v = IsRefused (client_now w) w.peer (asking_with c w b) f × (happened ≡ [])
 
 -- ## A datagram
 
@@ -54,22 +70,28 @@ pub data DeliversNews (w : CoapWaiting) (from : Endpoint) (bytes : List ℕ) (ha
   delivers : (told : Delivered) (old new : List ℕ) (s : State) → Delivers (client_now w) from bytes told old new s → n ≡ told.news
       → happened ≡ replied from told.reply new → v ≡ record w { client = s } → DeliversNews w from bytes happened n v
 
--- What news come to, or that they come to nothing. A value that is observed is judged as an answer of 2.05 is. One that
--- is older than another that came isn't looked at.
-abbrev pub VerdictOn : Operation → News → Option Verdict → Type 0
-VerdictOn o news.Nothing r = r ≡ None
-VerdictOn o news.Old r = r ≡ None
-VerdictOn o news.Reset r = r ≡ Some (verdict.Outcome outcome.Reset)
-VerdictOn o (news.Answered code payload) r = (v : Verdict) × AnswersAs o (status.Coap code) payload.now v × (r ≡ Some v)
-VerdictOn o (news.Value payload) r = (v : Verdict) × AnswersAs o (status.Coap 69) payload.now v × (r ≡ Some v)
+-- A further request with these blocks is sent, or the client refuses it, because it has no room or all message IDs are in use, and
+-- the operation ends.
+pub data AsksFurther (c : Chosen) (w : CoapWaiting) (b : Blocks) (happened : List Happening) (r : Option Consumed) (v : CoapWaiting) : Type 0 where
+  is_further : IsSent c w b happened v → r ≡ None → AsksFurther c w b happened r v
+  is_no_further : (f : ClientFault) → IsRefused (client_now w) w.peer (asking_with c w b) f → happened ≡ [] → r ≡ Some (Other outcome.Long) → AsksFurther c w b happened r v
 
--- the news are a value of what is observed
-abbrev pub is_value : News → Bool
-is_value news.Nothing = false
-is_value news.Old = false
-is_value news.Reset = false
-is_value (news.Answered code payload) = false
-is_value (news.Value payload) = true
+-- so much of the answer came back
+abbrev pub with_joined : CoapWaiting → List ℕ → CoapWaiting
+with_joined w joined = record w { transfer = record w.transfer { joined = joined } }
+
+-- What follows an answer with this code, Block2 and payload: a further request; or the answer is whole, and judged; or it isn't
+-- one to what was asked; or it or what is handed in is too long.
+pub data FollowsAnswer (o : Operation) (c : Chosen) (w : CoapWaiting) (code : ℕ) (block2 : Option Block) (payload : List ℕ) (deeds : List Deed) (r : Option Consumed) (v : CoapWaiting) : Type 0 where
+  leads_on : (b : Blocks) (joined : List ℕ) (happened : List Happening) → after_answer (is_joined c) w.transfer code block2 payload ≡ (step.Ask b, joined)
+      → AsksFurther c (with_joined w joined) b happened r v → deeds ≡ happen happened → FollowsAnswer o c w code block2 payload deeds r v
+  is_whole : (joined : List ℕ) (said : Verdict) (by_it : Consumed) → after_answer (is_joined c) w.transfer code block2 payload ≡ (step.Judge, joined)
+      → AnswersAs o (status.Coap code) (whole_payload (is_joined c) (with_joined w joined).transfer payload) said → Closes said deeds by_it → r ≡ Some by_it
+      → FollowsAnswer o c w code block2 payload deeds r v
+  is_malformed : (joined : List ℕ) → after_answer (is_joined c) w.transfer code block2 payload ≡ (step.Malformed, joined) → deeds ≡ []
+      → r ≡ Some (Other outcome.Malformed) → FollowsAnswer o c w code block2 payload deeds r v
+  is_long : (joined : List ℕ) → after_answer (is_joined c) w.transfer code block2 payload ≡ (step.Long, joined) → deeds ≡ []
+      → r ≡ Some (Other outcome.Long) → FollowsAnswer o c w code block2 payload deeds r v
 
 -- Observing ends: a request says so, where it fits into a message. Its answer isn't awaited.
 pub data Cancels (c : Chosen) (w : CoapWaiting) (happened : List Happening) : Type 0 where
@@ -93,12 +115,19 @@ pub data AfterValue (c : Chosen) (w : CoapWaiting) (by_it : Consumed) (happened 
   goes_on_observing : awaits_more w.left by_it ≡ true → happened ≡ [] → r ≡ None → v ≡ record w { left = w.left - 1 } → AfterValue c w by_it happened r v
   is_last : awaits_more w.left by_it ≡ false → Cancels c w happened → r ≡ Some by_it → AfterValue c w by_it happened r v
 
--- what is done by news, and how it ends by them, or how it waits afterwards
-pub data Follows (o : Operation) (c : Chosen) (w : CoapWaiting) (n : News) (deeds : List Deed) (r : Option Consumed) (v : CoapWaiting) : Type 0 where
-  says_nothing : VerdictOn o n None → deeds ≡ [] → r ≡ None → v ≡ w → Follows o c w n deeds r v
-  is_answer : (said : Verdict) (by_it : Consumed) → VerdictOn o n (Some said) → is_value n ≡ false → Closes said deeds by_it → r ≡ Some by_it → Follows o c w n deeds r v
-  has_value : (said : Verdict) (by_it : Consumed) (first : List Deed) (more : List Happening) → VerdictOn o n (Some said) → is_value n ≡ true → Closes said first by_it
-      → AfterValue c w by_it more r v → deeds ≡ first ++ happen more → Follows o c w n deeds r v
+-- What follows a value of what is observed, which is judged as the payload of a 2.05 is: it is printed, or the operation ends.
+pub data FollowsValue (o : Operation) (c : Chosen) (w : CoapWaiting) (payload : List ℕ) (deeds : List Deed) (r : Option Consumed) (v : CoapWaiting) : Type 0 where
+  is_judged : (said : Verdict) (by_it : Consumed) (first : List Deed) (more : List Happening) → AnswersAs o (status.Coap 69) payload said → Closes said first by_it
+      → AfterValue c w by_it more r v → deeds ≡ first ++ happen more → FollowsValue o c w payload deeds r v
+
+-- What is done by news, and how it ends by them, or how it waits afterwards. A value that is older than another that came
+-- isn't looked at.
+abbrev pub Follows : Operation → Chosen → CoapWaiting → News → List Deed → Option Consumed → CoapWaiting → Type 0
+Follows o c w news.Nothing deeds r v = (deeds ≡ []) × (r ≡ None) × (v ≡ w)
+Follows o c w news.Old deeds r v = (deeds ≡ []) × (r ≡ None) × (v ≡ w)
+Follows o c w news.Reset deeds r v = (deeds ≡ []) × (r ≡ Some (Other outcome.Reset))
+Follows o c w (news.Answered code block2 payload) deeds r v = FollowsAnswer o c w code block2 payload.now deeds r v
+Follows o c w (news.Value payload) deeds r v = FollowsValue o c w payload.now deeds r v
 
 -- ## An event
 

@@ -1,7 +1,8 @@
 -- One operation on another Thing (TD 1.1, section 5.3.4.2), over HTTP or over CoAP: what is done, and how it ends. The
--- form's host and port are dialled or looked up once. Over HTTP one request is sent. Over CoAP the client sends one, again
--- where it has to, acknowledges what it is answered, and asks for no further values at the end of an observation.
-use Rattle.std.specs.Prelude.{◌≡◌, ℕ, List, [], ◌∷◌, ◌++◌, true, false, Option, option_map}
+-- form's host and port are dialled or looked up once. Over HTTP one request is sent. Over CoAP the client sends one, or one
+-- for each block of what is handed in and of the answer, each again where it has to, acknowledges what it is answered, and
+-- asks for no further values at the end of an observation.
+use Rattle.std.specs.Prelude.{◌≡◌, ℕ, List, [], ◌∷◌, ◌++◌, Option, option_map}
 use Rattle.wot_json.specs.Tree.{Json}
 use Rattle.wot_json.specs.Json.{text_of}
 use Rattle.wot_json.specs.Meaning.{json_of}
@@ -11,8 +12,8 @@ use Rattle.wot_consumer.specs.declared.chosen.Chosen.{Chosen}
 use Rattle.wot_consumer.specs.Judgement.{AcceptsInput}
 use Rattle.wot_consumer.specs.Messages.{request_bytes}
 use Rattle.coap_msg.specs.declared.endpoint.Endpoint.{Endpoint}
-use Rattle.coap_client.specs.Asking.{Asking}
-use Rattle.coap_client.specs.Exchange.{IsNew}
+use Rattle.coap_client.specs.declared.fault.ClientFault.TheVariants as client_fault
+use Rattle.coap_client.specs.Exchange.{IsNew, IsRefused}
 use Rattle.servient_outside.specs.declared.net.Act.TheVariants as act
 use Rattle.servient_outside.specs.declared.net.Dialled.TheVariants as dialled
 use Rattle.servient_outside.specs.declared.net.Found.TheVariants as found
@@ -24,9 +25,10 @@ use Rattle.consuming.specs.declared.consumed.Outcome.TheVariants as outcome
 use Rattle.consuming.specs.declared.waiting.Waiting.TheVariants.{Http, Coap}
 use Rattle.consuming.specs.declared.coap_waiting.CoapWaiting.{CoapWaiting}
 use Rattle.consuming.specs.Deeds.{Deed, happens, happen}
-use Rattle.consuming.specs.Asking.{asking_for}
+use Rattle.consuming.specs.Asking.{first_blocks}
+use Rattle.consuming.specs.Blockwise.{nothing_joined}
 use Rattle.consuming.specs.HttpWaiting.{waiting_on}
-use Rattle.consuming.specs.CoapWaiting.{Sends}
+use Rattle.consuming.specs.CoapWaiting.{client_now, asking_with, IsSent}
 use Rattle.consuming.specs.Waiting.{Awaits, most_events}
 
 -- ## Over HTTP
@@ -41,33 +43,36 @@ pub data AsksByHttp (o : Operation) (c : Chosen) (request : List ℕ) (deeds : L
 
 -- ## Over CoAP
 
--- nothing came yet, of the one or more values that are awaited, and the client did nothing yet
-pub record IsFresh (o : Operation) (peer : Endpoint) (w : CoapWaiting) : Type 0 where
+-- nothing came yet, of the one or more values that are awaited, the client did nothing yet, and this is handed in, if
+-- anything is
+pub record IsFresh (o : Operation) (input : Option (List ℕ)) (peer : Endpoint) (w : CoapWaiting) : Type 0 where
   pub new : IsNew 0 w.client
   pub moment : w.moment ≡ 0
   pub peer_is : w.peer ≡ peer
   pub left : w.left ≡ o.count
+  pub transfer : w.transfer ≡ nothing_joined input
 
--- what is done where this is to be asked of a peer, and how it ends
-pub data AsksPeer (o : Operation) (c : Chosen) (a : Asking) (w : CoapWaiting) (deeds : List Deed) (r : Consumed) : Type 0 where
-  is_long : (first : List Happening) (v : CoapWaiting) → Sends w a first false v → deeds ≡ happen first → r ≡ Other outcome.Long → AsksPeer o c a w deeds r
-  is_asked : (first : List Happening) (v : CoapWaiting) (rest : List Deed) → Sends w a first true v → Awaits o c r most_events (Coap v) rest
-      → deeds ≡ happen first ++ rest → AsksPeer o c a w deeds r
+-- what is done where a peer is to be asked, and how it ends: the first request is sent, where it fits into a message
+pub data AsksPeer (o : Operation) (c : Chosen) (w : CoapWaiting) (deeds : List Deed) (r : Consumed) : Type 0 where
+  is_long : IsRefused (client_now w) w.peer (asking_with c w (first_blocks w.transfer.input)) client_fault.NoRoom → deeds ≡ [] → r ≡ Other outcome.Long
+      → AsksPeer o c w deeds r
+  is_asked : (first : List Happening) (v : CoapWaiting) (rest : List Deed) → IsSent c w (first_blocks w.transfer.input) first v
+      → Awaits o c r most_events (Coap v) rest → deeds ≡ happen first ++ rest → AsksPeer o c w deeds r
 
--- what is done where this is to be asked, and how it ends
-pub data AsksByCoap (o : Operation) (c : Chosen) (a : Asking) (deeds : List Deed) (r : Consumed) : Type 0 where
-  not_found : deeds ≡ happen (finds_as c.host c.port found.Failed) → r ≡ Failed → AsksByCoap o c a deeds r
-  find_memory : deeds ≡ happen (finds_as c.host c.port found.NoMemory) → r ≡ NoMemory → AsksByCoap o c a deeds r
-  client_memory : deeds ≡ [] → r ≡ NoMemory → AsksByCoap o c a deeds r
-  is_found : (peer : Endpoint) (w : CoapWaiting) (rest : List Deed) → IsFresh o peer w → AsksPeer o c a w rest r
-      → deeds ≡ happen (finds_as c.host c.port (found.At peer)) ++ rest → AsksByCoap o c a deeds r
+-- what is done where a peer is to be found and asked, and this is handed in, if anything is, and how it ends
+pub data AsksByCoap (o : Operation) (c : Chosen) (input : Option (List ℕ)) (deeds : List Deed) (r : Consumed) : Type 0 where
+  not_found : deeds ≡ happen (finds_as c.host c.port found.Failed) → r ≡ Failed → AsksByCoap o c input deeds r
+  find_memory : deeds ≡ happen (finds_as c.host c.port found.NoMemory) → r ≡ NoMemory → AsksByCoap o c input deeds r
+  client_memory : deeds ≡ [] → r ≡ NoMemory → AsksByCoap o c input deeds r
+  is_found : (peer : Endpoint) (w : CoapWaiting) (rest : List Deed) → IsFresh o input peer w → AsksPeer o c w rest r
+      → deeds ≡ happen (finds_as c.host c.port (found.At peer)) ++ rest → AsksByCoap o c input deeds r
 
 -- ## The whole
 
 -- what is done by a form of this scheme, with this body where there is one, and how it ends
 abbrev pub AsksBy : Operation → Chosen → Option (List ℕ) → Scheme → List Deed → Consumed → Type 0
 AsksBy o c body scheme.Http deeds r = AsksByHttp o c (request_bytes c body) deeds r
-AsksBy o c body scheme.Coap deeds r = AsksByCoap o c (asking_for c body) deeds r
+AsksBy o c body scheme.Coap deeds r = AsksByCoap o c body deeds r
 
 -- the same, unless the body is out of memory
 pub data AsksOrNot (o : Operation) (c : Chosen) (body : Option (List ℕ)) (deeds : List Deed) (r : Consumed) : Type 0 where

@@ -2,9 +2,7 @@
 use Rattle.std.specs.Prelude.{◌≡◌, ◌≤◌, ⊤, ℕ, suc, List, [], ◌∷◌, ◌++◌, Option, Some, None}
 use Rattle.servient_outside.specs.declared.net.EventWithBytes.{EventWithBytes}
 use Rattle.servient_outside.specs.Network.{heard, broke, next_event}
-use Rattle.wot_forms.specs.declared.scheme.Scheme.TheVariants as scheme
 use Rattle.wot_consumer.specs.declared.chosen.Chosen.{Chosen}
-use Rattle.wot_consumer.specs.Places.{AreSendable}
 use Rattle.consuming.specs.declared.operation.Operation.{Operation}
 use Rattle.consuming.specs.declared.consumed.Consumed.{Consumed}
 use Rattle.consuming.specs.declared.consumed.Consumed.TheVariants.{Failed, Spent}
@@ -14,6 +12,7 @@ use Rattle.consuming.specs.declared.waiting.Waiting.TheVariants.{Http, Coap}
 use Rattle.consuming.specs.declared.http_waiting.HttpWaiting.{HttpWaiting}
 use Rattle.consuming.specs.declared.coap_waiting.CoapWaiting.{CoapWaiting}
 use Rattle.consuming.specs.Deeds.{Deed, happens}
+use Rattle.consuming.specs.Asking.{IsAskable}
 use Rattle.consuming.specs.HttpWaiting.{HearsByHttp, after_event}
 use Rattle.consuming.specs.CoapWaiting.{HearsByCoap}
 
@@ -21,10 +20,10 @@ use Rattle.consuming.specs.CoapWaiting.{HearsByCoap}
 abbrev pub event_of : Came → EventWithBytes
 event_of came = record { event = came.event; bytes = came.bytes.now }
 
--- what holds of what is awaited before each event: the client's moment isn't later, and what was chosen can be sent
+-- what holds of what is awaited before each event: the client's moment isn't later, and what was chosen can be asked
 abbrev pub IsReady : Chosen → Waiting → Type 0
 IsReady c (Http w) = ⊤
-IsReady c (Coap w) = (w.client.moment ≤ w.moment) × AreSendable scheme.Coap c.path
+IsReady c (Coap w) = (w.client.moment ≤ w.moment) × IsAskable c
 
 -- what is done by an event, and how the operation ends by it, or that it goes on, and what is awaited then
 pub data Hears (o : Operation) (c : Chosen) (w : Waiting) (e : EventWithBytes) (deeds : List Deed) (r : Option Consumed) (v : Waiting) : Type 0 where

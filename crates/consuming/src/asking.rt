@@ -1,6 +1,6 @@
 //! The whole of an operation: what is handed in is judged, the request is sent, and what comes of it is awaited.
 
-ghost use Rattle.std.specs.Prelude.{◌≡◌, option_map};
+ghost use Rattle.std.specs.Prelude.{option_map};
 ghost use Rattle.wot_json.specs.Json.{text_of as text_of_value};
 ghost use Rattle.wot_consumer.specs.Messages.{request_bytes};
 ghost use Rattle.consuming.specs.Deeds.{put_of, sight, Shows};
@@ -9,6 +9,7 @@ ghost use Rattle.consuming.specs.Asking.{IsChoice};
 ghost use Rattle.consuming.specs.Consuming.{input_of, AsksBy, AsksByHttp, AsksOrNot, Consumes};
 ghost use Rattle.consuming.specs.Waiting.{Awaits, IsReady};
 
+use crate::block_transfer::slice_of;
 use crate::coap_asking::ask_by_coap;
 use crate::http_waiting::HttpWaiting;
 use crate::waiting::{Came, Waiting};
@@ -16,7 +17,7 @@ use crate::{Consumed, Operation, Outcome, Task};
 use servient_outside::{Dialled, Net, Next, Out};
 use std::alloc::Global;
 use wot_consumer::{Chosen, Scheme, http_request, judge_input};
-use wot_json::text_of;
+use wot_json::{Bytes, text_of};
 
 /// Room for the bytes of one event.
 const BUFFER_BYTES: usize = 4096;
@@ -68,7 +69,7 @@ fn ask<N: Net, O: Out>(task: &Task<'_>, net: &mut N, out: &mut O) -> Consumed
     match task.operation.input {
         None => ask_with(task, None, net, out),
         Some(value) => match text_of(task.alloc, value) {
-            Ok(body) => ask_with(task, Some(body.as_slice()), net, out),
+            Ok(body) => ask_with(task, Some(body), net, out),
             Err(_) => Consumed::NoMemory,
         },
     }
@@ -77,18 +78,17 @@ fn ask<N: Net, O: Out>(task: &Task<'_>, net: &mut N, out: &mut O) -> Consumed
 /// Asks with this body, or with none.
 fn ask_with<N: Net, O: Out>(
     task: &Task<'_>,
-    body: Option<&[u8]>,
+    body: Option<Bytes>,
     net: &mut N,
     out: &mut O,
 ) -> Consumed
     requires asked { CanBeAsked task.now.operation }
     requires choice { IsChoice task.now.operation task.now.chosen.now }
-    ensures { Shows (λ deeds. AsksBy task.now.operation task.now.chosen.now
-        (option_map (λ b. b.now) body.entry) task.now.chosen.now.scheme deeds result)
+    ensures { Shows (λ deeds. AsksBy task.now.operation task.now.chosen.now body task.now.chosen.now.scheme deeds result)
         (sight (N.seen net.old) (O.seen out.old)) (sight (N.seen net.new) (O.seen out.new)) (put_of result) }
 {
     match task.chosen.scheme {
-        Scheme::Http => ask_by_http(task, body, net, out),
+        Scheme::Http => ask_by_http(task, slice_of(&body), net, out),
         Scheme::Coap => ask_by_coap(task, body, net, out),
     }
 }

@@ -1,21 +1,24 @@
 //! A request was sent over CoAP, and its response, or the values of what is observed, are awaited.
 
 ghost use Rattle.std.specs.Prelude.{◌≡◌, ◌≤◌, length, IfSome};
+ghost use Rattle.coap_msg.specs.Blocks.{IsBlock};
 ghost use Rattle.servient_outside.specs.Network.{NetShows};
 ghost use Rattle.consuming.specs.Deeds.{put_in, sight, Shows, ShowsHappenings};
 ghost use Rattle.consuming.specs.Answers.{CanBeAsked};
 ghost use Rattle.consuming.specs.Waiting.{event_of};
-ghost use Rattle.wot_forms.specs.declared.scheme.Scheme.TheVariants as scheme;
-ghost use Rattle.wot_consumer.specs.Places.{AreSendable};
-ghost use Rattle.coap_client.specs.Asking.{asking_of, MayAsk};
-ghost use Rattle.coap_client.specs.Exchange.{IsNew};
-ghost use Rattle.consuming.specs.CoapWaiting.{awaits_more as awaits_further, is_value as brings_value, replied, AfterValue, Cancels, DeliversNews, FallsDue, Follows, HearsByCoap, Meets, Sends, VerdictOn};
+ghost use Rattle.coap_client.specs.Exchange.{SaysBlock};
+ghost use Rattle.consuming.specs.Asking.{AreBlocks, IsAskable};
+ghost use Rattle.consuming.specs.Blockwise.{is_joined as is_joined_of};
+ghost use Rattle.consuming.specs.CoapWaiting.{awaits_more as awaits_further, replied, AfterValue, AsksFurther, Cancels, DeliversNews, FallsDue, Follows, FollowsAnswer, FollowsValue, HearsByCoap, Meets, Sends};
 
-use crate::answers::{Verdict, answer_message};
+use crate::answers::answer_message;
+use crate::block_transfer::{Answer, BlockTransfer, NextStep};
+use crate::blocks::Blocks;
+use crate::coap_asking::method_code;
 use crate::printing::close;
 use crate::waiting::Came;
 use crate::{Consumed, Outcome, Task};
-use coap_client::{Ask, Client, Due, News};
+use coap_client::{Ask, Client, ClientFault, Due, News};
 use coap_msg::{Endpoint, GET, LONGEST_MESSAGE};
 use servient_outside::{Net, Out, What};
 use wot_consumer::Chosen;
@@ -33,6 +36,8 @@ pub struct CoapWaiting {
     pub peer: Endpoint,
     /// How many values are still to come, where a property is observed.
     pub left: u32,
+    /// What is handed in, and what came back so far.
+    pub transfer: BlockTransfer,
 }
 
 impl CoapWaiting {
@@ -45,7 +50,7 @@ impl CoapWaiting {
         out: &mut O,
     ) -> Option<Consumed>
         requires asked { CanBeAsked task.now.operation }
-        requires path { AreSendable scheme.Coap task.now.chosen.now.path }
+        requires askable { IsAskable task.now.chosen.now }
         requires in_time { self.old.client.moment ≤ self.old.moment }
         ensures hears { Shows (λ deeds. HearsByCoap task.now.operation task.now.chosen.now self.old (event_of came.now) deeds result self.new)
             (sight (N.seen net.old) (O.seen out.old)) (sight (N.seen net.new) (O.seen out.new)) (put_in result) }
@@ -67,7 +72,7 @@ impl CoapWaiting {
         out: &mut O,
     ) -> Option<Consumed>
         requires asked { CanBeAsked task.now.operation }
-        requires path { AreSendable scheme.Coap task.now.chosen.now.path }
+        requires askable { IsAskable task.now.chosen.now }
         requires in_time { self.old.client.moment ≤ self.old.moment }
         ensures meets { Shows (λ deeds. Meets task.now.operation task.now.chosen.now self.old (event_of came.now) deeds result self.new)
             (sight (N.seen net.old) (O.seen out.old)) (sight (N.seen net.new) (O.seen out.new)) (put_in result) }
@@ -88,6 +93,7 @@ impl CoapWaiting {
         requires { self.old.client.moment ≤ self.old.moment }
         ensures delivers { ShowsHappenings (λ happened. DeliversNews self.old from bytes.now happened result self.new)
             (N.seen net.old) (N.seen net.new) }
+        ensures block { SaysBlock result }
         ensures in_time { self.new.client.moment ≤ self.new.moment }
     {
         let mut room = [0; LONGEST_MESSAGE];
@@ -105,23 +111,94 @@ impl CoapWaiting {
         out: &mut O,
     ) -> Option<Consumed>
         requires asked { CanBeAsked task.now.operation }
-        requires path { AreSendable scheme.Coap task.now.chosen.now.path }
+        requires askable { IsAskable task.now.chosen.now }
         requires in_time { self.old.client.moment ≤ self.old.moment }
+        requires block { SaysBlock news }
         ensures follows { Shows (λ deeds. Follows task.now.operation task.now.chosen.now self.old news.entry deeds result self.new)
             (sight (N.seen net.old) (O.seen out.old)) (sight (N.seen net.new) (O.seen out.new)) (put_in result) }
         ensures in_time { self.new.client.moment ≤ self.new.moment }
     {
-        match verdict_on(task, news) {
-            Some(verdict) => {
-                let consumed = close(verdict, out);
-                if is_value(news) {
-                    self.after_value(task.chosen, consumed, net)
-                } else {
-                    Some(consumed)
-                }
+        match news {
+            News::Nothing => None,
+            News::Old => None,
+            News::Reset => Some(Consumed::Other(Outcome::Reset)),
+            News::Answered(code, block2, payload) => {
+                let answer = Answer {
+                    code,
+                    block2,
+                    payload,
+                };
+                self.follow_answer(task, &answer, net, out)
             }
-            None => None,
+            News::Value(payload) => self.follow_value(task, payload, net, out),
         }
+    }
+
+    /// Does what an answer asks for.
+    fn follow_answer<N: Net, O: Out>(
+        &mut self,
+        task: &Task<'_>,
+        answer: &Answer<'_>,
+        net: &mut N,
+        out: &mut O,
+    ) -> Option<Consumed>
+        requires asked { CanBeAsked task.now.operation }
+        requires askable { IsAskable task.now.chosen.now }
+        requires in_time { self.old.client.moment ≤ self.old.moment }
+        requires block { IfSome answer.now.block2 IsBlock }
+        ensures follows { Shows (λ deeds. FollowsAnswer task.now.operation task.now.chosen.now self.old answer.now.code answer.now.block2 answer.now.payload.now deeds result self.new)
+            (sight (N.seen net.old) (O.seen out.old)) (sight (N.seen net.new) (O.seen out.new)) (put_in result) }
+        ensures in_time { self.new.client.moment ≤ self.new.moment }
+    {
+        let joins = is_joined(task.chosen);
+        match self.transfer.take(joins, answer) {
+            NextStep::Ask(blocks) => self.ask_further(task.chosen, blocks, net),
+            NextStep::Judge => {
+                let payload = self.transfer.whole(joins, answer.payload);
+                Some(close(answer_message(task, answer.code, payload), out))
+            }
+            NextStep::Malformed => Some(Consumed::Other(Outcome::Malformed)),
+            NextStep::Long => Some(Consumed::Other(Outcome::Long)),
+        }
+    }
+
+    /// Asks further with these blocks, where the client may, and else ends.
+    fn ask_further<N: Net>(
+        &mut self,
+        chosen: &Chosen,
+        blocks: Blocks,
+        net: &mut N,
+    ) -> Option<Consumed>
+        requires askable { IsAskable chosen.now }
+        requires blocks { AreBlocks blocks }
+        requires in_time { self.old.client.moment ≤ self.old.moment }
+        ensures asks { ShowsHappenings (λ happened. AsksFurther chosen.now self.old blocks happened result self.new)
+            (N.seen net.old) (N.seen net.new) }
+        ensures in_time { self.new.client.moment ≤ self.new.moment }
+    {
+        match self.send(chosen, blocks, net) {
+            Ok(()) => None,
+            Err(_) => Some(Consumed::Other(Outcome::Long)),
+        }
+    }
+
+    /// Prints a value of what is observed, and goes on or ends.
+    fn follow_value<N: Net, O: Out>(
+        &mut self,
+        task: &Task<'_>,
+        payload: &[u8],
+        net: &mut N,
+        out: &mut O,
+    ) -> Option<Consumed>
+        requires asked { CanBeAsked task.now.operation }
+        requires askable { IsAskable task.now.chosen.now }
+        requires in_time { self.old.client.moment ≤ self.old.moment }
+        ensures follows { Shows (λ deeds. FollowsValue task.now.operation task.now.chosen.now self.old payload.now deeds result self.new)
+            (sight (N.seen net.old) (O.seen out.old)) (sight (N.seen net.new) (O.seen out.new)) (put_in result) }
+        ensures in_time { self.new.client.moment ≤ self.new.moment }
+    {
+        let consumed = close(answer_message(task, CONTENT, payload), out);
+        self.after_value(task.chosen, consumed, net)
     }
 
     /// Goes on where further values are awaited, or else observes no longer and ends.
@@ -131,7 +208,7 @@ impl CoapWaiting {
         consumed: Consumed,
         net: &mut N,
     ) -> Option<Consumed>
-        requires path { AreSendable scheme.Coap chosen.now.path }
+        requires askable { IsAskable chosen.now }
         requires in_time { self.old.client.moment ≤ self.old.moment }
         ensures ends { ShowsHappenings (λ happened. AfterValue chosen.now self.old consumed happened result self.new)
             (N.seen net.old) (N.seen net.new) }
@@ -147,7 +224,7 @@ impl CoapWaiting {
 
     /// Asks the peer to send no further values, where that fits into a message. The answer isn't awaited.
     fn cancel<N: Net>(&mut self, chosen: &Chosen, net: &mut N)
-        requires path { AreSendable scheme.Coap chosen.now.path }
+        requires askable { IsAskable chosen.now }
         requires in_time { self.old.client.moment ≤ self.old.moment }
         ensures cancels { ShowsHappenings (λ happened. Cancels chosen.now self.old happened)
             (N.seen net.old) (N.seen net.new) }
@@ -158,6 +235,8 @@ impl CoapWaiting {
             path: &chosen.path,
             observe: Some(false),
             format: None,
+            block1: None,
+            block2: None,
             payload: &[],
         };
         let mut room = [0; LONGEST_MESSAGE];
@@ -167,21 +246,29 @@ impl CoapWaiting {
         }
     }
 
-    /// Sends the first request, where it fits into a message.
-    pub fn send<N: Net>(&mut self, ask: &Ask<'_>, net: &mut N) -> bool
-        requires ask { MayAsk (asking_of ask.now) }
-        requires new { IsNew 0 self.old.client }
-        ensures sends { ShowsHappenings (λ happened. Sends self.old (asking_of ask.now) happened result self.new)
+    /// Sends a request with these blocks, or says why the client refuses it.
+    pub fn send<N: Net>(
+        &mut self,
+        chosen: &Chosen,
+        blocks: Blocks,
+        net: &mut N,
+    ) -> Result<(), ClientFault>
+        requires askable { IsAskable chosen.now }
+        requires blocks { AreBlocks blocks }
+        requires in_time { self.old.client.moment ≤ self.old.moment }
+        ensures sends { ShowsHappenings (λ happened. Sends chosen.now self.old blocks happened result self.new)
             (N.seen net.old) (N.seen net.new) }
         ensures in_time { self.new.client.moment ≤ self.new.moment }
     {
+        let ask = self.transfer.ask(chosen, blocks);
         let mut room = [0; LONGEST_MESSAGE];
-        match self.client.request(self.moment, self.peer, ask, &mut room) {
+        match self.client.request(self.moment, self.peer, &ask, &mut room) {
             Ok(size) => {
                 net.datagram(self.peer, &room[..size]);
-                true
+                self.transfer.note_asked(blocks);
+                Ok(())
             }
-            Err(_) => false,
+            Err(fault) => Err(fault),
         }
     }
 
@@ -215,17 +302,11 @@ fn send_reply<N: Net>(to: Endpoint, size: Option<usize>, room: &[u8], net: &mut 
     }
 }
 
-/// What news come to, or that they come to nothing.
-fn verdict_on(task: &Task<'_>, news: News<'_>) -> Option<Verdict>
-    requires { CanBeAsked task.now.operation }
-    ensures { VerdictOn task.now.operation news.entry result }
+/// Whether what comes back is joined: it was asked for by a GET, and isn't observed.
+fn is_joined(chosen: &Chosen) -> bool
+    ensures { result ≡ is_joined_of chosen.now }
 {
-    match news {
-        News::Nothing | News::Old => None,
-        News::Reset => Some(Verdict::Outcome(Outcome::Reset)),
-        News::Answered(code, payload) => Some(answer_message(task, code, payload)),
-        News::Value(payload) => Some(answer_message(task, CONTENT, payload)),
-    }
+    method_code(chosen.verb) == GET && !chosen.observe
 }
 
 /// Further values are awaited after one by which the operation would end so, of this many that were still to come.
@@ -240,15 +321,5 @@ fn awaits_more(left: u32, consumed: Consumed) -> bool
         | Consumed::Unprinted
         | Consumed::Spent
         | Consumed::NoMemory => false,
-    }
-}
-
-/// The news are a value of what is observed.
-fn is_value(news: News<'_>) -> bool
-    ensures { result ≡ brings_value news.entry }
-{
-    match news {
-        News::Value(_) => true,
-        News::Nothing | News::Answered(_, _) | News::Old | News::Reset => false,
     }
 }

@@ -26,9 +26,10 @@ pub enum Outcome {
     Input,
     /// The value that came back isn't as the description says.
     Output,
-    /// The answer isn't HTTP, or its payload no JSON.
+    /// The answer isn't HTTP, or its payload no JSON; or it has a block that can't follow what came before.
     Malformed,
-    /// The request has more than 1,152 bytes over CoAP, and nothing was sent; or the answer more than 65,536 over HTTP.
+    /// The answer has more than 65,536 bytes, over HTTP with its head; or a request has more than 1,152 over CoAP: of the first
+    /// one nothing was sent.
     Long,
     /// The connection ended before the answer was whole.
     Closed,

@@ -2,7 +2,8 @@
 //!
 //! `consume` is the relation `Consumes` of `specs/Consuming.antt`: which acts are done to the network, which events are
 //! taken from it, what is printed, and how it ends. What an answer comes to is `specs/Answers.antt`; what each event does
-//! is `specs/HttpWaiting.antt` and `specs/CoapWaiting.antt`.
+//! is `specs/HttpWaiting.antt` and `specs/CoapWaiting.antt`; how what is handed in and what comes back travel in blocks over
+//! CoAP is `specs/Blockwise.antt`.
 //!
 //! ```text
 //! let operation = Operation { tree: &tree, op: Op::ReadProperty, name: "status", input: None, count: 1 };
@@ -16,6 +17,8 @@
 
 mod answers;
 mod asking;
+mod block_transfer;
+mod blocks;
 mod coap_asking;
 mod coap_waiting;
 mod consumed;

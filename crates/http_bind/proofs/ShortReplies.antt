@@ -1,9 +1,10 @@
 -- How long the heads of replies are that have no place.
-use Rattle.std.proofs.Common.{ℕ, ◌<◌, ◌≤◌, ◌^◌, ◌||◌, Bool, true, false, List, [], ◌++◌, length, sym, ap, subst, arith, cond, codes, length-append}
+use Rattle.std.proofs.Common.{ℕ, ◌<◌, ◌≤◌, ◌^◌, ◌||◌, Bool, true, false, List, [], ◌∷◌, ◌++◌, length, sym, ap, subst, arith, cond, codes, length-append}
 use Rattle.std.specs.Prelude.{Option, Some, None, option_map, IfSome, ◌==◌}
 use Rattle.std.specs.Fmt.{decimal}
 use Rattle.std.proofs.lemmas.Fmt.{length-decimal-le}
 use Rattle.std.proofs.lemmas.List.{append-nil}
+use Rattle.http_wire.specs.Conditions.{entity_tag}
 use Rattle.http_wire.specs.Heads.{line_end}
 use Rattle.http_wire.specs.Writing.{PlainReply, phrase_of, phrase_text, field_line, written_length, closing, field_lines, status_line, head_text, http_reply}
 use Rattle.http_bind.specs.Written.{IsShortReply}
@@ -40,14 +41,20 @@ field_short name (Some value) few short = omega (arith, few, short, length-appen
 size_short : (t : Bool) (o : Option ℕ) → IfSome o (λ n. n < 2 ^ 64) → IfSome (option_map decimal (cond t None o)) (λ t. length t ≤ 64)
 size_short true o small = tt
 size_short false None small = tt
-size_short false (Some n) small = let few = length-decimal-le 20 n (omega arith) (omega (arith, small)) small in omega (arith, few)
+size_short false (Some n) small = let few = length-decimal-le 20 n (omega arith) (omega (arith, small)) (omega (arith, small)) in omega (arith, few)
 
 closing_short : (t : Bool) → IfSome (closing t) (λ t. length t ≤ 64)
 closing_short true = omega arith
 closing_short false = tt
 
-lines_short : (a b d e f : List ℕ) → length a ≤ 130 → length b ≤ 130 → length d ≤ 130 → length e ≤ 130 → length f ≤ 130 → length (a ++ (b ++ (d ++ (e ++ (f ++ []))))) ≤ 650
-lines_short a b d e f one two three four five =
+tag_short : (o : Option ℕ) → IfSome o (λ n. n < 2 ^ 32) → IfSome (option_map entity_tag o) (λ t. length t ≤ 64)
+tag_short None small = tt
+tag_short (Some n) small =
+    let few = length-decimal-le 10 n (omega arith) (omega (arith, small)) (omega (arith, small)) in omega (arith, few, length-append (decimal n) (34 ∷ []))
+
+lines_short : (a b d e f g : List ℕ) → length a ≤ 130 → length b ≤ 130 → length d ≤ 130 → length e ≤ 130 → length f ≤ 130 → length g ≤ 130 →
+    length (a ++ (b ++ (d ++ (e ++ (f ++ (g ++ [])))))) ≤ 780
+lines_short a b d e f g one two three four five six =
     omega (
       arith,
       one,
@@ -55,14 +62,16 @@ lines_short a b d e f one two three four five =
       three,
       four,
       five,
-      length-append a (b ++ (d ++ (e ++ (f ++ [])))),
-      length-append b (d ++ (e ++ (f ++ []))),
-      length-append d (e ++ (f ++ [])),
-      length-append e (f ++ []),
-      ap length (append-nil f),
+      six,
+      length-append a (b ++ (d ++ (e ++ (f ++ (g ++ []))))),
+      length-append b (d ++ (e ++ (f ++ (g ++ [])))),
+      length-append d (e ++ (f ++ (g ++ []))),
+      length-append e (f ++ (g ++ [])),
+      length-append f (g ++ []),
+      ap length (append-nil g),
     )
 
-head_short : (phrase lines : List ℕ) → length phrase ≤ 64 → length lines ≤ 650 → length (head_text phrase lines) ≤ 4096
+head_short : (phrase lines : List ℕ) → length phrase ≤ 64 → length lines ≤ 780 → length (head_text phrase lines) ≤ 4096
 head_short phrase lines few short =
     omega (
       arith,
@@ -77,9 +86,10 @@ head_short phrase lines few short =
 pub short_reply : (r : PlainReply) → IsShortReply r → length (http_reply r) ≤ 4096
 short_reply r short =
     head_short (phrase_text (phrase_of r.status)) (field_lines r) (phrase_short r.status)
-    (lines_short (field_line (codes "Content-Type: ") r.content_type) (field_line (codes "Location: ") r.location) (field_line (codes "Allow: ") r.allow)
+    (lines_short (field_line (codes "Content-Type: ") r.content_type) (field_line (codes "ETag: ") (option_map entity_tag r.etag)) (field_line (codes "Location: ") r.location) (field_line (codes "Allow: ") r.allow)
     (field_line (codes "Content-Length: ") (option_map decimal (written_length r))) (field_line (codes "Connection: ") (closing r.close))
     (field_short (codes "Content-Type: ") r.content_type (omega arith) short.content_type)
+    (field_short (codes "ETag: ") (option_map entity_tag r.etag) (omega arith) (tag_short r.etag short.etag))
     (field_short (codes "Location: ") r.location (omega arith) (subst (λ (o : Option (List ℕ)). IfSome o (λ t. length t ≤ 64)) (sym short.location) tt))
     (field_short (codes "Allow: ") r.allow (omega arith) short.allow)
     (field_short (codes "Content-Length: ") (option_map decimal (written_length r)) (omega arith) (size_short ((r.status == 100) || (r.status == 204) || (r.status == 304)) r.size short.size))

@@ -1,10 +1,10 @@
--- How an outcome is replied over HTTP (RFC 9110, sections 8.3, 8.6, 9.3.2, 10.2.1 and 10.2.2).
+-- How an outcome is replied over HTTP (RFC 9110, sections 8.3, 8.6, 8.8.3, 9.3.2, 10.2.1, 10.2.2 and 15.4.5).
 use Rattle.std.specs.Prelude.{ℕ, ◌==◌, List, [], ◌∷◌, ◌++◌, length, codes, Bool, true, false, nat_le, Option, Some, None, unwrap_or, option_map, if◌then◌else◌}
 use Rattle.thing_ops.specs.declared.outcome.Outcome.{Outcome}
 use Rattle.thing_ops.specs.declared.outcome.Outcome.TheVariants as outcome
 use Rattle.thing_ops.specs.declared.verb.Verb.{Verb}
 use Rattle.thing_ops.specs.declared.verb.Verb.TheVariants as verb
-use Rattle.thing_ops.specs.Outcomes.{Payload, text, word, nothing, answer_of, payload_of}
+use Rattle.thing_ops.specs.Outcomes.{Payload, text, word, nothing, answer_of, payload_of, version_of}
 use Rattle.thing_ops.specs.Verbs.{verbs_in, names_of}
 use Rattle.http_wire.specs.Writing.{PlainReply, http_reply}
 use Rattle.http_bind.specs.Places.{path_text}
@@ -40,6 +40,7 @@ abbrev pub head_of : ℕ → Bool → Option (List ℕ) → Outcome → PlainRep
 head_of status closes location o = record {
   status = status;
   content_type = media_type_of o;
+  etag = version_of o;
   location = location;
   allow = allow_of o;
   size = Some (length (payload_of o));
@@ -92,6 +93,7 @@ abbrev pub fault_head : ℕ → List ℕ
 fault_head status = http_reply (record {
   status = status;
   content_type = Some (codes "text/plain;charset=utf-8");
+  etag = None;
   location = None;
   allow = None;
   size = Some (length (fault_body status));
@@ -103,7 +105,7 @@ fault_reply status = fault_head status ++ fault_body status
 
 -- the 100 reply, which has no payload (RFC 9110, section 15.2.1)
 abbrev pub continue_reply : List ℕ
-continue_reply = http_reply (record { status = 100; content_type = None; location = None; allow = None; size = None; close = false })
+continue_reply = http_reply (record { status = 100; content_type = None; etag = None; location = None; allow = None; size = None; close = false })
 
 -- the head of the 100 reply, or of the reply to a fault with another status
 abbrev pub status_head : ℕ → List ℕ

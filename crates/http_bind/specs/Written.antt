@@ -15,6 +15,7 @@ PutsPlaced status closes o now None =
 -- A reply without a place, whose other fields are short.
 pub record IsShortReply (r : PlainReply) : Type 0 where
   pub content_type : IfSome r.content_type (λ t. length t ≤ 64)
+  pub etag : IfSome r.etag (λ n. n < 2 ^ 32)
   pub location : r.location ≡ None
   pub allow : IfSome r.allow (λ t. length t ≤ 64)
   pub size : IfSome r.size (λ n. n < 2 ^ 64)
@@ -24,6 +25,7 @@ abbrev pub head_of_text : ℕ → Bool → PlainReply
 head_of_text size closes = record {
   status = 200;
   content_type = Some (codes "application/json");
+  etag = None;
   location = None;
   allow = None;
   size = Some size;

@@ -88,6 +88,7 @@ fn put_content(size: usize, close: bool, out: &mut [u8]) -> usize
     let reply = Reply {
         status: 200,
         content_type: Some(JSON),
+        etag: None,
         location: None,
         allow: None,
         length: Some(size),
@@ -105,6 +106,7 @@ fn put_empty(close: bool, out: &mut [u8]) -> usize
     let reply = Reply {
         status: 204,
         content_type: None,
+        etag: None,
         location: None,
         allow: None,
         length: Some(0),
@@ -178,6 +180,7 @@ fn put_at(outcome: &Outcome, place: &[u8], basics: Basics, out: &mut [u8]) -> Op
     let reply = Reply {
         status: basics.status,
         content_type: media_type(outcome),
+        etag: outcome.version(),
         location: Some(place),
         allow: None,
         length: Some(basics.size),
@@ -198,6 +201,7 @@ fn put_plain(outcome: &Outcome, basics: Basics, out: &mut [u8]) -> usize
     let reply = Reply {
         status: basics.status,
         content_type: media_type(outcome),
+        etag: outcome.version(),
         location: None,
         allow: allow(outcome, &mut room),
         length: Some(basics.size),
@@ -290,6 +294,7 @@ pub fn put_status_head(status: u16, out: &mut [u8]) -> usize
         Reply {
             status,
             content_type: None,
+            etag: None,
             location: None,
             allow: None,
             length: None,
@@ -299,6 +304,7 @@ pub fn put_status_head(status: u16, out: &mut [u8]) -> usize
         Reply {
             status,
             content_type: Some(PLAIN_TEXT),
+            etag: None,
             location: None,
             allow: None,
             length: Some(fault_word(status).len()),

@@ -6,7 +6,7 @@ use Rattle.std.proofs.Math.Bool.{or-false}
 use Rattle.std.proofs.lemmas.List.{append-nil, map-append}
 use Rattle.std.proofs.lemmas.List.Elements.{filter-append}
 use Rattle.std.proofs.lemmas.List.Folds.{list_any-append}
-use Rattle.http_wire.specs.Fields.{Line, has_name, values_of, standing, types_taken, has_item, is_close, is_continue, takes_json, takes_td, Said, said_by}
+use Rattle.http_wire.specs.Fields.{Line, has_name, values_of, asks_for_version, standing, types_taken, has_item, is_close, is_continue, takes_json, takes_td, Said, said_by}
 use Rattle.http_wire.specs.Found.{once_more, more_if, types_in, both_taken, taken_if, or_if, with_line, with_lines}
 
 -- the value of a line, where it has the name
@@ -63,6 +63,7 @@ one_line_more done line = λ i. record {
   continues = test_with (codes "expect") is_continue i;
   closes = test_with (codes "connection") (has_item is_close) i;
   accept = (ap types_taken (values_more (codes "accept") done line) ∙ takes (has_name (codes "accept") line) (values_of (codes "accept") done) line.1) i;
+  conditional = (list_any-append asks_for_version done (line ∷ []) ∙ ap (λ (b : Bool). list_any asks_for_version done || b) (or-false (asks_for_version line))) i;
 }
   where
     standing_with : (name : List ℕ) → standing (values_of name (done ++ line ∷ [])) ≡ more_if (has_name name line) line.1 (standing (values_of name done))

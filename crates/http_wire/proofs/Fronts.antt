@@ -1,6 +1,8 @@
 -- The front of a stream, put together from its head and what is after that.
-use Rattle.std.proofs.Common.{◌≡◌, ◌≤◌, ℕ, ◌+◌, ◌-◌, arith, List, length, take, drop, sym, ap, subst, ◌∙◌}
-use Rattle.std.specs.Prelude.{Some, Result, Ok, Err, Bool, false, not, ◌&&◌, ◌||◌}
+use Rattle.std.proofs.Common.{◌≡◌, ◌≤◌, ℕ, ◌+◌, ◌-◌, arith, List, [], ◌∷◌, length, take, drop, refl, sym, ap, subst, ◌∙◌, cond}
+use Rattle.std.specs.Prelude.{Some, Result, Ok, Err, Bool, true, false, not, ◌&&◌, ◌||◌}
+use Rattle.std.specs.List.{list_any}
+use Rattle.std.proofs.lemmas.Bool.{or_parts}
 use Rattle.thing_ops.specs.declared.request.Accept.{Accept}
 use Rattle.thing_ops.specs.declared.request.Format.{Format}
 use Rattle.httparse.specs.Grammar.{RequestHead}
@@ -8,7 +10,10 @@ use Rattle.http_wire.specs.declared.framing.Framing.{Framing}
 use Rattle.http_wire.specs.declared.framing.Judged.{Judged}
 use Rattle.http_wire.specs.Heads.{skipped, length_through, empty_line}
 use Rattle.http_wire.specs.Judging.{FramedHead, IsJudged, has_body, expects}
-use Rattle.http_wire.specs.Fields.{format_of, accept_of}
+use Rattle.http_wire.specs.declared.heads.HeadParts.{HeadParts}
+use Rattle.http_wire.specs.Fields.{Line, lines_of, asks_for_version, format_of, accept_of}
+use Rattle.http_wire.specs.Conditions.{asking_lines}
+use Rattle.http_wire.specs.Asked.{asking_lines_in}
 use Rattle.http_wire.specs.Chunks.{BodyFront, unfinished, faulty, whole}
 use Rattle.http_wire.specs.Stream.{Front, short, fault, message, IsFront, IsFrontAfter, one_end, with_head, with_body, body_front, longest_head}
 use Rattle.http_wire.specs.Scanned.{IsHeadFront, TakesBetween}
@@ -58,11 +63,34 @@ pub fault_with_body : (h : RequestHead) (j : Judged) (taken status : ℕ) (e : B
 fault_with_body h j taken status e b is asks parts =
     ap (fault status) (expects_is h j.head j.framing e parts asks) ∙ ap (with_body h taken (expects h j.framing)) is
 
+-- the lines that ask: where none does, no line is kept
+none_asks : (lines : List Line) → list_any asks_for_version lines ≡ false → asking_lines lines ≡ []
+none_asks [] none = refl
+none_asks (line ∷ lines) none =
+    let parts = or_parts (asks_for_version line) (list_any asks_for_version lines) none in
+    ap (λ (t : Bool). cond t (line ∷ asking_lines lines) (asking_lines lines)) parts.0 ∙ none_asks lines parts.1
+
+lines_asking : (h : RequestHead) (p : HeadParts) → AreHeadParts h p → asking_lines_in p.fields.conditional p.lines.now ≡ asking_lines (lines_of h)
+lines_asking h p parts = by_test p.fields.conditional (λ i. (parts.fields i).conditional)
+  where
+    by_test : (t : Bool) → t ≡ list_any asks_for_version (lines_of h) → asking_lines_in t p.lines.now ≡ asking_lines (lines_of h)
+    by_test true is = parts.lines
+    by_test false is = sym (none_asks (lines_of h) (sym is))
+
 pub message_with_body : (h : RequestHead) (j : Judged) (taken used : ℕ) (e close : Bool) (format : Format) (accept : Accept) (body : List ℕ) (b : BodyFront) →
     whole body used ≡ b → e ≡ (j.head.newer && has_body j.framing && (said_in j.head.fields).continues) →
     close ≡ (not j.head.newer || (said_in j.head.fields).closes) → format ≡ format_of (standing_of j.head.fields.content_type) →
     accept ≡ accept_of j.head.fields.accept → AreHeadParts h j.head →
-    message (record { method = j.head.method.now; target = j.head.target.now; close = close; format = format; accept = accept }) body (taken + used) e
+    message
+    (record {
+      method = j.head.method.now;
+      target = j.head.target.now;
+      close = close;
+      format = format;
+      accept = accept;
+      asking = asking_lines_in j.head.fields.conditional j.head.lines.now;
+    })
+    body (taken + used) e
     ≡ with_body h taken (expects h j.framing) b
 message_with_body h j taken used e close format accept body b is asks closing of_type of_accept parts =
     (λ i. message
@@ -72,6 +100,7 @@ message_with_body h j taken used e close format accept body b is asks closing of
       close = closes_is h j.head close parts closing i;
       format = (of_type ∙ (λ k. format_of (parts.fields k).content_type)) i;
       accept = (of_accept ∙ (λ k. accept_of (parts.fields k).accept)) i;
+      asking = lines_asking h j.head parts i;
     })
     body (taken + used) (expects_is h j.head j.framing e parts asks i))
     ∙ ap (with_body h taken (expects h j.framing)) is

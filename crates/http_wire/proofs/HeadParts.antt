@@ -14,7 +14,10 @@ use Rattle.http_wire.specs.Heads.{line_feeds, are_paired, IsHead, is_newer}
 use Rattle.http_wire.specs.Fields.{lines_of, said_by}
 use Rattle.http_wire.specs.Judging.{too_many_lines, bare_line_end, no_head, one_head, fields_judged, with_framing, has_body, expects, closes}
 use Rattle.http_wire.specs.Found.{said_in, with_lines, AreHeadParts, IsReadAs, IsJudgedAs}
+use Rattle.http_wire.specs.Conditions.{asking_lines}
+use Rattle.http_wire.specs.Asked.{behind_start, lines_in}
 use Rattle.http_wire.proofs.FieldLines.{all_lines}
+use Rattle.http_wire.proofs.AskingLines.{asking_of_head}
 
 -- what is said of the parts of a head at some spans
 pub record StandsAt (bytes : List ℕ) (headers : List HeaderSpan) (r : RequestSpans) (p : HeadParts) : Type 0 where
@@ -22,6 +25,7 @@ pub record StandsAt (bytes : List ℕ) (headers : List HeaderSpan) (r : RequestS
   pub target : p.target.now ≡ span_bytes bytes r.path
   pub newer : p.newer ≡ (r.version == 1)
   pub fields : said_in p.fields ≡ with_lines (said_by []) (map (header_bytes bytes) (take r.headers headers))
+  pub lines : p.lines.now ≡ behind_start bytes
 
 -- the parts of a head that is all bytes
 pub read_as : (bytes : List ℕ) (headers : List HeaderSpan) (r : RequestSpans) (p : HeadParts) → r.headers ≤ 64 → IsRequestOf bytes headers r →
@@ -29,10 +33,11 @@ pub read_as : (bytes : List ℕ) (headers : List HeaderSpan) (r : RequestSpans) 
 read_as bytes headers r p room of whole stands =
     let h = of.0 in
     let at = of.1 in
+    let whole_head = subst (λ (rest : List ℕ). ReadsRequest bytes h rest) (drop_all r.len bytes (omega (arith, whole))) at.reads in
     let lines : length (map (header_bytes bytes) (take r.headers headers)) ≡ length (map name_and_value h.fields) = ap length at.fields in (
       h,
       (
-        subst (λ (rest : List ℕ). ReadsRequest bytes h rest) (drop_all r.len bytes (omega (arith, whole))) at.reads,
+        whole_head,
         omega (arith, lines, length-map (take r.headers headers) (header_bytes bytes), length-map h.fields name_and_value, length-take r.headers headers, room),
       ),
       record {
@@ -40,6 +45,7 @@ read_as bytes headers r p room of whole stands =
         target = stands.target ∙ at.path;
         newer = stands.newer ∙ ap (λ (n : ℕ). n == 1) at.version;
         fields = stands.fields ∙ ap (with_lines (said_by [])) at.fields ∙ all_lines (map name_and_value h.fields);
+        lines = ap (λ (xs : List ℕ). asking_lines (lines_in xs)) stands.lines ∙ asking_of_head bytes h whole_head;
       },
     )
 

@@ -14,3 +14,6 @@ pub mod MoreOfAStream
 pub mod FewerBytes
 pub mod ChunkLines
 pub mod ChunkBodies
+pub mod EntityTags
+pub mod NotedLines
+pub mod AskingLines

@@ -25,6 +25,10 @@ has_name name line = str_eq_ignore_ascii_case line.0 name
 abbrev pub values_of : List ℕ → List Line → List (List ℕ)
 values_of name lines = map (λ line. line.1) (filter (has_name name) lines)
 
+-- a line asks for a version of what the target names (RFC 9110, sections 13.1.1 and 13.1.2)
+abbrev pub asks_for_version : Line → Bool
+asks_for_version line = has_name (codes "if-match") line || has_name (codes "if-none-match") line
+
 -- How often a field comes that may come once: not at all, once with this value, or more often. Nothing is asked of the
 -- values of one that comes more often.
 pub data Standing : Type 0 where
@@ -111,6 +115,7 @@ pub record Said : Type 0 where
   pub continues : Bool
   pub closes : Bool
   pub accept : Option Accept
+  pub conditional : Bool
 
 abbrev pub said_by : List Line → Said
 said_by lines = record {
@@ -121,4 +126,5 @@ said_by lines = record {
   continues = list_any is_continue (values_of (codes "expect") lines);
   closes = list_any (has_item is_close) (values_of (codes "connection") lines);
   accept = types_taken (values_of (codes "accept") lines);
+  conditional = list_any asks_for_version lines;
 }

@@ -8,7 +8,9 @@ use Rattle.http_wire.specs.declared.fields.Fields.{Fields}
 use Rattle.http_wire.specs.declared.heads.HeadParts.{HeadParts}
 use Rattle.http_wire.specs.declared.framing.Judged.{Judged}
 use Rattle.http_wire.specs.Heads.{IsHead, is_newer}
-use Rattle.http_wire.specs.Fields.{Line, lines_of, has_name, Standing, absent, once, often, Said, said_by, is_continue, has_item, is_close, takes_json, takes_td}
+use Rattle.http_wire.specs.Fields.{Line, lines_of, has_name, Standing, absent, once, often, Said, said_by, is_continue, asks_for_version, has_item, is_close, takes_json, takes_td}
+use Rattle.http_wire.specs.Conditions.{asking_lines}
+use Rattle.http_wire.specs.Asked.{lines_in}
 use Rattle.http_wire.specs.Judging.{FramedHead, IsJudged}
 
 -- how often a field was found
@@ -27,6 +29,7 @@ said_in f = record {
   continues = f.continues;
   closes = f.closes;
   accept = f.accept;
+  conditional = f.conditional;
 }
 
 -- ---- header lines that are read one after another
@@ -67,6 +70,7 @@ with_line line said = record {
   continues = or_if (has_name (codes "expect") line) is_continue line.1 said.continues;
   closes = or_if (has_name (codes "connection") line) (has_item is_close) line.1 said.closes;
   accept = taken_if (has_name (codes "accept") line) line.1 said.accept;
+  conditional = said.conditional || asks_for_version line;
 }
 
 -- and with these lines, one after another
@@ -82,6 +86,7 @@ pub record AreHeadParts (h : RequestHead) (p : HeadParts) : Type 0 where
   pub target : p.target.now ≡ h.target
   pub newer : p.newer ≡ is_newer h
   pub fields : said_in p.fields ≡ said_by (lines_of h)
+  pub lines : asking_lines (lines_in p.lines.now) ≡ asking_lines (lines_of h)
 
 -- the bytes are the head with these parts; or they are none
 abbrev pub IsReadAs : List ℕ → Option HeadParts → Type 0

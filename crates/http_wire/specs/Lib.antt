@@ -1,5 +1,6 @@
 pub mod Heads
 pub mod Fields
+pub mod Conditions
 pub mod Judging
 pub mod Chunks
 pub mod Chunked
@@ -7,6 +8,7 @@ pub mod Bodies
 pub mod Stream
 pub mod Scanned
 pub mod Pieces
+pub mod Asked
 pub mod Found
 pub mod BodySeen
 pub mod Targets

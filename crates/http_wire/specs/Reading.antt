@@ -3,9 +3,9 @@ use Rattle.std.specs.Prelude.{◌≡◌, ◌≤◌, ℕ, ◌+◌, List, take, dr
 use Rattle.std.specs.Str.{bytes_eq}
 use Rattle.thing_ops.specs.declared.verb.Verb.{Verb}
 use Rattle.thing_ops.specs.declared.verb.Verb.TheVariants as verb
-use Rattle.thing_ops.specs.Conditions.{no_conditions}
 use Rattle.thing_ops.specs.Requests.{PlainRequest}
 use Rattle.http_wire.specs.declared.request.RequestParts.{RequestParts}
+use Rattle.http_wire.specs.Conditions.{conditions_of}
 use Rattle.http_wire.specs.Judging.{longest_body}
 use Rattle.http_wire.specs.Stream.{PlainHead, longest_head}
 use Rattle.http_wire.specs.Targets.{segments_of, query_place}
@@ -25,7 +25,7 @@ verb_of method =
 abbrev pub query_of : List ℕ → List ℕ
 query_of target = drop (query_place target) target
 
--- the request of a message whose target has this path; its conditions aren't read yet
+-- the request of a message whose target has this path
 abbrev pub request_at : PlainHead → List ℕ → List (List ℕ) → PlainRequest
 request_at h body path = record {
   verb = verb_of h.method;
@@ -34,7 +34,7 @@ request_at h body path = record {
   accept = h.accept;
   format = h.format;
   body = body;
-  conditions = no_conditions;
+  conditions = conditions_of (verb_of h.method) h.asking;
 }
 
 -- The request of a message with this head and this decoded body; there is none where its target isn't taken.

@@ -9,6 +9,7 @@ abbrev pub plain_reply : Reply → PlainReply
 plain_reply r = record {
   status = r.status;
   content_type = option_map (λ t. t.now) r.content_type;
+  etag = r.etag;
   location = option_map (λ t. t.now) r.location;
   allow = option_map (λ t. t.now) r.allow;
   size = r.length;

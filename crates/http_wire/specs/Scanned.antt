@@ -3,12 +3,20 @@ use Rattle.std.specs.Prelude.{◌≡◌, ◌≤◌, ℕ, List, length, Result}
 use Rattle.http_wire.specs.declared.scanned.Head.{Head}
 use Rattle.http_wire.specs.declared.scanned.Scanned.{Scanned}
 use Rattle.http_wire.specs.declared.scanned.Scanned.TheVariants as scanned
+use Rattle.http_wire.specs.Asked.{asking_lines_in}
 use Rattle.http_wire.specs.Stream.{PlainHead, Front, short, message, fault, with_head, longest_head}
 use Rattle.http_wire.specs.Judging.{FramedHead, IsJudged, longest_body}
 
 -- what a head says
 abbrev pub plain_head : Head → PlainHead
-plain_head h = record { method = h.method.now; target = h.target.now; close = h.close; format = h.format; accept = h.accept }
+plain_head h = record {
+  method = h.method.now;
+  target = h.target.now;
+  close = h.close;
+  format = h.format;
+  accept = h.accept;
+  asking = asking_lines_in h.conditional h.lines.now;
+}
 
 -- what was found at the front of a stream
 abbrev pub front_of : Scanned → Front

@@ -9,7 +9,8 @@ use Rattle.http_wire.specs.declared.framing.Framing.{Framing}
 use Rattle.http_wire.specs.declared.framing.Framing.TheVariants as framing
 use Rattle.httparse.specs.Grammar.{RequestHead}
 use Rattle.http_wire.specs.Heads.{skipped, length_through, empty_line}
-use Rattle.http_wire.specs.Fields.{said_by, lines_of, format_of, accept_of}
+use Rattle.http_wire.specs.Fields.{Line, said_by, lines_of, format_of, accept_of}
+use Rattle.http_wire.specs.Conditions.{asking_lines}
 use Rattle.http_wire.specs.Judging.{FramedHead, IsJudged, expects, closes, longest_body}
 use Rattle.http_wire.specs.Chunks.{BodyFront, unfinished, faulty, whole, chunks}
 
@@ -21,13 +22,14 @@ longest_head = 8192
 abbrev pub longest_coded : ℕ
 longest_coded = 20480
 
--- a head that was read, apart from where it lies in memory
+-- A head that was read, apart from where it lies in memory. Of its header lines those are kept that ask for a version.
 pub record PlainHead : Type 0 where
   pub method : List ℕ
   pub target : List ℕ
   pub close : Bool
   pub format : Format
   pub accept : Accept
+  pub asking : List Line
 
 -- what a head says
 abbrev pub plain_head_of : RequestHead → PlainHead
@@ -37,6 +39,7 @@ plain_head_of h = record {
   close = closes h;
   format = format_of (said_by (lines_of h)).content_type;
   accept = accept_of (said_by (lines_of h)).accept;
+  asking = asking_lines (lines_of h);
 }
 
 -- What is at the front of a stream: a message that isn't whole yet, a whole one with its decoded body and how many

@@ -1,12 +1,14 @@
--- The head of a reply (RFC 9112, sections 2.1, 4 and 5; RFC 9110, sections 8.3, 8.6, 10.2 and 15).
+-- The head of a reply (RFC 9112, sections 2.1, 4 and 5; RFC 9110, sections 8.3, 8.6, 8.8.3, 10.2 and 15).
 use Rattle.std.specs.Prelude.{ℕ, ◌==◌, List, [], ◌++◌, codes, Bool, true, false, ◌||◌, Option, Some, None, option_map, if◌then◌else◌}
 use Rattle.std.specs.Fmt.{decimal}
+use Rattle.http_wire.specs.Conditions.{entity_tag}
 use Rattle.http_wire.specs.Heads.{line_end}
 
 -- a reply, apart from where it lies in memory
 pub record PlainReply : Type 0 where
   pub status : ℕ
   pub content_type : Option (List ℕ)
+  pub etag : Option ℕ
   pub location : Option (List ℕ)
   pub allow : Option (List ℕ)
   pub size : Option ℕ
@@ -58,10 +60,11 @@ closing false = None
 abbrev pub field_lines : PlainReply → List ℕ
 field_lines r =
     field_line (codes "Content-Type: ") r.content_type
+    ++ (field_line (codes "ETag: ") (option_map entity_tag r.etag)
     ++ (field_line (codes "Location: ") r.location
     ++ (field_line (codes "Allow: ") r.allow
     ++ (field_line (codes "Content-Length: ") (option_map decimal (written_length r))
-    ++ (field_line (codes "Connection: ") (closing r.close) ++ []))))
+    ++ (field_line (codes "Connection: ") (closing r.close) ++ [])))))
 
 -- the status line with this phrase
 abbrev pub status_line : List ℕ → List ℕ

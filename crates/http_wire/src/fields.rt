@@ -4,7 +4,7 @@ ghost use Rattle.std.specs.Prelude.{◌≡◌, ◌∷◌, ◌||◌, [], map, len
 ghost use Rattle.std.specs.List.{All};
 ghost use Rattle.std.specs.Str.{str_eq_ignore_ascii_case};
 ghost use Rattle.httparse.specs.Spans.{IsHeaderWithin, header_bytes};
-ghost use Rattle.http_wire.specs.Fields.{trimmed, has_item, media_type, format_of_type, is_close, is_continue, takes_each, takes_json as is_json, takes_td as is_td, format_of, accept_of, said_by};
+ghost use Rattle.http_wire.specs.Fields.{trimmed, asks_for_version, has_item, media_type, format_of_type, is_close, is_continue, takes_each, takes_json as is_json, takes_td as is_td, format_of, accept_of, said_by};
 ghost use Rattle.http_wire.specs.Found.{standing_of, said_in, more_if, types_in, both_taken, taken_if, or_if, with_line, with_lines};
 
 use crate::lines::{cut, cut_at_each};
@@ -39,6 +39,8 @@ pub struct Fields<'a> {
     pub closes: bool,
     /// What the lines with `Accept` take, if there are any.
     pub accept: Option<Accept>,
+    /// A line asks for a version: it is `If-Match` or `If-None-Match`.
+    pub conditional: bool,
 }
 
 /// What no lines say.
@@ -50,6 +52,7 @@ const NOTHING: Fields<'static> = Fields {
     continues: false,
     closes: false,
     accept: None,
+    conditional: false,
 };
 
 /// What the header lines of a head say that are there.
@@ -84,7 +87,15 @@ fn with_field<'a>(fields: Fields<'a>, name: &[u8], value: &'a [u8]) -> Fields<'a
         continues: fields.continues || is_continue_line(is_alike(name, b"expect"), value),
         closes: fields.closes || is_close_line(is_alike(name, b"connection"), value),
         accept: more_taken(fields.accept, is_alike(name, b"accept"), value),
+        conditional: fields.conditional || asks(name),
     }
+}
+
+/// Whether a line with this name asks for a version.
+fn asks(name: &[u8]) -> bool
+    ensures { result ≡ asks_for_version (name.now, []) }
+{
+    is_alike(name, b"if-match") || is_alike(name, b"if-none-match")
 }
 
 /// How often a field comes, where a further line has its name or hasn't.
@@ -146,7 +157,7 @@ pub fn is_alike(one: &[u8], other: &[u8]) -> bool
 }
 
 /// The bytes without the white space at both ends.
-fn trim(bytes: &[u8]) -> &[u8]
+pub fn trim(bytes: &[u8]) -> &[u8]
     ensures { result.now ≡ trimmed bytes.now }
 {
     bytes.trim_ascii()

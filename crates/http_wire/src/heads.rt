@@ -5,9 +5,11 @@ ghost use Rattle.std.specs.List.{All};
 ghost use Rattle.httparse.specs.Spans.{IsWithin, IsHeaderWithin, span_bytes, header_bytes};
 ghost use Rattle.http_wire.specs.Heads.{skipped, length_through, empty_line, line_feeds, may_follow, are_paired};
 ghost use Rattle.http_wire.specs.Fields.{said_by};
+ghost use Rattle.http_wire.specs.Asked.{behind_start};
 ghost use Rattle.http_wire.specs.Found.{said_in, with_lines, IsReadAs};
 
 use crate::fields::{Fields, fields_in};
+use crate::lines::cut;
 use httparse::Status;
 use httparse::spans::{EMPTY_HEADER_SPAN, HeaderSpan, RequestSpans, parse_request};
 use memchr::memmem;
@@ -103,8 +105,10 @@ pub struct HeadParts<'a> {
     pub target: &'a [u8],
     /// The version is HTTP/1.1.
     pub newer: bool,
-    /// The header lines.
+    /// What the header lines say.
     pub fields: Fields<'a>,
+    /// The header lines, with the empty line that ends them.
+    pub lines: &'a [u8],
 }
 
 /// The parts of a head, where the bytes are exactly one of at most 64 header lines.
@@ -134,11 +138,22 @@ fn parts_at<'a>(head: &'a [u8], found: &RequestSpans, headers: &[HeaderSpan]) ->
     ensures target { result.target.now ≡ span_bytes head.now found.now.path }
     ensures newer { result.newer ≡ (found.now.version == 1) }
     ensures fields { said_in result.fields ≡ with_lines (said_by []) (map (header_bytes head.now) headers.now) }
+    ensures lines { result.lines.now ≡ behind_start head.now }
 {
     HeadParts {
         method: found.method.of(head),
         target: found.path.of(head),
         newer: found.version == 1,
         fields: fields_in(head, headers),
+        lines: lines_behind_start(head),
     }
+}
+
+/// The header lines of a head, with the empty line that ends them.
+fn lines_behind_start(head: &[u8]) -> &[u8]
+    ensures { result.now ≡ behind_start head.now }
+{
+    let (_, behind_method) = cut(b' ', head);
+    let (_, lines) = cut(b'\n', behind_method);
+    lines
 }

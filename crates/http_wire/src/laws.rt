@@ -1,10 +1,11 @@
-//! Laws of the front of a stream, as contracts of functions that do nothing.
+//! Laws of the front of a stream and of entity tags, as contracts of functions that do nothing.
 
 ghost use Rattle.std.specs.Prelude.{◌≡◌, ◌++◌, ℕ, Bool, List};
 ghost use Rattle.http_wire.specs.Stream.{Front, IsFront, IsSettled};
 ghost use Rattle.http_wire.specs.declared.reply_scan.ReplyScan.{ReplyScan};
 ghost use Rattle.http_wire.specs.ReplyFronts.{IsReply};
 ghost use Rattle.http_wire.specs.Chunked.{EachWholeIsSpelled, EachSpelledIsRead};
+ghost use Rattle.http_wire.specs.Conditions.{TagsAreReadAgain, NoOtherLineAsks};
 
 /// A stream has one front at most.
 pub fn one_front()
@@ -27,4 +28,14 @@ pub fn one_reply()
 pub fn chunked_bodies_are_spelled()
     ensures whole { EachWholeIsSpelled }
     ensures spelled { EachSpelledIsRead }
+{}
+
+/// The entity tag of a version, as it is written, is read as that version.
+pub fn tags_are_read_again()
+    ensures { TagsAreReadAgain }
+{}
+
+/// What a head asks of a version by the lines that are kept of it, is what all its header lines ask.
+pub fn no_other_line_asks()
+    ensures { NoOtherLineAsks }
 {}

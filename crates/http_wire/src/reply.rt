@@ -1,15 +1,19 @@
 //! The head of a reply, written into a caller's slice.
 
-ghost use Rattle.std.specs.Prelude.{◌≡◌, ◌≤◌, ◌++◌, ◌↔◌, length, option_map, IsSome, IsTrue};
+ghost use Rattle.std.specs.Prelude.{◌≡◌, ◌≤◌, ◌++◌, ◌↔◌, length, take, option_map, IsSome, IsTrue};
 ghost use Rattle.std.specs.List.{flat_map};
 ghost use Rattle.std.specs.Fmt.{decimal};
 ghost use Rattle.http_wire.specs.Heads.{line_end};
 ghost use Rattle.servient_base.specs.Writing.{Puts, PutsIfRoom};
+ghost use Rattle.http_wire.specs.Conditions.{entity_tag};
 ghost use Rattle.http_wire.specs.Writing.{http_reply, head_text, phrase_of, phrase_text, field_line, closing, written_length};
 ghost use Rattle.http_wire.specs.Replies.{plain_reply, line_of};
 
 use itoa::Buffer;
-use servient_base::put_piece;
+use servient_base::{put_bytes, put_piece};
+
+/// The most bytes of the entity tag of a version: ten digits and two quotes.
+const LONGEST_TAG: usize = 12;
 
 /// What a reply says before its payload.
 #[derive(Clone, Copy, Debug, Drop)]
@@ -18,6 +22,8 @@ pub struct Reply<'a> {
     pub status: u16,
     /// The media type of the payload.
     pub content_type: Option<&'a str>,
+    /// The version of what is sent, from which its entity tag is written (RFC 9110, section 8.8.3).
+    pub etag: Option<u32>,
     /// The place of what was made.
     pub location: Option<&'a [u8]>,
     /// The verbs that are taken.
@@ -44,10 +50,15 @@ pub fn put_reply(reply: &Reply<'_>, out: &mut [u8]) -> Option<usize>
     ensures { PutsIfRoom (http_reply (plain_reply reply.now)) 0 out.old out.new result }
 {
     let mut digits = Buffer::new();
+    let mut tag = [0; LONGEST_TAG];
     let fields = [
         Field {
             name: b"Content-Type: ",
             value: bytes_of(reply.content_type),
+        },
+        Field {
+            name: b"ETag: ",
+            value: tag_of(reply.etag, &mut tag),
         },
         Field {
             name: b"Location: ",
@@ -141,6 +152,30 @@ fn decimal_of<'a>(number: Option<usize>, digits: &'a mut Buffer) -> Option<&'a [
         Some(number) => Some(digits.format(number).as_bytes()),
         None => None,
     }
+}
+
+/// The entity tag of a version, if there is one. It is written into `room`.
+fn tag_of(version: Option<u32>, room: &mut [u8; LONGEST_TAG]) -> Option<&[u8]>
+    ensures { option_map (λ t. t.now) result ≡ option_map entity_tag version }
+{
+    match version {
+        Some(version) => {
+            let length = put_tag(version, room);
+            Some(&room[..length])
+        }
+        None => None,
+    }
+}
+
+/// Writes the entity tag of a version to the beginning of `room`, and returns its length.
+fn put_tag(version: u32, room: &mut [u8; LONGEST_TAG]) -> usize
+    ensures text { take result room.new ≡ entity_tag version }
+    ensures within { result ≤ 12 }
+{
+    let mut digits = Buffer::new();
+    let end = put_bytes(room, 0, b"\"");
+    let end = put_bytes(room, end, digits.format(version).as_bytes());
+    put_bytes(room, end, b"\"")
 }
 
 /// The length that is written.

@@ -24,7 +24,7 @@ pub struct RequestParts {
     pub accept: Accept,
     /// The format of its body.
     pub format: Format,
-    /// What it asks of the version of a property: nothing, since no field that does is read yet.
+    /// What it asks of the version of a property.
     pub conditions: Conditions,
     /// How many bytes its query has.
     pub query_length: usize,
@@ -48,13 +48,15 @@ pub fn request_of(
         ⊎ ((e ≡ no_memory) × IsSome (asked (plain_head head.now) body.now))) }
 {
     let (path, place) = segments(alloc, head.target)?;
+    let verb = verb_of(head.method);
+    let conditions = head.conditions(alloc, verb)?;
     let (query_length, body_length) = lay_out(&head.target[place..], body, room);
     Ok(RequestParts {
-        verb: verb_of(head.method),
+        verb,
         path,
         accept: head.accept,
         format: head.format,
-        conditions: Conditions::none(alloc),
+        conditions,
         query_length,
         body_length,
     })

@@ -48,6 +48,10 @@ pub struct Head<'a> {
     pub format: Format,
     /// The media types that are taken in the reply.
     pub accept: Accept,
+    /// The header lines, with the empty line that ends them. `conditions` reads those that ask for a version.
+    pub lines: &'a [u8],
+    /// One of them asks for a version.
+    pub conditional: bool,
 }
 
 /// A whole body, over the bytes of the stream that it was read from. Contracts see its decoded bytes, which `copy_to`

@@ -87,6 +87,8 @@ fn scan_body<'a>(judged: &Judged<'a>, taken: usize, after: &'a [u8]) -> Scanned<
                 close: judged.asks_to_close(),
                 format: format(judged.head.fields.content_type),
                 accept: accept(judged.head.fields.accept),
+                lines: judged.head.lines,
+                conditional: judged.head.fields.conditional,
             },
             body,
             used: taken + used,

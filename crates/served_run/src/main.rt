@@ -1,7 +1,7 @@
 //! A stored run over sockets. The program starts itself as a child that serves a plan, writes and reads a property of
 //! the shipped rack over TCP and UDP, and prints what came, and how the child ended once no traffic came for five
 //! seconds. Meanwhile further children consume the Thing: one writes the property over CoAP, and two read it, over CoAP
-//! and over HTTP. Then a child that may open no more than 24 files is spoken to beside 30 connections that do nothing.
+//! and over HTTP; three write a text of 1,000 bytes each, and one reads all properties, which come in blocks. Then a child that may open no more than 24 files is spoken to beside 30 connections that do nothing.
 //! Last a child checks a Thing Description without a `title`, which ends with a status that isn't 0.
 //!
 //! With words of its own it is the servient; without any it is the run.
@@ -33,7 +33,10 @@ const PATIENCE: u64 = 10;
 
 /// The model of the Thing that is served.
 const MODEL: &str =
-    "{\"@context\":\"https://www.w3.org/2022/wot/td/v1.1\",\"@type\":\"tm:ThingModel\",\"title\":\"Lamp\",\"properties\":{\"level\":{\"type\":\"integer\"}}}";
+    "{\"@context\":\"https://www.w3.org/2022/wot/td/v1.1\",\"@type\":\"tm:ThingModel\",\"title\":\"Lamp\",\"properties\":{\"level\":{\"type\":\"integer\"},\"a\":{\"type\":\"string\"},\"b\":{\"type\":\"string\"},\"c\":{\"type\":\"string\"}}}";
+
+/// How many bytes each of the texts has.
+const TEXT_BYTES: u32 = 1000;
 
 /// The whole requests by HTTP (RFC 9112): the second closes its connection.
 const WRITE: &[u8] =
@@ -145,7 +148,7 @@ fn free_udp_port(rt: &HostRuntime) -> io::Result<u16> {
 /// The plan of one Thing at these ports, whose property is a cell of the shipped rack.
 fn plan(rt: &HostRuntime, http: u16, coap: u16) -> io::Result<String> {
     Ok(format!(in rt.alloc();
-        "{{\"name\":\"lamp\",\"id\":\"urn:x:lamp\",\"http\":\"http://127.0.0.1:{http}\",\"coap\":\"coap://127.0.0.1:{coap}\",\"model\":\"https://models.example/level.tm.json\",\"models\":[{{\"url\":\"https://models.example/level.tm.json\",\"file\":\"level.tm.json\"}}],\"slots\":[{{\"thing\":\"lamp\",\"pointer\":\"/properties/level\",\"slot\":0}}]}}"
+        "{{\"name\":\"lamp\",\"id\":\"urn:x:lamp\",\"http\":\"http://127.0.0.1:{http}\",\"coap\":\"coap://127.0.0.1:{coap}\",\"model\":\"https://models.example/level.tm.json\",\"models\":[{{\"url\":\"https://models.example/level.tm.json\",\"file\":\"level.tm.json\"}}],\"slots\":[{{\"thing\":\"lamp\",\"pointer\":\"/properties/level\",\"slot\":0}},{{\"thing\":\"lamp\",\"pointer\":\"/properties/a\",\"slot\":2}},{{\"thing\":\"lamp\",\"pointer\":\"/properties/b\",\"slot\":6}},{{\"thing\":\"lamp\",\"pointer\":\"/properties/c\",\"slot\":10}}]}}"
     )?)
 }
 
@@ -226,7 +229,7 @@ fn connections(rt: &HostRuntime, port: u16) -> io::Result<Vec<TcpStream>> {
 /// The description of the Thing at these ports, as a consumer has it.
 fn description(rt: &HostRuntime, http: u16, coap: u16) -> io::Result<String> {
     Ok(format!(in rt.alloc();
-        "{{\"@context\":\"https://www.w3.org/2022/wot/td/v1.1\",\"title\":\"Lamp\",\"security\":\"none\",\"securityDefinitions\":{{\"none\":{{\"scheme\":\"nosec\"}}}},\"properties\":{{\"level\":{{\"type\":\"integer\",\"forms\":[{{\"href\":\"coap://127.0.0.1:{coap}/lamp/properties/level\"}},{{\"href\":\"http://127.0.0.1:{http}/lamp/properties/level\"}}]}}}}}}"
+        "{{\"@context\":\"https://www.w3.org/2022/wot/td/v1.1\",\"title\":\"Lamp\",\"security\":\"none\",\"securityDefinitions\":{{\"none\":{{\"scheme\":\"nosec\"}}}},\"properties\":{{\"level\":{{\"type\":\"integer\",\"forms\":[{{\"href\":\"coap://127.0.0.1:{coap}/lamp/properties/level\"}},{{\"href\":\"http://127.0.0.1:{http}/lamp/properties/level\"}}]}},\"a\":{{\"type\":\"string\",\"forms\":[{{\"href\":\"coap://127.0.0.1:{coap}/lamp/properties/a\"}}]}},\"b\":{{\"type\":\"string\",\"forms\":[{{\"href\":\"coap://127.0.0.1:{coap}/lamp/properties/b\"}}]}},\"c\":{{\"type\":\"string\",\"forms\":[{{\"href\":\"coap://127.0.0.1:{coap}/lamp/properties/c\"}}]}}}},\"forms\":[{{\"href\":\"coap://127.0.0.1:{coap}/lamp/properties\",\"op\":\"readallproperties\"}}]}}"
     )?)
 }
 
@@ -234,18 +237,36 @@ fn description(rt: &HostRuntime, http: u16, coap: u16) -> io::Result<String> {
 fn consume(rt: &HostRuntime, http: u16, coap: u16) -> io::Result<()> {
     fs::write(rt, "level.td.json", description(rt, http, coap)?.as_str())?;
     fs::write(rt, "seven.json", "7")?;
-    consumer(
-        rt,
-        "writeproperty",
-        &["--scheme", "coap", "--input", "seven.json"],
-    )?;
-    consumer(rt, "readproperty", &["--scheme", "coap"])?;
-    consumer(rt, "readproperty", &["--scheme", "http"])
+    let by_coap = &["--scheme", "coap", "--input", "seven.json"];
+    consumer(rt, "writeproperty", "level", by_coap)?;
+    consumer(rt, "readproperty", "level", &["--scheme", "coap"])?;
+    consumer(rt, "readproperty", "level", &["--scheme", "http"])?;
+    consume_texts(rt)
+}
+
+/// Has long texts written, and all properties read.
+fn consume_texts(rt: &HostRuntime) -> io::Result<()> {
+    fs::write(rt, "text.json", text(rt)?.as_str())?;
+    for name in ["a", "b", "c"] {
+        consumer(rt, "writeproperty", name, &["--input", "text.json"])?;
+    }
+    consumer(rt, "readallproperties", "-", &[])
+}
+
+/// A long text, as JSON.
+fn text(rt: &HostRuntime) -> io::Result<String> {
+    let mut text = String::new(rt.alloc());
+    text.push('"')?;
+    for _ in 0..TEXT_BYTES {
+        text.push('x')?;
+    }
+    text.push('"')?;
+    Ok(text)
 }
 
 /// Starts the program as a consumer that does an operation with these options, and prints how it ends.
-fn consumer(rt: &HostRuntime, operation: &str, options: &[&str]) -> io::Result<()> {
-    let mut command = servient(rt, &["consume", "level.td.json", operation, "level"])?;
+fn consumer(rt: &HostRuntime, operation: &str, name: &str, options: &[&str]) -> io::Result<()> {
+    let mut command = servient(rt, &["consume", "level.td.json", operation, name])?;
     for word in options {
         command.arg(*word)?;
     }

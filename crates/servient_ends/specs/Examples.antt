@@ -28,7 +28,7 @@ beside client = record {
 
 -- GET of the root
 abbrev pub get_root : Asking
-get_root = record { code = 1; path = []; observe = None; format = None; payload = [] }
+get_root = record { code = 1; path = []; observe = None; format = None; block1 = None; block2 = None; payload = [] }
 
 -- the client asks that, and its datagram comes to the servient
 abbrev pub ask_that_comes : List Turn

@@ -3,19 +3,20 @@ use Rattle.std.proofs.Common.{◌≡◌, ◌≢◌, ◌<◌, ◌≤◌, ℕ, Boo
 use Rattle.std.specs.Prelude.{◌&&◌, ◌==◌, ◌/◌, nat_le, nat_lt, unwrap_or, IsSome, option_and_then, slice_get}
 use Rattle.std.specs.List.{AllByRecursion}
 use Rattle.std.proofs.lemmas.Bool.Decides.{nat_tests}
-use Rattle.coap_msg.specs.declared.constants.TheConstants.{LONGEST_SEGMENT, URI_PATH, CONTENT_FORMAT, ACCEPT, BLOCK1, BLOCK2}
+use Rattle.coap_msg.specs.declared.constants.TheConstants.{LONGEST_SEGMENT, IF_MATCH, ETAG, IF_NONE_MATCH, URI_PATH, CONTENT_FORMAT, ACCEPT, BLOCK1, BLOCK2}
 use Rattle.coap_msg.specs.Blocks.{block_of}
 use Rattle.coap_msg.specs.Grammar.{CoapOption, AreInOrder}
 use Rattle.coap_msg.specs.Opts.{segment_options}
-use Rattle.coap_opts.specs.Reading.{faults_after, faults_of, values_under, number_within, number_under, verb_of, format_of, accept_of}
+use Rattle.coap_opts.specs.Reading.{faults_after, faults_of, values_under, number_within, number_under, is_there, match_of, known_by, conditions_by, conditions_of, verb_of, format_of, accept_of}
 use Rattle.coap_opts.specs.Table.{content_format, accept, may_stand}
 use Rattle.thing_ops.specs.declared.verb.Verb.{Verb}
 use Rattle.thing_ops.specs.declared.verb.Verb.TheVariants as verb
 use Rattle.thing_ops.specs.declared.request.Accept.{Accept}
 use Rattle.thing_ops.specs.declared.request.Format.{Format}
 use Rattle.thing_ops.specs.declared.request.Format.TheVariants as format
+use Rattle.thing_ops.specs.declared.conditions.Tags.{Tags}
 use Rattle.thing_ops.specs.declared.conditions.Conditions.{Conditions}
-use Rattle.thing_ops.specs.Conditions.{no_conditions}
+use Rattle.thing_ops.specs.Conditions.{no_tags, no_conditions}
 use Rattle.thing_ops.specs.Requests.{PlainRequest}
 use Rattle.servient_laws.specs.Spoken.{code_of, format_options, accept_options, IsReadByCoap, IsSpeakable}
 
@@ -105,30 +106,45 @@ record IsRest (f : Format) (json td : Bool) : Type 0 where
   path : values_under URI_PATH (rest_of f json td) ≡ []
   block1 : values_under BLOCK1 (rest_of f json td) ≡ []
   block2 : values_under BLOCK2 (rest_of f json td) ≡ []
+  if_match : values_under IF_MATCH (rest_of f json td) ≡ []
+  etag : values_under ETAG (rest_of f json td) ≡ []
+  if_none_match : values_under IF_NONE_MATCH (rest_of f json td) ≡ []
   format_is : f ≢ format.Patch → format_of (number_under content_format (rest_of f json td)) ≡ f
   accept_is : accept_of (number_under accept (rest_of f json td)) ≡ record { json = json; td = td }
 
 rest_is : (f : Format) (json td : Bool) → IsRest f json td
-rest_is format.Absent true true = record { path = refl; block1 = refl; block2 = refl; format_is = λ n. refl; accept_is = refl }
-rest_is format.Absent true false = record { path = refl; block1 = refl; block2 = refl; format_is = λ n. refl; accept_is = refl }
-rest_is format.Absent false true = record { path = refl; block1 = refl; block2 = refl; format_is = λ n. refl; accept_is = refl }
-rest_is format.Absent false false = record { path = refl; block1 = refl; block2 = refl; format_is = λ n. refl; accept_is = refl }
-rest_is format.Json true true = record { path = refl; block1 = refl; block2 = refl; format_is = λ n. refl; accept_is = refl }
-rest_is format.Json true false = record { path = refl; block1 = refl; block2 = refl; format_is = λ n. refl; accept_is = refl }
-rest_is format.Json false true = record { path = refl; block1 = refl; block2 = refl; format_is = λ n. refl; accept_is = refl }
-rest_is format.Json false false = record { path = refl; block1 = refl; block2 = refl; format_is = λ n. refl; accept_is = refl }
-rest_is format.Td true true = record { path = refl; block1 = refl; block2 = refl; format_is = λ n. refl; accept_is = refl }
-rest_is format.Td true false = record { path = refl; block1 = refl; block2 = refl; format_is = λ n. refl; accept_is = refl }
-rest_is format.Td false true = record { path = refl; block1 = refl; block2 = refl; format_is = λ n. refl; accept_is = refl }
-rest_is format.Td false false = record { path = refl; block1 = refl; block2 = refl; format_is = λ n. refl; accept_is = refl }
-rest_is format.Patch true true = record { path = refl; block1 = refl; block2 = refl; format_is = λ n. absurd (n refl); accept_is = refl }
-rest_is format.Patch true false = record { path = refl; block1 = refl; block2 = refl; format_is = λ n. absurd (n refl); accept_is = refl }
-rest_is format.Patch false true = record { path = refl; block1 = refl; block2 = refl; format_is = λ n. absurd (n refl); accept_is = refl }
-rest_is format.Patch false false = record { path = refl; block1 = refl; block2 = refl; format_is = λ n. absurd (n refl); accept_is = refl }
-rest_is format.Other true true = record { path = refl; block1 = refl; block2 = refl; format_is = λ n. refl; accept_is = refl }
-rest_is format.Other true false = record { path = refl; block1 = refl; block2 = refl; format_is = λ n. refl; accept_is = refl }
-rest_is format.Other false true = record { path = refl; block1 = refl; block2 = refl; format_is = λ n. refl; accept_is = refl }
-rest_is format.Other false false = record { path = refl; block1 = refl; block2 = refl; format_is = λ n. refl; accept_is = refl }
+rest_is format.Absent true true = record { path = refl; block1 = refl; block2 = refl; if_match = refl; etag = refl; if_none_match = refl; format_is = λ n. refl; accept_is = refl }
+rest_is format.Absent true false = record { path = refl; block1 = refl; block2 = refl; if_match = refl; etag = refl; if_none_match = refl; format_is = λ n. refl; accept_is = refl }
+rest_is format.Absent false true = record { path = refl; block1 = refl; block2 = refl; if_match = refl; etag = refl; if_none_match = refl; format_is = λ n. refl; accept_is = refl }
+rest_is format.Absent false false = record { path = refl; block1 = refl; block2 = refl; if_match = refl; etag = refl; if_none_match = refl; format_is = λ n. refl; accept_is = refl }
+rest_is format.Json true true = record { path = refl; block1 = refl; block2 = refl; if_match = refl; etag = refl; if_none_match = refl; format_is = λ n. refl; accept_is = refl }
+rest_is format.Json true false = record { path = refl; block1 = refl; block2 = refl; if_match = refl; etag = refl; if_none_match = refl; format_is = λ n. refl; accept_is = refl }
+rest_is format.Json false true = record { path = refl; block1 = refl; block2 = refl; if_match = refl; etag = refl; if_none_match = refl; format_is = λ n. refl; accept_is = refl }
+rest_is format.Json false false = record { path = refl; block1 = refl; block2 = refl; if_match = refl; etag = refl; if_none_match = refl; format_is = λ n. refl; accept_is = refl }
+rest_is format.Td true true = record { path = refl; block1 = refl; block2 = refl; if_match = refl; etag = refl; if_none_match = refl; format_is = λ n. refl; accept_is = refl }
+rest_is format.Td true false = record { path = refl; block1 = refl; block2 = refl; if_match = refl; etag = refl; if_none_match = refl; format_is = λ n. refl; accept_is = refl }
+rest_is format.Td false true = record { path = refl; block1 = refl; block2 = refl; if_match = refl; etag = refl; if_none_match = refl; format_is = λ n. refl; accept_is = refl }
+rest_is format.Td false false = record { path = refl; block1 = refl; block2 = refl; if_match = refl; etag = refl; if_none_match = refl; format_is = λ n. refl; accept_is = refl }
+rest_is format.Patch true true = record { path = refl; block1 = refl; block2 = refl; if_match = refl; etag = refl; if_none_match = refl; format_is = λ n. absurd (n refl); accept_is = refl }
+rest_is format.Patch true false = record { path = refl; block1 = refl; block2 = refl; if_match = refl; etag = refl; if_none_match = refl; format_is = λ n. absurd (n refl); accept_is = refl }
+rest_is format.Patch false true = record { path = refl; block1 = refl; block2 = refl; if_match = refl; etag = refl; if_none_match = refl; format_is = λ n. absurd (n refl); accept_is = refl }
+rest_is format.Patch false false = record { path = refl; block1 = refl; block2 = refl; if_match = refl; etag = refl; if_none_match = refl; format_is = λ n. absurd (n refl); accept_is = refl }
+rest_is format.Other true true = record { path = refl; block1 = refl; block2 = refl; if_match = refl; etag = refl; if_none_match = refl; format_is = λ n. refl; accept_is = refl }
+rest_is format.Other true false = record { path = refl; block1 = refl; block2 = refl; if_match = refl; etag = refl; if_none_match = refl; format_is = λ n. refl; accept_is = refl }
+rest_is format.Other false true = record { path = refl; block1 = refl; block2 = refl; if_match = refl; etag = refl; if_none_match = refl; format_is = λ n. refl; accept_is = refl }
+rest_is format.Other false false = record { path = refl; block1 = refl; block2 = refl; if_match = refl; etag = refl; if_none_match = refl; format_is = λ n. refl; accept_is = refl }
+
+-- options without If-Match, ETag and If-None-Match ask nothing of versions
+no_tags_known : (counts : Bool) → known_by counts [] ≡ no_tags
+no_tags_known true = refl
+no_tags_known false = refl
+
+asks_nothing : (counts : Bool) (os : List CoapOption) → values_under IF_MATCH os ≡ [] → values_under ETAG os ≡ [] → values_under IF_NONE_MATCH os ≡ []
+    → conditions_by counts os ≡ no_conditions
+asks_nothing counts os one two three =
+    ap₂ (λ (m : List (List ℕ)) (n : List (List ℕ)). record { if_match = match_of m; known = known_by counts (values_under ETAG os); absent = is_there n }) one three
+    ∙ ap (λ (v : List (List ℕ)). record { if_match = None; known = known_by counts v; absent = false }) two
+    ∙ ap (λ (t : Tags). record { if_match = None; known = t; absent = false }) (no_tags_known counts)
 
 -- ---- verbs
 
@@ -151,12 +167,13 @@ has_code verb.Other is = absurd cc
 class_of : (n : ℕ) → n < 32 → n / 32 ≡ 0
 class_of n small = omega arith
 
-same_request : (q : PlainRequest) (v : Verb) (path : List (List ℕ)) (a : Accept) (f : Format) → v ≡ q.verb → path ≡ q.path → q.query ≡ [] → a ≡ q.accept → f ≡ q.format → q.conditions ≡ no_conditions
-    → record { verb = v; path = path; query = []; accept = a; format = f; body = q.body; conditions = no_conditions } ≡ q
-same_request q v path a f one two three four five six =
-    ap₂ (λ (x : Verb) (p : List (List ℕ)). record { verb = x; path = p; query = []; accept = a; format = f; body = q.body; conditions = no_conditions }) one two
-    ∙ ap₂ (λ (y : List ℕ) (x : Accept). record { verb = q.verb; path = q.path; query = y; accept = x; format = f; body = q.body; conditions = no_conditions }) (sym three) four
-    ∙ ap₂ (λ (x : Format) (c : Conditions). record { verb = q.verb; path = q.path; query = q.query; accept = q.accept; format = x; body = q.body; conditions = c }) five (sym six)
+same_request : (q : PlainRequest) (v : Verb) (path : List (List ℕ)) (a : Accept) (f : Format) (c : Conditions)
+    → v ≡ q.verb → path ≡ q.path → q.query ≡ [] → a ≡ q.accept → f ≡ q.format → c ≡ q.conditions
+    → record { verb = v; path = path; query = []; accept = a; format = f; body = q.body; conditions = c } ≡ q
+same_request q v path a f c one two three four five six =
+    ap₂ (λ (x : Verb) (p : List (List ℕ)). record { verb = x; path = p; query = []; accept = a; format = f; body = q.body; conditions = c }) one two
+    ∙ ap₂ (λ (y : List ℕ) (x : Accept). record { verb = q.verb; path = q.path; query = y; accept = x; format = f; body = q.body; conditions = c }) (sym three) four
+    ∙ ap₂ (λ (x : Format) (y : Conditions). record { verb = q.verb; path = q.path; query = q.query; accept = q.accept; format = x; body = q.body; conditions = y }) five six
 
 pub read_by_coap : (q : PlainRequest) → IsSpeakable q → IsReadByCoap q
 read_by_coap q can =
@@ -186,9 +203,13 @@ read_by_coap q can =
       };
       asks_it = same_request q (verb_of (unwrap_or (code_of q.verb) 0)) (values_under URI_PATH (segment_options URI_PATH q.path ++ os))
           (accept_of (number_under accept (segment_options URI_PATH q.path ++ os))) (format_of (number_under content_format (segment_options URI_PATH q.path ++ os)))
+          (conditions_of (unwrap_or (code_of q.verb) 0) (segment_options URI_PATH q.path ++ os))
           code.back (path_values q.path os rest.path) can.query
           (ap (λ (vs : List (List ℕ)). accept_of (option_and_then (number_within accept) (slice_get vs 0))) (other_values ACCEPT q.path os refl) ∙ rest.accept_is)
-          (ap (λ (vs : List (List ℕ)). format_of (option_and_then (number_within content_format) (slice_get vs 0))) (other_values CONTENT_FORMAT q.path os refl) ∙ rest.format_is can.format) can.conditions;
+          (ap (λ (vs : List (List ℕ)). format_of (option_and_then (number_within content_format) (slice_get vs 0))) (other_values CONTENT_FORMAT q.path os refl) ∙ rest.format_is can.format)
+          (asks_nothing _ (segment_options URI_PATH q.path ++ os) (other_values IF_MATCH q.path os refl ∙ rest.if_match)
+          (other_values ETAG q.path os refl ∙ rest.etag) (other_values IF_NONE_MATCH q.path os refl ∙ rest.if_none_match)
+          ∙ sym can.conditions);
     }
   where
     is_asked : (n : ℕ) → 0 < n → n < 32 → (nat_lt 0 n && nat_lt n 32) ≡ true

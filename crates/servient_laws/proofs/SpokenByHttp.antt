@@ -11,7 +11,8 @@ use Rattle.httparse.specs.Grammar.{print_request}
 use Rattle.http_wire.specs.declared.framing.Framing.{Framing}
 use Rattle.http_wire.specs.declared.framing.Framing.TheVariants as framing
 use Rattle.http_wire.specs.Heads.{skipped, length_through, empty_line, line_feeds, is_newer}
-use Rattle.http_wire.specs.Fields.{Standing, once, Said, said_by, lines_of, format_of, accept_of}
+use Rattle.http_wire.specs.Conditions.{conditions_of}
+use Rattle.http_wire.specs.Fields.{Line, Standing, once, Said, said_by, lines_of, format_of, accept_of}
 use Rattle.http_wire.specs.Judging.{FramedHead, IsJudged, one_head, is_once, is_often, is_length, stated_framing, framing_by, fields_judged, with_framing, has_body, longest_body}
 use Rattle.http_wire.specs.Stream.{IsFront, IsFrontAfter, one_end, longest_head, plain_head_of, with_body, with_head, stated_body}
 use Rattle.http_wire.specs.Chunks.{BodyFront, whole}
@@ -27,7 +28,7 @@ use Rattle.thing_ops.specs.Requests.{PlainRequest}
 use Rattle.servient_laws.specs.Spoken.{method_of, target_of, http_head, http_message, IsReadByHttp, IsSpeakable}
 use Rattle.servient_laws.proofs.HeadLines.{AreLines, printed, lines_end, feeds_of_lines, lines_paired}
 use Rattle.servient_laws.proofs.SpokenTargets.{target_bytes, no_query, path_is_read}
-use Rattle.servient_laws.proofs.SpokenHeads.{digits_pass, IsSize, is_size, field_of, fields, Says, says, start_line, line_of, lines_in, head_lines, head_is, start_is_line, header_are, request_head, few_lines}
+use Rattle.servient_laws.proofs.SpokenHeads.{digits_pass, IsSize, is_size, field_of, fields, Says, says, asks_nothing, start_line, line_of, lines_in, head_lines, head_is, start_is_line, header_are, request_head, few_lines}
 
 -- ---- how it is judged
 
@@ -114,16 +115,18 @@ verb_back verb.Delete = refl
 verb_back verb.Other = refl
 
 request_is : (q : PlainRequest) → AllByRecursion (AllByRecursion (λ b. b < 256)) q.path → q.query ≡ [] → q.conditions ≡ no_conditions → request_at (plain_head_of (http_head q)) q.body q.path ≡ q
-request_is q bytes query asks_nothing =
+request_is q bytes query without =
     let say = said q in
-    ap₂ (λ (v : Verb) (x : List ℕ). record { verb = v; path = q.path; query = x; accept = accept_of (said_by (lines_of (http_head q))).accept; format = format_of (said_by (lines_of (http_head q))).content_type; body = q.body; conditions = no_conditions })
+    ap (λ (ls : List Line). record (request_at (plain_head_of (http_head q)) q.body q.path) { conditions = conditions_of (verb_of (method_of q.verb)) ls })
+    (asks_nothing q.format q.accept.json q.accept.td (decimal (length q.body)))
+    ∙ ap₂ (λ (v : Verb) (x : List ℕ). record { verb = v; path = q.path; query = x; accept = accept_of (said_by (lines_of (http_head q))).accept; format = format_of (said_by (lines_of (http_head q))).content_type; body = q.body; conditions = no_conditions })
     (verb_back q.verb) (no_query (target_of q.path) (target_bytes q.path bytes) ∙ sym query)
     ∙ ap₂ (λ (a : Accept) (f : Format). record { verb = q.verb; path = q.path; query = q.query; accept = a; format = f; body = q.body; conditions = no_conditions }) say.accept_is say.format_is
-    ∙ ap (λ (c : Conditions). record q { conditions = c }) (sym asks_nothing)
+    ∙ ap (λ (c : Conditions). record q { conditions = c }) (sym without)
 
 asked_is : (q : PlainRequest) → AllByRecursion (AllByRecursion (λ b. b < 256)) q.path → q.path ≢ [] ∷ [] → q.query ≡ [] → q.conditions ≡ no_conditions → asked (plain_head_of (http_head q)) q.body ≡ Some q
-asked_is q bytes isnt query asks_nothing =
-    ap (option_map (request_at (plain_head_of (http_head q)) q.body)) (path_is_read q.path bytes isnt) ∙ ap Some (request_is q bytes query asks_nothing)
+asked_is q bytes isnt query without =
+    ap (option_map (request_at (plain_head_of (http_head q)) q.body)) (path_is_read q.path bytes isnt) ∙ ap Some (request_is q bytes query without)
 
 whole_is : (body : List ℕ) → stated_body (length body) body ≡ whole body (length body)
 whole_is body = rw fits (ap (λ (x : List ℕ). whole x (length body)) (take_all (length body) body (omega arith)))
@@ -136,11 +139,11 @@ no_continue true c isnt = isnt
 no_continue false c isnt = refl
 
 taken : (q : PlainRequest) (m : ℕ) → AllByRecursion (AllByRecursion (λ b. b < 256)) q.path → q.path ≢ [] ∷ [] → q.query ≡ [] → q.conditions ≡ no_conditions → to_take false (with_head m (Ok (framed_head q)) q.body) ≡ Some (asks q)
-taken q m bytes isnt query asks_nothing =
+taken q m bytes isnt query without =
     let say = said q in
     ap₂ (λ (e : Bool) (b : BodyFront). to_take false (with_body (http_head q) m e b))
     (no_continue (is_newer (http_head q) && has_body (framing.Stated (length q.body))) (said_by (lines_of (http_head q))).continues say.continues) (whole_is q.body)
-    ∙ ap (λ (o : Option PlainRequest). Some (read_as o)) (asked_is q bytes isnt query asks_nothing)
+    ∙ ap (λ (o : Option PlainRequest). Some (read_as o)) (asked_is q bytes isnt query without)
 
 pub read_by_http : (q : PlainRequest) → IsSpeakable q → IsReadByHttp q
 read_by_http q can =

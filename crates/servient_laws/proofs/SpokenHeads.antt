@@ -14,6 +14,7 @@ use Rattle.std.proofs.lemmas.Str.Parse.{digit_at}
 use Rattle.httparse.specs.Grammar.{is_token_byte, is_uri_byte, is_value_byte, is_ows, AllPass, IsToken, Field, IsField, crlf, skip_ows, trim_ows, print_field, print_section, print_request, IsRequestHead}
 use Rattle.httparse.specs.Spans.{name_and_value}
 use Rattle.httparse.proofs.TrimLemmas.{AllPass-reverse}
+use Rattle.http_wire.specs.Conditions.{asking_lines}
 use Rattle.http_wire.specs.Fields.{absent, once, Said, said_by, format_of, accept_of}
 use Rattle.http_wire.specs.Judging.{is_once, is_often, longest_body}
 use Rattle.thing_ops.specs.declared.verb.Verb.{Verb}
@@ -157,6 +158,23 @@ says format.Other true true size = record { host = refl; size_is = refl; coding 
 says format.Other true false size = record { host = refl; size_is = refl; coding = refl; one_type = refl; format_is = refl; continues = refl; accept_is = refl }
 says format.Other false true size = record { host = refl; size_is = refl; coding = refl; one_type = refl; format_is = refl; continues = refl; accept_is = refl }
 says format.Other false false size = record { host = refl; size_is = refl; coding = refl; one_type = refl; format_is = refl; continues = refl; accept_is = refl }
+
+-- none of them asks for a version
+type_asks : (f : Format) (lines : List (List ℕ × List ℕ)) → asking_lines (map name_and_value (fields (type_lines f ++ lines))) ≡ asking_lines (map name_and_value (fields lines))
+type_asks format.Absent lines = refl
+type_asks format.Json lines = refl
+type_asks format.Td lines = refl
+type_asks format.Patch lines = refl
+type_asks format.Other lines = refl
+
+accept_asks : (json td : Bool) → asking_lines (map name_and_value (fields (accept_lines json td))) ≡ []
+accept_asks true true = refl
+accept_asks true false = refl
+accept_asks false true = refl
+accept_asks false false = refl
+
+pub asks_nothing : (f : Format) (json td : Bool) (size : List ℕ) → asking_lines (map name_and_value (fields (header_lines f json td size))) ≡ []
+asks_nothing f json td size = type_asks f (accept_lines json td) ∙ accept_asks json td
 
 -- ---- the head as lines
 

@@ -125,8 +125,8 @@ IsReadByHttp q = (f : Front) × IsFront (http_message q) f × (to_take false f �
 -- ---- the law
 
 -- Both bindings can say a request: it has no query, its verb has a code, its format isn't that of a merge patch, its
--- path is one of segments of at most 255 bytes, and isn't the one empty segment; it asks nothing of versions, which
--- neither binding reads yet; and it fits into messages of both.
+-- path is one of segments of at most 255 bytes, and isn't the one empty segment; it asks nothing of versions; and it fits
+-- into messages of both.
 pub record IsSpeakable (q : PlainRequest) : Type 0 where
   pub verb : IsSome (code_of q.verb)
   pub query : q.query ≡ []

@@ -87,7 +87,7 @@ by_news : (mm : Meaning) (m : CoapMessage) (n : News) (p : Purpose) (k : ℕ) �
     → ((q : ℕ) → mm ≡ meant.Value q → (payload : List ℕ) → shown_values (value_by p payload) ≡ record { ask = k; value = payload } ∷ [])
     → values_in k n ≡ shown_values (taken_by p n)
 by_news mm m (news.Value payload) p k is each = sym (each is.0 is.1 payload.now)
-by_news mm m (news.Answered code payload) p k is each = refl
+by_news mm m (news.Answered code block payload) p k is each = refl
 by_news mm m news.Old p k is each = refl
 by_news mm m news.Reset p k is each = refl
 by_news mm m news.Nothing p k is each = refl

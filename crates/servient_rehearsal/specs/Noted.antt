@@ -64,7 +64,7 @@ with_end_if true e n = with_end e n
 with_end_if false e n = n
 
 abbrev pub with_news : News → Bool → ℕ → Noted → Noted
-with_news (news.Answered code payload) ends k n = with_end_if ends (end.Answered code payload.now) n
+with_news (news.Answered code block payload) ends k n = with_end_if ends (end.Answered code payload.now) n
 with_news (news.Value payload) ends k n = with_value k payload.now (with_end_if ends end.Observed n)
 with_news news.Reset ends k n = with_end_if ends end.Reset n
 with_news news.Old ends k n = n

@@ -48,7 +48,7 @@ seen_by site (happens w bytes) p q takes = seen_besides site w bytes p q takes
 -- the value of news, for which this ask registered
 abbrev pub values_in : ℕ → News → List TakenValue
 values_in k (news.Value payload) = record { ask = k; value = payload.now } ∷ []
-values_in k (news.Answered code payload) = []
+values_in k (news.Answered code block payload) = []
 values_in k news.Old = []
 values_in k news.Reset = []
 values_in k news.Nothing = []

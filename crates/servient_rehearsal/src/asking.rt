@@ -1,7 +1,8 @@
 //! The client asks, and does what is due.
 
 ghost use Rattle.std.specs.Prelude.{◌≡◌, ◌≤◌, ◌<◌, ◌^◌, ◌↔◌, length, IsTrue, OnErr, OnOk};
-ghost use Rattle.coap_client.specs.Asking.{MayAsk, asking_of};
+ghost use Rattle.coap_client.specs.Asking.{asking_of};
+ghost use Rattle.servient_world.specs.World.{MayAskWhole};
 ghost use Rattle.servient_ends.specs.Ends.{asks_next, does_due};
 ghost use Rattle.servient_rehearsal.specs.Playing.{ClientPlays, ClientPlaysAtMost, ClientGoesOn};
 
@@ -30,11 +31,16 @@ pub fn ask_servient(client: &mut Client, notes: &mut Notes, ask: &Ask<'_>) -> Re
     }
 }
 
-/// Whether this may be asked: a code of class 0 that isn't 0.00, and segments of at most 255 bytes.
+/// Whether this may be asked: a code of class 0 that isn't 0.00, segments of at most 255 bytes, and no blocks.
+#[tactic(auto, using(crate::proofs::ClientLaws::may_ask_whole))]
 fn may_ask(ask: &Ask<'_>) -> bool
-    ensures { IsTrue result ↔ MayAsk (asking_of ask.now) }
+    ensures { IsTrue result ↔ MayAskWhole (asking_of ask.now) }
 {
-    ask.code != 0 && ask.code < 32 && has_short_segments(ask.path)
+    ask.code != 0
+        && ask.code < 32
+        && ask.block1.is_none()
+        && ask.block2.is_none()
+        && has_short_segments(ask.path)
 }
 
 ghost use Rattle.std.specs.Prelude.{All};

@@ -57,6 +57,8 @@ pub fn play<R: Handlers>(
                 path,
                 observe: *observe,
                 format: *format,
+                block1: None,
+                block2: None,
                 payload: payload.as_slice(),
             };
             ask_servient(client, notes, &ask)

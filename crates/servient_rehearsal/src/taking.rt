@@ -49,7 +49,7 @@ fn note_news(notes: &mut Notes, news: &News<'_>, ends: bool) -> Result<(), NoMem
     ensures registered { notes.new.registered ≡ notes.old.registered }
 {
     match *news {
-        News::Answered(code, payload) => {
+        News::Answered(code, _, payload) => {
             if !ends {
                 return Ok(());
             }

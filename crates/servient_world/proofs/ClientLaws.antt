@@ -25,7 +25,7 @@ use Rattle.coap_client.specs.Exchange.{at_moment, Delivers, of_message, of_fault
 use Rattle.coap_client.proofs.RequestLaws.{last_is_outstanding, ids_differ}
 use Rattle.coap_client.proofs.RegistrationLaws.{registration_is_observed}
 use Rattle.coap_bind.specs.Server.{is_request}
-use Rattle.coap_bind.specs.Writing.{Reply, notification}
+use Rattle.coap_bind.specs.Writing.{Reply, reply_options, notification}
 use Rattle.servient_world.specs.World.{client_place, server_place, Purpose, copy_of, reply_to, notice_for, other, Datagram, Act, answered, observed, reset, AskEnd, Value, WorldState, latest, with_sent, end_by, taken_by}
 use Rattle.servient_world.proofs.Places.{at_end}
 use Rattle.servient_world.proofs.Holds.{Holds}
@@ -79,11 +79,11 @@ silent_to id b kind x old new is replied = none x (subst (λ (k : Type4). IsRepl
     none (Some n) h = absurd h
 
 end_right : (acts : List Act) (x y : Option Outstanding) (k : ℕ) (n : News)
-    → ((code : ℕ) (payload : _) (o : Outstanding) → n ≡ news.Answered code payload → x ≡ Some o → IsEnd acts k (answered code payload.now))
+    → ((code : ℕ) (block payload : _) (o : Outstanding) → n ≡ news.Answered code block payload → x ≡ Some o → IsEnd acts k (answered code payload.now))
     → ((payload : _) (o : Outstanding) → n ≡ news.Value payload → x ≡ Some o → y ≡ None → IsEnd acts k observed)
     → All (λ e. IsEnd acts e.ask e.end) (end_by x y k n)
-end_right acts (Some o) None k (news.Answered code payload) each shown =
-    All-push (λ (e : AskEnd). IsEnd acts e.ask e.end) [] (record { ask = k; end = answered code payload.now }) (All-nil (λ (e : AskEnd). IsEnd acts e.ask e.end)) (each code payload o refl refl)
+end_right acts (Some o) None k (news.Answered code block payload) each shown =
+    All-push (λ (e : AskEnd). IsEnd acts e.ask e.end) [] (record { ask = k; end = answered code payload.now }) (All-nil (λ (e : AskEnd). IsEnd acts e.ask e.end)) (each code block payload o refl refl)
 end_right acts (Some o) None k (news.Value payload) each shown =
     All-push (λ (e : AskEnd). IsEnd acts e.ask e.end) [] (record { ask = k; end = observed }) (All-nil (λ (e : AskEnd). IsEnd acts e.ask e.end)) (shown payload o refl refl refl)
 end_right acts (Some o) None k news.Reset each shown =
@@ -101,9 +101,9 @@ for_client w d (notice_for k q e) is to = (k, inr (q, is))
 for_client w d other is to = absurd (is.0 to)
 
 -- the act of a reply with options
-act_of_reply : (acts : List Act) (k : ℕ) (r : Reply) → IsWhy acts k r → (r.options ≡ [] → ⊥) → (x : Act) × Contains acts x × (x.ask ≡ k)
-act_of_reply acts k r (inl full) some = absurd (some (ap (λ (x : Reply). x.options) full))
-act_of_reply acts k r (inr (inl none)) some = absurd (some (ap (λ (x : Reply). x.options) none))
+act_of_reply : (acts : List Act) (k : ℕ) (r : Reply) → IsWhy acts k r → (reply_options r ≡ [] → ⊥) → (x : Act) × Contains acts x × (x.ask ≡ k)
+act_of_reply acts k r (inl full) some = absurd (some (ap (λ (x : Reply). reply_options x) full))
+act_of_reply acts k r (inr (inl none)) some = absurd (some (ap (λ (x : Reply). reply_options x) none))
 act_of_reply acts k r (inr (inr act)) some = (act.0, act.1, act.2)
 
 pub exact_taken : (capacity : ℕ) (d : Datagram) (w : WorldState) (told : Delivered) (old new : List ℕ) (t : State) → Holds capacity w → length w.asks ≤ 65536 → Exact w
@@ -126,13 +126,13 @@ exact_taken capacity d w told old new t h few x k sent (of_message m spells repl
     same_ask w.asks k (latest w) right.request last.1 (ids_differ w.asks w.client h.did few) right.ask (at_end w.asks last.0 last.1 last.2) ids
     in
     let new_ends : All (λ e. IsEnd w.acts e.ask e.end) (end_by w.client.outstanding t.outstanding (latest w) told.news)
-    = end_right w.acts w.client.outstanding t.outstanding (latest w) told.news (λ code payload o n_is o_is.
-    let says : IsNews (meaning (at_moment w.moment w.client) d.from m) m (news.Answered code payload)
+    = end_right w.acts w.client.outstanding t.outstanding (latest w) told.news (λ code block payload o n_is o_is.
+    let says : IsNews (meaning (at_moment w.moment w.client) d.from m) m (news.Answered code block payload)
     = subst (λ (n : News). IsNews (meaning (at_moment w.moment w.client) d.from m) m n) n_is news_is in (
       right.reply,
       subst (λ (n : ℕ). IsWhy w.acts n right.reply) (which o (answer_taken (at_moment w.moment w.client) d.from m says.0) o_is) right.why,
       says.1 ∙ (ap (λ (y : CoapMessage). y.code) one ∙ right.code),
-      says.2 ∙ (ap (λ (y : CoapMessage). y.payload) one ∙ right.payload),
+      says.3 ∙ (ap (λ (y : CoapMessage). y.payload) one ∙ right.payload),
     )) (λ payload o n_is o_is t_is.
     let says : IsNews (meaning (at_moment w.moment w.client) d.from m) m (news.Value payload)
     = subst (λ (n : News). IsNews (meaning (at_moment w.moment w.client) d.from m) m n) n_is news_is in
@@ -224,8 +224,8 @@ exact_noticed capacity d w told old new t h few x k q n_of (of_message m spells 
     let ends : List AskEnd = end_by w.client.outstanding t.outstanding (latest w) told.news in
     let mid : WorldState = record w { client = t; ends = w.ends ++ ends; taken = w.taken ++ taken_by d.purpose told.news } in
     let new_ends : All (λ e. IsEnd w.acts e.ask e.end) (end_by w.client.outstanding t.outstanding (latest w) told.news)
-    = end_right w.acts w.client.outstanding t.outstanding (latest w) told.news (λ code payload o n_is o_is.
-    let says : IsNews (meaning (at_moment w.moment w.client) d.from m) m (news.Answered code payload)
+    = end_right w.acts w.client.outstanding t.outstanding (latest w) told.news (λ code block payload o n_is o_is.
+    let says : IsNews (meaning (at_moment w.moment w.client) d.from m) m (news.Answered code block payload)
     = subst (λ (n : News). IsNews (meaning (at_moment w.moment w.client) d.from m) m n) n_is news_is in
     absurd (never_answers w o d.from m k n_of.request q h.did few o_is n_of.ask n_of.registers token number says.0 (is_for_observation w.client.observation d.from m.token) refl)) (λ payload o n_is o_is t_is.
     let says : IsNews (meaning (at_moment w.moment w.client) d.from m) m (news.Value payload)

@@ -13,7 +13,7 @@ use Rattle.coap_client.specs.declared.outstanding.Outstanding.{Outstanding}
 use Rattle.coap_client.specs.Answers.{sequence_of}
 use Rattle.coap_observe.specs.declared.notice.Notice.{Notice}
 use Rattle.coap_observe.specs.Accounts.{token_of}
-use Rattle.coap_bind.specs.Writing.{Reply, full_reply, reply_of, observed as observed_reply, notification}
+use Rattle.coap_bind.specs.Writing.{Reply, full_reply, reply_of, reply_options, observed as observed_reply, notification}
 use Rattle.coap_bind.specs.Server.{is_request}
 use Rattle.servient_world.specs.World.{client_place, server_place, Purpose, copy_of, reply_to, notice_for, other, Datagram, Act, End, answered, observed, reset, timed_out, AskEnd, WorldState}
 use Rattle.servient_world.specs.Laws.{said_of}
@@ -37,7 +37,7 @@ pub record IsReply (asks : List Outstanding) (acts : List Act) (k : ℕ) (bytes 
   pub reply : Reply
   pub code : answer.code ≡ reply.code
   pub payload : answer.payload ≡ reply.payload
-  pub options : answer.options ≡ reply.options
+  pub options : answer.options ≡ reply_options reply
   -- Observe is only in the reply to a registration, with the number 0
   pub shows : (q : ℕ) → sequence_of answer.options ≡ Some q → (q ≡ 0) × (request.registers ≡ true)
   pub why : IsWhy acts k reply

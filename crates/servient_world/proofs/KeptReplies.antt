@@ -34,7 +34,7 @@ use Rattle.coap_bind.specs.declared.server.Server.{Server}
 use Rattle.coap_bind.specs.declared.blocks.BlockUse.{BlockUse}
 use Rattle.coap_bind.specs.declared.blocks.BlockUse.TheVariants.{Whole}
 use Rattle.coap_bind.specs.Blocks.{use_of, answer_reply}
-use Rattle.coap_bind.specs.Writing.{Reply, full_reply, observed as observed_reply, head_of, coap_reply}
+use Rattle.coap_bind.specs.Writing.{Reply, full_reply, reply_options, observed as observed_reply, head_of, coap_reply}
 use Rattle.coap_bind.specs.Server.{is_request, duplicate_reply, arrival, observing_in}
 use Rattle.coap_bind.specs.Transfers.{NamesNoBlock}
 use Rattle.coap_bind.specs.Treating.{Acted, IsReplied, faulty, memory, of_blocks, acted, acted_on_whole, kept_for, sent_back, IsTreated, no_request, is_duplicate, finds_full, is_answered, is_ignored}
@@ -45,7 +45,7 @@ use Rattle.servient_world.specs.World.{client_place, copy_of, Datagram, Act, Wor
 use Rattle.servient_world.proofs.Places.{all_at}
 use Rattle.servient_world.proofs.AskLaws.{IsAskOf, HasMessage}
 use Rattle.servient_world.proofs.Holds.{IsCopy}
-use Rattle.servient_world.proofs.ReplyLaws.{full_is_message, unnumbered, answer_unnumbered, said_by_verb, observe_says}
+use Rattle.servient_world.proofs.ReplyLaws.{full_is_message, unnumbered, answer_unnumbered, said_by_verb, observed_says}
 use Rattle.servient_world.proofs.WatchLaws.{effect_says, observing_says}
 use Rattle.servient_world.proofs.Exact.{IsWhy, IsReply, IsKept, IsEmpty, reply_more, all_kept_more, same_ask}
 
@@ -94,14 +94,14 @@ again_right P NonConfirmable kept each = All-nil P
 -- a reply to the message of an ask, which is a message
 made_reply : (asks : List Outstanding) (acts : List Act) (k : ℕ) (request : Outstanding) (m : CoapMessage) (r : Reply) (next : ℕ) (bytes : List ℕ)
     → slice_get asks k ≡ Some request → IsAskOf request m → IsWellFormed (coap_reply r (head_of m) next) → bytes ≡ spelling (coap_reply r (head_of m) next) → IsWhy acts k r
-    → ((q : ℕ) → sequence_of r.options ≡ Some q → (q ≡ 0) × (request.registers ≡ true)) → IsReply asks acts k bytes
+    → ((q : ℕ) → sequence_of (reply_options r) ≡ Some q → (q ≡ 0) × (request.registers ≡ true)) → IsReply asks acts k bytes
 made_reply asks acts k request m r next bytes ask is bounds spelt why shows =
-    let head : coap_reply r (head_of m) next ≡ record { kind = Ack; code = r.code; id = m.id; token = m.token; options = r.options; payload = r.payload }
+    let head : coap_reply r (head_of m) next ≡ record { kind = Ack; code = r.code; id = m.id; token = m.token; options = reply_options r; payload = r.payload }
     = ap (λ t. coap_reply r (record { kind = request_type t; id = m.id; token = m.token }) next) is.message.kind in
     record {
       request = request;
       ask = ask;
-      answer = record { kind = Ack; code = r.code; id = m.id; token = m.token; options = r.options; payload = r.payload };
+      answer = record { kind = Ack; code = r.code; id = m.id; token = m.token; options = reply_options r; payload = r.payload };
       spells = subst (λ (x : CoapMessage). Spells x bytes) head (record { bounds = bounds; bytes_are = spelt });
       kind = refl;
       id = is.message.id;
@@ -149,7 +149,7 @@ why_by_reason acts k from now m act r old new none names (acted_on_whole a said 
 
 -- what a reply says of Observe: 0, where the request registers
 abbrev pub ShowsFirst : Outstanding → Reply → Type 0
-ShowsFirst request r = (q : ℕ) → sequence_of r.options ≡ Some q → (q ≡ 0) × (request.registers ≡ true)
+ShowsFirst request r = (q : ℕ) → sequence_of (reply_options r) ≡ Some q → (q ≡ 0) × (request.registers ≡ true)
 
 shows_said : (request : Outstanding) (u : BlockUse) (o : Outcome) (said : Option ℕ) → ((n : ℕ) → said ≡ Some n → (n ≡ 0) × (request.registers ≡ true))
     → ShowsFirst request (observed_reply said (answer_reply u o))
@@ -157,7 +157,7 @@ shows_said request u o None first q e = absurd (let none = answer_unnumbered u o
 shows_said request u o (Some n) first q e =
     let is = first n refl in
     let low : n < 2 ^ 24 = let none = is.0 in omega arith in
-    let same : n ≡ q = same_Some n q (sym (observe_says n (answer_reply u o).options low) ∙ e) in
+    let same : n ≡ q = same_Some n q (sym (observed_says n (answer_reply u o) low) ∙ e) in
     (sym same ∙ is.0, is.1)
 
 replaced_there : (o : Option Watcher) (n : ℕ) → option_map (λ (w : Watcher). next_sequence w.sequence) o ≡ Some n → (w : Watcher) × (o ≡ Some w)
@@ -185,13 +185,13 @@ shows_by_reason request from now m act r old new is (acted_on_whole a said b bod
     absurd (let acts_alone = no_block_wants m is.names in cc)
 shows_by_reason request from now m act r old new is (memory same none stays) absent q e =
     let none_said = unnumbered Memory in
-    absurd (let wrong : None ≡ Some q = sym none_said ∙ subst (λ (x : Reply). sequence_of x.options ≡ Some q) same e in cc)
+    absurd (let wrong : None ≡ Some q = sym none_said ∙ subst (λ (x : Reply). sequence_of (reply_options x) ≡ Some q) same e in cc)
 shows_by_reason request from now m act r old new is (acted a said made wants what code place watches same) absent q e =
     shows_said request (use_of now m.code (observing_in m) (what_is_asked m)) a.outcome said
     (shows_watched request from m.token (effect_of (observing_of m.code (what_is_asked m).observe) a.outcome a.target) old new said watches
     (λ target does. is.observes (observing_says m.code (what_is_asked m).observe (effect_says (observing_of m.code (what_is_asked m).observe) a.outcome a.target target does).0))
     (λ w there reg. absent a w made there reg)) q
-    (subst (λ (x : Reply). sequence_of x.options ≡ Some q) same e)
+    (subst (λ (x : Reply). sequence_of (reply_options x) ≡ Some q) same e)
 
 -- the message of a copy
 message_of : (w : WorldState) (d : Datagram) (k : ℕ) (m : CoapMessage) → (copy : IsCopy w.asks d k) → All HasMessage w.asks → Spells m d.bytes → IsAskOf copy.request m

@@ -1,5 +1,5 @@
 -- What replies and notifications say of Observe (RFC 7641, section 2), and replies to what names no block.
-use Rattle.std.proofs.Common.{◌≡◌, ℕ, ◌/◌, ◌%◌, ◌<◌, ◌≤◌, ◌^◌, ◌∙◌, Bool, true, false, cond, Option, Some, None, List, [], ◌∷◌, ◌++◌, length, option_map, inr, refl, sym, ap, arith}
+use Rattle.std.proofs.Common.{◌≡◌, ℕ, ◌<◌, ◌≤◌, ◌^◌, ◌∙◌, Bool, true, false, cond, Option, Some, None, List, [], ◌∷◌, ◌++◌, length, option_map, inr, refl, sym, ap, arith}
 use Rattle.std.specs.Prelude.{◌==◌, nat_lt, nat_le, if◌then◌else◌}
 use Rattle.std.specs.Option.{option_map_or}
 use Rattle.std.proofs.lemmas.Bool.Decides.{nat_tests}
@@ -8,6 +8,7 @@ use Rattle.coap_msg.specs.declared.message.RequestType.{RequestType}
 use Rattle.coap_msg.specs.declared.message.RequestType.TheVariants.{Confirmable, NonConfirmable}
 use Rattle.coap_msg.specs.Grammar.{CoapMessage, CoapOption, IsWellFormed}
 use Rattle.coap_msg.specs.Numbers.{number_of, number_bytes}
+use Rattle.coap_msg.proofs.NumberValues.{number_is_read, short_length}
 use Rattle.coap_msg.specs.Opts.{segment_options}
 use Rattle.thing_ops.specs.declared.outcome.Outcome.{Outcome}
 use Rattle.thing_ops.specs.declared.verb.Verb.{Verb}
@@ -26,34 +27,31 @@ use Rattle.coap_bind.specs.declared.observing.Observing.TheVariants as observing
 use Rattle.coap_bind.specs.Blocks.{block2_of, use_of, with_block, option_of, portion_of, most_bytes, reply_with, answer_reply}
 use Rattle.coap_bind.specs.Server.{observing_in}
 use Rattle.coap_bind.specs.Transfers.{NamesNoBlock}
-use Rattle.coap_bind.specs.Writing.{Reply, full_reply, long_reply, whole_reply, reply_of, place_of, text_format, format_options, sequence_bytes, reply_id, coap_reply, notification}
-use Rattle.coap_bind.proofs.LengthLaws.{sequence_value_at}
+use Rattle.coap_bind.specs.Writing.{Reply, full_reply, long_reply, whole_reply, reply_of, place_of, text_format, format_options, etag_options, reply_options, observed, reply_id, coap_reply, notification}
 use Rattle.servient_world.specs.Laws.{blocks_for}
 
 -- ---- numbers
-
-number_at : (n : ℕ) (b c d : Bool) → nat_lt n 65536 ≡ b → nat_lt n 1 ≡ c → nat_lt n 256 ≡ d → n < 2 ^ 24
-    → number_of (cond b (cond c [] (cond d (n ∷ []) ((n / 256) ∷ (n % 256) ∷ []))) ((n / 65536) ∷ (n / 256 % 256) ∷ (n % 256) ∷ [])) ≡ n
-number_at n true true d e f g low = let none : n ≡ 0 = grind (arith, nat_tests) in sym none
-number_at n true false true e f g low = omega arith
-number_at n true false false e f g low = omega arith
-number_at n false c d e f g low = omega arith
-
-number_of_bytes : (n : ℕ) → n < 2 ^ 24 → number_of (sequence_bytes n) ≡ n
-number_of_bytes n low = number_at n (nat_lt n 65536) (nat_lt n 1) (nat_lt n 256) refl refl refl low
 
 within_at : (value : List ℕ) (b : Bool) → nat_le (length value) 3 ≡ b → length value ≤ 3 → cond b (Some (number_of value)) None ≡ Some (number_of value)
 within_at value true e short = refl
 within_at value false e short = absurd (let long : nat_le (length value) 3 ≡ true = grind (arith, nat_tests) in cc)
 
-shown_number : (n : ℕ) → n < 2 ^ 24 → number_within (sequence_bytes n) ≡ Some n
+shown_number : (n : ℕ) → n < 2 ^ 24 → number_within (number_bytes n) ≡ Some n
 shown_number n low =
-    within_at (sequence_bytes n) (nat_le (length (sequence_bytes n)) 3) refl (sequence_value_at n (nat_lt n 65536))
-    ∙ ap (λ (k : ℕ). Some k) (number_of_bytes n low)
+    within_at (number_bytes n) (nat_le (length (number_bytes n)) 3) refl (short_length n low) ∙ ap (λ (k : ℕ). Some k) (number_is_read n (omega arith))
 
 -- options that begin with Observe say its number
-pub observe_says : (n : ℕ) (os : List CoapOption) → n < 2 ^ 24 → sequence_of ((OBSERVE, sequence_bytes n) ∷ os) ≡ Some n
+observe_says : (n : ℕ) (os : List CoapOption) → n < 2 ^ 24 → sequence_of ((OBSERVE, number_bytes n) ∷ os) ≡ Some n
 observe_says n os low = shown_number n low
+
+-- ETag says nothing of it
+tag_unnumbered : (version : Option ℕ) (os : List CoapOption) → sequence_of (etag_options version ++ os) ≡ sequence_of os
+tag_unnumbered None os = refl
+tag_unnumbered (Some v) os = refl
+
+-- a reply with Observe says its number
+pub observed_says : (n : ℕ) (r : Reply) → n < 2 ^ 24 → sequence_of (reply_options (observed (Some n) r)) ≡ Some n
+observed_says n r low = tag_unnumbered r.version ((OBSERVE, number_bytes n) ∷ r.options) ∙ observe_says n r.options low
 
 -- ---- replies
 
@@ -70,9 +68,10 @@ unnumbered_at true r e = refl
 unnumbered_at false r e = e
 
 -- a reply by itself has no Observe
-pub unnumbered : (o : Outcome) → sequence_of (reply_of o).options ≡ None
+pub unnumbered : (o : Outcome) → sequence_of (reply_options (reply_of o)) ≡ None
 unnumbered o =
-    unnumbered_at (nat_lt LONGEST_PAYLOAD (length (payload_of o))) (whole_reply o)
+    tag_unnumbered (reply_of o).version (reply_of o).options
+    ∙ unnumbered_at (nat_lt LONGEST_PAYLOAD (length (payload_of o))) (whole_reply o)
     (place_unnumbered (place_of o) (format_options o) (format_unnumbered (number_bytes (text_format o)) (text_of o)))
 
 -- and none where a part of the payload is given
@@ -91,9 +90,10 @@ part_unnumbered o None = place_unnumbered (place_of o) (format_options o) (forma
 part_unnumbered o (Some b) =
     place_and_block (place_of o) (format_options o) (option_of b ∷ []) (format_and_block (number_bytes (text_format o)) (text_of o) b)
 
-pub answer_unnumbered : (u : BlockUse) (o : Outcome) → sequence_of (answer_reply u o).options ≡ None
+pub answer_unnumbered : (u : BlockUse) (o : Outcome) → sequence_of (reply_options (answer_reply u o)) ≡ None
 answer_unnumbered u o =
-    unnumbered_at (nat_lt (most_bytes u o) (length (payload_of o))) (reply_with (portion_of u o) o) (part_unnumbered o (portion_of u o).block)
+    tag_unnumbered (answer_reply u o).version (answer_reply u o).options
+    ∙ unnumbered_at (nat_lt (most_bytes u o) (length (payload_of o))) (reply_with (portion_of u o) o) (part_unnumbered o (portion_of u o).block)
 
 -- ---- what names no block
 

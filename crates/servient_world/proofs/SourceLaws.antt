@@ -25,7 +25,7 @@ use Rattle.coap_observe.specs.Accounts.{place_after, last_place, token_of, IsToR
 use Rattle.coap_observe.proofs.AccountLaws.{notices_go_to_the_registered}
 use Rattle.coap_bind.specs.declared.server.Server.{Server}
 use Rattle.coap_bind.specs.Server.{SendsNext}
-use Rattle.coap_bind.specs.Writing.{Reply, notification}
+use Rattle.coap_bind.specs.Writing.{Reply, reply_options, notification}
 use Rattle.coap_bind.proofs.MessageLaws.{notifications_are_messages}
 use Rattle.servient_world.specs.World.{Emission, client_place, server_place, Purpose, copy_of, reply_to, notice_for, other, Datagram, Act, WorldState, Value, AskEnd, WorldMove, ask, due, deliver, pass, elsewhere, emit, notify, with_sent, latest, value_by, taken_by, end_by, acts_for, purpose_back, id_used, targets_of, value_after, last_value, purpose_of, notice_sent, with_notice, ClientAsks, sends_ask, refuses_ask, skips_ask, ClientDoesDue, retransmits, gives_up, waits, Comes, too_late, to_client, to_server, ComesIfSent, ComesElsewhere, comes_elsewhere, skips_end, Plays, PlaysAll}
 use Rattle.servient_world.specs.Laws.{WasRead, WasEmitted, ValuesHaveASource}
@@ -167,9 +167,9 @@ plain_back other acts emitted d = tt
 
 -- ---- what is taken
 
-read_of : (acts : List Act) (k : ℕ) (r : Reply) (payload : List ℕ) → IsWhy acts k r → (r.options ≡ [] → ⊥) → payload ≡ r.payload → WasRead acts (record { ask = k; place = 0; payload = payload })
-read_of acts k r payload (inl full) some is = absurd (some (ap (λ (x : Reply). x.options) full))
-read_of acts k r payload (inr (inl none)) some is = absurd (some (ap (λ (x : Reply). x.options) none))
+read_of : (acts : List Act) (k : ℕ) (r : Reply) (payload : List ℕ) → IsWhy acts k r → (reply_options r ≡ [] → ⊥) → payload ≡ r.payload → WasRead acts (record { ask = k; place = 0; payload = payload })
+read_of acts k r payload (inl full) some is = absurd (some (ap (λ (x : Reply). reply_options x) full))
+read_of acts k r payload (inr (inl none)) some is = absurd (some (ap (λ (x : Reply). reply_options x) none))
 read_of acts k r payload (inr (inr act)) some is =
     record { act = act.0; made = act.1; for_it = act.2; first = refl; payload = is ∙ ap (λ (x : Reply). x.payload) act.4 }
 
@@ -182,7 +182,7 @@ source_of w i d p m q payload y (back_on k is sent) says spells e same =
     let right = sent.reply in
     let one : m ≡ right.answer = at_most_one_message m right.answer d.bytes spells right.spells in
     let shown = notified_says (at_moment w.moment w.client) d.from m q (value_says (at_moment w.moment w.client) d.from m q e).0 in
-    let options : m.options ≡ right.reply.options = ap (λ (y : CoapMessage). y.options) one ∙ right.options in
+    let options : m.options ≡ reply_options right.reply = ap (λ (y : CoapMessage). y.options) one ∙ right.options in
     let read = read_of w.acts k right.reply payload right.why (λ none. no_options m.options q shown.1 (options ∙ none)) (same ∙ (ap (λ (y : CoapMessage). y.payload) one ∙ right.payload)) in
     subst (λ (x : Purpose). All (IsSource w.acts w.emitted) (value_by x payload)) (sym is)
     (All-push (IsSource w.acts w.emitted) [] (record { ask = k; place = 0; payload = payload }) (All-nil (IsSource w.acts w.emitted)) (inl read))
@@ -204,7 +204,7 @@ source_of w i d p m q payload y (notice_of k q0 place is n_of) says spells e sam
 told_source : (w : WorldState) (i : ℕ) (d : Datagram) (p : Purpose) (m : CoapMessage) (n : News) → Sourced w → IsFor w i d p → SaysIt w.acts w.emitted d p → Spells m d.bytes
     → IsNews (meaning (at_moment w.moment w.client) d.from m) m n → All (IsSource w.acts w.emitted) (taken_by p n)
 told_source w i d p m (news.Value payload) y it says spells is = source_of w i d p m is.0 payload.now y it says spells is.1 is.2
-told_source w i d p m (news.Answered code payload) y it says spells is = All-nil (IsSource w.acts w.emitted)
+told_source w i d p m (news.Answered code block payload) y it says spells is = All-nil (IsSource w.acts w.emitted)
 told_source w i d p m news.Old y it says spells is = All-nil (IsSource w.acts w.emitted)
 told_source w i d p m news.Reset y it says spells is = All-nil (IsSource w.acts w.emitted)
 told_source w i d p m news.Nothing y it says spells is = All-nil (IsSource w.acts w.emitted)

@@ -161,7 +161,7 @@ taken_news : (w : WorldState) (t : State) (ends : List AskEnd) (p : Purpose) (mm
     → ((q : ℕ) (payload : List ℕ) → mm ≡ meant.Value q → Valued (record w { client = t; ends = ends; taken = w.taken ++ value_by p payload })) → Valued w
     → Valued (record w { client = t; ends = ends; taken = w.taken ++ taken_by p n })
 taken_news w t ends p mm m (news.Value payload) is back each v = each is.0 payload.now is.1
-taken_news w t ends p mm m (news.Answered code payload) is back each v = nothing_taken w t ends (back (λ q e. let wrong : meant.Response ≡ meant.Value q = sym is.0 ∙ e in cc)) v
+taken_news w t ends p mm m (news.Answered code block payload) is back each v = nothing_taken w t ends (back (λ q e. let wrong : meant.Response ≡ meant.Value q = sym is.0 ∙ e in cc)) v
 taken_news w t ends p mm m news.Old is back each v = nothing_taken w t ends (back (λ q e. let wrong : meant.Old ≡ meant.Value q = sym is ∙ e in cc)) v
 taken_news w t ends p mm m news.Reset is back each v = nothing_taken w t ends (back (λ q e. let wrong : meant.Reset ≡ meant.Value q = sym is ∙ e in cc)) v
 taken_news w t ends p mm m news.Nothing (inl is) back each v = nothing_taken w t ends (back (λ q e. let wrong : meant.Received ≡ meant.Value q = sym is ∙ e in cc)) v

@@ -23,7 +23,7 @@ world_of client = record {
 
 -- GET of the root, with Observe 0
 abbrev pub observe_root : Asking
-observe_root = record { code = 1; path = []; observe = Some true; format = None; payload = [] }
+observe_root = record { code = 1; path = []; observe = Some true; format = None; block1 = None; block2 = None; payload = [] }
 
 -- the client asks that, and its datagram comes to the server
 abbrev pub ask_that_comes : List WorldMove

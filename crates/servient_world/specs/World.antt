@@ -136,15 +136,21 @@ with_sent w from to purpose said = record w { sent = w.sent ++ sent_now w.moment
 
 -- ---- the client
 
+-- What it may ask here: its body goes whole, and it asks for no further block of a response. Blocks aren't of this world.
+pub record MayAskWhole (a : Asking) : Type 0 where
+  pub may : MayAsk a
+  pub block1 : a.block1 ≡ None
+  pub block2 : a.block2 ≡ None
+
 -- it asks
 pub data ClientAsks (a : Asking) (w v : WorldState) : Type 0 where
-  sends_ask : (n : ℕ) (old new : List ℕ) (t : State) → MayAsk a → (asks : Asks (at_moment w.moment w.client) server_place a n old new t)
+  sends_ask : (n : ℕ) (old new : List ℕ) (t : State) → MayAskWhole a → (asks : Asks (at_moment w.moment w.client) server_place a n old new t)
       → v ≡ with_sent (record w { client = t; asks = w.asks ++ request_for (at_moment w.moment w.client) server_place a asks.id ∷ [] })
       client_place server_place (copy_of (length w.asks)) (take n new ∷ [])
       → ClientAsks a w v
   refuses_ask : (f : ClientFault) → IsRefused (at_moment w.moment w.client) server_place a f
       → v ≡ record w { client = at_moment w.moment w.client } → ClientAsks a w v
-  skips_ask : ¬ (MayAsk a) → v ≡ w → ClientAsks a w v
+  skips_ask : ¬ (MayAskWhole a) → v ≡ w → ClientAsks a w v
 
 -- it does what is due
 pub data ClientDoesDue (w v : WorldState) : Type 0 where
@@ -159,7 +165,7 @@ pub data ClientDoesDue (w v : WorldState) : Type 0 where
 
 -- the ask that was outstanding before this news and isn't afterwards ended so
 abbrev pub end_by : Option Outstanding → Option Outstanding → ℕ → News → List AskEnd
-end_by (Some o) None k (news.Answered code payload) = record { ask = k; end = answered code payload.now } ∷ []
+end_by (Some o) None k (news.Answered code block payload) = record { ask = k; end = answered code payload.now } ∷ []
 end_by (Some o) None k (news.Value payload) = record { ask = k; end = observed } ∷ []
 end_by (Some o) None k news.Reset = record { ask = k; end = reset } ∷ []
 end_by (Some o) None k news.Old = []
@@ -176,7 +182,7 @@ value_by other payload = []
 
 abbrev pub taken_by : Purpose → News → List Value
 taken_by p (news.Value payload) = value_by p payload.now
-taken_by p (news.Answered code payload) = []
+taken_by p (news.Answered code block payload) = []
 taken_by p news.Old = []
 taken_by p news.Reset = []
 taken_by p news.Nothing = []

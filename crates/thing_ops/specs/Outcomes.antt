@@ -1,5 +1,5 @@
 -- How each outcome is answered: its status over HTTP (RFC 9110, section 15), its code over CoAP (RFC 7252, section
--- 5.9) and its payload.
+-- 5.9), its payload and its version.
 use Rattle.std.specs.Prelude.{ℕ, ◌+◌, ◌*◌, List, [], ◌++◌, codes, Option, Some, None, IsSome}
 use Rattle.std.specs.Fmt.{decimal}
 use Rattle.thing_ops.specs.declared.outcome.Outcome.{Outcome}
@@ -103,3 +103,9 @@ plain_word nothing = []
 
 abbrev pub word_of : Outcome → List ℕ
 word_of o = plain_word (answer_of o).payload
+
+-- the version of the property that was read, whose entity tag is said (RFC 9110, section 8.8.3; RFC 7252, section 5.10.6)
+abbrev pub version_of : Outcome → Option ℕ
+version_of (outcome.Content value tag) = tag
+version_of (outcome.NotModified tag) = Some tag
+version_of o = None

@@ -1,7 +1,7 @@
 //! The outcomes of requests.
 
-ghost use Rattle.std.specs.Prelude.{◌≡◌, option_map};
-ghost use Rattle.thing_ops.specs.Outcomes.{text_of};
+ghost use Rattle.std.specs.Prelude.{◌≡◌, ◌<◌, ◌^◌, option_map, IfSome};
+ghost use Rattle.thing_ops.specs.Outcomes.{text_of, version_of};
 
 use crate::{Allow, NoMemory, Segments};
 use wot_json::{Bytes, Text};
@@ -96,5 +96,27 @@ impl Outcome {
             | Outcome::Listed(text) => Some(text.as_slice()),
             _ => None,
         }
+    }
+    /// The version of the property that was read, whose entity tag is said; the reply has none where there is none.
+    pub fn version(&self) -> Option<u32>
+        ensures version { result ≡ version_of self.now }
+        ensures bound { IfSome result (λ n. n < 2 ^ 32) }
+    {
+        match self {
+            Outcome::Content { text: _, tag } => in_range(*tag),
+            Outcome::NotModified(tag) => Some(*tag),
+            _ => None,
+        }
+    }
+}
+
+/// The same version. For the proof: its range is known once it is read.
+fn in_range(version: Option<u32>) -> Option<u32>
+    ensures same { result ≡ version }
+    ensures bound { IfSome result (λ n. n < 2 ^ 32) }
+{
+    match version {
+        Some(version) => Some(version),
+        None => None,
     }
 }

@@ -75,6 +75,16 @@ impl Segments {
         Ok(())
     }
 
+    /// A copy of the path, in memory of its own.
+    pub fn copied(&self, alloc: Global) -> Result<Segments, NoMemory>
+        ensures { IfOk result (λ s. s ≡ self.now) }
+    {
+        Ok(Segments {
+            bytes: self.bytes.as_slice().to_vec(alloc)?,
+            ends: SmallVec::from_slice(alloc, self.ends.as_slice())?,
+        })
+    }
+
     /// How many segments there are.
     pub fn len(&self) -> usize
         ensures { result ≡ length self.now }

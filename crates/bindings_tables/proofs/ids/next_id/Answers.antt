@@ -5,4 +5,4 @@ use Rattle.bindings_tables.proofs.ids.next_id.Goals as goal
 
 pub answer-size-requires-clause-room : goal.answer-size-requires-clause-room
 answer-size-requires-clause-room c =
-    λ observe watchers watches. replies_fit NotFound observe c.in-Ask.ticket.blocks c.in-Ask.ticket.request.head c.datagram.new.self.next_id c.in-Ask.ensures.ticket.token tt c.in-Ask.ensures.ticket.blocks
+    replies_fit c.in-Ask.ticket NotFound _ c.datagram.new.self c.in-Ask.ensures.ticket tt

@@ -5,4 +5,4 @@ use Rattle.bindings_tables.proofs.transfers.taken.Goals as goal
 
 pub answer-size-requires-clause-room : goal.answer-size-requires-clause-room
 answer-size-requires-clause-room c =
-    λ observe watchers watches. replies_fit Changed observe c.in-Ask.ticket.blocks c.in-Ask.ticket.request.head c.datagram.new.self.next_id c.in-Ask.ensures.ticket.token tt c.in-Ask.ensures.ticket.blocks
+    replies_fit c.in-Ask.ticket Changed _ c.datagram.new.self c.in-Ask.ensures.ticket tt

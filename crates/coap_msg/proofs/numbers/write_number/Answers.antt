@@ -1,5 +1,5 @@
 use Rattle.std.proofs.Common.{arith}
-use Rattle.coap_msg.proofs.BlockValues.{one_written, two_written}
+use Rattle.coap_msg.proofs.NumberValues.{one_written, two_written}
 use Rattle.coap_msg.proofs.numbers.write_number.Goals as goal
 
 pub returns-then-number-lt256 : goal.returns-then-number-lt256

@@ -23,4 +23,5 @@ returns-then-found-head-clause-ok c =
       target = c.parts_at.ensures.target;
       newer = c.parts_at.ensures.newer;
       fields = c.parts_at.ensures.fields;
+      lines = c.parts_at.ensures.lines;
     })

@@ -1,9 +1,15 @@
-use Rattle.std.proofs.Common.{refl}
+use Rattle.std.proofs.Common.{refl, ap}
+use Rattle.consuming.specs.Blockwise.{Transferred}
+use Rattle.consuming.proofs.ChoiceLaws.{askable_may_be_asked}
 use Rattle.consuming.proofs.HearingLaws.{request_sent, request_refused}
 use Rattle.consuming.proofs.coap_waiting.CoapWaiting.send.Goals as goal
 
+pub request-requires-clause-ask : goal.request-requires-clause-ask
+request-requires-clause-ask g c = askable_may_be_asked _ _ _ _ c.ask-ask.ensures c.requires.askable c.requires.blocks
+
 pub returns-in-Ok-clause-sends : goal.returns-in-Ok-clause-sends
-returns-in-Ok-clause-sends g c = request_sent _ _ _ _ _ _ _ _ (g.N.Net.seen c.args.net.now) (g.N.Net.seen c.datagram.new.self) c.in-Ok.ensures.ok refl refl c.datagram.ensures
+returns-in-Ok-clause-sends g c = request_sent c.args.chosen.now c.args.self.now _ c.args.blocks _ _ _ _ _ _ (g.N.Net.seen c.args.net.now) (g.N.Net.seen c.datagram.new.self) c.ask-ask.ensures c.in-Ok.ensures.ok refl
+    (ap (λ (t : Transferred). record c.args.self.now { client = c.request.new.self; transfer = t }) c.note_asked.ensures) c.datagram.ensures
 
 pub returns-in-Err-clause-sends : goal.returns-in-Err-clause-sends
-returns-in-Err-clause-sends g c = request_refused _ _ _ _ (g.N.Net.seen c.args.net.now) c.requires.new c.in-Err.ensures.fault
+returns-in-Err-clause-sends g c = request_refused c.args.chosen.now c.args.self.now c.args.blocks _ _ (g.N.Net.seen c.args.net.now) c.ask-ask.ensures c.in-Err.ensures.fault

@@ -28,10 +28,9 @@ answer-size-requires-clause-code g c =
 pub answer-size-requires-clause-room : goal.answer-size-requires-clause-room
 answer-size-requires-clause-room g c =
     let heard = c.in-Ask.ensures.ok in
-    λ observe watchers watches. replies_fit c.perform-outcome.result observe c.in-Ask.ticket.blocks c.in-Ask.ticket.request.head c.datagram.new.self.next_id c.in-Ask.ensures.ticket.token
+    replies_fit c.in-Ask.ticket c.perform-outcome.result _ c.datagram.new.self c.in-Ask.ensures.ticket
     (c.perform-outcome.ensures.sendable
     (asked_short c.args.from c.args.bytes.now c.args.self.now.moment heard.heard c.args.self.now.coap c.datagram.new.self (plain_ask c.in-Ask.ask) c.in-Ask.ticket heard.hears heard.tells.0)).1
-    c.in-Ask.ensures.ticket.blocks
 
 pub returns-in-Nothing : goal.returns-in-Nothing
 returns-in-Nothing g c =

@@ -1,0 +1,83 @@
+//! The Block2 options of a response (RFC 7959, section 2.1).
+
+ghost use Rattle.std.specs.Prelude.{◌≡◌, ◌≤◌, ◌<◌, ◌^◌, length, IfSome};
+ghost use Rattle.coap_msg.specs.Blocks.{IsBlock, block_of as block_of_value};
+ghost use Rattle.coap_msg.specs.Numbers.{number_of};
+ghost use Rattle.coap_client.specs.Answers.{block2_in as block2_in_values, block2_of as block2_of_options, block2_values};
+ghost use Rattle.coap_client.specs.Finding.{found_values};
+
+use coap_msg::{BLOCK2, Block, Options, read_block};
+
+/// Which block of its body a response has, where its options say one.
+pub fn block2_of(options: &Options<'_>) -> Option<Block>
+    ensures ok { result ≡ block2_of_options options.now }
+    ensures block { IfSome result IsBlock }
+{
+    match block2_in(options) {
+        Some(block) => block,
+        None => None,
+    }
+}
+
+/// What is read of the Block2 options: that there is none, or the block that one says; nothing of one that says none, nor
+/// of several.
+pub fn block2_in(options: &Options<'_>) -> Option<Option<Block>>
+    ensures ok { result ≡ block2_in_values (block2_values options.now) }
+    ensures block { IfSome result (λ block. IfSome block IsBlock) }
+{
+    let mut found = None;
+    for (number, value) in options.iter() {
+        if number == BLOCK2 {
+            if found.is_some() {
+                return None;
+            }
+            found = Some(value);
+        }
+    }
+    block_in(found)
+}
+
+/// What is read of the value of the only Block2 option, where there is one.
+fn block_in(value: Option<&[u8]>) -> Option<Option<Block>>
+    ensures ok { result ≡ block2_in_values (found_values value.entry) }
+    ensures block { IfSome result (λ block. IfSome block IsBlock) }
+{
+    match value {
+        Some(value) => match block_of(value) {
+            Some(block) => Some(Some(block)),
+            None => None,
+        },
+        None => Some(None),
+    }
+}
+
+/// The block that a value says.
+fn block_of(value: &[u8]) -> Option<Block>
+    ensures ok { result ≡ block_of_value value.now }
+    ensures block { IfSome result IsBlock }
+{
+    if value.len() > 3 {
+        return None;
+    }
+    fits_24_bits(value);
+    read_block(value)
+}
+
+/// For the proof: what up to three bytes say has 24 bits.
+fn fits_24_bits(value: &[u8])
+    requires { length value.now ≤ 3 }
+    ensures { number_of value.now < 2 ^ 24 }
+{
+    match value {
+        [] => {}
+        [low] => {
+            let _low = *low;
+        }
+        [high, low] => {
+            let (_high, _low) = (*high, *low);
+        }
+        [high, middle, low, ..] => {
+            let (_high, _middle, _low) = (*high, *middle, *low);
+        }
+    }
+}

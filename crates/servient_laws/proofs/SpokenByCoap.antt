@@ -217,8 +217,8 @@ read_by_coap q can =
           (ap (λ (vs : List (List ℕ)). accept_of (option_and_then (number_within accept) (slice_get vs 0))) (others ACCEPT refl refl refl refl) ∙ rest.accept_is)
           (ap (λ (vs : List (List ℕ)). format_of (option_and_then (number_within content_format) (slice_get vs 0))) (others CONTENT_FORMAT refl refl refl refl) ∙ rest.format_is can.format)
           (ap (λ (counts : Bool). conditions_by counts all) (counts_by get (number_under observe all) observes)
-              ∙ conditions_read get c behind can.conditions.matched can.conditions.known can.conditions.named (counted q.verb c can.conditions.said)
-              (other_values IF_MATCH q.path os refl ∙ rest.if_match) (other_values ETAG q.path os refl ∙ rest.etag) (other_values IF_NONE_MATCH q.path os refl ∙ rest.if_none_match));
+          ∙ conditions_read get c behind can.conditions.matched can.conditions.known can.conditions.named (counted q.verb c can.conditions.said)
+          (other_values IF_MATCH q.path os refl ∙ rest.if_match) (other_values ETAG q.path os refl ∙ rest.etag) (other_values IF_NONE_MATCH q.path os refl ∙ rest.if_none_match));
     }
   where
     is_asked : (n : ℕ) → 0 < n → n < 32 → (nat_lt 0 n && nat_lt n 32) ≡ true

@@ -95,7 +95,7 @@ coap_message q = record {
   id = 0;
   token = [];
   options = match_options q.conditions.if_match ++ (tag_options ETAG q.conditions.known.list ++ (absent_options q.conditions.absent
-  ++ (segment_options URI_PATH q.path ++ (format_options q.format ++ accept_options q.accept.json q.accept.td))));
+      ++ (segment_options URI_PATH q.path ++ (format_options q.format ++ accept_options q.accept.json q.accept.td))));
   payload = q.body;
 }
 

@@ -125,9 +125,13 @@ fn put_histories(
 /// The lines of a table.
 fn put_table(text: &mut String, alloc: Global, table: &str, lines: &str) -> Result<(), AllocError> {
     match table {
-        "exchanges" | "watchers" | "datagrams" | "observations" | "blocks" | "connections" | "tagged" => {
-            put_histories(text, alloc, table, lines)
-        }
+        "exchanges"
+        | "watchers"
+        | "datagrams"
+        | "observations"
+        | "blocks"
+        | "connections"
+        | "tagged" => { put_histories(text, alloc, table, lines) }
         _ => put_rows(text, alloc, table, lines),
     }
 }

@@ -1,5 +1,5 @@
 -- How long replies and notifications are, and that they fit their room.
-use Rattle.std.proofs.Common.{◌≡◌, ℕ, ◌+◌, ◌*◌, ◌-◌, ◌/◌, ◌%◌, ◌≤◌, ◌<◌, ◌⊎◌, ◌∙◌, ◌||◌, Bool, true, false, inl, inr, Option, Some, None, List, [], ◌∷◌, ◌++◌, length, drop, refl, sym, ap, subst, arith, append_assoc, length-append, length-take, length-drop}
+use Rattle.std.proofs.Common.{◌≡◌, ℕ, ◌+◌, ◌*◌, ◌-◌, ◌≤◌, ◌<◌, ◌⊎◌, ◌∙◌, ◌||◌, Bool, true, false, inl, inr, Option, Some, None, List, [], ◌∷◌, ◌++◌, length, drop, refl, sym, ap, subst, arith, append_assoc, length-append, length-take, length-drop}
 use Rattle.std.specs.Prelude.{nat_lt, All, IfSome, Result, Ok, Err, OnErr, if◌then◌else◌}
 use Rattle.std.proofs.lemmas.List.{append-nil}
 use Rattle.std.specs.Result.{IsOk}
@@ -31,11 +31,8 @@ use Rattle.coap_bind.specs.declared.observing.Observing.{Observing}
 use Rattle.coap_bind.specs.declared.observing.Observing.TheVariants as observing
 use Rattle.coap_bind.specs.declared.observing.Effect.{Effect}
 use Rattle.coap_bind.specs.declared.observing.Effect.TheVariants as effect
-use Rattle.coap_bind.specs.declared.head.OpenAsk.{OpenAsk}
-use Rattle.coap_bind.specs.declared.server.Server.{Server}
 use Rattle.coap_observe.specs.Watching.{Watching}
 use Rattle.coap_bind.specs.Observing.{effect_of, is_memory, may_notify, registering, Watches, leaves, cancels, registers}
-use Rattle.coap_bind.specs.Telling.{HasRoom, MayAnswer}
 use Rattle.coap_bind.specs.Laws.{HasShortPlace, RepliesFit}
 
 -- ---- one option
@@ -312,9 +309,9 @@ reply_at u o observe head next false e token place fits unobserved =
 
 -- what is no notification registers nobody
 never_registers : (wants : Observing) (o : Outcome) (target : Option ℕ) (t : ℕ) → may_notify o ≡ false → effect_of wants o target ≡ effect.Registers t → ⊥
-never_registers observing.Unchanged o target t no is = absurd cc
-never_registers observing.Registers o target t no is = absurd (let wrong : effect.Nothing ≡ effect.Registers t = sym (ap (λ (b : Bool). if b then registering target else effect.Nothing) no) ∙ is in cc)
-never_registers observing.Deregisters o target t no is = at (is_memory o) is
+never_registers observing.Unchanged o target t quiet is = absurd cc
+never_registers observing.Registers o target t quiet is = absurd (let wrong : effect.Nothing ≡ effect.Registers t = sym (ap (λ (b : Bool). if b then registering target else effect.Nothing) quiet) ∙ is in cc)
+never_registers observing.Deregisters o target t quiet is = at (is_memory o) is
   where
     at : (b : Bool) → (if b then effect.Nothing else effect.Cancels) ≡ effect.Registers t → ⊥
     at true e = absurd cc
@@ -329,8 +326,8 @@ no_sequence does from token old new observe (registers target r is did says) nev
 pub replies_fit : RepliesFit
 replies_fit ask o target s may place observe watchers watches =
     reply_at ask.blocks o observe ask.request.head s.next_id (nat_lt (most_bytes ask.blocks o) (length (payload_of o))) refl may.token place may.blocks
-    (λ no. no_sequence (effect_of ask.observing o target) ask.from ask.request.head.token s.watchers watchers observe watches
-    (λ t. never_registers ask.observing o target t no))
+    (λ quiet. no_sequence (effect_of ask.observing o target) ask.from ask.request.head.token s.watchers watchers observe watches
+    (λ t. never_registers ask.observing o target t quiet))
 
 -- ---- which of both a reply is
 

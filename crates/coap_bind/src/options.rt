@@ -1,6 +1,6 @@
 //! Writing the options of replies and of notifications, one part after another.
 
-ghost use Rattle.std.specs.Prelude.{◌≡◌, ◌≤◌, ◌++◌, [], ◌∷◌, Some, length, slice_index_or, All, OnOk};
+ghost use Rattle.std.specs.Prelude.{◌≡◌, ◌≤◌, ◌++◌, [], ◌∷◌, Some, length, slice_index_or, All, OnOk, if◌then◌else◌};
 ghost use Rattle.coap_msg.specs.Blocks.{IsBlock, block_bytes};
 ghost use Rattle.coap_msg.specs.Grammar.{largest_number};
 ghost use Rattle.coap_msg.specs.Numbers.{number_bytes};

@@ -1,11 +1,11 @@
 -- Values of Block options that are written and read again, and the sizes of blocks.
-use Rattle.std.proofs.Common.{◌≡◌, ℕ, zero, suc, ◌+◌, ◌*◌, ◌/◌, ◌%◌, ◌^◌, ◌<◌, ◌≤◌, Bool, true, false, List, length, Option, Some, None, refl, ap, sym, ◌∙◌, arith}
+use Rattle.std.proofs.Common.{◌≡◌, ℕ, zero, suc, ◌+◌, ◌*◌, ◌/◌, ◌%◌, ◌^◌, ◌<◌, ◌≤◌, Bool, true, false, List, length, Option, Some, None, refl, ap, ◌∙◌, arith}
 use Rattle.std.specs.Prelude.{◌==◌, nat_lt, if◌then◌else◌}
 use Rattle.std.proofs.lemmas.Bool.Decides.{nat_tests}
 use Rattle.coap_msg.specs.declared.block.Block.{Block}
 use Rattle.coap_msg.specs.Numbers.{number_of}
 use Rattle.coap_msg.proofs.NumberValues.{number_is_read, short_length}
-use Rattle.coap_msg.specs.Blocks.{IsBlock, block_number, block_bytes, block_in, block_of, BlocksAreReadAgain, ReadBlocksAreBlocks}
+use Rattle.coap_msg.specs.Blocks.{IsBlock, block_number, block_bytes, block_in, BlocksAreReadAgain, ReadBlocksAreBlocks}
 
 -- the seven sizes, from 16 to 1,024 bytes
 pub sizes : (z : ℕ) → z ≤ 6 → (16 * 2 ^ z % 18446744073709551616 ≡ 2 ^ (z + 4)) × (16 ≤ 2 ^ (z + 4)) × (2 ^ (z + 4) ≤ 1024)

@@ -1,8 +1,8 @@
 -- The tag of a version is read as that version.
-use Rattle.std.proofs.Common.{◌≡◌, ◌<◌, ◌≤◌, ℕ, Bool, true, false, List, ◌∷◌, length, Option, Some, None, refl, sym, ap, subst, ◌∙◌, arith}
+use Rattle.std.proofs.Common.{◌≡◌, ◌<◌, ◌≤◌, ℕ, Bool, true, false, List, ◌∷◌, length, Some, None, refl, sym, ap, ◌∙◌, arith}
 use Rattle.std.specs.Prelude.{◌==◌, ◌&&◌, not, nat_le, if◌then◌else◌}
 use Rattle.std.proofs.lemmas.Bool.Decides.{nat_tests}
-use Rattle.coap_msg.specs.Numbers.{number_of, number_bytes}
+use Rattle.coap_msg.specs.Numbers.{number_of}
 use Rattle.coap_msg.proofs.NumberValues.{first_byte, number_is_read}
 use Rattle.coap_opts.specs.Reading.{version_of, TagsAreReadAgain}
 

@@ -21,7 +21,7 @@ unwrap-requires-2 c =
     let F : WrittenOptions → Type 0 = λ w. length (options_spelling 0 (w.list ++ (observe_options (Some c.args.notice.now.sequence) ++ (CONTENT_FORMAT, number_bytes JSON) ∷ []))) ≤ w.room in
     let room : F (record { list = []; room = 1152 }) = omega arith in
     let wrote = (options_written c.put_notification_options.result _ _ _ c.put_notification_options.ensures (subst F (sym c.on-options.ensures) room)).1 in
-    let L : List CoapOption → Type 0 = λ os. length (options_spelling 0 os) ≤ 9 in
+    let L : List CoapOption → Type 0 = λ os. length (options_spelling 0 os) ≤ 16 in
     let start = ap (λ (w : WrittenOptions). w.list ++ (observe_options (Some c.args.notice.now.sequence) ++ (CONTENT_FORMAT, number_bytes JSON) ∷ [])) c.on-options.ensures in
     let options : L c.put_notification_options.new.options.list = subst L (sym (wrote ∙ start)) few in
     let token : length (take c.args.notice.now.token_length c.args.notice.now.token) ≤ 8 = let n = c.requires.notice.token in let l = length-take c.args.notice.now.token_length c.args.notice.now.token in omega arith in

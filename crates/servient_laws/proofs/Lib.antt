@@ -21,7 +21,10 @@ mod UntouchedLaws
 mod PayloadLaws
 mod HeadLines
 mod SpokenTargets
+mod SpokenOptions
 mod SpokenByCoap
+mod SpokenBytes
+mod SpokenTags
 mod SpokenHeads
 mod SpokenByHttp
 mod InMemoryLaws

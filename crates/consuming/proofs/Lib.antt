@@ -3,3 +3,4 @@ pub mod HearingLaws
 pub mod AwaitingLaws
 pub mod AskingLaws
 pub mod ChoiceLaws
+pub mod FailureLaws

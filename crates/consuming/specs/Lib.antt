@@ -6,3 +6,4 @@ pub mod HttpWaiting
 pub mod CoapWaiting
 pub mod Waiting
 pub mod Consuming
+pub mod Failing

@@ -3,7 +3,7 @@
 //! `consume` is the relation `Consumes` of `specs/Consuming.antt`: which acts are done to the network, which events are
 //! taken from it, what is printed, and how it ends. What an answer comes to is `specs/Answers.antt`; what each event does
 //! is `specs/HttpWaiting.antt` and `specs/CoapWaiting.antt`; how what is handed in and what comes back travel in blocks over
-//! CoAP is `specs/Blockwise.antt`.
+//! CoAP is `specs/Blockwise.antt`. A law says that an operation fails by the network alone (`specs/Failing.antt`).
 //!
 //! ```text
 //! let operation = Operation { tree: &tree, op: Op::ReadProperty, name: "status", input: None, count: 1 };
@@ -24,6 +24,7 @@ mod coap_waiting;
 mod consumed;
 mod http_waiting;
 mod judgement;
+mod laws;
 mod operation;
 mod printing;
 mod task;
@@ -31,5 +32,6 @@ mod waiting;
 
 pub use asking::consume;
 pub use consumed::{Consumed, Outcome, Status};
+pub use laws::failing_breaks_the_network;
 pub use operation::Operation;
 pub(crate) use task::Task;

@@ -9,29 +9,19 @@ use Rattle.wot_terms.specs.Faults.{faults_of}
 use Rattle.wot_terms.specs.declared.op.Op.{Op}
 use Rattle.wot_forms.specs.declared.form.Form.{Form}
 use Rattle.wot_forms.specs.declared.scheme.Scheme.{Scheme}
-use Rattle.wot_forms.specs.declared.scheme.Scheme.TheVariants as scheme
 use Rattle.wot_consumer.specs.declared.chosen.Chosen.{Chosen}
 use Rattle.wot_consumer.specs.Choice.{IsFirst, IsChosen, base_of, forms_for, wanted}
 use Rattle.command_words.specs.Operations.{form_operation}
 use Rattle.command_words.specs.declared.command.Consumption.{Consumption}
 use Rattle.servient_outside.specs.declared.files.HeldFile.{HeldFile}
-use Rattle.servient_outside.specs.declared.net.EventWithBytes.{EventWithBytes}
 use Rattle.servient_outside.specs.Network.{heard, did, broke}
-use Rattle.consuming.specs.declared.answers.Verdict.{Verdict}
-use Rattle.consuming.specs.declared.answers.Verdict.TheVariants as verdict
-use Rattle.consuming.specs.declared.coap_waiting.CoapWaiting.{CoapWaiting}
 use Rattle.consuming.specs.declared.consumed.Consumed.{Consumed}
 use Rattle.consuming.specs.declared.consumed.Consumed.TheVariants as consumed
 use Rattle.consuming.specs.declared.operation.Operation.{Operation}
-use Rattle.consuming.specs.declared.waiting.Waiting.{Waiting}
-use Rattle.consuming.specs.Deeds.{happens, prints, happen}
+use Rattle.consuming.specs.Deeds.{happens, prints}
 use Rattle.consuming.specs.Deeds as operation
-use Rattle.consuming.specs.Answers.{Closes}
-use Rattle.consuming.specs.Asking.{asking_for}
-use Rattle.consuming.specs.HttpWaiting.{has_come, has_not_come}
-use Rattle.consuming.specs.CoapWaiting.{MeetsAndGoesOn, ends_by_it, then_due, Meets, is_datagram, is_stop, is_another, Follows, says_nothing, is_answer, has_value, AfterValue, goes_on_observing, is_last, FallsDue, is_quiet, goes_again, is_over}
-use Rattle.consuming.specs.Waiting.{Hears, by_http, by_coap, Awaits, is_spent, is_broken, comes_to, goes_on}
-use Rattle.consuming.specs.Consuming.{Consumes, is_refused, input_memory, is_done, body_memory, has_body, AsksBy, not_dialled, dial_memory, request_memory, is_sent, not_found, find_memory, client_memory, is_found, AsksPeer, is_long, is_asked}
+use Rattle.consuming.specs.Consuming.{Consumes}
+use Rattle.consuming.proofs.FailureLaws.{Breaks, failing_breaks}
 use Rattle.servient_cli.specs.Stages.{Deed, Outcome, ends, did_write}
 use Rattle.servient_cli.specs.Reading.{ReadsFile, ReadsTree, longest_json}
 use Rattle.servient_cli.specs.Consuming.{TakesDescription, is_taken, has_fault, description_memory, DescriptionIn, ReadsDescription, ReadsValue, HasInput, has_input, has_no_input, ReadsInput, Chooses, is_chosen, has_no_affordance, has_no_form, choose_memory, deeds_of, status_after, line_after, Operates, has_ended, line_memory, OperatesOn, ConsumesBy, ConsumesThing}
@@ -40,80 +30,15 @@ use Rattle.servient_cli.proofs.FaultlessStages.{GoesOn, HasTrouble, trouble_befo
 
 -- ---- an operation that failed broke the network
 
-after_all : (a b : List operation.Deed) → HasTrouble (deeds_of b) → HasTrouble (deeds_of (a ++ b))
-after_all [] b trouble = trouble
-after_all (happens (heard e) ∷ a) b trouble = after_all a b trouble
-after_all (happens (did act) ∷ a) b trouble = after_all a b trouble
-after_all (happens (broke call) ∷ a) b trouble = tt
-after_all (prints text ∷ a) b trouble = after_all a b trouble
-
-as_one : (deeds other : List operation.Deed) → deeds ≡ other → HasTrouble (deeds_of other) → HasTrouble (deeds_of deeds)
-as_one deeds other is trouble = subst (λ (ds : List operation.Deed). HasTrouble (deeds_of ds)) (sym is) trouble
-
--- no answer is that, and no silence
-never_closes : (v : Verdict) (deeds : List operation.Deed) (r : Consumed) → Some consumed.Failed ≡ Some r → Closes v deeds r → ⊥
-never_closes (verdict.Payload payload) deeds r is (nothing, inl done) = cc
-never_closes (verdict.Payload payload) deeds r is (nothing, inr (some, unprinted)) = cc
-never_closes (verdict.Outcome outcome) deeds r is (nothing, other) = cc
-never_closes verdict.NoMemory deeds r is (nothing, memory) = cc
-
-never_late : (late : Bool) → Some consumed.Failed ≡ cond late (Some consumed.Silent) None → ⊥
-never_late true is = cc
-never_late false is = cc
-
-never_after : (c : Chosen) (w : CoapWaiting) (v : Verdict) (deeds : List operation.Deed) (by_it r : Consumed) (more : _) (u : CoapWaiting) → Some consumed.Failed ≡ Some r → Closes v deeds by_it → AfterValue c w by_it more (Some r) u → ⊥
-never_after c w v deeds by_it r more u is closes (goes_on_observing further nothing none next) = cc
-never_after c w v deeds by_it r more u is closes (is_last last cancels said) = never_closes v deeds by_it (is ∙ said) closes
-
-never_follows : (o : Operation) (c : Chosen) (w : CoapWaiting) (n : _) (deeds : List operation.Deed) (r : Consumed) (v : CoapWaiting) → Some consumed.Failed ≡ Some r → Follows o c w n deeds (Some r) v → ⊥
-never_follows o c w n deeds r v is (says_nothing nothing none goes next) = cc
-never_follows o c w n deeds r v is (is_answer said by_it verdict_is other closes same) = never_closes said deeds by_it (is ∙ same) closes
-never_follows o c w n deeds r v is (has_value said by_it first more verdict_is other closes after whole) = never_after c w said first by_it r more v is closes after
-
-never_meets : (o : Operation) (c : Chosen) (w : CoapWaiting) (e : EventWithBytes) (deeds : List operation.Deed) (r : Consumed) (v : CoapWaiting) → Some consumed.Failed ≡ Some r → Meets o c w e deeds (Some r) v → ⊥
-never_meets o c w e deeds r v is (is_datagram from count first n u more what_is delivered follows whole) = never_follows o c u n more r v is follows
-never_meets o c w e deeds r v is (is_stop what_is nothing stopped) = cc
-never_meets o c w e deeds r v is (is_another other nothing none next) = cc
-
-never_due : (w v : CoapWaiting) (happened : _) → FallsDue w happened (Some consumed.Failed) v → ⊥
-never_due w v happened (is_quiet old new s due nothing none next) = cc
-never_due w v happened (goes_again n old new s due sends none next) = cc
-never_due w v happened (is_over old new s due nothing silent) = cc
-
-never_by_coap : (o : Operation) (c : Chosen) (w : CoapWaiting) (e : EventWithBytes) (deeds : List operation.Deed) (v : CoapWaiting) → MeetsAndGoesOn o c w e deeds (Some consumed.Failed) v → ⊥
-never_by_coap o c w e deeds v (ends_by_it by_it meets is) = never_meets o c w e deeds by_it v is meets
-never_by_coap o c w e deeds v (then_due first u more meets due whole) = never_due u v more due
-
-never_hears : (o : Operation) (c : Chosen) (w : Waiting) (e : EventWithBytes) (deeds : List operation.Deed) (v : Waiting) → Hears o c w e deeds (Some consumed.Failed) v → ⊥
-never_hears o c w e deeds v (by_http x is (has_come said r brings closes same) next) = never_closes said deeds r same closes
-never_hears o c w e deeds v (by_http x is (has_not_come none nothing late) next) = never_late _ late
-never_hears o c w e deeds v (by_coap x y is hears next) = never_by_coap o c _ e deeds y hears
-
-awaits_trouble : (o : Operation) (c : Chosen) (n : ℕ) (w : Waiting) (deeds : List operation.Deed) → Awaits o c consumed.Failed n w deeds → HasTrouble (deeds_of deeds)
-awaits_trouble o c n w deeds (is_spent w' deeds' nothing spent) = absurd cc
-awaits_trouble o c n w deeds (is_broken m w' deeds' is failed) = as_one deeds _ is tt
-awaits_trouble o c n w deeds (comes_to m w' v deeds' e by_it hears is) = absurd (never_hears o c w e by_it v hears)
-awaits_trouble o c n w deeds (goes_on m w' v deeds' e by_it rest hears awaits is) = as_one deeds _ is (after_all by_it rest (awaits_trouble o c m v rest awaits))
-
-peer_trouble : (o : Operation) (c : Chosen) (a : _) (w : CoapWaiting) (deeds : List operation.Deed) → AsksPeer o c a w deeds consumed.Failed → HasTrouble (deeds_of deeds)
-peer_trouble o c a w deeds (is_long first v sends is long) = absurd cc
-peer_trouble o c a w deeds (is_asked first v rest sends awaits is) = as_one deeds _ is (after_all (happen first) rest (awaits_trouble o c _ _ rest awaits))
-
-by_trouble : (o : Operation) (c : Chosen) (body : Option (List ℕ)) (s : Scheme) (deeds : List operation.Deed) → AsksBy o c body s deeds consumed.Failed → HasTrouble (deeds_of deeds)
-by_trouble o c body scheme.Http deeds (not_dialled is failed) = as_one deeds _ is tt
-by_trouble o c body scheme.Http deeds (dial_memory is memory) = absurd cc
-by_trouble o c body scheme.Http deeds (request_memory is memory) = absurd cc
-by_trouble o c body scheme.Http deeds (is_sent k rest awaits is) = as_one deeds _ is (awaits_trouble o c _ _ rest awaits)
-by_trouble o c body scheme.Coap deeds (not_found is failed) = as_one deeds _ is tt
-by_trouble o c body scheme.Coap deeds (find_memory is memory) = absurd cc
-by_trouble o c body scheme.Coap deeds (client_memory is memory) = absurd cc
-by_trouble o c body scheme.Coap deeds (is_found peer w rest fresh asks is) = as_one deeds _ is (peer_trouble o c (asking_for c body) w rest asks)
+breaks_trouble : (deeds : List operation.Deed) → Breaks deeds → HasTrouble (deeds_of deeds)
+breaks_trouble [] breaks = absurd breaks
+breaks_trouble (happens (heard e) ∷ deeds) breaks = breaks_trouble deeds breaks
+breaks_trouble (happens (did act) ∷ deeds) breaks = breaks_trouble deeds breaks
+breaks_trouble (happens (broke call) ∷ deeds) breaks = tt
+breaks_trouble (prints text ∷ deeds) breaks = breaks_trouble deeds breaks
 
 failed_trouble : (o : Operation) (c : Chosen) (deeds : List operation.Deed) → Consumes o c deeds consumed.Failed → HasTrouble (deeds_of deeds)
-failed_trouble o c deeds (is_refused refused nothing input) = absurd cc
-failed_trouble o c deeds (input_memory nothing memory) = absurd cc
-failed_trouble o c deeds (is_done takes (body_memory nothing memory)) = absurd cc
-failed_trouble o c deeds (is_done takes (has_body by_it)) = by_trouble o c _ c.scheme deeds by_it
+failed_trouble o c deeds consumes = breaks_trouble deeds (failing_breaks o c deeds consumes)
 
 -- ---- how it ends
 

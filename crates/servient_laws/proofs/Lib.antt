@@ -29,3 +29,4 @@ mod SpokenHeads
 mod SpokenByHttp
 mod InMemoryLaws
 mod StopLaws
+mod FailureLaws

@@ -6,3 +6,4 @@ pub mod Putting
 pub mod OneThing
 pub mod WholeDerivation
 pub mod NoFaults
+pub mod EnoughBelow

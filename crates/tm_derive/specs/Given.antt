@@ -19,7 +19,6 @@ pub record Given : Type 0 where
 
 -- The most Things one below another, and more than the most models each of which extends the next. An expansion that
 -- isn't too large has chains of at most 16 targets. One more Thing may be at the end, whose model has a fault of its
--- placeholders: that isn't visited, and has no Things below it. That this is always enough no law says yet
--- (docs/OPEN.md).
+-- placeholders: that isn't visited, and has no Things below it. That this is always enough is a law (Enough.antt).
 unfoldable pub most_below : ℕ
 most_below = most_entries + 1

@@ -9,3 +9,4 @@ pub mod Refusals
 pub mod Kept
 pub mod Selected
 pub mod Making
+pub mod Enough

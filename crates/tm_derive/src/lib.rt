@@ -26,7 +26,8 @@
 //! `derive` makes the description of a Thing of its model, and of each Thing that it is composed of by links to
 //! submodels: resolved, with the optional affordances that are chosen, with links among the Things and with the forms
 //! that a servient serves. Where anything is wrong it names the first fault and the Thing that has it. The contract in
-//! a sentence: it answers what `derived` of specs/Derivation.antt says, or is out of memory.
+//! a sentence: it answers what `derived` of specs/Derivation.antt says, or is out of memory. That the room which that takes for
+//! Things one below another is always enough is a law (`specs/Enough.antt`).
 #![tactic(auto)]
 
 mod changes;
@@ -38,6 +39,7 @@ mod fault;
 mod finishing;
 mod frame;
 mod judging;
+mod laws;
 mod links;
 mod made;
 mod making;
@@ -50,5 +52,6 @@ pub use choices::Choices;
 pub use derivation::derive;
 pub use fault::DeriveFault;
 pub use frame::Frame;
+pub use laws::more_room_changes_nothing;
 pub use servient_base::NoMemory;
 pub use wot_terms::{Thing, Things};

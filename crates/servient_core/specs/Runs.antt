@@ -51,7 +51,7 @@ ServingHasAHistory =
 -- ---- misses
 --
 -- A miss is an entry of the trace. So the polls that are left out and the operations that stop at a handler are at most
--- as many as its count rose by, with no law of its own.
+-- as many as its count rose by: that is `stops_are_counted` of `servient_laws`.
 
 -- how often the handler in a slot was out of memory, in what was seen
 abbrev pub misses_of : ℕ → List Sighting → ℕ

@@ -20,9 +20,9 @@ use Rattle.tm_parts.specs.Sources.{Sources, source_named}
 use Rattle.tm_parts.specs.declared.reference.Reference.{Reference}
 use Rattle.tm_parts.specs.declared.substitution.PartFault.{PartFault}
 use Rattle.tm_resolve.specs.Chain.{whole_of, is_target, is_in_chain}
-use Rattle.tm_resolve.specs.Faults.{Steps, extension_faults, target_faults, part_faults, model_faults, step_faults, faults_within}
+use Rattle.tm_resolve.specs.Faults.{Steps, fault_at, extension_faults, target_faults, part_faults, model_faults, step_faults, faults_within}
 use Rattle.tm_resolve.specs.Links.{is_link, links_from, links_under, linked_model, link_place, extensions}
-use Rattle.tm_resolve.specs.ModelLinks.{ModelLink, model_link, links_of, model_links, whole_model}
+use Rattle.tm_resolve.specs.ModelLinks.{ModelLink, model_link, links_of, model_links, whole_model, optional_part}
 use Rattle.tm_resolve.specs.Resolution.{resolved_from, value_or_fault, root_value, root_faults}
 use Rattle.tm_resolve.specs.Value.{value_within}
 use Rattle.tm_resolve.specs.Weight.{Visit, Step, most_weight, most_entries, weight_of, is_too_far, is_too_large, own_visit, part_visits, extension_visits, submodel_visits, of_thing, links_visits, target_visits, is_whole, entered_part, visits_within, expansion}
@@ -33,7 +33,7 @@ use Rattle.tm_resolve.specs.declared.fault.ResolveKind.TheVariants.{BadHref, Mis
 use Rattle.tm_resolve.specs.declared.weight.Role.{Role}
 use Rattle.tm_resolve.specs.declared.weight.Role.TheVariants.{Thing, Part}
 use Rattle.tm_derive.specs.Given.{Given, most_below}
-use Rattle.tm_derive.specs.Optional.{is_among, base_of, base_url, of_base, optional_texts, optional_faults, optional_part, part_texts, part_faults as faults_of_part}
+use Rattle.tm_derive.specs.Optional.{is_among, base_of, base_url, of_base, optional_texts, optional_faults, part_texts, part_faults as faults_of_part}
 use Rattle.tm_derive.specs.Submodels.{child_name, child_place, named_child, link_child, name_faults, target_kind, link_kind, target_faults as faults_of_target, link_faults, children_from, segments_of, submodel_faults}
 use Rattle.tm_derive.specs.Derivation.{Outcome, outcome, outcomes, outcomes_within, unless_faulty, thing_faults, choosing_faults, tree_faults, thing_tree, submodels, children, root_place}
 use Rattle.tm_derive.specs.declared.fault.DeriveFault.{DeriveFault}
@@ -262,8 +262,7 @@ Same a b sources url = (optional_texts a sources url ≡ optional_texts b source
 -- of a model, by that which it extends
 same_by : (a b : ℕ) (sources : Sources) (url : List ℕ) (base : Option (List ℕ)) → base_url sources url ≡ base → ((u : List ℕ) → base ≡ Some u → Same a b sources u) → Same (suc a) (suc b) sources url
 same_by a b sources url base is each =
-    let both = by base each in
-    (
+    let both = by base each in (
       ap (λ (o : Option (List ℕ)). of_base (optional_texts a sources) o ++ part_texts (optional_part sources url)) is
           ∙ (ap (λ (ts : List (List ℕ)). ts ++ part_texts (optional_part sources url)) both.0
           ∙ sym (ap (λ (o : Option (List ℕ)). of_base (optional_texts b sources) o ++ part_texts (optional_part sources url)) is)),
@@ -294,7 +293,7 @@ goes_inside inside from chain url (Some (Ok found)) whole is none =
     let same : found ≡ whole = cc in
     by (is_in_chain (whole_of url) chain) refl none same
   where
-    by : (old : Bool) → is_in_chain (whole_of url) chain ≡ old → cond old (_ ∷ []) (inside found) ≡ [] → found ≡ whole → GoesInside inside chain (whole_of url) whole
+    by : (old : Bool) → is_in_chain (whole_of url) chain ≡ old → cond old (fault_at Circular from ∷ []) (inside found) ≡ [] → found ≡ whole → GoesInside inside chain (whole_of url) whole
     by true is none same = absurd cc
     by false is none same = record { new = is; faultless = subst (λ (v : Json). inside v ≡ []) same none }
 

@@ -42,3 +42,5 @@ pub use laws::{links_are_the_models_own, room_is_enough, things_are_few, too_lar
 pub use model_links::{Link, Relation};
 pub use resolver::{Resolver, resolve};
 pub use servient_base::NoMemory;
+// Definitions of other crates name it: `tm_derive` has a law on the chains of an expansion.
+pub use weight::Role;

@@ -35,7 +35,7 @@ const MOST_DEPTH: usize = 64;
 
 /// What a step leads to.
 #[derive(Debug, Clone, Copy)]
-pub(crate) enum Role {
+pub enum Role {
     /// The model of a Thing, which comes with its submodels.
     Thing,
     /// A part of one: the model that it extends, or what a `tm:ref` leads to.

@@ -24,7 +24,7 @@ tags_in_order number (v ∷ vs) os last low small rest =
     let few = number_length v in
     (record { order = omega (arith, low); number = omega (arith, small); value = omega (arith, few) }, tags_in_order number vs os number (omega arith) small rest)
 
-first_length : (any : Bool) → length (if any then [] else 0 ∷ []) ≤ 8
+first_length : (any : Bool) → length {A = ℕ} (if any then [] else 0 ∷ []) ≤ 8
 first_length true = omega arith
 first_length false = omega arith
 
@@ -127,8 +127,11 @@ versions_read : (versions : List ℕ) → AllByRecursion IsVersion versions → 
 versions_read [] are = refl
 versions_read (v ∷ vs) are = rw (tags_are_read_again v (omega (arith, are.0.0)) are.0.1) (ap (λ (rest : List ℕ). v ∷ rest) (versions_read vs are.1))
 
+not_blank : (b : ℕ) (bytes : List ℕ) → is_blank (b ∷ bytes) ≡ false
+not_blank b bytes = grind (arith, nat_tests)
+
 some_bytes : (v : ℕ) → IsVersion v → is_blank (number_bytes v) ≡ false
-some_bytes v is = let first = first_byte v (omega (arith, is.0)) in ap is_blank first.2
+some_bytes v is = let first = first_byte v (omega (arith, is.0)) in ap is_blank first.2 ∙ not_blank first.0 first.1
 
 none_blank : (versions : List ℕ) → AllByRecursion IsVersion versions → list_any is_blank (map number_bytes versions) ≡ false
 none_blank [] are = refl

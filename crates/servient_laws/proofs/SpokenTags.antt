@@ -10,7 +10,7 @@ use Rattle.std.proofs.lemmas.Fmt.{decimal_is_IsNumeral}
 use Rattle.std.proofs.lemmas.List.{length-append, reverse-append, take_all}
 use Rattle.std.proofs.lemmas.List.Elements.{All-from_recursion}
 use Rattle.std.proofs.lemmas.List.Splits.{slice_split_none}
-use Rattle.httparse.specs.Grammar.{is_value_byte, is_ows, trim_ows}
+use Rattle.httparse.specs.Grammar.{is_token_byte, is_value_byte, is_ows, trim_ows}
 use Rattle.httparse.specs.Spans.{name_and_value}
 use Rattle.thing_ops.specs.declared.conditions.Tags.{Tags}
 use Rattle.thing_ops.specs.declared.conditions.Conditions.{Conditions}

@@ -38,11 +38,12 @@ use Rattle.servient_core.specs.Machine.{Site}
 use Rattle.servient_cli.specs.declared.derivation.Planned.{Planned}
 use Rattle.servient_cli.specs.declared.replay.Inputs.{Inputs}
 use Rattle.servient_cli.specs.declared.storming.TheConstants.{STORM_EXCHANGES}
-use Rattle.servient_cli.specs.Stages.{Deed, did_read, did_fail, did_see, did_write, read_in, reads_in, sees, sightings_in, HasFailed, Outcome, goes_on, ends, AndThen, ends_first, goes_further, Around}
+use Rattle.servient_cli.specs.Lines.{network_line}
+use Rattle.servient_cli.specs.Stages.{Deed, did_read, did_fail, did_see, did_write, read_in, reads_in, sees, sightings_in, text_in, HasFailed, Outcome, goes_on, ends, AndThen, ends_first, goes_further, Around}
 use Rattle.servient_cli.specs.Reading.{ReadsFile, is_read, is_absent, is_unreadable, is_long, file_memory, file_read, ReadsTree, is_tree, has_no_tree, tree_memory, longest_json, longest_script}
 use Rattle.servient_cli.specs.Replaying.{Plans, TakesBuiltIn, is_built_in, built_in_memory, plan_name, ReadsEvents, ReadsInputs, HasRead, has_read, RunsOn, ReadsScript, is_script, is_no_script, script_memory, RunsScript, is_whole, is_spent, run_memory}
 use Rattle.servient_cli.specs.Storming.{RunsStorm, is_counted, storm_memory, Storms, StormsOn, with_few_exchanges}
-use Rattle.servient_cli.specs.Consuming.{TakesDescription, is_taken, has_fault, description_memory, DescriptionIn, ReadsDescription, ReadsValue, HasInput, has_input, has_no_input, ReadsInput, Chooses, is_chosen, has_no_affordance, has_no_form, choose_memory, deeds_of, status_after, line_after, Operates, has_ended, line_memory, OperatesOn, ConsumesBy, ConsumesThing}
+use Rattle.servient_cli.specs.Consuming.{TakesDescription, is_taken, has_fault, description_memory, DescriptionIn, ReadsDescription, ReadsValue, HasInput, has_input, HasNoInput, has_no_input, ReadsInput, Chooses, is_chosen, has_no_affordance, has_no_form, choose_memory, deeds_of, status_after, line_after, Operates, has_ended, line_memory, OperatesOn, ConsumesBy, ConsumesThing}
 use Rattle.servient_cli.specs.Opening.{Exposes, is_exposed, is_misfit, expose_memory, Opens}
 use Rattle.servient_cli.specs.Listening.{Listens, is_listening, cannot_listen, place_memory, listen_memory, ServesEvents, has_served, ServesPlanned}
 use Rattle.servient_cli.specs.Checking.{Checks, Judges, is_valid, is_refused, judge_memory}
@@ -242,7 +243,7 @@ serve_tells : (held : Option (List HeldFile)) (budget exchanges : ℕ) (site : S
 serve_tells held budget exchanges site seen status (has_served served.Stopped ran end serves e) = ended held seen status 0 e.1 (omega arith, omega arith)
 serve_tells held budget exchanges site seen status (has_served served.Failed ran end serves e) =
     six_only held seen status (same_status status 6 e.1)
-    (subst NetFails (sym (e.0 ∙ ap (λ (x : List Sighting). sees x ++ did_write _ ∷ []) (serves.run.whole ∙ ap (λ (x : List Sighting). serves.run.first ++ x) serves.run.other.saw))) (breaks_last serves.run.first (did_write _ ∷ [])))
+    (subst NetFails (sym (e.0 ∙ ap (λ (x : List Sighting). sees x ++ did_write network_line ∷ []) (serves.run.whole ∙ ap (λ (x : List Sighting). serves.run.first ++ x) serves.run.other.saw))) (breaks_last serves.run.first (did_write network_line ∷ [])))
 serve_tells held budget exchanges site seen status (has_served served.Spent ran end serves e) = ended held seen status 8 e.1 (omega arith, omega arith)
 
 breaks_among : (deeds : List operation.Deed) (rest : List Deed) → 1 ≤ break_count (operation.happened_in deeds) → NetFails (deeds_of deeds ++ rest)
@@ -335,10 +336,10 @@ failures_are_counted words before now out out_now result e = ((λ three. of_file
     by_file (inl failed) = inl (e.shows.failed failed)
     by_file (inr missing) = inr missing
 
-    of_file : result ≡ 3 → IsReported e.status _ out out_now result → Rose before.files.faults now.files.faults ⊎ IsMissing before.files.held e.seen
+    of_file : result ≡ 3 → IsReported e.status (text_in e.seen) out out_now result → Rose before.files.faults now.files.faults ⊎ IsMissing before.files.held e.seen
     of_file three (inl same) = by_file (tells.0 (sym same.0 ∙ three))
     of_file three (inr broke_off) = absurd (omega (arith, three, broke_off.0))
 
-    of_network : result ≡ 6 → IsReported e.status _ out out_now result → Rose before.outside.net.faults now.outside.net.faults
+    of_network : result ≡ 6 → IsReported e.status (text_in e.seen) out out_now result → Rose before.outside.net.faults now.outside.net.faults
     of_network six (inl same) = rose_some _ _ _ (tells.1 (sym same.0 ∙ six)) e.shows.outside.net.faults
     of_network six (inr broke_off) = absurd (omega (arith, six, broke_off.0))

@@ -21,8 +21,12 @@ mod UntouchedLaws
 mod PayloadLaws
 mod HeadLines
 mod SpokenTargets
+mod SpokenOptions
 mod SpokenByCoap
+mod SpokenBytes
+mod SpokenTags
 mod SpokenHeads
 mod SpokenByHttp
 mod InMemoryLaws
 mod StopLaws
+mod FailureLaws

@@ -1,23 +1,30 @@
--- The payload of what is sent.
+-- The payload and the tag of what is sent.
 use Rattle.std.proofs.Common.{◌≡◌, ◌≤◌, ℕ, Bool, true, false, length, map, List, [], ◌∷◌, ◌++◌, Option, Some, None, option_map, refl, sym, ap, subst, ◌∙◌, arith, inl, inr}
-use Rattle.std.specs.Prelude.{◌⊎◌, Contains, nat_lt, if◌then◌else◌}
+use Rattle.std.specs.Prelude.{◌⊎◌, ◌==◌, Contains, nat_le, nat_lt, if◌then◌else◌}
+use Rattle.std.specs.Option.{option_map_or}
 use Rattle.std.proofs.lemmas.List.Elements.{Contains-append_left, Contains-append_right}
 use Rattle.std.proofs.lemmas.Bool.Decides.{nat_tests}
 use Rattle.std.proofs.lemmas.Option.{same_Some}
-use Rattle.coap_msg.specs.declared.constants.TheConstants.{LONGEST_PAYLOAD}
+use Rattle.coap_msg.specs.declared.constants.TheConstants.{ETAG, LOCATION_PATH, CONTENT_FORMAT, LONGEST_PAYLOAD}
 use Rattle.coap_msg.specs.declared.endpoint.Endpoint.{Endpoint}
-use Rattle.coap_msg.specs.Grammar.{spelling}
+use Rattle.coap_msg.specs.Grammar.{CoapOption, spelling}
+use Rattle.coap_msg.specs.Numbers.{number_bytes}
+use Rattle.coap_msg.specs.Opts.{segment_options}
 use Rattle.thing_ops.specs.declared.outcome.Outcome.{Outcome}
-use Rattle.thing_ops.specs.Outcomes.{payload_of}
+use Rattle.thing_ops.specs.Outcomes.{answer_of, payload_of, text_of, version_of}
 use Rattle.thing_core.specs.Thing.{Done}
-use Rattle.coap_opts.specs.Reading.{PlainAsk}
+use Rattle.coap_opts.specs.Reading.{PlainAsk, values_under}
+use Rattle.coap_opts.proofs.FirstValues.{values_first}
 use Rattle.coap_bind.specs.declared.head.OpenAsk.{OpenAsk}
 use Rattle.coap_bind.specs.declared.blocks.BlockUse.{BlockUse}
 use Rattle.coap_bind.specs.declared.blocks.BlockUse.TheVariants as blocks
+use Rattle.coap_bind.specs.declared.blocks.BlockOption.{BlockOption}
+use Rattle.coap_bind.specs.declared.blocks.BlockOption.TheVariants as option
 use Rattle.coap_blocks.specs.Bodies.{longest_body}
-use Rattle.coap_bind.specs.Blocks.{is_representation, given_portion, all_of, portion_of, most_bytes, answer_reply}
-use Rattle.coap_bind.specs.Writing.{observed, coap_reply}
-use Rattle.http_bind.specs.Replying.{reply, reply_head, reply_body}
+use Rattle.coap_bind.specs.Blocks.{is_representation, given_portion, all_of, portion_of, most_bytes, answer_reply, with_block, option_of}
+use Rattle.coap_bind.specs.Writing.{place_of, text_format, format_options, etag_options, observe_options, reply_options, whole_reply, observed, coap_reply}
+use Rattle.http_wire.specs.Writing.{PlainReply, http_reply}
+use Rattle.http_bind.specs.Replying.{reply, reply_head, reply_body, longest_reply_head, head_of, head_with, location_of}
 use Rattle.thing_ops.specs.Requests.{PlainRequest}
 use Rattle.http_bind.specs.Streams.{Streams, connection_at, Answers as AnswersRequest, lets_wait, sends_reply, waits_of}
 use Rattle.servient_outside.specs.declared.net.Act.TheVariants as act
@@ -25,7 +32,7 @@ use Rattle.servient_outside.specs.Network.{did}
 use Rattle.servient_core.specs.Trace.{Sighting, at_network}
 use Rattle.servient_core.specs.Machine.{Site, State, Sends, SendsIfAny, PerformsByHttp, AnswersAsk, AnswersMessage}
 use Rattle.servient_core.specs.Meaning.{Message, by_coap, by_http}
-use Rattle.servient_laws.specs.Payloads.{AsksForAll, SaysByCoap, SaysByHttp, Says, PayloadsAreOfOutcomes}
+use Rattle.servient_laws.specs.Payloads.{AsksForAll, tags_for, SaysByCoap, SaysByHttp, Says, PayloadsAreOfOutcomes}
 
 -- the payload of a reply that isn't too long
 part_payload : (u : BlockUse) (o : Outcome) → length (payload_of o) ≤ most_bytes u o → (answer_reply u o).payload ≡ (portion_of u o).payload
@@ -54,6 +61,68 @@ short_payload (blocks.Gives g) o all short =
     ∙ given_whole (is_representation o) (payload_of o) short
 short_payload (blocks.Joined b) o all short = part_payload (blocks.Joined b) o short
 
+-- ---- the tag by CoAP
+
+-- no option of a reply but ETag has a tag
+none_observed : (n : Option ℕ) (os : List CoapOption) → values_under ETAG os ≡ [] → values_under ETAG (observe_options n ++ os) ≡ []
+none_observed None os none = none
+none_observed (Some n) os none = none
+
+none_in_place : (path : List (List ℕ)) (os : List CoapOption) → values_under ETAG os ≡ [] → values_under ETAG (segment_options LOCATION_PATH path ++ os) ≡ []
+none_in_place [] os none = none
+none_in_place (segment ∷ path) os none = none_in_place path os none
+
+none_of_format : (format : ℕ) (t : Option (List ℕ)) → values_under ETAG (option_map_or (λ (x : List ℕ). (CONTENT_FORMAT, number_bytes format) ∷ []) t []) ≡ []
+none_of_format format None = refl
+none_of_format format (Some x) = refl
+
+none_behind : (o : CoapOption) (os : List CoapOption) → (o.0 == ETAG) ≡ false → values_under ETAG (os ++ o ∷ []) ≡ values_under ETAG os
+none_behind o [] isnt = rw isnt refl
+none_behind o (p ∷ os) isnt =
+    values_first ETAG p (os ++ o ∷ []) ∙ (ap (λ (values : List (List ℕ)). values_under ETAG (p ∷ []) ++ values) (none_behind o os isnt) ∙ sym (values_first ETAG p os))
+
+none_of_block : (b : Option BlockOption) (os : List CoapOption) → values_under ETAG (with_block b os) ≡ values_under ETAG os
+none_of_block None os = refl
+none_of_block (Some (option.Block2 b)) os = none_behind (option_of (option.Block2 b)) os refl
+none_of_block (Some (option.Block1 b)) os = none_behind (option_of (option.Block1 b)) os refl
+
+tag_first : (version : Option ℕ) (os : List CoapOption) → values_under ETAG os ≡ [] → values_under ETAG (etag_options version ++ os) ≡ tags_for version
+tag_first None os none = none
+tag_first (Some version) os none = ap (λ (values : List (List ℕ)). number_bytes version ∷ values) none
+
+tags_said : (u : BlockUse) (o : Outcome) (observe : Option ℕ) → length (payload_of o) ≤ most_bytes u o
+    → values_under ETAG (reply_options (observed observe (answer_reply u o))) ≡ tags_for (version_of o)
+tags_said u o observe short = rw fits (tag_first (version_of o) (observe_options observe ++ with_block (portion_of u o).block (whole_reply o).options)
+    (none_observed observe (with_block (portion_of u o).block (whole_reply o).options)
+    (none_of_block (portion_of u o).block (whole_reply o).options ∙ none_in_place (place_of o) (format_options o) (none_of_format (text_format o) (text_of o)))))
+  where
+    fits : nat_lt (most_bytes u o) (length (payload_of o)) ≡ false
+    fits = grind (arith, nat_tests)
+
+-- ---- the tag by HTTP
+
+-- what a head says that was written of an outcome
+record HeadSays (head : List ℕ) (o : Outcome) : Type 0 where
+  says : PlainReply
+  spells : head ≡ http_reply says
+  tag : says.etag ≡ version_of o
+
+head_with_says : (closes : Bool) (o : Outcome) (status : ℕ) → HeadSays (head_with closes o status) o
+head_with_says closes o status = by (nat_le (length (http_reply (head_of status closes (location_of o) o))) longest_reply_head)
+  where
+    by : (b : Bool) → HeadSays (if b then http_reply (head_of status closes (location_of o) o) else http_reply (head_of status closes None o)) o
+    by true = record { says = head_of status closes (location_of o) o; spells = refl; tag = refl }
+    by false = record { says = head_of status closes None o; spells = refl; tag = refl }
+
+head_says : (closes : Bool) (o : Outcome) (head : List ℕ) → reply_head closes o ≡ Some head → HeadSays head o
+head_says closes o head is = by (answer_of o).status is
+  where
+    by : (status : Option ℕ) → option_map (head_with closes o) status ≡ Some head → HeadSays head o
+    by None e = absurd cc
+    by (Some status) e = subst (λ (h : List ℕ). HeadSays h o) (same_Some (head_with closes o status) head e) (head_with_says closes o status)
+
+-- ---- what is sent
+
 -- what a part of a trace has, the trace has
 in_whole : (x : Sighting) (a b seen : List Sighting) → seen ≡ a ++ b → Contains a x ⊎ Contains b x → Contains seen x
 in_whole x a b seen whole (inl there) = subst (λ (l : List Sighting). Contains l x) (sym whole) (Contains-append_left a b x there)
@@ -70,6 +139,7 @@ by_ask site from ask r done s t seen (bytes, w) = record {
       (w.other.saw ∙ ap (λ (x : List ℕ). at_network (did (act.Datagram from x)) ∷ []) w.one.1.replies.bytes_are)));
   payload = short_payload r.blocks done.outcome;
   part = part_payload r.blocks done.outcome;
+  tags = tags_said r.blocks done.outcome w.one.1.observe;
 }
 
 -- a reply is its head and its body
@@ -89,6 +159,7 @@ by_message c done s t seen answered (sent, w) = by sent w.one.1 w.other
         let does : Sends c (bytes, closes) w.mid w.second t = subst (λ (x : Option (List ℕ × Bool)). SendsIfAny c x w.mid w.second t) is sends in
         let owed = replies.1 in
         let parts = parts_of owed.bodiless owed.closes done.outcome bytes (subst (λ (b : Bool). reply owed.bodiless b done.outcome ≡ Some bytes) replies.4 replies.5) in
+        let head = head_says owed.closes done.outcome parts.0 parts.1 in
         record {
           connection = replies.0;
           owed = owed;
@@ -96,6 +167,9 @@ by_message c done s t seen answered (sent, w) = by sent w.one.1 w.other
           owes = replies.3;
           head = parts.0;
           head_is = parts.1;
+          says = head.says;
+          spells = head.spells;
+          tag = head.tag;
           sent = in_whole (at_network (did (act.Sent c (parts.0 ++ reply_body owed.bodiless done.outcome)))) w.first w.second seen w.whole
               (inr (first_of (at_network (did (act.Sent c (parts.0 ++ reply_body owed.bodiless done.outcome)))) (map (λ x. at_network (did x)) (if closes then act.Closed c ∷ [] else [])) w.second
               (does.saw ∙ ap (λ (x : List ℕ). at_network (did (act.Sent c x)) ∷ map (λ y. at_network (did y)) (if closes then act.Closed c ∷ [] else [])) parts.2)));
@@ -108,6 +182,7 @@ whole_says (by_coap from ask request) o s a c d seen whole says = record {
   sent = in_whole (at_network (did (act.Datagram from (spelling says.message)))) a (c ++ d) seen whole (inr (Contains-append_left c d (at_network (did (act.Datagram from (spelling says.message)))) says.sent));
   payload = says.payload;
   part = says.part;
+  tags = says.tags;
 }
 whole_says (by_http n q) o s a c d seen whole says = record {
   connection = says.connection;
@@ -116,6 +191,9 @@ whole_says (by_http n q) o s a c d seen whole says = record {
   owes = says.owes;
   head = says.head;
   head_is = says.head_is;
+  says = says.says;
+  spells = says.spells;
+  tag = says.tag;
   sent = in_whole (at_network (did (act.Sent n (says.head ++ reply_body says.owed.bodiless o)))) a (c ++ d) seen whole
       (inr (Contains-append_left c d (at_network (did (act.Sent n (says.head ++ reply_body says.owed.bodiless o)))) says.sent));
 }
@@ -138,5 +216,8 @@ payloads_are_of_outcomes site (by_http c q) done s t seen both answered =
       owes = says.owes;
       head = says.head;
       head_is = says.head_is;
+      says = says.says;
+      spells = says.spells;
+      tag = says.tag;
       sent = says.sent;
     })

@@ -1,24 +1,23 @@
 -- A request is read from the CoAP message that says it.
 use Rattle.std.proofs.Common.{◌≡◌, ◌≢◌, ◌<◌, ◌≤◌, ℕ, Bool, true, false, List, [], ◌∷◌, ◌++◌, length, Option, Some, None, refl, sym, ap, ap₂, ◌∙◌, arith, inl}
-use Rattle.std.specs.Prelude.{◌&&◌, ◌==◌, ◌/◌, nat_le, nat_lt, unwrap_or, IsSome, option_and_then, slice_get}
+use Rattle.std.specs.Prelude.{◌&&◌, ◌==◌, ◌/◌, not, nat_le, nat_lt, unwrap_or, IsSome, option_and_then, slice_get}
 use Rattle.std.specs.List.{AllByRecursion}
 use Rattle.std.proofs.lemmas.Bool.Decides.{nat_tests}
-use Rattle.coap_msg.specs.declared.constants.TheConstants.{LONGEST_SEGMENT, IF_MATCH, ETAG, IF_NONE_MATCH, URI_PATH, CONTENT_FORMAT, ACCEPT, BLOCK1, BLOCK2}
+use Rattle.coap_msg.specs.declared.constants.TheConstants.{LONGEST_SEGMENT, GET, IF_MATCH, ETAG, IF_NONE_MATCH, OBSERVE, URI_PATH, CONTENT_FORMAT, ACCEPT, BLOCK1, BLOCK2}
 use Rattle.coap_msg.specs.Blocks.{block_of}
 use Rattle.coap_msg.specs.Grammar.{CoapOption, AreInOrder}
 use Rattle.coap_msg.specs.Opts.{segment_options}
-use Rattle.coap_opts.specs.Reading.{faults_after, faults_of, values_under, number_within, number_under, is_there, match_of, known_by, conditions_by, conditions_of, verb_of, format_of, accept_of}
-use Rattle.coap_opts.specs.Table.{content_format, accept, may_stand}
+use Rattle.coap_opts.specs.Reading.{faults_after, faults_of, values_under, number_within, number_under, conditions_by, conditions_of, registers, verb_of, format_of, accept_of}
+use Rattle.coap_opts.specs.Table.{observe, content_format, accept, may_stand, stands_again}
 use Rattle.thing_ops.specs.declared.verb.Verb.{Verb}
 use Rattle.thing_ops.specs.declared.verb.Verb.TheVariants as verb
 use Rattle.thing_ops.specs.declared.request.Accept.{Accept}
 use Rattle.thing_ops.specs.declared.request.Format.{Format}
 use Rattle.thing_ops.specs.declared.request.Format.TheVariants as format
-use Rattle.thing_ops.specs.declared.conditions.Tags.{Tags}
 use Rattle.thing_ops.specs.declared.conditions.Conditions.{Conditions}
-use Rattle.thing_ops.specs.Conditions.{no_tags, no_conditions}
 use Rattle.thing_ops.specs.Requests.{PlainRequest}
-use Rattle.servient_laws.specs.Spoken.{code_of, format_options, accept_options, IsReadByCoap, IsSpeakable}
+use Rattle.servient_laws.specs.Spoken.{code_of, format_options, accept_options, tag_options, match_options, absent_options, IsSaidByBoth, IsReadByCoap, IsSpeakable}
+use Rattle.servient_laws.proofs.SpokenOptions.{conditions_in_order, no_fault_of_conditions, other_conditions, conditions_read}
 
 -- ---- the options after the path
 
@@ -56,27 +55,27 @@ segment_stands before segment short = rw least (rw fits refl)
     fits : nat_le (length segment) LONGEST_SEGMENT ≡ true
     fits = grind (arith, nat_tests)
 
-no_fault_of_rest : (f : Format) (json td : Bool) → (faults_after None (rest_of f json td) ≡ []) × (faults_after (Some 11) (rest_of f json td) ≡ [])
-no_fault_of_rest format.Absent true true = (refl, refl)
-no_fault_of_rest format.Absent true false = (refl, refl)
-no_fault_of_rest format.Absent false true = (refl, refl)
-no_fault_of_rest format.Absent false false = (refl, refl)
-no_fault_of_rest format.Json true true = (refl, refl)
-no_fault_of_rest format.Json true false = (refl, refl)
-no_fault_of_rest format.Json false true = (refl, refl)
-no_fault_of_rest format.Json false false = (refl, refl)
-no_fault_of_rest format.Td true true = (refl, refl)
-no_fault_of_rest format.Td true false = (refl, refl)
-no_fault_of_rest format.Td false true = (refl, refl)
-no_fault_of_rest format.Td false false = (refl, refl)
-no_fault_of_rest format.Patch true true = (refl, refl)
-no_fault_of_rest format.Patch true false = (refl, refl)
-no_fault_of_rest format.Patch false true = (refl, refl)
-no_fault_of_rest format.Patch false false = (refl, refl)
-no_fault_of_rest format.Other true true = (refl, refl)
-no_fault_of_rest format.Other true false = (refl, refl)
-no_fault_of_rest format.Other false true = (refl, refl)
-no_fault_of_rest format.Other false false = (refl, refl)
+no_fault_of_rest : (f : Format) (json td : Bool) (before : Option ℕ) → stands_again before 17 ≡ false → faults_after before (rest_of f json td) ≡ []
+no_fault_of_rest format.Absent true true before isnt = refl
+no_fault_of_rest format.Absent true false before isnt = rw isnt refl
+no_fault_of_rest format.Absent false true before isnt = rw isnt refl
+no_fault_of_rest format.Absent false false before isnt = rw isnt refl
+no_fault_of_rest format.Json true true before isnt = refl
+no_fault_of_rest format.Json true false before isnt = refl
+no_fault_of_rest format.Json false true before isnt = refl
+no_fault_of_rest format.Json false false before isnt = refl
+no_fault_of_rest format.Td true true before isnt = refl
+no_fault_of_rest format.Td true false before isnt = refl
+no_fault_of_rest format.Td false true before isnt = refl
+no_fault_of_rest format.Td false false before isnt = refl
+no_fault_of_rest format.Patch true true before isnt = refl
+no_fault_of_rest format.Patch true false before isnt = refl
+no_fault_of_rest format.Patch false true before isnt = refl
+no_fault_of_rest format.Patch false false before isnt = refl
+no_fault_of_rest format.Other true true before isnt = refl
+no_fault_of_rest format.Other true false before isnt = refl
+no_fault_of_rest format.Other false true before isnt = refl
+no_fault_of_rest format.Other false false before isnt = refl
 
 no_fault_of_path : (path : List (List ℕ)) (os : List CoapOption) → AllByRecursion (λ s. length s ≤ LONGEST_SEGMENT) path → faults_after (Some 11) os ≡ []
     → faults_after (Some 11) (segment_options URI_PATH path ++ os) ≡ []
@@ -85,12 +84,13 @@ no_fault_of_path (segment ∷ path) os short rest =
     let stands : may_stand (Some 11) (URI_PATH, segment) ≡ true = segment_stands (Some 11) segment short.0 in
     rw stands (no_fault_of_path path os short.1 rest)
 
-no_fault : (path : List (List ℕ)) (os : List CoapOption) → AllByRecursion (λ s. length s ≤ LONGEST_SEGMENT) path → faults_after None os ≡ [] → faults_after (Some 11) os ≡ []
-    → faults_of (segment_options URI_PATH path ++ os) ≡ []
-no_fault [] os short first rest = first
-no_fault (segment ∷ path) os short first rest =
-    let stands : may_stand None (URI_PATH, segment) ≡ true = segment_stands None segment short.0 in
-    rw stands (no_fault_of_path path os short.1 rest)
+no_fault : (path : List (List ℕ)) (os : List CoapOption) → AllByRecursion (λ s. length s ≤ LONGEST_SEGMENT) path
+    → ((before : Option ℕ) → stands_again before 17 ≡ false → faults_after before os ≡ [])
+    → (before : Option ℕ) → stands_again before 17 ≡ false → faults_after before (segment_options URI_PATH path ++ os) ≡ []
+no_fault [] os short rest before isnt = rest before isnt
+no_fault (segment ∷ path) os short rest before isnt =
+    let stands : may_stand before (URI_PATH, segment) ≡ true = segment_stands before segment short.0 in
+    rw stands (no_fault_of_path path os short.1 (rest (Some 11) refl))
 
 -- ---- what is read
 
@@ -109,42 +109,45 @@ record IsRest (f : Format) (json td : Bool) : Type 0 where
   if_match : values_under IF_MATCH (rest_of f json td) ≡ []
   etag : values_under ETAG (rest_of f json td) ≡ []
   if_none_match : values_under IF_NONE_MATCH (rest_of f json td) ≡ []
+  observe : values_under OBSERVE (rest_of f json td) ≡ []
   format_is : f ≢ format.Patch → format_of (number_under content_format (rest_of f json td)) ≡ f
   accept_is : accept_of (number_under accept (rest_of f json td)) ≡ record { json = json; td = td }
 
 rest_is : (f : Format) (json td : Bool) → IsRest f json td
-rest_is format.Absent true true = record { path = refl; block1 = refl; block2 = refl; if_match = refl; etag = refl; if_none_match = refl; format_is = λ n. refl; accept_is = refl }
-rest_is format.Absent true false = record { path = refl; block1 = refl; block2 = refl; if_match = refl; etag = refl; if_none_match = refl; format_is = λ n. refl; accept_is = refl }
-rest_is format.Absent false true = record { path = refl; block1 = refl; block2 = refl; if_match = refl; etag = refl; if_none_match = refl; format_is = λ n. refl; accept_is = refl }
-rest_is format.Absent false false = record { path = refl; block1 = refl; block2 = refl; if_match = refl; etag = refl; if_none_match = refl; format_is = λ n. refl; accept_is = refl }
-rest_is format.Json true true = record { path = refl; block1 = refl; block2 = refl; if_match = refl; etag = refl; if_none_match = refl; format_is = λ n. refl; accept_is = refl }
-rest_is format.Json true false = record { path = refl; block1 = refl; block2 = refl; if_match = refl; etag = refl; if_none_match = refl; format_is = λ n. refl; accept_is = refl }
-rest_is format.Json false true = record { path = refl; block1 = refl; block2 = refl; if_match = refl; etag = refl; if_none_match = refl; format_is = λ n. refl; accept_is = refl }
-rest_is format.Json false false = record { path = refl; block1 = refl; block2 = refl; if_match = refl; etag = refl; if_none_match = refl; format_is = λ n. refl; accept_is = refl }
-rest_is format.Td true true = record { path = refl; block1 = refl; block2 = refl; if_match = refl; etag = refl; if_none_match = refl; format_is = λ n. refl; accept_is = refl }
-rest_is format.Td true false = record { path = refl; block1 = refl; block2 = refl; if_match = refl; etag = refl; if_none_match = refl; format_is = λ n. refl; accept_is = refl }
-rest_is format.Td false true = record { path = refl; block1 = refl; block2 = refl; if_match = refl; etag = refl; if_none_match = refl; format_is = λ n. refl; accept_is = refl }
-rest_is format.Td false false = record { path = refl; block1 = refl; block2 = refl; if_match = refl; etag = refl; if_none_match = refl; format_is = λ n. refl; accept_is = refl }
-rest_is format.Patch true true = record { path = refl; block1 = refl; block2 = refl; if_match = refl; etag = refl; if_none_match = refl; format_is = λ n. absurd (n refl); accept_is = refl }
-rest_is format.Patch true false = record { path = refl; block1 = refl; block2 = refl; if_match = refl; etag = refl; if_none_match = refl; format_is = λ n. absurd (n refl); accept_is = refl }
-rest_is format.Patch false true = record { path = refl; block1 = refl; block2 = refl; if_match = refl; etag = refl; if_none_match = refl; format_is = λ n. absurd (n refl); accept_is = refl }
-rest_is format.Patch false false = record { path = refl; block1 = refl; block2 = refl; if_match = refl; etag = refl; if_none_match = refl; format_is = λ n. absurd (n refl); accept_is = refl }
-rest_is format.Other true true = record { path = refl; block1 = refl; block2 = refl; if_match = refl; etag = refl; if_none_match = refl; format_is = λ n. refl; accept_is = refl }
-rest_is format.Other true false = record { path = refl; block1 = refl; block2 = refl; if_match = refl; etag = refl; if_none_match = refl; format_is = λ n. refl; accept_is = refl }
-rest_is format.Other false true = record { path = refl; block1 = refl; block2 = refl; if_match = refl; etag = refl; if_none_match = refl; format_is = λ n. refl; accept_is = refl }
-rest_is format.Other false false = record { path = refl; block1 = refl; block2 = refl; if_match = refl; etag = refl; if_none_match = refl; format_is = λ n. refl; accept_is = refl }
+rest_is format.Absent true true = record { path = refl; block1 = refl; block2 = refl; if_match = refl; etag = refl; if_none_match = refl; observe = refl; format_is = λ n. refl; accept_is = refl }
+rest_is format.Absent true false = record { path = refl; block1 = refl; block2 = refl; if_match = refl; etag = refl; if_none_match = refl; observe = refl; format_is = λ n. refl; accept_is = refl }
+rest_is format.Absent false true = record { path = refl; block1 = refl; block2 = refl; if_match = refl; etag = refl; if_none_match = refl; observe = refl; format_is = λ n. refl; accept_is = refl }
+rest_is format.Absent false false = record { path = refl; block1 = refl; block2 = refl; if_match = refl; etag = refl; if_none_match = refl; observe = refl; format_is = λ n. refl; accept_is = refl }
+rest_is format.Json true true = record { path = refl; block1 = refl; block2 = refl; if_match = refl; etag = refl; if_none_match = refl; observe = refl; format_is = λ n. refl; accept_is = refl }
+rest_is format.Json true false = record { path = refl; block1 = refl; block2 = refl; if_match = refl; etag = refl; if_none_match = refl; observe = refl; format_is = λ n. refl; accept_is = refl }
+rest_is format.Json false true = record { path = refl; block1 = refl; block2 = refl; if_match = refl; etag = refl; if_none_match = refl; observe = refl; format_is = λ n. refl; accept_is = refl }
+rest_is format.Json false false = record { path = refl; block1 = refl; block2 = refl; if_match = refl; etag = refl; if_none_match = refl; observe = refl; format_is = λ n. refl; accept_is = refl }
+rest_is format.Td true true = record { path = refl; block1 = refl; block2 = refl; if_match = refl; etag = refl; if_none_match = refl; observe = refl; format_is = λ n. refl; accept_is = refl }
+rest_is format.Td true false = record { path = refl; block1 = refl; block2 = refl; if_match = refl; etag = refl; if_none_match = refl; observe = refl; format_is = λ n. refl; accept_is = refl }
+rest_is format.Td false true = record { path = refl; block1 = refl; block2 = refl; if_match = refl; etag = refl; if_none_match = refl; observe = refl; format_is = λ n. refl; accept_is = refl }
+rest_is format.Td false false = record { path = refl; block1 = refl; block2 = refl; if_match = refl; etag = refl; if_none_match = refl; observe = refl; format_is = λ n. refl; accept_is = refl }
+rest_is format.Patch true true = record { path = refl; block1 = refl; block2 = refl; if_match = refl; etag = refl; if_none_match = refl; observe = refl; format_is = λ n. absurd (n refl); accept_is = refl }
+rest_is format.Patch true false = record { path = refl; block1 = refl; block2 = refl; if_match = refl; etag = refl; if_none_match = refl; observe = refl; format_is = λ n. absurd (n refl); accept_is = refl }
+rest_is format.Patch false true = record { path = refl; block1 = refl; block2 = refl; if_match = refl; etag = refl; if_none_match = refl; observe = refl; format_is = λ n. absurd (n refl); accept_is = refl }
+rest_is format.Patch false false = record { path = refl; block1 = refl; block2 = refl; if_match = refl; etag = refl; if_none_match = refl; observe = refl; format_is = λ n. absurd (n refl); accept_is = refl }
+rest_is format.Other true true = record { path = refl; block1 = refl; block2 = refl; if_match = refl; etag = refl; if_none_match = refl; observe = refl; format_is = λ n. refl; accept_is = refl }
+rest_is format.Other true false = record { path = refl; block1 = refl; block2 = refl; if_match = refl; etag = refl; if_none_match = refl; observe = refl; format_is = λ n. refl; accept_is = refl }
+rest_is format.Other false true = record { path = refl; block1 = refl; block2 = refl; if_match = refl; etag = refl; if_none_match = refl; observe = refl; format_is = λ n. refl; accept_is = refl }
+rest_is format.Other false false = record { path = refl; block1 = refl; block2 = refl; if_match = refl; etag = refl; if_none_match = refl; observe = refl; format_is = λ n. refl; accept_is = refl }
 
--- options without If-Match, ETag and If-None-Match ask nothing of versions
-no_tags_known : (counts : Bool) → known_by counts [] ≡ no_tags
-no_tags_known true = refl
-no_tags_known false = refl
+-- ETag counts in a GET that doesn't observe, and nothing is known by another request
+counted : (v : Verb) (c : Conditions) → IsSaidByBoth v c → (unwrap_or (code_of v) 0 == GET) ≡ false → c.known.list ≡ []
+counted verb.Get c said isnt = absurd cc
+counted verb.Head c said isnt = said.1
+counted verb.Put c said isnt = said
+counted verb.Post c said isnt = said
+counted verb.Patch c said isnt = said
+counted verb.Delete c said isnt = said
+counted verb.Other c said isnt = said
 
-asks_nothing : (counts : Bool) (os : List CoapOption) → values_under IF_MATCH os ≡ [] → values_under ETAG os ≡ [] → values_under IF_NONE_MATCH os ≡ []
-    → conditions_by counts os ≡ no_conditions
-asks_nothing counts os one two three =
-    ap₂ (λ (m : List (List ℕ)) (n : List (List ℕ)). record { if_match = match_of m; known = known_by counts (values_under ETAG os); absent = is_there n }) one three
-    ∙ ap (λ (v : List (List ℕ)). record { if_match = None; known = known_by counts v; absent = false }) two
-    ∙ ap (λ (t : Tags). record { if_match = None; known = t; absent = false }) (no_tags_known counts)
+counts_by : (get : Bool) (value : Option ℕ) → value ≡ None → (get && not (registers value)) ≡ get
+counts_by true value none = ap (λ (o : Option ℕ). not (registers o)) none
+counts_by false value none = refl
 
 -- ---- verbs
 
@@ -180,7 +183,14 @@ read_by_coap q can =
     let code = has_code q.verb can.verb in
     let rest = rest_is q.format q.accept.json q.accept.td in
     let os = rest_of q.format q.accept.json q.accept.td in
-    let faultless = no_fault_of_rest q.format q.accept.json q.accept.td in
+    let c = q.conditions in
+    let behind : List CoapOption = segment_options URI_PATH q.path ++ os in
+    let all : List CoapOption = match_options c.if_match ++ (tag_options ETAG c.known.list ++ (absent_options c.absent ++ behind)) in
+    let get : Bool = unwrap_or (code_of q.verb) 0 == GET in
+    let others : (n : ℕ) → (IF_MATCH == n) ≡ false → (ETAG == n) ≡ false → (IF_NONE_MATCH == n) ≡ false → (URI_PATH == n) ≡ false → values_under n all ≡ values_under n os =
+    λ n one two three four. other_conditions n c behind one two three ∙ other_values n q.path os four in
+    let observes : number_under observe all ≡ None =
+    ap (λ (vs : List (List ℕ)). option_and_then (number_within observe) (slice_get vs 0)) (others OBSERVE refl refl refl refl ∙ rest.observe) in
     let small : unwrap_or (code_of q.verb) 0 < 32 = code.small in
     let some : 0 < unwrap_or (code_of q.verb) 0 = code.some in
     record {
@@ -190,26 +200,25 @@ read_by_coap q can =
           class = inl (class_of (unwrap_or (code_of q.verb) 0) small);
           id = omega arith;
           token = omega arith;
-          options = path_in_order q.path os 0 (omega arith) can.path (rest_in_order q.format q.accept.json q.accept.td);
+          options = conditions_in_order c behind (λ l low. path_in_order q.path os l (omega (arith, low)) can.path (rest_in_order q.format q.accept.json q.accept.td));
           empty = λ none. absurd (omega (arith, none, some));
         };
         bytes_are = refl;
       };
       request = is_asked (unwrap_or (code_of q.verb) 0) some small;
-      options = no_fault q.path os can.path faultless.0 faultless.1;
+      options = no_fault_of_conditions c behind (no_fault q.path os can.path (no_fault_of_rest q.format q.accept.json q.accept.td));
       names = record {
-        block1 = ap (λ (vs : List (List ℕ)). option_and_then block_of (slice_get vs 0)) (other_values BLOCK1 q.path os refl ∙ rest.block1);
-        block2 = ap (λ (vs : List (List ℕ)). option_and_then block_of (slice_get vs 0)) (other_values BLOCK2 q.path os refl ∙ rest.block2);
+        block1 = ap (λ (vs : List (List ℕ)). option_and_then block_of (slice_get vs 0)) (others BLOCK1 refl refl refl refl ∙ rest.block1);
+        block2 = ap (λ (vs : List (List ℕ)). option_and_then block_of (slice_get vs 0)) (others BLOCK2 refl refl refl refl ∙ rest.block2);
       };
-      asks_it = same_request q (verb_of (unwrap_or (code_of q.verb) 0)) (values_under URI_PATH (segment_options URI_PATH q.path ++ os))
-          (accept_of (number_under accept (segment_options URI_PATH q.path ++ os))) (format_of (number_under content_format (segment_options URI_PATH q.path ++ os)))
-          (conditions_of (unwrap_or (code_of q.verb) 0) (segment_options URI_PATH q.path ++ os))
-          code.back (path_values q.path os rest.path) can.query
-          (ap (λ (vs : List (List ℕ)). accept_of (option_and_then (number_within accept) (slice_get vs 0))) (other_values ACCEPT q.path os refl) ∙ rest.accept_is)
-          (ap (λ (vs : List (List ℕ)). format_of (option_and_then (number_within content_format) (slice_get vs 0))) (other_values CONTENT_FORMAT q.path os refl) ∙ rest.format_is can.format)
-          (asks_nothing _ (segment_options URI_PATH q.path ++ os) (other_values IF_MATCH q.path os refl ∙ rest.if_match)
-          (other_values ETAG q.path os refl ∙ rest.etag) (other_values IF_NONE_MATCH q.path os refl ∙ rest.if_none_match)
-          ∙ sym can.conditions);
+      asks_it = same_request q (verb_of (unwrap_or (code_of q.verb) 0)) (values_under URI_PATH all)
+          (accept_of (number_under accept all)) (format_of (number_under content_format all)) (conditions_of (unwrap_or (code_of q.verb) 0) all)
+          code.back (other_conditions URI_PATH c behind refl refl refl ∙ path_values q.path os rest.path) can.query
+          (ap (λ (vs : List (List ℕ)). accept_of (option_and_then (number_within accept) (slice_get vs 0))) (others ACCEPT refl refl refl refl) ∙ rest.accept_is)
+          (ap (λ (vs : List (List ℕ)). format_of (option_and_then (number_within content_format) (slice_get vs 0))) (others CONTENT_FORMAT refl refl refl refl) ∙ rest.format_is can.format)
+          (ap (λ (counts : Bool). conditions_by counts all) (counts_by get (number_under observe all) observes)
+          ∙ conditions_read get c behind can.conditions.matched can.conditions.known can.conditions.named (counted q.verb c can.conditions.said)
+          (other_values IF_MATCH q.path os refl ∙ rest.if_match) (other_values ETAG q.path os refl ∙ rest.etag) (other_values IF_NONE_MATCH q.path os refl ∙ rest.if_none_match));
     }
   where
     is_asked : (n : ℕ) → 0 < n → n < 32 → (nat_lt 0 n && nat_lt n 32) ≡ true

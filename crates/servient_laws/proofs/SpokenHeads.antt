@@ -1,8 +1,8 @@
 -- The head of the HTTP message that says a request: it is a head by the grammar, and its lines say what the request says.
 use Rattle.std.proofs.Common.{◌≡◌, ◌≢◌, ◌<◌, ◌≤◌, ◌^◌, ℕ, Bool, true, false, not, List, [], ◌∷◌, ◌++◌, append_assoc, length, map, reverse, refl, ap, ap₂, ◌∙◌, arith}
 use Rattle.std.specs.Prelude.{◌==◌, ◌&&◌, codes, decimal, IsTrue}
-use Rattle.std.specs.List.{AllByRecursion, list_all, flat_map}
-use Rattle.std.specs.Str.{IsAscii}
+use Rattle.std.specs.List.{AllByRecursion, list_all, list_any, flat_map}
+use Rattle.std.specs.Str.{IsAscii, str_eq_ignore_ascii_case}
 use Rattle.std.specs.Str.Parse.{AllDigits, digits_value}
 use Rattle.std.proofs.lemmas.Bool.Decides.{nat_tests}
 use Rattle.std.proofs.lemmas.Fmt.{decimal_is_IsNumeral}
@@ -14,90 +14,21 @@ use Rattle.std.proofs.lemmas.Str.Parse.{digit_at}
 use Rattle.httparse.specs.Grammar.{is_token_byte, is_uri_byte, is_value_byte, is_ows, AllPass, IsToken, Field, IsField, crlf, skip_ows, trim_ows, print_field, print_section, print_request, IsRequestHead}
 use Rattle.httparse.specs.Spans.{name_and_value}
 use Rattle.httparse.proofs.TrimLemmas.{AllPass-reverse}
-use Rattle.http_wire.specs.Conditions.{asking_lines}
-use Rattle.http_wire.specs.Fields.{absent, once, Said, said_by, format_of, accept_of}
+use Rattle.http_wire.specs.Fields.{absent, once, standing, is_continue, types_taken, Said, said_by, format_of, accept_of}
 use Rattle.http_wire.specs.Judging.{is_once, is_often, longest_body}
 use Rattle.thing_ops.specs.declared.verb.Verb.{Verb}
 use Rattle.thing_ops.specs.declared.verb.Verb.TheVariants as verb
 use Rattle.thing_ops.specs.declared.request.Format.{Format}
 use Rattle.thing_ops.specs.declared.request.Format.TheVariants as format
 use Rattle.thing_ops.specs.Requests.{PlainRequest}
-use Rattle.servient_laws.specs.Spoken.{method_of, target_of, type_lines, accept_lines, header_lines, http_head}
+use Rattle.thing_ops.specs.declared.conditions.Conditions.{Conditions}
+use Rattle.servient_laws.specs.Spoken.{MayBeAsked, method_of, target_of, type_lines, accept_lines, header_lines, condition_lines, lines_for, http_head}
+use Rattle.servient_laws.proofs.SpokenBytes.{both_all, passes, all_pass, weaker, plain, is_plain, plain_bytes, digits_pass, trims_nothing, field_of, fields, line_of, lines_all, token, IsGood, good, good_all}
+use Rattle.servient_laws.proofs.SpokenTags.{conditions_are_lines, good_conditions, read_under, other_conditions}
 use Rattle.servient_laws.proofs.HeadLines.{IsPlain, IsLine, AreLines, printed}
 use Rattle.servient_laws.proofs.SpokenTargets.{IsTargetByte, target_bytes}
 
--- ---- tests of bytes
-
-both : (b c : Bool) → (b && c) ≡ true → (b ≡ true) × (c ≡ true)
-both true c h = (refl, h)
-both false c h = absurd cc
-
-passes : (test : ℕ → Bool) (bytes : List ℕ) → list_all test bytes ≡ true → AllByRecursion (λ b. IsTrue (test b)) bytes
-passes test [] h = tt
-passes test (b ∷ bytes) h = let parts = both (test b) (list_all test bytes) h in (parts.0, passes test bytes parts.1)
-
-all_pass : (test : ℕ → Bool) (bytes : List ℕ) → list_all test bytes ≡ true → AllPass test bytes
-all_pass test bytes h = All-from_recursion (λ b. IsTrue (test b)) bytes (passes test bytes h)
-
-both_all : (P : ℕ → Type 0) (a b : List ℕ) → AllByRecursion P a → AllByRecursion P b → AllByRecursion P (a ++ b)
-both_all P [] b p q = q
-both_all P (x ∷ a) b p q = (p.0, both_all P a b p.1 q)
-
-weaker : (P Q : ℕ → Type 0) (bytes : List ℕ) → ((b : ℕ) → P b → Q b) → AllByRecursion P bytes → AllByRecursion Q bytes
-weaker P Q [] f all = tt
-weaker P Q (b ∷ bytes) f all = (f b all.0, weaker P Q bytes f all.1)
-
--- a byte that is no part of a line's end
-abbrev plain : ℕ → Bool
-plain b = not (b == 13) && not (b == 10)
-
-is_plain : (b : ℕ) → plain b ≡ true → IsPlain b
-is_plain b h = (no_return, no_feed)
-  where
-    no_return : b ≢ 13
-    no_return = grind (arith, nat_tests)
-
-    no_feed : b ≢ 10
-    no_feed = grind (arith, nat_tests)
-
-plain_bytes : (bytes : List ℕ) → list_all plain bytes ≡ true → AllByRecursion IsPlain bytes
-plain_bytes bytes h = weaker (λ b. IsTrue (plain b)) IsPlain bytes is_plain (passes plain bytes h)
-
--- ---- digits
-
-digit_range : (c : ℕ) (cs : List ℕ) → AllDigits 10 (c ∷ cs) → (48 ≤ c) × (c ≤ 57)
-digit_range c cs h = let range = digit_at (c ∷ cs) 0 h (omega arith) in (omega (arith, range), omega (arith, range))
-
-pub digits_pass : (test : ℕ → Bool) (cs : List ℕ) → ((c : ℕ) → 48 ≤ c → c ≤ 57 → test c ≡ true) → AllDigits 10 cs → list_all test cs ≡ true
-digits_pass test [] each h = refl
-digits_pass test (c ∷ cs) each h =
-    let range = digit_range c cs h in
-    ap₂ (λ (x y : Bool). x && y) (each c range.0 range.1) (digits_pass test cs each h.1)
-
--- no white space is around them
-not_ows : ℕ → Bool
-not_ows b = not (is_ows b)
-
-skips_nothing : (bytes : List ℕ) → AllPass (λ b. not (is_ows b)) bytes → skip_ows bytes ≡ bytes
-skips_nothing [] pass = refl
-skips_nothing (b ∷ bytes) pass = rw isnt refl
-  where
-    first : not (is_ows b) ≡ true
-    first = All-head (λ x. IsTrue (not (is_ows x))) b bytes pass
-
-    negated : (x : Bool) → not x ≡ true → x ≡ false
-    negated true h = absurd cc
-    negated false h = refl
-
-    isnt : is_ows b ≡ false
-    isnt = negated (is_ows b) first
-
-trims_nothing : (bytes : List ℕ) → AllPass (λ b. not (is_ows b)) bytes → trim_ows bytes ≡ bytes
-unfolding trim_ows
-trims_nothing bytes pass =
-    ap (λ (x : List ℕ). reverse (skip_ows (reverse x))) (skips_nothing bytes pass)
-    ∙ ap (λ (x : List ℕ). reverse x) (skips_nothing (reverse bytes) (AllPass-reverse (λ b. not (is_ows b)) bytes pass))
-    ∙ reverse-reverse bytes
+-- ---- sizes
 
 pub record IsSize (n : ℕ) : Type 0 where
   pub some : 0 < length (decimal n)
@@ -120,12 +51,6 @@ is_size n short =
     unspaced c low high = grind (arith, nat_tests)
 
 -- ---- what the header lines say
-
-abbrev pub field_of : List ℕ × List ℕ → Field
-field_of l = record { name = l.0; raw = l.1; end = crlf }
-
-abbrev pub fields : List (List ℕ × List ℕ) → List Field
-fields lines = map field_of lines
 
 pub record Says (f : Format) (json td : Bool) (size : List ℕ) (s : Said) : Type 0 where
   pub host : is_once s.host ≡ true
@@ -160,32 +85,53 @@ says format.Other false true size = record { host = refl; size_is = refl; coding
 says format.Other false false size = record { host = refl; size_is = refl; coding = refl; one_type = refl; format_is = refl; continues = refl; accept_is = refl }
 
 -- none of them asks for a version
-type_asks : (f : Format) (lines : List (List ℕ × List ℕ)) → asking_lines (map name_and_value (fields (type_lines f ++ lines))) ≡ asking_lines (map name_and_value (fields lines))
-type_asks format.Absent lines = refl
-type_asks format.Json lines = refl
-type_asks format.Td lines = refl
-type_asks format.Patch lines = refl
-type_asks format.Other lines = refl
+pub record AsksNothing (f : Format) (json td : Bool) (size : List ℕ) : Type 0 where
+  pub matched : read_under (codes "if-match") (header_lines f json td size) ≡ []
+  pub none_matched : read_under (codes "if-none-match") (header_lines f json td size) ≡ []
 
-accept_asks : (json td : Bool) → asking_lines (map name_and_value (fields (accept_lines json td))) ≡ []
-accept_asks true true = refl
-accept_asks true false = refl
-accept_asks false true = refl
-accept_asks false false = refl
+type_read : (name : List ℕ) (f : Format) (lines : List (List ℕ × List ℕ)) → str_eq_ignore_ascii_case (codes "Content-Type") name ≡ false
+    → read_under name (type_lines f ++ lines) ≡ read_under name lines
+type_read name format.Absent lines isnt = refl
+type_read name format.Json lines isnt = rw isnt refl
+type_read name format.Td lines isnt = rw isnt refl
+type_read name format.Patch lines isnt = rw isnt refl
+type_read name format.Other lines isnt = rw isnt refl
 
-pub asks_nothing : (f : Format) (json td : Bool) (size : List ℕ) → asking_lines (map name_and_value (fields (header_lines f json td size))) ≡ []
-asks_nothing f json td size = type_asks f (accept_lines json td) ∙ accept_asks json td
+accept_read : (name : List ℕ) (json td : Bool) → str_eq_ignore_ascii_case (codes "Accept") name ≡ false → read_under name (accept_lines json td) ≡ []
+accept_read name true true isnt = refl
+accept_read name true false isnt = rw isnt refl
+accept_read name false true isnt = rw isnt refl
+accept_read name false false isnt = rw isnt refl
+
+pub asks_nothing : (f : Format) (json td : Bool) (size : List ℕ) → AsksNothing f json td size
+asks_nothing f json td size = record {
+  matched = type_read (codes "if-match") f (accept_lines json td) refl ∙ accept_read (codes "if-match") json td refl;
+  none_matched = type_read (codes "if-none-match") f (accept_lines json td) refl ∙ accept_read (codes "if-none-match") json td refl;
+}
+
+-- lines that ask for versions say nothing else
+pub says_behind : (c : Conditions) (f : Format) (json td : Bool) (size : List ℕ)
+    → Says f json td size (said_by (map name_and_value (fields (condition_lines c ++ header_lines f json td size))))
+says_behind c f json td size =
+    let say = says f json td size in
+    let lines : List (List ℕ × List ℕ) = header_lines f json td size in
+    record {
+      host = ap (λ (values : List (List ℕ)). is_once (standing values)) (other_conditions (codes "host") refl refl c lines) ∙ say.host;
+      size_is = ap standing (other_conditions (codes "content-length") refl refl c lines) ∙ say.size_is;
+      coding = ap standing (other_conditions (codes "transfer-encoding") refl refl c lines) ∙ say.coding;
+      one_type = ap (λ (values : List (List ℕ)). is_often (standing values)) (other_conditions (codes "content-type") refl refl c lines) ∙ say.one_type;
+      format_is = ap (λ (values : List (List ℕ)). format_of (standing values)) (other_conditions (codes "content-type") refl refl c lines) ∙ say.format_is;
+      continues = ap (list_any is_continue) (other_conditions (codes "expect") refl refl c lines) ∙ say.continues;
+      accept_is = ap (λ (values : List (List ℕ)). accept_of (types_taken values)) (other_conditions (codes "accept") refl refl c lines) ∙ say.accept_is;
+    }
 
 -- ---- the head as lines
 
 abbrev pub start_line : PlainRequest → List ℕ
 start_line q = method_of q.verb ++ 32 ∷ target_of q.path ++ 32 ∷ codes "HTTP/1.1"
 
-abbrev pub line_of : List ℕ × List ℕ → List ℕ
-line_of l = l.0 ++ 58 ∷ l.1
-
 abbrev pub lines_in : PlainRequest → List (List ℕ × List ℕ)
-lines_in q = header_lines q.format q.accept.json q.accept.td (decimal (length q.body))
+lines_in q = lines_for q
 
 abbrev pub head_lines : PlainRequest → List (List ℕ)
 head_lines q = start_line q ∷ map line_of (lines_in q)
@@ -236,10 +182,6 @@ start_is_line q bytes =
     longer : (a b : List ℕ) → 0 < length a → 0 < length (a ++ b)
     longer a b some = let sum = length-append a b in omega (arith, sum, some)
 
-lines_all : (a b : List (List ℕ × List ℕ)) → AreLines (map line_of a) → AreLines (map line_of b) → AreLines (map line_of (a ++ b))
-lines_all [] b p q = q
-lines_all (l ∷ a) b p q = (p.0, lines_all a b p.1 q)
-
 type_are : (f : Format) → AreLines (map line_of (type_lines f))
 type_are format.Absent = tt
 type_are format.Json = ((plain_bytes (line_of (codes "Content-Type", codes "application/json")) refl, omega arith), tt)
@@ -256,8 +198,8 @@ accept_are false false = ((plain_bytes (line_of (codes "Accept", codes "text/pla
 size_plain : (c : ℕ) → 48 ≤ c → c ≤ 57 → plain c ≡ true
 size_plain c low high = grind (arith, nat_tests)
 
-pub header_are : (f : Format) (json td : Bool) (n : ℕ) → IsSize n → AreLines (map line_of (header_lines f json td (decimal n)))
-header_are f json td n size = (
+header_are_lines : (f : Format) (json td : Bool) (n : ℕ) → IsSize n → AreLines (map line_of (header_lines f json td (decimal n)))
+header_are_lines f json td n size = (
   (plain_bytes (codes "Host:thing") refl, omega arith),
   (
     (both_all IsPlain (codes "Content-Length:") (decimal n) (plain_bytes (codes "Content-Length:") refl) (plain_bytes (decimal n) (digits_pass plain (decimal n) size_plain size.digits)), omega arith),
@@ -265,10 +207,12 @@ header_are f json td n size = (
   ),
 )
 
--- ---- it is a head by the grammar
+pub header_are : (q : PlainRequest) → MayBeAsked q.verb q.conditions → IsSize (length q.body) → AreLines (map line_of (lines_in q))
+header_are q may size =
+    lines_all (condition_lines q.conditions) (header_lines q.format q.accept.json q.accept.td (decimal (length q.body))) (conditions_are_lines q.verb q.conditions may)
+    (header_are_lines q.format q.accept.json q.accept.td (length q.body) size)
 
-token : (bytes : List ℕ) → 0 < length bytes → list_all is_token_byte bytes ≡ true → IsToken bytes
-token bytes some h = (some, all_pass is_token_byte bytes h)
+-- ---- it is a head by the grammar
 
 method_token : (v : Verb) → IsToken (method_of v)
 unfolding is_token_byte
@@ -279,16 +223,6 @@ method_token verb.Post = token (codes "POST") (omega arith) refl
 method_token verb.Patch = token (codes "PATCH") (omega arith) refl
 method_token verb.Delete = token (codes "DELETE") (omega arith) refl
 method_token verb.Other = token (codes "OTHER") (omega arith) refl
-
-abbrev IsGood : List ℕ × List ℕ → Type 0
-IsGood l = IsField (record { name = l.0; raw = l.1; end = crlf })
-
-good : (name value : List ℕ) → 0 < length name → list_all is_token_byte name ≡ true → list_all is_value_byte value ≡ true → IsGood (name, value)
-good name value some named valued = record { name = token name some named; raw = all_pass is_value_byte value valued }
-
-good_all : (a b : List (List ℕ × List ℕ)) → AllByRecursion IsGood a → AllByRecursion IsGood b → AllByRecursion IsGood (a ++ b)
-good_all [] b p q = q
-good_all (l ∷ a) b p q = (p.0, good_all a b p.1 q)
 
 good_types : (f : Format) → AllByRecursion IsGood (type_lines f)
 unfolding is_token_byte
@@ -338,33 +272,13 @@ some_target (segment ∷ path) = omega arith
 target_ascii : (bytes : List ℕ) → AllByRecursion IsTargetByte bytes → IsAscii bytes
 target_ascii bytes all = IsAscii-from_all bytes (All-from_recursion (λ b. b < 128) bytes (weaker IsTargetByte (λ b. b < 128) bytes (λ b safe. let high : b ≤ 70 = safe.1 in omega (arith, high)) all))
 
-pub request_head : (q : PlainRequest) → AllByRecursion (AllByRecursion (λ b. b < 256)) q.path → IsSize (length q.body) → IsRequestHead (http_head q)
-request_head q bytes size = record {
+pub request_head : (q : PlainRequest) → AllByRecursion (AllByRecursion (λ b. b < 256)) q.path → MayBeAsked q.verb q.conditions → IsSize (length q.body) → IsRequestHead (http_head q)
+request_head q bytes may size = record {
   method = method_token q.verb;
   target = (some_target q.path, All-from_recursion (λ b. IsTrue (is_uri_byte b)) (target_of q.path) (uri_bytes (target_of q.path) (target_bytes q.path bytes)));
   target_text = IsUtf8-from_ascii (target_of q.path) (target_ascii (target_of q.path) (target_bytes q.path bytes));
   minor = omega arith;
-  fields = All-from_recursion IsField (fields (lines_in q)) (good_fields (lines_in q) (good_lines q.format q.accept.json q.accept.td (length q.body) size));
+  fields = All-from_recursion IsField (fields (lines_in q)) (good_fields (lines_in q)
+      (good_all (condition_lines q.conditions) (header_lines q.format q.accept.json q.accept.td (decimal (length q.body))) (good_conditions q.verb q.conditions may)
+      (good_lines q.format q.accept.json q.accept.td (length q.body) size)));
 }
-
-pub few_lines : (f : Format) (json td : Bool) (size : List ℕ) → length (header_lines f json td size) ≤ 4
-few_lines format.Absent true true size = omega arith
-few_lines format.Absent true false size = omega arith
-few_lines format.Absent false true size = omega arith
-few_lines format.Absent false false size = omega arith
-few_lines format.Json true true size = omega arith
-few_lines format.Json true false size = omega arith
-few_lines format.Json false true size = omega arith
-few_lines format.Json false false size = omega arith
-few_lines format.Td true true size = omega arith
-few_lines format.Td true false size = omega arith
-few_lines format.Td false true size = omega arith
-few_lines format.Td false false size = omega arith
-few_lines format.Patch true true size = omega arith
-few_lines format.Patch true false size = omega arith
-few_lines format.Patch false true size = omega arith
-few_lines format.Patch false false size = omega arith
-few_lines format.Other true true size = omega arith
-few_lines format.Other true false size = omega arith
-few_lines format.Other false true size = omega arith
-few_lines format.Other false false size = omega arith

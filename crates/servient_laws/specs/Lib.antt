@@ -8,3 +8,4 @@ pub mod Spoken
 pub mod InMemory
 pub mod Transfers
 pub mod Stops
+pub mod Failures

@@ -1,10 +1,10 @@
 -- That a request which both bindings can say is read from a message of either: so that operations have one meaning by
 -- both is said of something.
-use Rattle.std.specs.Prelude.{◌≡◌, ◌≢◌, ◌≤◌, ◌<◌, ℕ, List, [], ◌∷◌, ◌++◌, length, map, codes, decimal, Bool, true, false, IsSome, Option, Some, None, unwrap_or}
+use Rattle.std.specs.Prelude.{◌≡◌, ◌≢◌, ◌≤◌, ◌<◌, ◌^◌, ℕ, List, [], ◌∷◌, ◌++◌, length, map, codes, decimal, Bool, true, false, IsSome, IfSome, Option, Some, None, unwrap_or, if◌then◌else◌}
 use Rattle.std.specs.List.{AllByRecursion, flat_map}
 use Rattle.httparse.specs.Grammar.{RequestHead, crlf, print_request}
 use Rattle.percent_encoding.specs.Percent.{percent_encode_byte}
-use Rattle.coap_msg.specs.declared.constants.TheConstants.{LONGEST_SEGMENT, LONGEST_DATAGRAM, URI_PATH, CONTENT_FORMAT, ACCEPT, GET, POST, PUT, DELETE, JSON, TD_JSON}
+use Rattle.coap_msg.specs.declared.constants.TheConstants.{LONGEST_SEGMENT, LONGEST_DATAGRAM, IF_MATCH, ETAG, IF_NONE_MATCH, URI_PATH, CONTENT_FORMAT, ACCEPT, GET, POST, PUT, DELETE, JSON, TD_JSON}
 use Rattle.coap_msg.specs.declared.message.Type4.TheVariants.{Con}
 use Rattle.coap_msg.specs.Grammar.{CoapOption, CoapMessage, spelling, Spells}
 use Rattle.coap_msg.specs.Numbers.{number_bytes}
@@ -16,13 +16,54 @@ use Rattle.thing_ops.specs.declared.verb.Verb.{Verb}
 use Rattle.thing_ops.specs.declared.verb.Verb.TheVariants as verb
 use Rattle.thing_ops.specs.declared.request.Format.{Format}
 use Rattle.thing_ops.specs.declared.request.Format.TheVariants as format
-use Rattle.thing_ops.specs.Conditions.{no_conditions}
+use Rattle.thing_ops.specs.declared.conditions.Tags.{Tags}
+use Rattle.thing_ops.specs.declared.conditions.Conditions.{Conditions}
 use Rattle.thing_ops.specs.Requests.{PlainRequest}
+use Rattle.http_wire.specs.Conditions.{entity_tag}
 use Rattle.http_wire.specs.Judging.{longest_body}
 use Rattle.http_wire.specs.Stream.{Front, IsFront, longest_head}
 use Rattle.http_bind.specs.Streams.{asks, to_take}
 
+-- ---- what is asked of versions
+
+-- a version that has a tag (RFC 9110, section 8.8.3; RFC 7252, section 5.10.6)
+abbrev pub IsVersion : ℕ → Type 0
+IsVersion v = (1 ≤ v) × (v < 2 ^ 32)
+
+-- What both bindings can say with a verb: of a GET that versions are known, and of another request that nothing was to
+-- be there. HTTP alone has versions in If-None-Match of a write, and `*` of a GET; CoAP alone has If-None-Match of a GET.
+abbrev pub IsSaidByBoth : Verb → Conditions → Type 0
+IsSaidByBoth verb.Get c = c.absent ≡ false
+IsSaidByBoth verb.Head c = (c.absent ≡ false) × (c.known.list ≡ [])
+IsSaidByBoth verb.Put c = c.known.list ≡ []
+IsSaidByBoth verb.Post c = c.known.list ≡ []
+IsSaidByBoth verb.Patch c = c.known.list ≡ []
+IsSaidByBoth verb.Delete c = c.known.list ≡ []
+IsSaidByBoth verb.Other c = c.known.list ≡ []
+
+-- the versions that are named have tags, and both bindings can say it
+pub record MayBeAsked (v : Verb) (c : Conditions) : Type 0 where
+  pub matched : IfSome c.if_match (λ tags. AllByRecursion IsVersion tags.list)
+  pub known : AllByRecursion IsVersion c.known.list
+  pub named : c.known.any ≡ false
+  pub said : IsSaidByBoth v c
+
 -- ---- by CoAP (RFC 7252)
+
+-- an option for each version, with its tag (section 5.10.6)
+abbrev pub tag_options : ℕ → List ℕ → List CoapOption
+tag_options number versions = map (λ v. (number, number_bytes v)) versions
+
+-- If-Match (section 5.10.8.1): of no bytes where any version is asked for, and else of a byte that names none; and one for
+-- each version
+abbrev pub match_options : Option Tags → List CoapOption
+match_options None = []
+match_options (Some tags) = (IF_MATCH, if tags.any then [] else 0 ∷ []) ∷ tag_options IF_MATCH tags.list
+
+-- If-None-Match (section 5.10.8.2)
+abbrev pub absent_options : Bool → List CoapOption
+absent_options true = (IF_NONE_MATCH, []) ∷ []
+absent_options false = []
 
 -- the code of a verb, where it has one (section 12.1.1)
 abbrev pub code_of : Verb → Option ℕ
@@ -53,7 +94,8 @@ coap_message q = record {
   code = unwrap_or (code_of q.verb) 0;
   id = 0;
   token = [];
-  options = segment_options URI_PATH q.path ++ (format_options q.format ++ accept_options q.accept.json q.accept.td);
+  options = match_options q.conditions.if_match ++ (tag_options ETAG q.conditions.known.list ++ (absent_options q.conditions.absent
+      ++ (segment_options URI_PATH q.path ++ (format_options q.format ++ accept_options q.accept.json q.accept.td))));
   payload = q.body;
 }
 
@@ -103,6 +145,28 @@ accept_lines false false = (codes "Accept", codes "text/plain") ∷ []
 abbrev pub header_lines : Format → Bool → Bool → List ℕ → List (List ℕ × List ℕ)
 header_lines f json td size = (codes "Host", codes "thing") ∷ (codes "Content-Length", size) ∷ type_lines f ++ accept_lines json td
 
+-- a line for each version, with its entity tag (RFC 9110, section 8.8.3)
+abbrev pub tag_lines : List ℕ → List ℕ → List (List ℕ × List ℕ)
+tag_lines name versions = map (λ v. (name, entity_tag v)) versions
+
+-- If-Match (RFC 9110, section 13.1.1): a line with `*` where any version is asked for, and else one with nothing; and one
+-- for each version
+abbrev pub match_lines : Option Tags → List (List ℕ × List ℕ)
+match_lines None = []
+match_lines (Some tags) = (codes "If-Match", if tags.any then codes "*" else []) ∷ tag_lines (codes "If-Match") tags.list
+
+-- If-None-Match (RFC 9110, section 13.1.2)
+abbrev pub absent_lines : Bool → List (List ℕ × List ℕ)
+absent_lines true = (codes "If-None-Match", codes "*") ∷ []
+absent_lines false = []
+
+abbrev pub condition_lines : Conditions → List (List ℕ × List ℕ)
+condition_lines c = match_lines c.if_match ++ (tag_lines (codes "If-None-Match") c.known.list ++ absent_lines c.absent)
+
+-- all header lines
+abbrev pub lines_for : PlainRequest → List (List ℕ × List ℕ)
+lines_for q = condition_lines q.conditions ++ header_lines q.format q.accept.json q.accept.td (decimal (length q.body))
+
 -- the head of a message that asks for it
 abbrev pub http_head : PlainRequest → RequestHead
 http_head q = record {
@@ -111,7 +175,7 @@ http_head q = record {
   target = target_of q.path;
   minor = 1;
   line_end = crlf;
-  fields = map (λ (l : List ℕ × List ℕ). record { name = l.0; raw = l.1; end = crlf }) (header_lines q.format q.accept.json q.accept.td (decimal (length q.body)));
+  fields = map (λ (l : List ℕ × List ℕ). record { name = l.0; raw = l.1; end = crlf }) (lines_for q);
   last = crlf;
 }
 
@@ -125,18 +189,19 @@ IsReadByHttp q = (f : Front) × IsFront (http_message q) f × (to_take false f �
 -- ---- the law
 
 -- Both bindings can say a request: it has no query, its verb has a code, its format isn't that of a merge patch, its
--- path is one of segments of at most 255 bytes, and isn't the one empty segment; it asks nothing of versions; and it fits
--- into messages of both.
+-- path is one of segments of at most 255 bytes, and isn't the one empty segment; both can say what it asks of versions; and
+-- it fits into messages of both.
 pub record IsSpeakable (q : PlainRequest) : Type 0 where
   pub verb : IsSome (code_of q.verb)
   pub query : q.query ≡ []
-  pub conditions : q.conditions ≡ no_conditions
+  pub conditions : MayBeAsked q.verb q.conditions
   pub format : q.format ≢ format.Patch
   pub path : AllByRecursion (λ s. length s ≤ LONGEST_SEGMENT) q.path
   pub bytes : AllByRecursion (AllByRecursion (λ b. b < 256)) q.path
   pub path_is : q.path ≢ [] ∷ []
   pub datagram : length (spelling (coap_message q)) ≤ LONGEST_DATAGRAM
   pub head : length (print_request (http_head q)) ≤ longest_head
+  pub lines : length (lines_for q) ≤ 64
   pub body : length q.body ≤ longest_body
 
 -- Each such request is read from a message of either binding.

@@ -2,6 +2,7 @@
 
 ghost use Rattle.servient_laws.specs.Calls.{CallsAreFit};
 ghost use Rattle.servient_laws.specs.Determined.{RunsAreDetermined};
+ghost use Rattle.servient_laws.specs.Failures.{FailuresAreCounted};
 ghost use Rattle.servient_laws.specs.InMemory.{NothingFailsInMemory};
 ghost use Rattle.servient_laws.specs.Memory.{MemoryIsSeen};
 ghost use Rattle.servient_laws.specs.Payloads.{PayloadsAreOfOutcomes};
@@ -51,6 +52,12 @@ pub fn faults_take_no_event()
     ensures { FaultsTakeNoEvent }
 {}
 
+/// Where the status is 3, reading a file failed, which the files' count records, or a file that was read isn't there; where it
+/// is 6, a call of the network failed, which its count records.
+pub fn failures_are_counted()
+    ensures { FailuresAreCounted }
+{}
+
 /// Where the words are no command, or `check` or `derive`, each handler is as it was.
 pub fn handlers_stay()
     ensures { HandlersStay }
@@ -63,13 +70,14 @@ pub fn nothing_fails_in_memory()
 {}
 
 /// What is sent in reply to a message says the payload of its outcome: by CoAP unless it is given in blocks or too long for
-/// a datagram, by HTTP unless the request was HEAD. So two messages of one meaning are replied to with one payload.
+/// a datagram, by HTTP unless the request was HEAD; and the tag of the version that was read. So two messages of one meaning
+/// are replied to with one payload and one tag.
 pub fn payloads_are_of_outcomes()
     ensures { PayloadsAreOfOutcomes }
 {}
 
-/// Each request that both bindings can say is read from a message of either: so that an operation has one meaning by both
-/// is said of something.
+/// Each request that both bindings can say, what it asks of versions included, is read from a message of either: so that an
+/// operation has one meaning by both is said of something.
 pub fn requests_are_spoken()
     ensures { RequestsAreSpoken }
 {}

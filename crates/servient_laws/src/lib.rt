@@ -11,20 +11,21 @@
 //! - A request that was out of memory made no call, or ended at a handler that was: `memory_is_seen`.
 //! - Polls that were left out and operations that stopped at a handler are counted as its misses: `stops_are_counted`.
 //! - An operation has one meaning by either binding: beside `one_meaning` of `servient_core`, it is replied to with one
-//!   payload, `payloads_are_of_outcomes`, and what both bindings can say is read from a message of either,
+//!   payload and one tag, `payloads_are_of_outcomes`, and what both bindings can say is read from a message of either,
 //!   `requests_are_spoken`.
 //! - One run, one outcome: with the same events and answers the same is done, where there is memory enough:
 //!   `runs_are_determined`.
 //! - Nothing before the word: no event is taken by a command that didn't serve, `faults_take_no_event`, and no handler
 //!   is called by one that calls none, `handlers_stay`.
+//! - A failure has a cause: a file or the network failed where the status says so, `failures_are_counted`.
 //! - Memory alone: over files and an output in memory nothing fails but memory, `nothing_fails_in_memory`.
 #![tactic(auto)]
 
 mod laws;
 
 pub use laws::{
-    calls_are_fit, faults_take_no_event, full_tables_act_on_nothing, handlers_stay,
-    joined_bodies_act_once, later_blocks_are_of_one_act, memory_is_seen, nothing_fails_in_memory,
-    payloads_are_of_outcomes, repeats_act_once, requests_act_once, requests_are_spoken,
-    runs_are_determined, stops_are_counted,
+    calls_are_fit, failures_are_counted, faults_take_no_event, full_tables_act_on_nothing,
+    handlers_stay, joined_bodies_act_once, later_blocks_are_of_one_act, memory_is_seen,
+    nothing_fails_in_memory, payloads_are_of_outcomes, repeats_act_once, requests_act_once,
+    requests_are_spoken, runs_are_determined, stops_are_counted,
 };

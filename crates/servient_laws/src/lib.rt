@@ -25,8 +25,7 @@ mod laws;
 
 pub use laws::{
     calls_are_fit, failures_are_counted, faults_take_no_event, full_tables_act_on_nothing,
-    handlers_stay,
-    joined_bodies_act_once, later_blocks_are_of_one_act, memory_is_seen, nothing_fails_in_memory,
-    payloads_are_of_outcomes, repeats_act_once, requests_act_once, requests_are_spoken,
-    runs_are_determined, stops_are_counted,
+    handlers_stay, joined_bodies_act_once, later_blocks_are_of_one_act, memory_is_seen,
+    nothing_fails_in_memory, payloads_are_of_outcomes, repeats_act_once, requests_act_once,
+    requests_are_spoken, runs_are_determined, stops_are_counted,
 };

@@ -1,4 +1,4 @@
--- `consume` where nothing is wrong and nothing failed: it ends as the operation does.
+-- `consume` and `discover` where nothing is wrong and nothing failed: they end as what they ask does.
 use Rattle.std.proofs.Common.{◌≡◌, ◌⊎◌, ℕ, List, [], ◌∷◌, ◌++◌, Option, Some, None, Bool, true, false, cond, refl, sym, ap, ◌∙◌, subst, inl, inr}
 use Rattle.std.proofs.lemmas.Option.{same_Some}
 use Rattle.wot_json.specs.Tree.{Json}
@@ -11,11 +11,15 @@ use Rattle.wot_forms.specs.declared.form.Form.{Form}
 use Rattle.wot_forms.specs.declared.scheme.Scheme.{Scheme}
 use Rattle.wot_forms.specs.declared.scheme.Scheme.TheVariants as scheme
 use Rattle.wot_consumer.specs.declared.chosen.Chosen.{Chosen}
+use Rattle.wot_consumer.specs.Discovery.{links_of}
 use Rattle.wot_consumer.specs.Choice.{IsFirst, IsChosen, base_of, forms_for, wanted}
 use Rattle.command_words.specs.Operations.{form_operation}
 use Rattle.command_words.specs.declared.command.Consumption.{Consumption}
 use Rattle.servient_outside.specs.declared.files.HeldFile.{HeldFile}
 use Rattle.servient_outside.specs.declared.net.EventWithBytes.{EventWithBytes}
+use Rattle.coap_msg.specs.declared.block.Block.{Block}
+use Rattle.coap_client.specs.declared.news.News.{News}
+use Rattle.coap_client.specs.declared.news.News.TheVariants as news
 use Rattle.servient_outside.specs.Network.{heard, did, broke}
 use Rattle.consuming.specs.declared.answers.Verdict.{Verdict}
 use Rattle.consuming.specs.declared.answers.Verdict.TheVariants as verdict
@@ -23,22 +27,25 @@ use Rattle.consuming.specs.declared.coap_waiting.CoapWaiting.{CoapWaiting}
 use Rattle.consuming.specs.declared.consumed.Consumed.{Consumed}
 use Rattle.consuming.specs.declared.consumed.Consumed.TheVariants as consumed
 use Rattle.consuming.specs.declared.operation.Operation.{Operation}
+use Rattle.consuming.specs.declared.purpose.Purpose.{Purpose}
+use Rattle.consuming.specs.declared.purpose.Purpose.TheVariants as purpose
 use Rattle.consuming.specs.declared.waiting.Waiting.{Waiting}
 use Rattle.consuming.specs.Deeds.{happens, prints, happen}
 use Rattle.consuming.specs.Deeds as operation
 use Rattle.consuming.specs.Answers.{Closes}
-use Rattle.consuming.specs.Asking.{asking_for}
 use Rattle.consuming.specs.HttpWaiting.{has_come, has_not_come}
-use Rattle.consuming.specs.CoapWaiting.{MeetsAndGoesOn, ends_by_it, then_due, Meets, is_datagram, is_stop, is_another, Follows, says_nothing, is_answer, has_value, AfterValue, goes_on_observing, is_last, FallsDue, is_quiet, goes_again, is_over}
+use Rattle.consuming.specs.CoapWaiting.{MeetsAndGoesOn, ends_by_it, then_due, Meets, is_datagram, is_stop, is_another, Follows, FollowsAnswer, leads_on, is_whole, is_malformed, FollowsValue, is_judged, AsksFurther, is_further, is_no_further, AfterValue, goes_on_observing, is_last, FallsDue, is_quiet, goes_again, is_over}
+use Rattle.consuming.specs.CoapWaiting as coap
 use Rattle.consuming.specs.Waiting.{Hears, by_http, by_coap, Awaits, is_spent, is_broken, comes_to, goes_on}
-use Rattle.consuming.specs.Consuming.{Consumes, is_refused, input_memory, is_done, body_memory, has_body, AsksBy, not_dialled, dial_memory, request_memory, is_sent, not_found, find_memory, client_memory, is_found, AsksPeer, is_long, is_asked}
+use Rattle.consuming.specs.Consuming.{Consumes, is_refused, input_memory, is_done, body_memory, has_body, AsksBy, not_dialled, dial_memory, request_memory, is_sent, AsksByCoap, not_found, find_memory, client_memory, is_found, AsksPeer, is_long, is_asked, Discovers, discovery_memory, has_asked}
 use Rattle.servient_cli.specs.Stages.{Deed, Outcome, ends, did_write}
 use Rattle.servient_cli.specs.Reading.{ReadsFile, ReadsTree, longest_json}
-use Rattle.servient_cli.specs.Consuming.{TakesDescription, is_taken, has_fault, description_memory, DescriptionIn, ReadsDescription, ReadsValue, HasInput, has_input, has_no_input, ReadsInput, Chooses, is_chosen, has_no_affordance, has_no_form, choose_memory, deeds_of, status_after, line_after, Operates, has_ended, line_memory, OperatesOn, ConsumesBy, ConsumesThing}
+use Rattle.servient_cli.specs.Consuming.{TakesDescription, is_taken, has_fault, description_memory, DescriptionIn, ReadsDescription, ReadsValue, HasInput, has_input, has_no_input, ReadsInput, Chooses, is_chosen, has_no_affordance, has_no_form, choose_memory, deeds_of, status_after, line_after, EndsAfter, has_ended, line_memory, IsOperated, Operates, OperatesOn, ConsumesBy, ConsumesThing}
+use Rattle.servient_cli.specs.Discovering.{DiscoversThings}
 use Rattle.servient_cli.specs.Command.{HoldsInput, IsFaultlessConsumption, IsAnswered}
 use Rattle.servient_cli.proofs.FaultlessStages.{GoesOn, HasTrouble, trouble_before, then_well, then_goes, read_well, tree_well, no_fault}
 
--- ---- an operation that failed broke the network
+-- ---- what failed broke the network
 
 after_all : (a b : List operation.Deed) → HasTrouble (deeds_of b) → HasTrouble (deeds_of (a ++ b))
 after_all [] b trouble = trouble
@@ -54,6 +61,8 @@ as_one deeds other is trouble = subst (λ (ds : List operation.Deed). HasTrouble
 never_closes : (v : Verdict) (deeds : List operation.Deed) (r : Consumed) → Some consumed.Failed ≡ Some r → Closes v deeds r → ⊥
 never_closes (verdict.Payload payload) deeds r is (nothing, inl done) = cc
 never_closes (verdict.Payload payload) deeds r is (nothing, inr (some, unprinted)) = cc
+never_closes (verdict.Lines lines) deeds r is (nothing, inl done) = cc
+never_closes (verdict.Lines lines) deeds r is (nothing, inr (some, unprinted)) = cc
 never_closes (verdict.Outcome outcome) deeds r is (nothing, other) = cc
 never_closes verdict.NoMemory deeds r is (nothing, memory) = cc
 
@@ -65,55 +74,77 @@ never_after : (c : Chosen) (w : CoapWaiting) (v : Verdict) (deeds : List operati
 never_after c w v deeds by_it r more u is closes (goes_on_observing further nothing none next) = cc
 never_after c w v deeds by_it r more u is closes (is_last last cancels said) = never_closes v deeds by_it (is ∙ said) closes
 
-never_follows : (o : Operation) (c : Chosen) (w : CoapWaiting) (n : _) (deeds : List operation.Deed) (r : Consumed) (v : CoapWaiting) → Some consumed.Failed ≡ Some r → Follows o c w n deeds (Some r) v → ⊥
-never_follows o c w n deeds r v is (says_nothing nothing none goes next) = cc
-never_follows o c w n deeds r v is (is_answer said by_it verdict_is other closes same) = never_closes said deeds by_it (is ∙ same) closes
-never_follows o c w n deeds r v is (has_value said by_it first more verdict_is other closes after whole) = never_after c w said first by_it r more v is closes after
+never_further : (c : Chosen) (w : CoapWaiting) (b : _) (happened : _) (r : Consumed) (v : CoapWaiting) → Some consumed.Failed ≡ Some r → AsksFurther c w b happened (Some r) v → ⊥
+never_further c w b happened r v is (is_further sent none) = cc
+never_further c w b happened r v is (is_no_further f refused nothing long) = cc
 
-never_meets : (o : Operation) (c : Chosen) (w : CoapWaiting) (e : EventWithBytes) (deeds : List operation.Deed) (r : Consumed) (v : CoapWaiting) → Some consumed.Failed ≡ Some r → Meets o c w e deeds (Some r) v → ⊥
-never_meets o c w e deeds r v is (is_datagram from count first n u more what_is delivered follows whole) = never_follows o c u n more r v is follows
-never_meets o c w e deeds r v is (is_stop what_is nothing stopped) = cc
-never_meets o c w e deeds r v is (is_another other nothing none next) = cc
+never_answers : (p : Purpose) (c : Chosen) (w : CoapWaiting) (code : ℕ) (block2 : Option Block) (payload : List ℕ) (deeds : List operation.Deed) (r : Consumed) (v : CoapWaiting) → Some consumed.Failed ≡ Some r → FollowsAnswer p c w code block2 payload deeds (Some r) v → ⊥
+never_answers p c w code block2 payload deeds r v is (leads_on b joined happened after asks whole) = never_further c _ b happened r v is asks
+never_answers p c w code block2 payload deeds r v is (is_whole joined said by_it after answers closes same) = never_closes said deeds by_it (is ∙ same) closes
+never_answers p c w code block2 payload deeds r v is (is_malformed joined after nothing ends_so) = cc
+never_answers p c w code block2 payload deeds r v is (coap.is_long joined after nothing ends_so) = cc
+
+never_values : (p : Purpose) (c : Chosen) (w : CoapWaiting) (payload : List ℕ) (deeds : List operation.Deed) (r : Consumed) (v : CoapWaiting) → Some consumed.Failed ≡ Some r → FollowsValue p c w payload deeds (Some r) v → ⊥
+never_values p c w payload deeds r v is (is_judged said by_it first more answers closes after whole) = never_after c w said first by_it r more v is closes after
+
+never_follows : (p : Purpose) (c : Chosen) (w : CoapWaiting) (n : News) (deeds : List operation.Deed) (r : Consumed) (v : CoapWaiting) → Some consumed.Failed ≡ Some r → Follows p c w n deeds (Some r) v → ⊥
+never_follows p c w news.Nothing deeds r v is (nothing, none, next) = cc
+never_follows p c w news.Old deeds r v is (nothing, none, next) = cc
+never_follows p c w news.Reset deeds r v is (nothing, reset) = cc
+never_follows p c w (news.Answered code block2 payload) deeds r v is follows = never_answers p c w code block2 payload.now deeds r v is follows
+never_follows p c w (news.Value payload) deeds r v is follows = never_values p c w payload.now deeds r v is follows
+
+never_meets : (p : Purpose) (c : Chosen) (w : CoapWaiting) (e : EventWithBytes) (deeds : List operation.Deed) (r : Consumed) (v : CoapWaiting) → Some consumed.Failed ≡ Some r → Meets p c w e deeds (Some r) v → ⊥
+never_meets p c w e deeds r v is (is_datagram from count first n u more what_is delivered follows whole) = never_follows p c u n more r v is follows
+never_meets p c w e deeds r v is (is_stop what_is nothing stopped) = cc
+never_meets p c w e deeds r v is (is_another other nothing none next) = cc
 
 never_due : (w v : CoapWaiting) (happened : _) → FallsDue w happened (Some consumed.Failed) v → ⊥
 never_due w v happened (is_quiet old new s due nothing none next) = cc
 never_due w v happened (goes_again n old new s due sends none next) = cc
 never_due w v happened (is_over old new s due nothing silent) = cc
 
-never_by_coap : (o : Operation) (c : Chosen) (w : CoapWaiting) (e : EventWithBytes) (deeds : List operation.Deed) (v : CoapWaiting) → MeetsAndGoesOn o c w e deeds (Some consumed.Failed) v → ⊥
-never_by_coap o c w e deeds v (ends_by_it by_it meets is) = never_meets o c w e deeds by_it v is meets
-never_by_coap o c w e deeds v (then_due first u more meets due whole) = never_due u v more due
+never_by_coap : (p : Purpose) (c : Chosen) (w : CoapWaiting) (e : EventWithBytes) (deeds : List operation.Deed) (v : CoapWaiting) → MeetsAndGoesOn p c w e deeds (Some consumed.Failed) v → ⊥
+never_by_coap p c w e deeds v (ends_by_it by_it meets is) = never_meets p c w e deeds by_it v is meets
+never_by_coap p c w e deeds v (then_due first u more meets due whole) = never_due u v more due
 
-never_hears : (o : Operation) (c : Chosen) (w : Waiting) (e : EventWithBytes) (deeds : List operation.Deed) (v : Waiting) → Hears o c w e deeds (Some consumed.Failed) v → ⊥
-never_hears o c w e deeds v (by_http x is (has_come said r brings closes same) next) = never_closes said deeds r same closes
-never_hears o c w e deeds v (by_http x is (has_not_come none nothing late) next) = never_late _ late
-never_hears o c w e deeds v (by_coap x y is hears next) = never_by_coap o c _ e deeds y hears
+never_hears : (p : Purpose) (c : Chosen) (w : Waiting) (e : EventWithBytes) (deeds : List operation.Deed) (v : Waiting) → Hears p c w e deeds (Some consumed.Failed) v → ⊥
+never_hears p c w e deeds v (by_http x is (has_come said r brings closes same) next) = never_closes said deeds r same closes
+never_hears p c w e deeds v (by_http x is (has_not_come none nothing late) next) = never_late _ late
+never_hears p c w e deeds v (by_coap x y is hears next) = never_by_coap p c _ e deeds y hears
 
-awaits_trouble : (o : Operation) (c : Chosen) (n : ℕ) (w : Waiting) (deeds : List operation.Deed) → Awaits o c consumed.Failed n w deeds → HasTrouble (deeds_of deeds)
-awaits_trouble o c n w deeds (is_spent w' deeds' nothing spent) = absurd cc
-awaits_trouble o c n w deeds (is_broken m w' deeds' is failed) = as_one deeds _ is tt
-awaits_trouble o c n w deeds (comes_to m w' v deeds' e by_it hears is) = absurd (never_hears o c w e by_it v hears)
-awaits_trouble o c n w deeds (goes_on m w' v deeds' e by_it rest hears awaits is) = as_one deeds _ is (after_all by_it rest (awaits_trouble o c m v rest awaits))
+awaits_trouble : (p : Purpose) (c : Chosen) (n : ℕ) (w : Waiting) (deeds : List operation.Deed) → Awaits p c consumed.Failed n w deeds → HasTrouble (deeds_of deeds)
+awaits_trouble p c n w deeds (is_spent w' deeds' nothing spent) = absurd cc
+awaits_trouble p c n w deeds (is_broken m w' deeds' is failed) = as_one deeds _ is tt
+awaits_trouble p c n w deeds (comes_to m w' v deeds' e by_it hears is) = absurd (never_hears p c w e by_it v hears)
+awaits_trouble p c n w deeds (goes_on m w' v deeds' e by_it rest hears awaits is) = as_one deeds _ is (after_all by_it rest (awaits_trouble p c m v rest awaits))
 
-peer_trouble : (o : Operation) (c : Chosen) (a : _) (w : CoapWaiting) (deeds : List operation.Deed) → AsksPeer o c a w deeds consumed.Failed → HasTrouble (deeds_of deeds)
-peer_trouble o c a w deeds (is_long first v sends is long) = absurd cc
-peer_trouble o c a w deeds (is_asked first v rest sends awaits is) = as_one deeds _ is (after_all (happen first) rest (awaits_trouble o c _ _ rest awaits))
+peer_trouble : (p : Purpose) (c : Chosen) (w : CoapWaiting) (deeds : List operation.Deed) → AsksPeer p c w deeds consumed.Failed → HasTrouble (deeds_of deeds)
+peer_trouble p c w deeds (is_long refused nothing long) = absurd cc
+peer_trouble p c w deeds (is_asked first v rest sends awaits is) = as_one deeds _ is (after_all (happen first) rest (awaits_trouble p c _ _ rest awaits))
 
-by_trouble : (o : Operation) (c : Chosen) (body : Option (List ℕ)) (s : Scheme) (deeds : List operation.Deed) → AsksBy o c body s deeds consumed.Failed → HasTrouble (deeds_of deeds)
-by_trouble o c body scheme.Http deeds (not_dialled is failed) = as_one deeds _ is tt
-by_trouble o c body scheme.Http deeds (dial_memory is memory) = absurd cc
-by_trouble o c body scheme.Http deeds (request_memory is memory) = absurd cc
-by_trouble o c body scheme.Http deeds (is_sent k rest awaits is) = as_one deeds _ is (awaits_trouble o c _ _ rest awaits)
-by_trouble o c body scheme.Coap deeds (not_found is failed) = as_one deeds _ is tt
-by_trouble o c body scheme.Coap deeds (find_memory is memory) = absurd cc
-by_trouble o c body scheme.Coap deeds (client_memory is memory) = absurd cc
-by_trouble o c body scheme.Coap deeds (is_found peer w rest fresh asks is) = as_one deeds _ is (peer_trouble o c (asking_for c body) w rest asks)
+coap_trouble : (p : Purpose) (c : Chosen) (input : Option (List ℕ)) (deeds : List operation.Deed) → AsksByCoap p c input deeds consumed.Failed → HasTrouble (deeds_of deeds)
+coap_trouble p c input deeds (not_found is failed) = as_one deeds _ is tt
+coap_trouble p c input deeds (find_memory is memory) = absurd cc
+coap_trouble p c input deeds (client_memory is memory) = absurd cc
+coap_trouble p c input deeds (is_found peer w rest fresh asks is) = as_one deeds _ is (peer_trouble p c w rest asks)
+
+by_trouble : (p : Purpose) (c : Chosen) (body : Option (List ℕ)) (s : Scheme) (deeds : List operation.Deed) → AsksBy p c body s deeds consumed.Failed → HasTrouble (deeds_of deeds)
+by_trouble p c body scheme.Http deeds (not_dialled is failed) = as_one deeds _ is tt
+by_trouble p c body scheme.Http deeds (dial_memory is memory) = absurd cc
+by_trouble p c body scheme.Http deeds (request_memory is memory) = absurd cc
+by_trouble p c body scheme.Http deeds (is_sent k rest awaits is) = as_one deeds _ is (awaits_trouble p c _ _ rest awaits)
+by_trouble p c body scheme.Coap deeds asks = coap_trouble p c body deeds asks
 
 failed_trouble : (o : Operation) (c : Chosen) (deeds : List operation.Deed) → Consumes o c deeds consumed.Failed → HasTrouble (deeds_of deeds)
 failed_trouble o c deeds (is_refused refused nothing input) = absurd cc
 failed_trouble o c deeds (input_memory nothing memory) = absurd cc
 failed_trouble o c deeds (is_done takes (body_memory nothing memory)) = absurd cc
-failed_trouble o c deeds (is_done takes (has_body by_it)) = by_trouble o c _ c.scheme deeds by_it
+failed_trouble o c deeds (is_done takes (has_body by_it)) = by_trouble (purpose.Operation o) c _ c.scheme deeds by_it
+
+discovery_trouble : (c : Chosen) (deeds : List operation.Deed) → Discovers c deeds consumed.Failed → HasTrouble (deeds_of deeds)
+discovery_trouble c deeds (discovery_memory nothing memory) = absurd cc
+discovery_trouble c deeds (has_asked server url asks) = coap_trouble (purpose.Discovery server) c None deeds asks
 
 -- ---- how it ends
 
@@ -127,19 +158,28 @@ IsConsumed o = (n : ℕ) × (o ≡ ends n) × MayEnd n
 by_memory : (o : Outcome (Unit {0})) → o ≡ ends 9 → IsConsumed o
 by_memory o nine = (9, nine, inr (inl refl))
 
-ended_well : (x : Operation) (c : Chosen) (r : Consumed) (deeds : List operation.Deed) (seen : List Deed) (o : Outcome (Unit {0})) → ¬ (HasTrouble seen) → seen ≡ deeds_of deeds ++ did_write (line_after r) ∷ [] → o ≡ ends (status_after r) → Consumes x c deeds r → IsConsumed o
-ended_well x c consumed.Done deeds seen o quiet is end did_so = (0, end, inl refl)
-ended_well x c (consumed.Other other) deeds seen o quiet is end did_so = (10, end, inr (inr (inr (inl refl))))
-ended_well x c consumed.Silent deeds seen o quiet is end did_so = (11, end, inr (inr (inr (inr (inl refl)))))
-ended_well x c consumed.Failed deeds seen o quiet is end did_so =
-    absurd (quiet (subst HasTrouble (sym is) (trouble_before (deeds_of deeds) (did_write (line_after consumed.Failed) ∷ []) (failed_trouble x c deeds did_so))))
-ended_well x c consumed.Unprinted deeds seen o quiet is end did_so = (7, end, inr (inr (inl refl)))
-ended_well x c consumed.Spent deeds seen o quiet is end did_so = (8, end, inr (inr (inr (inr (inr refl)))))
-ended_well x c consumed.NoMemory deeds seen o quiet is end did_so = (9, end, inr (inl refl))
+abbrev BreaksSo : (List operation.Deed → Consumed → Type 0) → Type 0
+BreaksSo P = (deeds : List operation.Deed) → P deeds consumed.Failed → HasTrouble (deeds_of deeds)
+
+ended_well : (P : List operation.Deed → Consumed → Type 0) (r : Consumed) (deeds : List operation.Deed) (seen : List Deed) (o : Outcome (Unit {0})) → BreaksSo P → ¬ (HasTrouble seen) → seen ≡ deeds_of deeds ++ did_write (line_after r) ∷ [] → o ≡ ends (status_after r) → P deeds r → IsConsumed o
+ended_well P consumed.Done deeds seen o breaks quiet is end did_so = (0, end, inl refl)
+ended_well P (consumed.Other other) deeds seen o breaks quiet is end did_so = (10, end, inr (inr (inr (inl refl))))
+ended_well P consumed.Silent deeds seen o breaks quiet is end did_so = (11, end, inr (inr (inr (inr (inl refl)))))
+ended_well P consumed.Failed deeds seen o breaks quiet is end did_so =
+    absurd (quiet (subst HasTrouble (sym is) (trouble_before (deeds_of deeds) (did_write (line_after consumed.Failed) ∷ []) (breaks deeds did_so))))
+ended_well P consumed.Unprinted deeds seen o breaks quiet is end did_so = (7, end, inr (inr (inl refl)))
+ended_well P consumed.Spent deeds seen o breaks quiet is end did_so = (8, end, inr (inr (inr (inr (inr refl)))))
+ended_well P consumed.NoMemory deeds seen o breaks quiet is end did_so = (9, end, inr (inl refl))
+
+asked_well : (P : List operation.Deed → Consumed → Type 0) (seen : List Deed) (o : Outcome (Unit {0})) → BreaksSo P → ¬ (HasTrouble seen) → EndsAfter P seen o → IsConsumed o
+asked_well P seen o breaks quiet (has_ended r deeds did_so end) = ended_well P r deeds seen o breaks quiet end.0 end.1 did_so
+asked_well P seen o breaks quiet (line_memory r deeds did_so end) = by_memory o end.1
 
 operate_well : (k : Consumption) (tree : Tree) (input : Option Tree) (c : Chosen) (seen : List Deed) (o : Outcome (Unit {0})) → ¬ (HasTrouble seen) → Operates k tree input c seen o → IsConsumed o
-operate_well k tree input c seen o quiet (has_ended x r deeds asked did_so end) = ended_well x c r deeds seen o quiet end.0 end.1 did_so
-operate_well k tree input c seen o quiet (line_memory x r deeds asked did_so end) = by_memory o end.1
+operate_well k tree input c seen o quiet stage = asked_well (IsOperated k tree input c) seen o (λ deeds did_so. failed_trouble did_so.request c deeds did_so.consumes) quiet stage
+
+pub discover_well : (host : List ℕ) (port : ℕ) (seen : List Deed) (o : Outcome (Unit {0})) → ¬ (HasTrouble seen) → DiscoversThings host port seen o → IsConsumed o
+discover_well host port seen o quiet stage = asked_well (Discovers (links_of host port)) seen o (discovery_trouble (links_of host port)) quiet stage
 
 -- ---- the files
 

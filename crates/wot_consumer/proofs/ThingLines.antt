@@ -68,11 +68,6 @@ pub says_links : (base bytes : List ℕ) (ls slice : List Link) (result : Result
 says_links base bytes ls slice (Ok lines) same reads is = are_links ls (read_is bytes ls reads) (is ∙ ap (λ (xs : List Link). option_map lines_of (thing_urls base xs)) same)
 says_links base bytes ls slice (Err e) same reads is = tt
 
-pub says_nothing : (base bytes : List ℕ) (n : ℕ) → ReadsLinks bytes (Err (fault.At n)) → SaysOfThings base bytes None
-says_nothing base bytes n (links.read others is text) = absurd cc
-says_nothing base bytes n (links.at m is none longest) = are_no_links none refl
-says_nothing base bytes n (links.no_memory is) = absurd cc
-
 pub target_at : (links : List Link) (i : ℕ) (d : Link) → have_targets links ≡ true → i < length links → list_all is_target_byte (get_or links i d).target ≡ true
 target_at [] i d all within = absurd (omega (arith, within))
 target_at (link ∷ links) zero d all within = left_true (list_all is_target_byte link.target) (have_targets links) all
@@ -117,13 +112,9 @@ put_on lines new None rest is = absurd cc
 put_on lines new (Some l) None is = refl
 put_on lines new (Some l) (Some more) is = ap (λ (x : List ℕ). Some x) (sym (append_assoc lines l more) ∙ ap (λ (x : List ℕ). x ++ more) (same_Some (lines ++ l) new is))
 
-put_none : (lines : List ℕ) (line rest : Option (List ℕ)) → option_map (λ (l : List ℕ). lines ++ l) line ≡ None → option_map (λ (more : List ℕ). lines ++ more) (option_and_then (λ (l : List ℕ). option_map (λ (more : List ℕ). l ++ more) rest) line) ≡ None
-put_none lines None rest is = refl
-put_none lines (Some l) rest is = absurd cc
-
 -- before the first link
-pub lines_none : (base : List ℕ) (links : List Link) → lines_left base links ≡ option_map (λ (more : List ℕ). [] ++ more) (lines_left base links)
-lines_none base links = sym (put_first (lines_left base links))
+pub lines_none : (base : List ℕ) (links : List Link) (lines : List ℕ) → lines ≡ [] → lines_left base links ≡ option_map (λ (more : List ℕ). lines ++ more) (lines_left base links)
+lines_none base links lines none = subst (λ (x : List ℕ). lines_left base links ≡ option_map (λ (more : List ℕ). x ++ more) (lines_left base links)) (sym none) (sym (put_first (lines_left base links)))
 
 -- those that are left, from a link on
 left_from : (base : List ℕ) (links : List Link) (i : ℕ) (link : Link) (lines : List ℕ) → i < length links → link ≡ get_or links i link → lines_left base links ≡ option_map (λ (more : List ℕ). lines ++ more) (lines_left base (drop i links))
@@ -134,38 +125,16 @@ left_from base links i link lines within is so_far =
     ∙ ap (option_map (λ (more : List ℕ). lines ++ more)) (line_then base (leads_to_thing link) link (filter leads_to_thing (drop (i + 1) links)))
 
 -- a link more
-pub lines_more : (base : List ℕ) (links : List Link) (i : ℕ) (link : Link) (lines new : List ℕ) → i < length links → link ≡ get_or links i link → lines_left base links ≡ option_map (λ (more : List ℕ). lines ++ more) (lines_left base (drop i links)) → PutsLine base link lines new true
-    → lines_left base links ≡ option_map (λ (more : List ℕ). new ++ more) (lines_left base (drop (i + 1) links))
-lines_more base links i link lines new within is so_far puts =
-    left_from base links i link lines within is so_far ∙ put_on lines new (line_of base link) (lines_left base (drop (i + 1) links)) puts
-
--- a link whose target can't be joined
-pub lines_end : (base : List ℕ) (links : List Link) (i : ℕ) (link : Link) (lines new : List ℕ) → i < length links → link ≡ get_or links i link → lines_left base links ≡ option_map (λ (more : List ℕ). lines ++ more) (lines_left base (drop i links)) → PutsLine base link lines new false
-    → None ≡ lines_left base links
-lines_end base links i link lines new within is so_far puts =
-    sym (left_from base links i link lines within is so_far ∙ put_none lines (line_of base link) (lines_left base (drop (i + 1) links)) puts)
+pub lines_more : (base : List ℕ) (links : List Link) (i : ℕ) (link : Link) (joined : Bool) (lines new : List ℕ) → i < length links → link ≡ get_or links i link → lines_left base links ≡ option_map (λ (more : List ℕ). lines ++ more) (lines_left base (drop i links))
+    → PutsLine base link lines new joined → joined ≡ true → lines_left base links ≡ option_map (λ (more : List ℕ). new ++ more) (lines_left base (drop (i + 1) links))
+lines_more base links i link joined lines new within is so_far puts could =
+    left_from base links i link lines within is so_far
+    ∙ put_on lines new (line_of base link) (lines_left base (drop (i + 1) links)) (subst (PutsLine base link lines new) could puts)
 
 -- after the last
 pub lines_all : (base : List ℕ) (links : List Link) (i : ℕ) (lines : List ℕ) → length links ≤ i → lines_left base links ≡ option_map (λ (more : List ℕ). lines ++ more) (lines_left base (drop i links)) → Some lines ≡ lines_left base links
 lines_all base links i lines beyond so_far =
     sym (so_far ∙ ap (λ (ls : List Link). option_map (λ (more : List ℕ). lines ++ more) (lines_left base ls)) (drop_all i links beyond) ∙ ap (λ (x : List ℕ). Some x) (append-nil lines))
-
--- ## A line
-
-pub puts_nothing : (base : List ℕ) (link : Link) (old : List ℕ) → leads_to_thing link ≡ false → PutsLine base link old old true
-puts_nothing base link old leads = rw leads (ap (λ (x : List ℕ). Some x) (append-nil old))
-
-pub puts_url : (base : List ℕ) (link : Link) (url : Parts) (old text one two end : List ℕ) → leads_to_thing link ≡ true → Some (serialize url) ≡ target_url base link.target → text ≡ serialize url → end ≡ codes "\n" → one ≡ old ++ text → two ≡ one ++ end → PutsLine base link old two true
-puts_url base link url old text one two end leads target is feed first second =
-    let same : old ++ line_text (serialize url) ≡ two =
-    sym (append_assoc old (serialize url) (codes "\n")) ∙ ap (λ (x : List ℕ). (old ++ x) ++ codes "\n") (sym is) ∙ ap (λ (x : List ℕ). (old ++ text) ++ x) (sym feed) ∙ ap (λ (x : List ℕ). x ++ end) (sym first) ∙ sym second in
-    let joined : option_map line_text (target_url base link.target) ≡ Some (line_text (serialize url)) = ap (option_map line_text) (sym target) in
-    rw (leads, joined) (ap (λ (x : List ℕ). Some x) same)
-
-pub puts_none : (base : List ℕ) (link : Link) (old new : List ℕ) → leads_to_thing link ≡ true → None ≡ target_url base link.target → PutsLine base link old new false
-puts_none base link old new leads target =
-    let joined : option_map line_text (target_url base link.target) ≡ None = ap (option_map line_text) (sym target) in
-    rw (leads, joined) refl
 
 -- ## A target
 

@@ -82,12 +82,7 @@ fn lines_of(alloc: Global, server: &str, links: &[Link]) -> Result<Option<Bytes>
 }
 
 /// Puts the line of a link at the end, where it leads to a Thing. It says whether its target could be joined.
-fn put_line(
-    lines: &mut Bytes,
-    alloc: Global,
-    server: &str,
-    link: &Link,
-) -> Result<bool, NoMemory>
+fn put_line(lines: &mut Bytes, alloc: Global, server: &str, link: &Link) -> Result<bool, NoMemory>
     requires { list_all is_target_byte link.now.target ≡ true }
     ensures { IfOk result (λ joined. spec.PutsLine server.now link.now lines.old lines.new joined) }
 {

@@ -1,4 +1,4 @@
-use Rattle.wot_consumer.proofs.ThingLines.{read_targets, says_links, says_nothing}
+use Rattle.wot_consumer.proofs.ThingLines.{read_targets, says_links}
 use Rattle.wot_consumer.proofs.discovery.things_in.Goals as goal
 
 pub lines_of-requires : goal.lines_of-requires

@@ -28,7 +28,7 @@ use wot_json::Tree;
 use wot_terms::Op;
 
 /// How many bytes of output are kept.
-const MOST_OUTPUT: usize = 131_072;
+pub const MOST_OUTPUT: usize = 131_072;
 
 /// Writes an act.
 fn put_act(text: &mut String, act: &Act) -> Result<(), AllocError> {
@@ -75,6 +75,18 @@ fn put_consumed(text: &mut String, consumed: Consumed) -> Result<(), AllocError>
     }
 }
 
+/// Writes what was done, what was printed and how it ended.
+pub fn put_done(
+    text: &mut String,
+    acts: &[Act],
+    printed: &[u8],
+    consumed: Consumed,
+) -> Result<(), AllocError> {
+    put_acts(text, acts)?;
+    put_printed(text, printed)?;
+    put_consumed(text, consumed)
+}
+
 /// Does an operation by what was chosen for it, and writes what was done and how it ended.
 fn put_operation(
     text: &mut String,
@@ -89,9 +101,7 @@ fn put_operation(
     let mut net = network_of(alloc, words)?;
     let mut out = OutMemory::new(alloc, MOST_OUTPUT, Calls::new(alloc))?;
     let consumed = consume(alloc, operation, chosen, &mut net, &mut out);
-    put_acts(text, net.acts())?;
-    put_printed(text, out.written())?;
-    put_consumed(text, consumed)
+    put_done(text, net.acts(), out.written(), consumed)
 }
 
 /// The value handed in, in words: the last field before the events.

@@ -1,4 +1,4 @@
-//! Tables of the clients. The files `choices`, `judgements`, `http_requests` and `consumptions` have rows, as the modules of these names
+//! Tables of the clients. The files `choices`, `judgements`, `http_requests`, `consumptions` and `discoveries` have rows, as the modules of these names
 //! say: what is given, ` => `, and what comes of it; `given TEXT` is what the rows after it are about. `transfers` has rows like
 //! those of `consumptions`, in which bodies travel in blocks.
 //!
@@ -19,6 +19,7 @@ mod asking;
 mod choices;
 mod consumptions;
 mod descriptions;
+mod discoveries;
 mod hearing;
 mod history;
 mod http_requests;

@@ -1,13 +1,13 @@
 //! Tables of a consumer's decisions: each row with what comes of it.
 
-use crate::{choices, consumptions, http_requests, judgements};
+use crate::{choices, consumptions, discoveries, http_requests, judgements};
 use std::alloc::{AllocError, Global};
 
 /// Whether a file is one of these tables.
 pub fn is_table(name: &str) -> bool {
     matches!(
         name,
-        "choices" | "judgements" | "http_requests" | "consumptions" | "transfers"
+        "choices" | "judgements" | "http_requests" | "consumptions" | "transfers" | "discoveries"
     )
 }
 
@@ -24,6 +24,7 @@ fn put_row(
     match table {
         "choices" => choices::put(text, alloc, shared, given),
         "consumptions" | "transfers" => consumptions::put(text, alloc, shared, given),
+        "discoveries" => discoveries::put(text, alloc, given),
         "judgements" => judgements::put(text, alloc, shared, given),
         _ => http_requests::put(text, alloc, given),
     }

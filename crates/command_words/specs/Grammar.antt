@@ -7,13 +7,15 @@
 --     check DESCRIPTION
 --     consume DESCRIPTION OPERATION NAME [--scheme SCHEME] [--input FILE] [--count COUNT]
 --     storm SEED N
+--     discover HOST:PORT
 use Rattle.std.specs.Prelude.{◌==◌, ◌&&◌, not, nat_le, ℕ, Bool, false, List, [], ◌∷◌, Option, Some, None, option_and_then, option_map, if◌then◌else◌, codes, decimal}
 use Rattle.std.specs.Option.{option_map_or}
 use Rattle.std.specs.Str.{bytes_eq}
 use Rattle.std.specs.Str.Parse.{digits_value}
+use Rattle.host_ports.specs.HostPorts.{point_in}
 use Rattle.command_words.specs.Words.{Form, Values, values_given, value_at}
 use Rattle.command_words.specs.declared.command.Command.{Command}
-use Rattle.command_words.specs.declared.command.Command.TheVariants.{Replay, Serve, Derive, Check, Consume, Storm}
+use Rattle.command_words.specs.declared.command.Command.TheVariants.{Replay, Serve, Derive, Check, Consume, Storm, Discover}
 use Rattle.command_words.specs.declared.command.Consumption.{Consumption}
 use Rattle.command_words.specs.declared.command.Operation.{Operation}
 use Rattle.command_words.specs.declared.command.Operation.TheVariants as operation
@@ -141,6 +143,12 @@ storm_of values =
     with_part (number_at (codes "events") 1 100000 values) (λ events.
     Some (Storm seed events)))
 
+abbrev pub discover_form : Form
+discover_form = record { places = codes "server" ∷ []; options = [] }
+
+abbrev pub discover_of : Values → Option Command
+discover_of values = option_map (λ point. Discover point.0 point.1) (option_and_then point_in (value_at (codes "server") values))
+
 -- what the words after the command's name mean
 abbrev pub meaning_by : Form → (Values → Option Command) → List (List ℕ) → Option Command
 meaning_by form command_of words = option_and_then command_of (values_given form words)
@@ -154,6 +162,7 @@ meaning_after name words =
     else if bytes_eq name (codes "check") then meaning_by check_form check_of words
     else if bytes_eq name (codes "consume") then meaning_by consume_form consume_of words
     else if bytes_eq name (codes "storm") then meaning_by storm_form storm_of words
+    else if bytes_eq name (codes "discover") then meaning_by discover_form discover_of words
     else None
 
 -- What the words of the command line mean, or that they mean nothing.

@@ -1,13 +1,13 @@
 //! The commands, and the words that say them.
 
 ghost use Rattle.std.specs.Prelude.{◌≡◌, IfOk};
-ghost use Rattle.command_words.specs.Grammar.{check_form, check_of, consume_form, consume_of, consumption_of, derive_form, derive_of, meaning_after, meaning_by, meaning_of, replay_form, replay_of, serve_form, serve_of, storm_form, storm_of};
+ghost use Rattle.command_words.specs.Grammar.{check_form, check_of, consume_form, consume_of, consumption_of, derive_form, derive_of, discover_form, discover_of, meaning_after, meaning_by, meaning_of, replay_form, replay_of, serve_form, serve_of, storm_form, storm_of};
 ghost use Rattle.command_words.specs.Operations.{form_operation};
 ghost use Rattle.command_words.specs.Parts.{Reads, texts};
 ghost use Rattle.command_words.specs.Line.{AreTexts};
 
 use crate::fault::WordsFault;
-use crate::parts::{events, file, name, number, number_or, operation, optional, required, scheme};
+use crate::parts::{events, file, name, number, number_or, operation, optional, required, scheme, server};
 use crate::values::Given;
 use servient_base::NoMemory;
 use std::alloc::Global;
@@ -45,6 +45,11 @@ pub enum Command {
     Storm {
         seed: u32,
         events: u32,
+    },
+    /// Asks the server at this host and port which Things it has.
+    Discover {
+        host: Text,
+        port: u16,
     },
 }
 
@@ -129,6 +134,7 @@ fn read_after(alloc: Global, name: &str, words: &[&str]) -> Result<Command, Word
         "check" => check(alloc, words),
         "consume" => consume(alloc, words),
         "storm" => storm(alloc, words),
+        "discover" => discover(alloc, words),
         _ => Err(WordsFault::Usage),
     }
 }
@@ -217,4 +223,13 @@ fn storm(alloc: Global, words: &[&str]) -> Result<Command, WordsFault>
     let seed = number(values.get("seed"), 0, 999_999_999)?;
     let events = number(values.get("events"), 1, 100_000)?;
     Ok(Command::Storm { seed, events })
+}
+
+fn discover(alloc: Global, words: &[&str]) -> Result<Command, WordsFault>
+    requires { AreTexts (texts words.now) }
+    ensures { Reads (meaning_by discover_form discover_of (texts words.now)) result }
+{
+    let values = Given::read(alloc, &["server"], &[], words)?;
+    let (host, port) = server(alloc, values.get("server"))?;
+    Ok(Command::Discover { host, port })
 }

@@ -2,11 +2,13 @@
 
 ghost use Rattle.std.specs.Prelude.{◌≡◌, ◌≤◌, Some, None, option_and_then};
 ghost use Rattle.std.specs.Option.{option_map_or};
+ghost use Rattle.host_ports.specs.HostPorts.{point_in as point_of};
 ghost use Rattle.command_words.specs.Grammar.{file_of, is_file_name as names_file, name_of, number_between, operation_of, scheme_of};
 ghost use Rattle.command_words.specs.Parts.{Reads, text_in};
 
 use crate::command::Operation;
 use crate::fault::WordsFault;
+use host_ports::point_in;
 use servient_base::parse_decimal;
 use std::alloc::Global;
 use wot_forms::Scheme;
@@ -129,5 +131,25 @@ pub fn name(alloc: Global, operation: Operation, word: Option<&str>) -> Result<T
     match operation {
         Operation::ReadAllProperties if text.as_str() != "-" => Err(WordsFault::Usage),
         _ => Ok(text),
+    }
+}
+
+/// The host and the port of a word that has to be there.
+pub fn server(alloc: Global, word: Option<&str>) -> Result<(Text, u16), WordsFault>
+    ensures { Reads (option_and_then point_of (text_in word.entry)) result }
+{
+    match word {
+        Some(text) => server_at(alloc, text),
+        None => Err(WordsFault::Usage),
+    }
+}
+
+/// The host and the port that a word writes.
+fn server_at(alloc: Global, word: &str) -> Result<(Text, u16), WordsFault>
+    ensures { Reads (point_of word.now) result }
+{
+    match point_in(word) {
+        Some((host, port)) => Ok((Text::copy_of(alloc, host)?, port)),
+        None => Err(WordsFault::Usage),
     }
 }

@@ -7,7 +7,7 @@ use Rattle.servient_outside.specs.declared.out.Put.TheVariants as put
 use Rattle.servient_outside.specs.Network.{byte_count, in_buffer, heard, broke, next_event, NetSeen, NetShows}
 use Rattle.servient_outside.specs.Out.{OutSeen}
 use Rattle.wot_consumer.specs.declared.chosen.Chosen.{Chosen}
-use Rattle.consuming.specs.declared.operation.Operation.{Operation}
+use Rattle.consuming.specs.declared.purpose.Purpose.{Purpose}
 use Rattle.consuming.specs.declared.consumed.Consumed.{Consumed}
 use Rattle.consuming.specs.declared.consumed.Consumed.TheVariants.{Failed, Spent}
 use Rattle.consuming.specs.declared.waiting.Waiting.{Waiting}
@@ -16,7 +16,7 @@ use Rattle.consuming.specs.Waiting.{Hears, IsReady, Awaits, is_spent, is_broken,
 use Rattle.consuming.proofs.DeedLaws.{shows_none, shows_then, shows_net}
 
 -- what holds before each event: what is done, and that whatever is left to be done makes the whole
-pub record Progress (o : Operation) (c : Chosen) (most : ℕ) (w v : Waiting) (a b : Sight) (count : ℕ) : Type 0 where
+pub record Progress (o : Purpose) (c : Chosen) (most : ℕ) (w v : Waiting) (a b : Sight) (count : ℕ) : Type 0 where
   pub done : List Deed
   pub shows : ShowsDeeds a b put.Done done
   pub left : ℕ
@@ -25,7 +25,7 @@ pub record Progress (o : Operation) (c : Chosen) (most : ℕ) (w v : Waiting) (a
   pub leads : (r : Consumed) (rest : List Deed) → Awaits o c r left v rest → Awaits o c r most w (done ++ rest)
 
 -- before the first
-pub progress_none : (o : Operation) (c : Chosen) (most : ℕ) (w : Waiting) (a : Sight) → IsReady c w → Progress o c most w w a a 0
+pub progress_none : (o : Purpose) (c : Chosen) (most : ℕ) (w : Waiting) (a : Sight) → IsReady c w → Progress o c most w w a a 0
 progress_none o c most w a ready = record {
   done = [];
   shows = shows_none a;
@@ -40,7 +40,7 @@ heard_then : (n m : NetSeen) (q : OutSeen) (b : Sight) (e : EventWithBytes) (p :
 heard_then n m q b e p by_it comes does = shows_then (sight n q) (sight m q) b p (happens (heard e) ∷ []) by_it (shows_net n m q (heard e ∷ []) comes) does
 
 -- an event came, and it goes on
-more_by : (o : Operation) (c : Chosen) (most : ℕ) (w v u : Waiting) (a : Sight) (n m : NetSeen) (q : OutSeen) (b : Sight) (count : ℕ) (e : EventWithBytes) (done by_it : List Deed) (left : ℕ) → ShowsDeeds a (sight n q) put.Done done → left + count ≡ most
+more_by : (o : Purpose) (c : Chosen) (most : ℕ) (w v u : Waiting) (a : Sight) (n m : NetSeen) (q : OutSeen) (b : Sight) (count : ℕ) (e : EventWithBytes) (done by_it : List Deed) (left : ℕ) → ShowsDeeds a (sight n q) put.Done done → left + count ≡ most
     → ((r : Consumed) (rest : List Deed) → Awaits o c r left v rest → Awaits o c r most w (done ++ rest)) → NetShows n m (heard e ∷ []) → Hears o c v e by_it None u → ShowsDeeds (sight m q) b put.Done by_it → IsReady c u → count < most
     → Progress o c most w u a b (count + 1)
 more_by o c most w v u a n m q b count e done by_it zero shown all leads comes hears does ready below = absurd (omega (arith, all, below))
@@ -54,45 +54,45 @@ more_by o c most w v u a n m q b count e done by_it (suc left) shown all leads c
       (leads r (happens (heard e) ∷ by_it ++ rest) (goes_on left v u (happens (heard e) ∷ by_it ++ rest) e by_it rest hears awaits refl));
 }
 
-pub progress_more : (o : Operation) (c : Chosen) (most : ℕ) (w v u : Waiting) (a : Sight) (n m : NetSeen) (q : OutSeen) (b : Sight) (count : ℕ) (e came : EventWithBytes) → Progress o c most w v a (sight n q) count → NetShows n m (heard e ∷ []) → came ≡ e
+pub progress_more : (o : Purpose) (c : Chosen) (most : ℕ) (w v u : Waiting) (a : Sight) (n m : NetSeen) (q : OutSeen) (b : Sight) (count : ℕ) (e came : EventWithBytes) → Progress o c most w v a (sight n q) count → NetShows n m (heard e ∷ []) → came ≡ e
     → Shows (λ deeds. Hears o c v came deeds None u) (sight m q) b put.Done → IsReady c u → count < most → Progress o c most w u a b (count + 1)
 progress_more o c most w v u a n m q b count e came p comes same hears ready below =
     more_by o c most w v u a n m q b count e p.done hears.deeds p.left p.shows p.all p.leads comes (subst (λ (x : EventWithBytes). Hears o c v x hears.deeds None u) same hears.holds) hears.shows ready below
 
 -- the last that is done
-ends_by : (o : Operation) (c : Chosen) (r : Consumed) (most : ℕ) (w v : Waiting) (a b d : Sight) (p : Put) (count : ℕ) (deeds : List Deed) (done : Progress o c most w v a b count) → ShowsDeeds b d p deeds → Awaits o c r done.left v deeds → Shows (Awaits o c r most w) a d p
+ends_by : (o : Purpose) (c : Chosen) (r : Consumed) (most : ℕ) (w v : Waiting) (a b d : Sight) (p : Put) (count : ℕ) (deeds : List Deed) (done : Progress o c most w v a b count) → ShowsDeeds b d p deeds → Awaits o c r done.left v deeds → Shows (Awaits o c r most w) a d p
 ends_by o c r most w v a b d p count deeds done shown last = record {
   deeds = done.done ++ deeds;
   holds = done.leads r deeds last;
   shows = shows_then a b d p done.done deeds done.shows shown;
 }
 
-broken_at : (o : Operation) (c : Chosen) (v : Waiting) (count most left : ℕ) → left + count ≡ most → count < most → Awaits o c Failed left v (happens (broke next_event) ∷ [])
+broken_at : (o : Purpose) (c : Chosen) (v : Waiting) (count most left : ℕ) → left + count ≡ most → count < most → Awaits o c Failed left v (happens (broke next_event) ∷ [])
 broken_at o c v count most zero all below = absurd (omega (arith, all, below))
 broken_at o c v count most (suc left) all below = is_broken left v (happens (broke next_event) ∷ []) refl refl
 
-comes_at : (o : Operation) (c : Chosen) (r : Consumed) (v u : Waiting) (e : EventWithBytes) (by_it : List Deed) (count most left : ℕ) → Hears o c v e by_it (Some r) u → left + count ≡ most → count < most → Awaits o c r left v (happens (heard e) ∷ by_it)
+comes_at : (o : Purpose) (c : Chosen) (r : Consumed) (v u : Waiting) (e : EventWithBytes) (by_it : List Deed) (count most left : ℕ) → Hears o c v e by_it (Some r) u → left + count ≡ most → count < most → Awaits o c r left v (happens (heard e) ∷ by_it)
 comes_at o c r v u e by_it count most zero comes all below = absurd (omega (arith, all, below))
 comes_at o c r v u e by_it count most (suc left) comes all below = comes_to left v u (happens (heard e) ∷ by_it) e by_it comes refl
 
-spent_at : (o : Operation) (c : Chosen) (v : Waiting) (count most left : ℕ) → left + count ≡ most → count ≡ most → Awaits o c Spent left v []
+spent_at : (o : Purpose) (c : Chosen) (v : Waiting) (count most left : ℕ) → left + count ≡ most → count ≡ most → Awaits o c Spent left v []
 spent_at o c v count most zero all is = is_spent v [] refl refl
 spent_at o c v count most (suc left) all is = absurd (omega (arith, all, is))
 
 -- the network failed
-pub ends_broken : (o : Operation) (c : Chosen) (most : ℕ) (w v : Waiting) (a : Sight) (n m : NetSeen) (q : OutSeen) (count : ℕ) → Progress o c most w v a (sight n q) count → NetShows n m (broke next_event ∷ []) → count < most → Shows (Awaits o c Failed most w) a (sight m q) put.Done
+pub ends_broken : (o : Purpose) (c : Chosen) (most : ℕ) (w v : Waiting) (a : Sight) (n m : NetSeen) (q : OutSeen) (count : ℕ) → Progress o c most w v a (sight n q) count → NetShows n m (broke next_event ∷ []) → count < most → Shows (Awaits o c Failed most w) a (sight m q) put.Done
 ends_broken o c most w v a n m q count p breaks below =
     ends_by o c Failed most w v a (sight n q) (sight m q) put.Done count (happens (broke next_event) ∷ []) p (shows_net n m q (broke next_event ∷ []) breaks) (broken_at o c v count most p.left p.all below)
 
 -- an event came that ends it
-pub ends_at : (o : Operation) (c : Chosen) (r : Consumed) (most : ℕ) (w v u : Waiting) (a : Sight) (n m : NetSeen) (q : OutSeen) (b : Sight) (count : ℕ) (e came : EventWithBytes) → Progress o c most w v a (sight n q) count → NetShows n m (heard e ∷ []) → came ≡ e
+pub ends_at : (o : Purpose) (c : Chosen) (r : Consumed) (most : ℕ) (w v u : Waiting) (a : Sight) (n m : NetSeen) (q : OutSeen) (b : Sight) (count : ℕ) (e came : EventWithBytes) → Progress o c most w v a (sight n q) count → NetShows n m (heard e ∷ []) → came ≡ e
     → Shows (λ deeds. Hears o c v came deeds (Some r) u) (sight m q) b (put_of r) → count < most → Shows (Awaits o c r most w) a b (put_of r)
 ends_at o c r most w v u a n m q b count e came p comes same hears below =
     ends_by o c r most w v a (sight n q) b (put_of r) count (happens (heard e) ∷ hears.deeds) p (heard_then n m q b e (put_of r) hears.deeds comes hears.shows)
     (comes_at o c r v u e hears.deeds count most p.left (subst (λ (x : EventWithBytes). Hears o c v x hears.deeds (Some r) u) same hears.holds) p.all below)
 
 -- all events were taken
-pub ends_spent : (o : Operation) (c : Chosen) (most : ℕ) (w v : Waiting) (a b : Sight) (count : ℕ) → Progress o c most w v a b count → count ≡ most → Shows (Awaits o c Spent most w) a b put.Done
+pub ends_spent : (o : Purpose) (c : Chosen) (most : ℕ) (w v : Waiting) (a b : Sight) (count : ℕ) → Progress o c most w v a b count → count ≡ most → Shows (Awaits o c Spent most w) a b put.Done
 ends_spent o c most w v a b count p is =
     ends_by o c Spent most w v a b b put.Done count [] p (shows_none b) (spent_at o c v count most p.left p.all is)
 

@@ -1,7 +1,9 @@
 -- What was chosen can be asked.
-use Rattle.std.proofs.Common.{◌≡◌, ◌≢◌, ◌<◌, ℕ, List, [], ◌∷◌, Bool, true, false, Option, Some, None, sym, subst, arith, inl, inr}
+use Rattle.std.proofs.Common.{◌≡◌, ◌≢◌, ◌<◌, ◌≤◌, ℕ, List, [], ◌∷◌, length, Bool, true, false, Option, Some, None, sym, subst, arith, inl, inr}
 use Rattle.std.specs.Prelude.{codes, unwrap_or, if◌then◌else◌}
 use Rattle.std.specs.Str.{bytes_eq}
+use Rattle.std.proofs.lemmas.List.Elements.{All-nil, All-cons}
+use Rattle.coap_msg.specs.declared.constants.TheConstants.{LONGEST_SEGMENT}
 use Rattle.wot_terms.specs.declared.op.Op.{Op}
 use Rattle.wot_terms.specs.declared.op.Op.TheVariants as op
 use Rattle.wot_forms.specs.declared.form.Form.{Form}
@@ -12,6 +14,7 @@ use Rattle.thing_ops.specs.declared.verb.Verb.TheVariants as verb
 use Rattle.wot_consumer.specs.declared.chosen.Chosen.{Chosen}
 use Rattle.wot_consumer.specs.Operations.{default_verb, verb_of}
 use Rattle.wot_consumer.specs.Places.{AreSendable}
+use Rattle.wot_consumer.specs.Discovery.{links_of}
 use Rattle.wot_json.specs.Tree.{Json}
 use Rattle.wot_json.specs.Meaning.{json_of}
 use Rattle.wot_consumer.specs.Choice.{IsFirst, IsChosen, base_of, wanted}
@@ -76,6 +79,15 @@ choice_is_askable o c choice is = record {
   class = (choice_can_be_sent o c choice).code.1;
   path = subst (λ (s : Scheme). AreSendable s c.path) is (choice_can_be_sent o c choice).path;
 }
+
+-- and so can the links of a server
+pub links_are_askable : (host : List ℕ) (port : ℕ) (c : Chosen) → c ≡ links_of host port → IsAskable c
+links_are_askable host port c is = subst IsAskable (sym is) (record {
+  code = λ none. absurd cc;
+  class = omega arith;
+  path = All-cons (λ (segment : List ℕ). length segment ≤ LONGEST_SEGMENT) (codes ".well-known") (codes "core" ∷ []) (omega arith)
+      (All-cons (λ (segment : List ℕ). length segment ≤ LONGEST_SEGMENT) (codes "core") [] (omega arith) (All-nil (λ (segment : List ℕ). length segment ≤ LONGEST_SEGMENT)));
+})
 
 pub askable_may_be_asked : (c : Chosen) (a : Asking) (input : Option (List ℕ)) (b : Blocks) → a ≡ asking_for c input b → IsAskable c → AreBlocks b → MayAsk a
 askable_may_be_asked c a input b same askable are = subst MayAsk (sym same) (record {

@@ -15,6 +15,7 @@ use Rattle.consuming.specs.declared.coap_waiting.CoapWaiting.{CoapWaiting}
 use Rattle.consuming.specs.declared.consumed.Consumed.{Consumed}
 use Rattle.consuming.specs.declared.consumed.Consumed.TheVariants as consumed
 use Rattle.consuming.specs.declared.operation.Operation.{Operation}
+use Rattle.consuming.specs.declared.purpose.Purpose.{Purpose}
 use Rattle.consuming.specs.declared.waiting.Waiting.{Waiting}
 use Rattle.consuming.specs.Deeds.{Deed, happens, prints, happen, happened_in}
 use Rattle.consuming.specs.Answers.{Closes}
@@ -22,7 +23,7 @@ use Rattle.consuming.specs.HttpWaiting.{has_come, has_not_come}
 use Rattle.consuming.specs.CoapWaiting.{AsksFurther, is_further, is_no_further, FollowsAnswer, leads_on, is_whole, is_malformed, is_long as is_too_long, AfterValue, goes_on_observing, is_last, FollowsValue, is_judged, Follows, Meets, is_datagram, is_stop, is_another, FallsDue, is_quiet, goes_again, is_over, MeetsAndGoesOn, ends_by_it, then_due}
 use Rattle.consuming.specs.Waiting.{Hears, by_http, by_coap, Awaits, is_spent, is_broken, comes_to, goes_on}
 use Rattle.consuming.specs.Failing.{FailingBreaksTheNetwork}
-use Rattle.consuming.specs.Consuming.{Consumes, is_refused, input_memory, is_done, body_memory, has_body, AsksBy, not_dialled, dial_memory, request_memory, is_sent, not_found, find_memory, client_memory, is_found, AsksPeer, is_long, is_asked}
+use Rattle.consuming.specs.Consuming.{Consumes, is_refused, input_memory, is_done, body_memory, has_body, AsksBy, AsksByCoap, not_dialled, dial_memory, request_memory, is_sent, not_found, find_memory, client_memory, is_found, AsksPeer, is_long, is_asked, Discovers, discovery_memory, has_asked}
 
 -- the network broke among these
 abbrev pub Breaks : List Deed → Type 0
@@ -47,6 +48,8 @@ as_one deeds other is breaks = subst Breaks (sym is) breaks
 never_closes : (v : Verdict) (deeds : List Deed) (r : Consumed) → Some consumed.Failed ≡ Some r → Closes v deeds r → ⊥
 never_closes (verdict.Payload payload) deeds r is (nothing, inl done) = cc
 never_closes (verdict.Payload payload) deeds r is (nothing, inr (some, unprinted)) = cc
+never_closes (verdict.Lines lines) deeds r is (nothing, inl done) = cc
+never_closes (verdict.Lines lines) deeds r is (nothing, inr (some, unprinted)) = cc
 never_closes (verdict.Outcome outcome) deeds r is (nothing, other) = cc
 never_closes verdict.NoMemory deeds r is (nothing, memory) = cc
 
@@ -58,73 +61,80 @@ never_further : (c : Chosen) (w : CoapWaiting) (b : Blocks) (happened : List Hap
 never_further c w b happened r v is (is_further sent none) = cc
 never_further c w b happened r v is (is_no_further f refused nothing long) = cc
 
-never_answers : (o : Operation) (c : Chosen) (w : CoapWaiting) (code : ℕ) (block2 : Option Block) (payload : List ℕ) (deeds : List Deed) (r : Consumed) (v : CoapWaiting) → Some consumed.Failed ≡ Some r
-    → FollowsAnswer o c w code block2 payload deeds (Some r) v → ⊥
-never_answers o c w code block2 payload deeds r v is (leads_on b joined happened next asks does) = never_further c _ b happened r v is asks
-never_answers o c w code block2 payload deeds r v is (is_whole joined said by_it next answers closes same) = never_closes said deeds by_it (is ∙ same) closes
-never_answers o c w code block2 payload deeds r v is (is_malformed joined next nothing malformed) = cc
-never_answers o c w code block2 payload deeds r v is (is_too_long joined next nothing long) = cc
+never_answers : (p : Purpose) (c : Chosen) (w : CoapWaiting) (code : ℕ) (block2 : Option Block) (payload : List ℕ) (deeds : List Deed) (r : Consumed) (v : CoapWaiting) → Some consumed.Failed ≡ Some r
+    → FollowsAnswer p c w code block2 payload deeds (Some r) v → ⊥
+never_answers p c w code block2 payload deeds r v is (leads_on b joined happened next asks does) = never_further c _ b happened r v is asks
+never_answers p c w code block2 payload deeds r v is (is_whole joined said by_it next answers closes same) = never_closes said deeds by_it (is ∙ same) closes
+never_answers p c w code block2 payload deeds r v is (is_malformed joined next nothing malformed) = cc
+never_answers p c w code block2 payload deeds r v is (is_too_long joined next nothing long) = cc
 
 never_after : (c : Chosen) (w : CoapWaiting) (v : Verdict) (deeds : List Deed) (by_it r : Consumed) (more : List Happening) (u : CoapWaiting) → Some consumed.Failed ≡ Some r → Closes v deeds by_it → AfterValue c w by_it more (Some r) u → ⊥
 never_after c w v deeds by_it r more u is closes (goes_on_observing further nothing none next) = cc
 never_after c w v deeds by_it r more u is closes (is_last last cancels said) = never_closes v deeds by_it (is ∙ said) closes
 
-never_values : (o : Operation) (c : Chosen) (w : CoapWaiting) (payload : List ℕ) (deeds : List Deed) (r : Consumed) (v : CoapWaiting) → Some consumed.Failed ≡ Some r → FollowsValue o c w payload deeds (Some r) v → ⊥
-never_values o c w payload deeds r v is (is_judged said by_it first more answers closes after whole) = never_after c w said first by_it r more v is closes after
+never_values : (p : Purpose) (c : Chosen) (w : CoapWaiting) (payload : List ℕ) (deeds : List Deed) (r : Consumed) (v : CoapWaiting) → Some consumed.Failed ≡ Some r → FollowsValue p c w payload deeds (Some r) v → ⊥
+never_values p c w payload deeds r v is (is_judged said by_it first more answers closes after whole) = never_after c w said first by_it r more v is closes after
 
-never_follows : (o : Operation) (c : Chosen) (w : CoapWaiting) (n : News) (deeds : List Deed) (r : Consumed) (v : CoapWaiting) → Some consumed.Failed ≡ Some r → Follows o c w n deeds (Some r) v → ⊥
-never_follows o c w news.Nothing deeds r v is (nothing, none, next) = cc
-never_follows o c w news.Old deeds r v is (nothing, none, next) = cc
-never_follows o c w news.Reset deeds r v is (nothing, reset) = cc
-never_follows o c w (news.Answered code block2 payload) deeds r v is follows = never_answers o c w code block2 payload.now deeds r v is follows
-never_follows o c w (news.Value payload) deeds r v is follows = never_values o c w payload.now deeds r v is follows
+never_follows : (p : Purpose) (c : Chosen) (w : CoapWaiting) (n : News) (deeds : List Deed) (r : Consumed) (v : CoapWaiting) → Some consumed.Failed ≡ Some r → Follows p c w n deeds (Some r) v → ⊥
+never_follows p c w news.Nothing deeds r v is (nothing, none, next) = cc
+never_follows p c w news.Old deeds r v is (nothing, none, next) = cc
+never_follows p c w news.Reset deeds r v is (nothing, reset) = cc
+never_follows p c w (news.Answered code block2 payload) deeds r v is follows = never_answers p c w code block2 payload.now deeds r v is follows
+never_follows p c w (news.Value payload) deeds r v is follows = never_values p c w payload.now deeds r v is follows
 
-never_meets : (o : Operation) (c : Chosen) (w : CoapWaiting) (e : EventWithBytes) (deeds : List Deed) (r : Consumed) (v : CoapWaiting) → Some consumed.Failed ≡ Some r → Meets o c w e deeds (Some r) v → ⊥
-never_meets o c w e deeds r v is (is_datagram from count first n u more what_is delivered follows whole) = never_follows o c u n more r v is follows
-never_meets o c w e deeds r v is (is_stop what_is nothing stopped) = cc
-never_meets o c w e deeds r v is (is_another other nothing none next) = cc
+never_meets : (p : Purpose) (c : Chosen) (w : CoapWaiting) (e : EventWithBytes) (deeds : List Deed) (r : Consumed) (v : CoapWaiting) → Some consumed.Failed ≡ Some r → Meets p c w e deeds (Some r) v → ⊥
+never_meets p c w e deeds r v is (is_datagram from count first n u more what_is delivered follows whole) = never_follows p c u n more r v is follows
+never_meets p c w e deeds r v is (is_stop what_is nothing stopped) = cc
+never_meets p c w e deeds r v is (is_another other nothing none next) = cc
 
 never_due : (w v : CoapWaiting) (happened : List Happening) → FallsDue w happened (Some consumed.Failed) v → ⊥
 never_due w v happened (is_quiet old new s due nothing none next) = cc
 never_due w v happened (goes_again n old new s due sends none next) = cc
 never_due w v happened (is_over old new s due nothing silent) = cc
 
-never_by_coap : (o : Operation) (c : Chosen) (w : CoapWaiting) (e : EventWithBytes) (deeds : List Deed) (v : CoapWaiting) → MeetsAndGoesOn o c w e deeds (Some consumed.Failed) v → ⊥
-never_by_coap o c w e deeds v (ends_by_it by_it meets is) = never_meets o c w e deeds by_it v is meets
-never_by_coap o c w e deeds v (then_due first u more meets due whole) = never_due u v more due
+never_by_coap : (p : Purpose) (c : Chosen) (w : CoapWaiting) (e : EventWithBytes) (deeds : List Deed) (v : CoapWaiting) → MeetsAndGoesOn p c w e deeds (Some consumed.Failed) v → ⊥
+never_by_coap p c w e deeds v (ends_by_it by_it meets is) = never_meets p c w e deeds by_it v is meets
+never_by_coap p c w e deeds v (then_due first u more meets due whole) = never_due u v more due
 
-never_hears : (o : Operation) (c : Chosen) (w : Waiting) (e : EventWithBytes) (deeds : List Deed) (v : Waiting) → Hears o c w e deeds (Some consumed.Failed) v → ⊥
-never_hears o c w e deeds v (by_http x is (has_come said r brings closes same) next) = never_closes said deeds r same closes
-never_hears o c w e deeds v (by_http x is (has_not_come none nothing late) next) = never_late _ late
-never_hears o c w e deeds v (by_coap x y is hears next) = never_by_coap o c _ e deeds y hears
+never_hears : (p : Purpose) (c : Chosen) (w : Waiting) (e : EventWithBytes) (deeds : List Deed) (v : Waiting) → Hears p c w e deeds (Some consumed.Failed) v → ⊥
+never_hears p c w e deeds v (by_http x is (has_come said r brings closes same) next) = never_closes said deeds r same closes
+never_hears p c w e deeds v (by_http x is (has_not_come none nothing late) next) = never_late _ late
+never_hears p c w e deeds v (by_coap x y is hears next) = never_by_coap p c _ e deeds y hears
 
 -- ---- the network broke
 
-awaiting_breaks : (o : Operation) (c : Chosen) (n : ℕ) (w : Waiting) (deeds : List Deed) → Awaits o c consumed.Failed n w deeds → Breaks deeds
-awaiting_breaks o c n w deeds (is_spent w' deeds' nothing spent) = absurd cc
-awaiting_breaks o c n w deeds (is_broken m w' deeds' is failed) = as_one deeds _ is tt
-awaiting_breaks o c n w deeds (comes_to m w' v deeds' e by_it hears is) = absurd (never_hears o c w e by_it v hears)
-awaiting_breaks o c n w deeds (goes_on m w' v deeds' e by_it rest hears awaits is) = as_one deeds _ is (after_all by_it rest (awaiting_breaks o c m v rest awaits))
+awaiting_breaks : (p : Purpose) (c : Chosen) (n : ℕ) (w : Waiting) (deeds : List Deed) → Awaits p c consumed.Failed n w deeds → Breaks deeds
+awaiting_breaks p c n w deeds (is_spent w' deeds' nothing spent) = absurd cc
+awaiting_breaks p c n w deeds (is_broken m w' deeds' is failed) = as_one deeds _ is tt
+awaiting_breaks p c n w deeds (comes_to m w' v deeds' e by_it hears is) = absurd (never_hears p c w e by_it v hears)
+awaiting_breaks p c n w deeds (goes_on m w' v deeds' e by_it rest hears awaits is) = as_one deeds _ is (after_all by_it rest (awaiting_breaks p c m v rest awaits))
 
-peer_breaks : (o : Operation) (c : Chosen) (w : CoapWaiting) (deeds : List Deed) → AsksPeer o c w deeds consumed.Failed → Breaks deeds
-peer_breaks o c w deeds (is_long long nothing other) = absurd cc
-peer_breaks o c w deeds (is_asked first v rest sent awaits is) = as_one deeds _ is (after_all (happen first) rest (awaiting_breaks o c _ _ rest awaits))
+peer_breaks : (p : Purpose) (c : Chosen) (w : CoapWaiting) (deeds : List Deed) → AsksPeer p c w deeds consumed.Failed → Breaks deeds
+peer_breaks p c w deeds (is_long long nothing other) = absurd cc
+peer_breaks p c w deeds (is_asked first v rest sent awaits is) = as_one deeds _ is (after_all (happen first) rest (awaiting_breaks p c _ _ rest awaits))
 
-asking_breaks : (o : Operation) (c : Chosen) (body : Option (List ℕ)) (s : Scheme) (deeds : List Deed) → AsksBy o c body s deeds consumed.Failed → Breaks deeds
-asking_breaks o c body scheme.Http deeds (not_dialled is failed) = as_one deeds _ is tt
-asking_breaks o c body scheme.Http deeds (dial_memory is memory) = absurd cc
-asking_breaks o c body scheme.Http deeds (request_memory is memory) = absurd cc
-asking_breaks o c body scheme.Http deeds (is_sent k rest awaits is) = as_one deeds _ is (awaiting_breaks o c _ _ rest awaits)
-asking_breaks o c body scheme.Coap deeds (not_found is failed) = as_one deeds _ is tt
-asking_breaks o c body scheme.Coap deeds (find_memory is memory) = absurd cc
-asking_breaks o c body scheme.Coap deeds (client_memory is memory) = absurd cc
-asking_breaks o c body scheme.Coap deeds (is_found peer w rest fresh asks is) = as_one deeds _ is (peer_breaks o c w rest asks)
+coap_breaks : (p : Purpose) (c : Chosen) (body : Option (List ℕ)) (deeds : List Deed) → AsksByCoap p c body deeds consumed.Failed → Breaks deeds
+coap_breaks p c body deeds (not_found is failed) = as_one deeds _ is tt
+coap_breaks p c body deeds (find_memory is memory) = absurd cc
+coap_breaks p c body deeds (client_memory is memory) = absurd cc
+coap_breaks p c body deeds (is_found peer w rest fresh asks is) = as_one deeds _ is (peer_breaks p c w rest asks)
+
+asking_breaks : (p : Purpose) (c : Chosen) (body : Option (List ℕ)) (s : Scheme) (deeds : List Deed) → AsksBy p c body s deeds consumed.Failed → Breaks deeds
+asking_breaks p c body scheme.Http deeds (not_dialled is failed) = as_one deeds _ is tt
+asking_breaks p c body scheme.Http deeds (dial_memory is memory) = absurd cc
+asking_breaks p c body scheme.Http deeds (request_memory is memory) = absurd cc
+asking_breaks p c body scheme.Http deeds (is_sent k rest awaits is) = as_one deeds _ is (awaiting_breaks p c _ _ rest awaits)
+asking_breaks p c body scheme.Coap deeds asks = coap_breaks p c body deeds asks
 
 pub failing_breaks : (o : Operation) (c : Chosen) (deeds : List Deed) → Consumes o c deeds consumed.Failed → Breaks deeds
 failing_breaks o c deeds (is_refused refused nothing input) = absurd cc
 failing_breaks o c deeds (input_memory nothing memory) = absurd cc
 failing_breaks o c deeds (is_done takes (body_memory nothing memory)) = absurd cc
-failing_breaks o c deeds (is_done takes (has_body by_it)) = asking_breaks o c _ c.scheme deeds by_it
+failing_breaks o c deeds (is_done takes (has_body by_it)) = asking_breaks _ c _ c.scheme deeds by_it
+
+pub discovering_breaks : (c : Chosen) (deeds : List Deed) → Discovers c deeds consumed.Failed → Breaks deeds
+discovering_breaks c deeds (discovery_memory nothing memory) = absurd cc
+discovering_breaks c deeds (has_asked server is asks) = coap_breaks _ c None deeds asks
 
 breaks_counted : (deeds : List Deed) → Breaks deeds → 1 ≤ break_count (happened_in deeds)
 breaks_counted [] breaks = absurd breaks
@@ -134,4 +144,7 @@ breaks_counted (happens (broke call) ∷ deeds) breaks = omega arith
 breaks_counted (prints text ∷ deeds) breaks = breaks_counted deeds breaks
 
 pub failing_breaks_the_network : FailingBreaksTheNetwork
-failing_breaks_the_network o c deeds consumes = breaks_counted deeds (failing_breaks o c deeds consumes)
+failing_breaks_the_network = record {
+  consumes = λ o c deeds consumes. breaks_counted deeds (failing_breaks o c deeds consumes);
+  discovers = λ c deeds discovers. breaks_counted deeds (discovering_breaks c deeds discovers);
+}

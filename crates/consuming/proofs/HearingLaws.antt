@@ -25,7 +25,7 @@ use Rattle.servient_outside.specs.Network.{Happening, did, NetSeen, NetShows}
 use Rattle.servient_outside.specs.Out.{OutSeen, OutShows}
 use Rattle.servient_outside.proofs.NetLaws.{net_shows_none}
 use Rattle.wot_consumer.specs.declared.chosen.Chosen.{Chosen}
-use Rattle.consuming.specs.declared.operation.Operation.{Operation}
+use Rattle.consuming.specs.declared.purpose.Purpose.{Purpose}
 use Rattle.consuming.specs.declared.consumed.Consumed.{Consumed}
 use Rattle.consuming.specs.declared.consumed.Consumed.TheVariants as ended
 use Rattle.consuming.specs.declared.consumed.Outcome.{Outcome}
@@ -75,11 +75,11 @@ closes_memory a = record { deeds = []; holds = (refl, refl); shows = shows_none 
 -- ## HTTP
 
 -- bytes came on its own connection
-pub bytes_of_it : (o : Operation) (c d count : ℕ) (received bytes : List ℕ) (w : What) (r : Option Verdict) → w ≡ what.Bytes d count → d ≡ c → bytes ≡ received → ReceivesAs o false bytes r → Brings o c received w r
+pub bytes_of_it : (o : Purpose) (c d count : ℕ) (received bytes : List ℕ) (w : What) (r : Option Verdict) → w ≡ what.Bytes d count → d ≡ c → bytes ≡ received → ReceivesAs o false bytes r → Brings o c received w r
 bytes_of_it o c d count received bytes w r is mine same receives =
     bytes_came count (subst (λ (x : ℕ). w ≡ what.Bytes x count) mine is) (subst (λ (b : List ℕ). ReceivesAs o false b r) same receives)
 
-pub http_ends : (o : Operation) (w : HttpWaiting) (e : EventWithBytes) (v : Verdict) (c : Consumed) (a b : Sight) → Brings o w.connection (after_event w e).received e.event.what (Some v) → Shows (λ deeds. Closes v deeds c) a b (put_of c)
+pub http_ends : (o : Purpose) (w : HttpWaiting) (e : EventWithBytes) (v : Verdict) (c : Consumed) (a b : Sight) → Brings o w.connection (after_event w e).received e.event.what (Some v) → Shows (λ deeds. Closes v deeds c) a b (put_of c)
     → Shows (λ deeds. HearsByHttp o w e deeds (Some c)) a b (put_of c)
 http_ends o w e v c a b brings closes = record { deeds = closes.deeds; holds = has_come v c brings closes.holds refl; shows = closes.shows }
 
@@ -87,7 +87,7 @@ quiet_deadline : (t : Bool) → put_in (cond t (Some ended.Silent) None) ≡ put
 quiet_deadline true = refl
 quiet_deadline false = refl
 
-pub http_goes_on : (o : Operation) (w : HttpWaiting) (e : EventWithBytes) (r : Option Consumed) (a : Sight) → Brings o w.connection (after_event w e).received e.event.what None → r ≡ at_deadline (after_event w e).moment
+pub http_goes_on : (o : Purpose) (w : HttpWaiting) (e : EventWithBytes) (r : Option Consumed) (a : Sight) → Brings o w.connection (after_event w e).received e.event.what None → r ≡ at_deadline (after_event w e).moment
     → Shows (λ deeds. HearsByHttp o w e deeds r) a a (put_in r)
 http_goes_on o w e r a brings is = record {
   deeds = [];
@@ -125,7 +125,7 @@ put_after : (c : Chosen) (w : CoapWaiting) (by_it : Consumed) (hs : List Happeni
 put_after c w by_it hs r v (goes_on_observing more none ends is) = put_awaiting w.left by_it more ∙ ap put_in (sym ends)
 put_after c w by_it hs r v (is_last last cancels ends) = ap put_in (sym ends)
 
-pub value_follows : (o : Operation) (c : Chosen) (w v : CoapWaiting) (payload : List ℕ) (said : Verdict) (by_it : Consumed) (r : Option Consumed) (a : Sight) (m k : NetSeen) (q : OutSeen) → AnswersAs o (status.Coap 69) payload said
+pub value_follows : (o : Purpose) (c : Chosen) (w v : CoapWaiting) (payload : List ℕ) (said : Verdict) (by_it : Consumed) (r : Option Consumed) (a : Sight) (m k : NetSeen) (q : OutSeen) → AnswersAs o (status.Coap 69) payload said
     → Shows (λ deeds. Closes said deeds by_it) a (sight m q) (put_of by_it) → ShowsHappenings (λ hs. AfterValue c w by_it hs r v) m k → Shows (λ deeds. FollowsValue o c w payload deeds r v) a (sight k q) (put_in r)
 value_follows o c w v payload said by_it r a m k q says closes after = record {
   deeds = closes.deeds ++ happen after.happened;
@@ -143,7 +143,7 @@ put_further c w v b hs r (is_no_further f refused none ends) = ap put_in (sym en
 as_one : {A B : Type 0} (x : A × B) (a : A) (b : B) → a ≡ x.0 → b ≡ x.1 → x ≡ (a, b)
 as_one x a b e f = λ i. (sym e i, sym f i)
 
-pub answer_leads_on : (o : Operation) (c : Chosen) (w u v : CoapWaiting) (code : ℕ) (block2 : Option Block) (payload : List ℕ) (joins : Bool) (b : Blocks) (r : Option Consumed) (n m : NetSeen) (q : OutSeen) → joins ≡ is_joined c
+pub answer_leads_on : (o : Purpose) (c : Chosen) (w u v : CoapWaiting) (code : ℕ) (block2 : Option Block) (payload : List ℕ) (joins : Bool) (b : Blocks) (r : Option Consumed) (n m : NetSeen) (q : OutSeen) → joins ≡ is_joined c
     → step.Ask b ≡ (after_answer joins w.transfer code block2 payload).0 → u ≡ with_joined w (after_answer joins w.transfer code block2 payload).1
     → ShowsHappenings (λ hs. AsksFurther c u b hs r v) n m → Shows (λ deeds. FollowsAnswer o c w code block2 payload deeds r v) (sight n q) (sight m q) (put_in r)
 answer_leads_on o c w u v code block2 payload joins b r n m q joined says takes asks =
@@ -155,7 +155,7 @@ answer_leads_on o c w u v code block2 payload joins b r n m q joined says takes 
       shows = subst (λ (p : Put). ShowsDeeds (sight n q) (sight m q) p (happen asks.happened)) (put_further c u v b asks.happened r asks.holds) (shows_net n m q asks.happened asks.shows);
     }
 
-pub answer_is_whole : (o : Operation) (c : Chosen) (w v : CoapWaiting) (code : ℕ) (block2 : Option Block) (payload whole : List ℕ) (joins : Bool) (said : Verdict) (by_it : Consumed) (a b : Sight) → joins ≡ is_joined c
+pub answer_is_whole : (o : Purpose) (c : Chosen) (w v : CoapWaiting) (code : ℕ) (block2 : Option Block) (payload whole : List ℕ) (joins : Bool) (said : Verdict) (by_it : Consumed) (a b : Sight) → joins ≡ is_joined c
     → step.Judge ≡ (after_answer joins w.transfer code block2 payload).0 → whole ≡ whole_payload joins (with_joined w (after_answer joins w.transfer code block2 payload).1).transfer payload
     → AnswersAs o (status.Coap code) whole said → Shows (λ deeds. Closes said deeds by_it) a b (put_of by_it)
     → Shows (λ deeds. FollowsAnswer o c w code block2 payload deeds (Some by_it) v) a b (put_of by_it)
@@ -169,7 +169,7 @@ answer_is_whole o c w v code block2 payload whole joins said by_it a b joined sa
       shows = closes.shows;
     }
 
-pub answer_is_malformed : (o : Operation) (c : Chosen) (w v : CoapWaiting) (code : ℕ) (block2 : Option Block) (payload : List ℕ) (joins : Bool) (a : Sight) → joins ≡ is_joined c
+pub answer_is_malformed : (o : Purpose) (c : Chosen) (w v : CoapWaiting) (code : ℕ) (block2 : Option Block) (payload : List ℕ) (joins : Bool) (a : Sight) → joins ≡ is_joined c
     → step.Malformed ≡ (after_answer joins w.transfer code block2 payload).0 → Shows (λ deeds. FollowsAnswer o c w code block2 payload deeds (Some (ended.Other outcome.Malformed)) v) a a put.Done
 answer_is_malformed o c w v code block2 payload joins a joined says =
     let P : Bool → Type 0 = λ j. (after_answer j w.transfer code block2 payload ≡ (step.Malformed, (after_answer joins w.transfer code block2 payload).1)) in
@@ -179,7 +179,7 @@ answer_is_malformed o c w v code block2 payload joins a joined says =
       shows = shows_none a;
     }
 
-pub answer_is_long : (o : Operation) (c : Chosen) (w v : CoapWaiting) (code : ℕ) (block2 : Option Block) (payload : List ℕ) (joins : Bool) (a : Sight) → joins ≡ is_joined c
+pub answer_is_long : (o : Purpose) (c : Chosen) (w v : CoapWaiting) (code : ℕ) (block2 : Option Block) (payload : List ℕ) (joins : Bool) (a : Sight) → joins ≡ is_joined c
     → step.Long ≡ (after_answer joins w.transfer code block2 payload).0 → Shows (λ deeds. FollowsAnswer o c w code block2 payload deeds (Some (ended.Other outcome.Long)) v) a a put.Done
 answer_is_long o c w v code block2 payload joins a joined says =
     let P : Bool → Type 0 = λ j. (after_answer j w.transfer code block2 payload ≡ (step.Long, (after_answer joins w.transfer code block2 payload).1)) in
@@ -191,17 +191,17 @@ answer_is_long o c w v code block2 payload joins a joined says =
 
 -- ## What follows other news
 
-pub nothing_follows : (o : Operation) (c : Chosen) (w : CoapWaiting) (n x : News) (a : Sight) → n ≡ x → Follows o c w x [] None w → Shows (λ deeds. Follows o c w n deeds None w) a a put.Done
+pub nothing_follows : (o : Purpose) (c : Chosen) (w : CoapWaiting) (n x : News) (a : Sight) → n ≡ x → Follows o c w x [] None w → Shows (λ deeds. Follows o c w n deeds None w) a a put.Done
 nothing_follows o c w n x a is says = record { deeds = []; holds = subst (λ (y : News). Follows o c w y [] None w) (sym is) says; shows = shows_none a }
 
-pub news_follow : (o : Operation) (c : Chosen) (w v : CoapWaiting) (n x : News) (r : Option Consumed) (a b : Sight) (p : Put) → n ≡ x → Shows (λ deeds. Follows o c w x deeds r v) a b p → Shows (λ deeds. Follows o c w n deeds r v) a b p
+pub news_follow : (o : Purpose) (c : Chosen) (w v : CoapWaiting) (n x : News) (r : Option Consumed) (a b : Sight) (p : Put) → n ≡ x → Shows (λ deeds. Follows o c w x deeds r v) a b p → Shows (λ deeds. Follows o c w n deeds r v) a b p
 news_follow o c w v n x r a b p is follows = record {
   deeds = follows.deeds;
   holds = subst (λ (y : News). Follows o c w y follows.deeds r v) (sym is) follows.holds;
   shows = follows.shows;
 }
 
-pub reset_follows : (o : Operation) (c : Chosen) (w v : CoapWaiting) (n : News) (a : Sight) → n ≡ news.Reset → Shows (λ deeds. Follows o c w n deeds (Some (ended.Other outcome.Reset)) v) a a put.Done
+pub reset_follows : (o : Purpose) (c : Chosen) (w v : CoapWaiting) (n : News) (a : Sight) → n ≡ news.Reset → Shows (λ deeds. Follows o c w n deeds (Some (ended.Other outcome.Reset)) v) a a put.Done
 reset_follows o c w v n a is = record {
   deeds = [];
   holds = subst (λ (x : News). Follows o c w x [] (Some (ended.Other outcome.Reset)) v) (sym is) (refl, refl);
@@ -279,7 +279,7 @@ over_due w v old new s n comes = record { happened = []; holds = is_over old new
 
 -- ## An event
 
-pub datagram_met : (o : Operation) (c : Chosen) (w u v : CoapWaiting) (e : EventWithBytes) (from : Endpoint) (count : ℕ) (news : News) (r : Option Consumed) (n m : NetSeen) (q : OutSeen) (b : Sight) → e.event.what ≡ what.Datagram from count
+pub datagram_met : (o : Purpose) (c : Chosen) (w u v : CoapWaiting) (e : EventWithBytes) (from : Endpoint) (count : ℕ) (news : News) (r : Option Consumed) (n m : NetSeen) (q : OutSeen) (b : Sight) → e.event.what ≡ what.Datagram from count
     → ShowsHappenings (λ hs. DeliversNews w from e.bytes hs news u) n m → Shows (λ deeds. Follows o c u news deeds r v) (sight m q) b (put_in r) → Shows (λ deeds. Meets o c w e deeds r v) (sight n q) b (put_in r)
 datagram_met o c w u v e from count news r n m q b is comes follows = record {
   deeds = happen comes.happened ++ follows.deeds;
@@ -295,10 +295,10 @@ passed_over (what.Datagram from count) no_datagram no_stop = absurd (no_datagram
 passed_over what.Tick no_datagram no_stop = refl
 passed_over what.Stop no_datagram no_stop = absurd (no_stop refl)
 
-pub stop_met : (o : Operation) (c : Chosen) (w v : CoapWaiting) (e : EventWithBytes) (a : Sight) → e.event.what ≡ what.Stop → Shows (λ deeds. Meets o c w e deeds (Some (ended.Other outcome.Stopped)) v) a a put.Done
+pub stop_met : (o : Purpose) (c : Chosen) (w v : CoapWaiting) (e : EventWithBytes) (a : Sight) → e.event.what ≡ what.Stop → Shows (λ deeds. Meets o c w e deeds (Some (ended.Other outcome.Stopped)) v) a a put.Done
 stop_met o c w v e a is = record { deeds = []; holds = is_stop is refl refl; shows = shows_none a }
 
-pub another_met : (o : Operation) (c : Chosen) (w : CoapWaiting) (e : EventWithBytes) (a : Sight) → coap.is_passed_over e.event.what ≡ true → Shows (λ deeds. Meets o c w e deeds None w) a a put.Done
+pub another_met : (o : Purpose) (c : Chosen) (w : CoapWaiting) (e : EventWithBytes) (a : Sight) → coap.is_passed_over e.event.what ≡ true → Shows (λ deeds. Meets o c w e deeds None w) a a put.Done
 another_met o c w e a is = record { deeds = []; holds = coap.is_another is refl refl refl; shows = shows_none a }
 
 put_due : (w v : CoapWaiting) (hs : List Happening) (r : Option Consumed) → FallsDue w hs r v → put.Done ≡ put_in r
@@ -306,7 +306,7 @@ put_due w v hs r (is_quiet old new s comes none ends is) = ap put_in (sym ends)
 put_due w v hs r (goes_again n old new s comes sent ends is) = ap put_in (sym ends)
 put_due w v hs r (is_over old new s comes none ends) = ap put_in (sym ends)
 
-pub coap_ends : (o : Operation) (c : Chosen) (w u v : CoapWaiting) (e : EventWithBytes) (by_it : Consumed) (a b : Sight) → u ≡ record w { moment = max w.moment e.event.moment }
+pub coap_ends : (o : Purpose) (c : Chosen) (w u v : CoapWaiting) (e : EventWithBytes) (by_it : Consumed) (a b : Sight) → u ≡ record w { moment = max w.moment e.event.moment }
     → Shows (λ deeds. Meets o c u e deeds (Some by_it) v) a b (put_of by_it) → Shows (λ deeds. HearsByCoap o c w e deeds (Some by_it) v) a b (put_of by_it)
 coap_ends o c w u v e by_it a b is meets = record {
   deeds = meets.deeds;
@@ -314,7 +314,7 @@ coap_ends o c w u v e by_it a b is meets = record {
   shows = meets.shows;
 }
 
-pub coap_goes_on : (o : Operation) (c : Chosen) (w u t v : CoapWaiting) (e : EventWithBytes) (r : Option Consumed) (a : Sight) (m k : NetSeen) (q : OutSeen) → u ≡ record w { moment = max w.moment e.event.moment }
+pub coap_goes_on : (o : Purpose) (c : Chosen) (w u t v : CoapWaiting) (e : EventWithBytes) (r : Option Consumed) (a : Sight) (m k : NetSeen) (q : OutSeen) → u ≡ record w { moment = max w.moment e.event.moment }
     → Shows (λ deeds. Meets o c u e deeds None t) a (sight m q) put.Done → ShowsHappenings (λ hs. FallsDue t hs r v) m k → Shows (λ deeds. HearsByCoap o c w e deeds r v) a (sight k q) (put_in r)
 coap_goes_on o c w u t v e r a m k q is meets falls = record {
   deeds = meets.deeds ++ happen falls.happened;
@@ -324,7 +324,7 @@ coap_goes_on o c w u t v e r a m k q is meets falls = record {
 
 -- ## Either
 
-pub http_hears : (o : Operation) (c : Chosen) (w v : Waiting) (x y : HttpWaiting) (e : EventWithBytes) (r : Option Consumed) (a b : Sight) → w ≡ Http x → v ≡ Http y → Shows (λ deeds. HearsByHttp o x e deeds r) a b (put_in r) → (IsNone r → y ≡ after_event x e)
+pub http_hears : (o : Purpose) (c : Chosen) (w v : Waiting) (x y : HttpWaiting) (e : EventWithBytes) (r : Option Consumed) (a b : Sight) → w ≡ Http x → v ≡ Http y → Shows (λ deeds. HearsByHttp o x e deeds r) a b (put_in r) → (IsNone r → y ≡ after_event x e)
     → Shows (λ deeds. Hears o c w e deeds r v) a b (put_in r)
 http_hears o c w v x y e r a b is becomes hears waits = record {
   deeds = hears.deeds;
@@ -332,6 +332,6 @@ http_hears o c w v x y e r a b is becomes hears waits = record {
   shows = hears.shows;
 }
 
-pub coap_hears : (o : Operation) (c : Chosen) (w v : Waiting) (x y : CoapWaiting) (e : EventWithBytes) (r : Option Consumed) (a b : Sight) → w ≡ Coap x → v ≡ Coap y → Shows (λ deeds. HearsByCoap o c x e deeds r y) a b (put_in r)
+pub coap_hears : (o : Purpose) (c : Chosen) (w v : Waiting) (x y : CoapWaiting) (e : EventWithBytes) (r : Option Consumed) (a b : Sight) → w ≡ Coap x → v ≡ Coap y → Shows (λ deeds. HearsByCoap o c x e deeds r y) a b (put_in r)
     → Shows (λ deeds. Hears o c w e deeds r v) a b (put_in r)
 coap_hears o c w v x y e r a b is becomes hears = record { deeds = hears.deeds; holds = by_coap x y is hears.holds becomes; shows = hears.shows }

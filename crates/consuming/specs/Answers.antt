@@ -1,5 +1,5 @@
--- What the answer to an operation comes to, the bytes of the connection on which it comes, and what is printed of it
--- (TD 1.1, section 5.3.4.2; RFC 9110, section 15; RFC 7252, section 5.9). Each case may come to being out of memory.
+-- What an answer comes to, the bytes of the connection on which it comes, and what is printed of it (TD 1.1, section 5.3.4.2;
+-- RFC 9110, section 15; RFC 7252, section 5.9; RFC 6690). Each case may come to being out of memory.
 use Rattle.std.specs.Prelude.{◌≡◌, ◌≢◌, ◌⊎◌, ◌==◌, ◌/◌, ⊤, ℕ, List, [], ◌∷◌, Bool, true, false, nat_le, ◌&&◌, Option, Some, None, option_map}
 use Rattle.wot_json.specs.Tree.{Json}
 use Rattle.wot_json.specs.Meaning.{json_of}
@@ -10,7 +10,10 @@ use Rattle.http_wire.specs.ReplyFronts.{IsReply}
 use Rattle.wot_terms.specs.Faults.{IsValid}
 use Rattle.wot_consumer.specs.Operations.{is_consumed}
 use Rattle.wot_consumer.specs.Judgement.{AcceptsOutput, HasAffordance}
+use Rattle.wot_consumer.specs.Discovery.{SaysOfThings}
 use Rattle.consuming.specs.declared.operation.Operation.{Operation}
+use Rattle.consuming.specs.declared.purpose.Purpose.{Purpose}
+use Rattle.consuming.specs.declared.purpose.Purpose.TheVariants as purpose
 use Rattle.consuming.specs.declared.consumed.Consumed.{Consumed}
 use Rattle.consuming.specs.declared.consumed.Consumed.TheVariants as ended
 use Rattle.consuming.specs.declared.consumed.Outcome.TheVariants as outcome
@@ -20,7 +23,7 @@ use Rattle.consuming.specs.declared.judgement.Judged.{Judged}
 use Rattle.consuming.specs.declared.judgement.Judged.TheVariants as judged
 use Rattle.consuming.specs.declared.answers.Verdict.{Verdict}
 use Rattle.consuming.specs.declared.answers.Verdict.TheVariants as verdict
-use Rattle.consuming.specs.Deeds.{Deed, printed}
+use Rattle.consuming.specs.Deeds.{Deed, printed, printed_lines}
 
 -- ## What may be asked
 
@@ -29,6 +32,16 @@ pub record CanBeAsked (o : Operation) : Type 0 where
   pub valid : IsValid (json_of o.tree.now)
   pub consumed : is_consumed o.op ≡ true
   pub affordance : HasAffordance (json_of o.tree.now) o.op o.name.now
+
+-- the answers to a request that is sent for this can be judged
+abbrev pub CanBeJudged : Purpose → Type 0
+CanBeJudged (purpose.Operation o) = CanBeAsked o
+CanBeJudged (purpose.Discovery server) = ⊤
+
+-- how many values are waited for, where they are asked for as they come
+abbrev pub count_of : Purpose → ℕ
+count_of (purpose.Operation o) = o.count
+count_of (purpose.Discovery server) = 1
 
 -- ## An answer
 
@@ -59,17 +72,35 @@ IsJudged o s payload judged.NotTaken = (value : Option Json) × (value_in payloa
 IsJudged o s payload judged.Unread = value_in payload ≡ None
 IsJudged o s payload judged.NoMemory = ⊤
 
--- what an answer with this status and payload comes to; the first of what may be said of it
-pub data AnswersAs (o : Operation) (s : Status) (payload : List ℕ) (v : Verdict) : Type 0 where
-  no_success : is_success s ≡ false → v ≡ verdict.Outcome (outcome.Status s) → AnswersAs o s payload v
-  unread : is_success s ≡ true → IsJudged o s payload judged.Unread → v ≡ verdict.Outcome outcome.Malformed → AnswersAs o s payload v
-  not_taken : is_success s ≡ true → IsJudged o s payload judged.NotTaken → v ≡ verdict.Outcome outcome.Output → AnswersAs o s payload v
-  taken : is_success s ≡ true → IsJudged o s payload judged.Taken → v ≡ verdict.Payload payload → AnswersAs o s payload v
-  answer_memory : v ≡ verdict.NoMemory → AnswersAs o s payload v
+-- what the value of an answer of success comes to: whether it can be read, and is taken
+pub data ValueComesTo (o : Operation) (s : Status) (payload : List ℕ) (v : Verdict) : Type 0 where
+  unread : IsJudged o s payload judged.Unread → v ≡ verdict.Outcome outcome.Malformed → ValueComesTo o s payload v
+  not_taken : IsJudged o s payload judged.NotTaken → v ≡ verdict.Outcome outcome.Output → ValueComesTo o s payload v
+  taken : IsJudged o s payload judged.Taken → v ≡ verdict.Payload payload → ValueComesTo o s payload v
+  value_memory : v ≡ verdict.NoMemory → ValueComesTo o s payload v
+
+-- what the links of the server with this URL come to: the lines of its Things; a payload that is no link text, or one with a
+-- target that can't be joined, is malformed
+pub data LinksComeTo (server payload : List ℕ) (v : Verdict) : Type 0 where
+  says_things : (lines : List ℕ) → SaysOfThings server payload (Some lines) → v ≡ verdict.Lines lines → LinksComeTo server payload v
+  says_nothing : SaysOfThings server payload None → v ≡ verdict.Outcome outcome.Malformed → LinksComeTo server payload v
+  links_memory : v ≡ verdict.NoMemory → LinksComeTo server payload v
+
+-- what an answer of success comes to, by what was asked for
+abbrev pub SucceedsAs : Purpose → Status → List ℕ → Verdict → Type 0
+SucceedsAs (purpose.Operation o) s payload v = ValueComesTo o s payload v
+SucceedsAs (purpose.Discovery server) s payload v = LinksComeTo server.now payload v
+
+-- what an answer with this status and payload comes to
+pub data AnswersAs (p : Purpose) (s : Status) (payload : List ℕ) (v : Verdict) : Type 0 where
+  no_success : is_success s ≡ false → v ≡ verdict.Outcome (outcome.Status s) → AnswersAs p s payload v
+  success : is_success s ≡ true → SucceedsAs p s payload v → AnswersAs p s payload v
+  answer_memory : v ≡ verdict.NoMemory → AnswersAs p s payload v
 
 -- what is printed by a verdict, and how the operation ends by it; where the output fails, by that
 abbrev pub Closes : Verdict → List Deed → Consumed → Type 0
 Closes (verdict.Payload payload) deeds r = (deeds ≡ printed payload) × ((r ≡ ended.Done) ⊎ ((payload ≢ []) × (r ≡ ended.Unprinted)))
+Closes (verdict.Lines lines) deeds r = (deeds ≡ printed_lines lines) × ((r ≡ ended.Done) ⊎ ((lines ≢ []) × (r ≡ ended.Unprinted)))
 Closes (verdict.Outcome outcome) deeds r = (deeds ≡ []) × (r ≡ ended.Other outcome)
 Closes verdict.NoMemory deeds r = (deeds ≡ []) × (r ≡ ended.NoMemory)
 
@@ -81,12 +112,12 @@ short_of true = Some (verdict.Outcome outcome.Closed)
 short_of false = None
 
 -- what is scanned comes to this
-abbrev pub ScansAs : Operation → Bool → ReplyScan → Option Verdict → Type 0
-ScansAs o ended scan.Short r = r ≡ short_of ended
-ScansAs o ended (scan.Whole number body) r = (v : Verdict) × AnswersAs o (status.Http number) body v × (r ≡ Some v)
-ScansAs o ended scan.Fault r = r ≡ Some (verdict.Outcome outcome.Malformed)
-ScansAs o ended scan.TooLong r = r ≡ Some (verdict.Outcome outcome.Long)
+abbrev pub ScansAs : Purpose → Bool → ReplyScan → Option Verdict → Type 0
+ScansAs p ended scan.Short r = r ≡ short_of ended
+ScansAs p ended (scan.Whole number body) r = (v : Verdict) × AnswersAs p (status.Http number) body v × (r ≡ Some v)
+ScansAs p ended scan.Fault r = r ≡ Some (verdict.Outcome outcome.Malformed)
+ScansAs p ended scan.TooLong r = r ≡ Some (verdict.Outcome outcome.Long)
 
 -- the bytes of a connection that has ended or goes on come to this, or to nothing yet
-abbrev pub ReceivesAs : Operation → Bool → List ℕ → Option Verdict → Type 0
-ReceivesAs o ended bytes r = (s : ReplyScan) × IsReply bytes ended s × ScansAs o ended s r
+abbrev pub ReceivesAs : Purpose → Bool → List ℕ → Option Verdict → Type 0
+ReceivesAs p ended bytes r = (s : ReplyScan) × IsReply bytes ended s × ScansAs p ended s r

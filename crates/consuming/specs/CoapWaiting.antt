@@ -18,7 +18,7 @@ use Rattle.servient_outside.specs.declared.net.EventWithBytes.{EventWithBytes}
 use Rattle.servient_outside.specs.declared.net.Act.TheVariants as act
 use Rattle.servient_outside.specs.Network.{Happening, did}
 use Rattle.wot_consumer.specs.declared.chosen.Chosen.{Chosen}
-use Rattle.consuming.specs.declared.operation.Operation.{Operation}
+use Rattle.consuming.specs.declared.purpose.Purpose.{Purpose}
 use Rattle.consuming.specs.declared.consumed.Consumed.{Consumed}
 use Rattle.consuming.specs.declared.consumed.Consumed.TheVariants.{Done, Other, Silent, Failed, Unprinted, Spent, NoMemory}
 use Rattle.consuming.specs.declared.consumed.Outcome.TheVariants as outcome
@@ -82,16 +82,16 @@ with_joined w joined = record w { transfer = record w.transfer { joined = joined
 
 -- What follows an answer with this code, Block2 and payload: a further request; or the answer is whole, and judged; or it isn't
 -- one to what was asked; or it or what is handed in is too long.
-pub data FollowsAnswer (o : Operation) (c : Chosen) (w : CoapWaiting) (code : ℕ) (block2 : Option Block) (payload : List ℕ) (deeds : List Deed) (r : Option Consumed) (v : CoapWaiting) : Type 0 where
+pub data FollowsAnswer (p : Purpose) (c : Chosen) (w : CoapWaiting) (code : ℕ) (block2 : Option Block) (payload : List ℕ) (deeds : List Deed) (r : Option Consumed) (v : CoapWaiting) : Type 0 where
   leads_on : (b : Blocks) (joined : List ℕ) (happened : List Happening) → after_answer (is_joined c) w.transfer code block2 payload ≡ (step.Ask b, joined)
-      → AsksFurther c (with_joined w joined) b happened r v → deeds ≡ happen happened → FollowsAnswer o c w code block2 payload deeds r v
+      → AsksFurther c (with_joined w joined) b happened r v → deeds ≡ happen happened → FollowsAnswer p c w code block2 payload deeds r v
   is_whole : (joined : List ℕ) (said : Verdict) (by_it : Consumed) → after_answer (is_joined c) w.transfer code block2 payload ≡ (step.Judge, joined)
-      → AnswersAs o (status.Coap code) (whole_payload (is_joined c) (with_joined w joined).transfer payload) said → Closes said deeds by_it → r ≡ Some by_it
-      → FollowsAnswer o c w code block2 payload deeds r v
+      → AnswersAs p (status.Coap code) (whole_payload (is_joined c) (with_joined w joined).transfer payload) said → Closes said deeds by_it → r ≡ Some by_it
+      → FollowsAnswer p c w code block2 payload deeds r v
   is_malformed : (joined : List ℕ) → after_answer (is_joined c) w.transfer code block2 payload ≡ (step.Malformed, joined) → deeds ≡ []
-      → r ≡ Some (Other outcome.Malformed) → FollowsAnswer o c w code block2 payload deeds r v
+      → r ≡ Some (Other outcome.Malformed) → FollowsAnswer p c w code block2 payload deeds r v
   is_long : (joined : List ℕ) → after_answer (is_joined c) w.transfer code block2 payload ≡ (step.Long, joined) → deeds ≡ []
-      → r ≡ Some (Other outcome.Long) → FollowsAnswer o c w code block2 payload deeds r v
+      → r ≡ Some (Other outcome.Long) → FollowsAnswer p c w code block2 payload deeds r v
 
 -- Observing ends: a request says so, where it fits into a message. Its answer isn't awaited.
 pub data Cancels (c : Chosen) (w : CoapWaiting) (happened : List Happening) : Type 0 where
@@ -116,18 +116,18 @@ pub data AfterValue (c : Chosen) (w : CoapWaiting) (by_it : Consumed) (happened 
   is_last : awaits_more w.left by_it ≡ false → Cancels c w happened → r ≡ Some by_it → AfterValue c w by_it happened r v
 
 -- What follows a value of what is observed, which is judged as the payload of a 2.05 is: it is printed, or the operation ends.
-pub data FollowsValue (o : Operation) (c : Chosen) (w : CoapWaiting) (payload : List ℕ) (deeds : List Deed) (r : Option Consumed) (v : CoapWaiting) : Type 0 where
-  is_judged : (said : Verdict) (by_it : Consumed) (first : List Deed) (more : List Happening) → AnswersAs o (status.Coap 69) payload said → Closes said first by_it
-      → AfterValue c w by_it more r v → deeds ≡ first ++ happen more → FollowsValue o c w payload deeds r v
+pub data FollowsValue (p : Purpose) (c : Chosen) (w : CoapWaiting) (payload : List ℕ) (deeds : List Deed) (r : Option Consumed) (v : CoapWaiting) : Type 0 where
+  is_judged : (said : Verdict) (by_it : Consumed) (first : List Deed) (more : List Happening) → AnswersAs p (status.Coap 69) payload said → Closes said first by_it
+      → AfterValue c w by_it more r v → deeds ≡ first ++ happen more → FollowsValue p c w payload deeds r v
 
 -- What is done by news, and how it ends by them, or how it waits afterwards. A value that is older than another that came
 -- isn't looked at.
-abbrev pub Follows : Operation → Chosen → CoapWaiting → News → List Deed → Option Consumed → CoapWaiting → Type 0
-Follows o c w news.Nothing deeds r v = (deeds ≡ []) × (r ≡ None) × (v ≡ w)
-Follows o c w news.Old deeds r v = (deeds ≡ []) × (r ≡ None) × (v ≡ w)
-Follows o c w news.Reset deeds r v = (deeds ≡ []) × (r ≡ Some (Other outcome.Reset))
-Follows o c w (news.Answered code block2 payload) deeds r v = FollowsAnswer o c w code block2 payload.now deeds r v
-Follows o c w (news.Value payload) deeds r v = FollowsValue o c w payload.now deeds r v
+abbrev pub Follows : Purpose → Chosen → CoapWaiting → News → List Deed → Option Consumed → CoapWaiting → Type 0
+Follows p c w news.Nothing deeds r v = (deeds ≡ []) × (r ≡ None) × (v ≡ w)
+Follows p c w news.Old deeds r v = (deeds ≡ []) × (r ≡ None) × (v ≡ w)
+Follows p c w news.Reset deeds r v = (deeds ≡ []) × (r ≡ Some (Other outcome.Reset))
+Follows p c w (news.Answered code block2 payload) deeds r v = FollowsAnswer p c w code block2 payload.now deeds r v
+Follows p c w (news.Value payload) deeds r v = FollowsValue p c w payload.now deeds r v
 
 -- ## An event
 
@@ -141,11 +141,11 @@ is_passed_over (what.Datagram from count) = false
 is_passed_over what.Stop = false
 
 -- what is done by what came
-pub data Meets (o : Operation) (c : Chosen) (w : CoapWaiting) (e : EventWithBytes) (deeds : List Deed) (r : Option Consumed) (v : CoapWaiting) : Type 0 where
+pub data Meets (p : Purpose) (c : Chosen) (w : CoapWaiting) (e : EventWithBytes) (deeds : List Deed) (r : Option Consumed) (v : CoapWaiting) : Type 0 where
   is_datagram : (from : Endpoint) (count : ℕ) (first : List Happening) (n : News) (u : CoapWaiting) (more : List Deed) → e.event.what ≡ what.Datagram from count
-      → DeliversNews w from e.bytes first n u → Follows o c u n more r v → deeds ≡ happen first ++ more → Meets o c w e deeds r v
-  is_stop : e.event.what ≡ what.Stop → deeds ≡ [] → r ≡ Some (Other outcome.Stopped) → Meets o c w e deeds r v
-  is_another : is_passed_over e.event.what ≡ true → deeds ≡ [] → r ≡ None → v ≡ w → Meets o c w e deeds r v
+      → DeliversNews w from e.bytes first n u → Follows p c u n more r v → deeds ≡ happen first ++ more → Meets p c w e deeds r v
+  is_stop : e.event.what ≡ what.Stop → deeds ≡ [] → r ≡ Some (Other outcome.Stopped) → Meets p c w e deeds r v
+  is_another : is_passed_over e.event.what ≡ true → deeds ≡ [] → r ≡ None → v ≡ w → Meets p c w e deeds r v
 
 -- what falls due: the request is sent again, or it has been awaited for too long
 pub data FallsDue (w : CoapWaiting) (happened : List Happening) (r : Option Consumed) (v : CoapWaiting) : Type 0 where
@@ -155,10 +155,10 @@ pub data FallsDue (w : CoapWaiting) (happened : List Happening) (r : Option Cons
   is_over : (old new : List ℕ) (s : State) → ComesDue (client_now w) due.TimedOut old new s → happened ≡ [] → r ≡ Some Silent → FallsDue w happened r v
 
 -- What is done by an event: first by what came, and then, where that ended nothing, by what falls due once.
-pub data MeetsAndGoesOn (o : Operation) (c : Chosen) (w : CoapWaiting) (e : EventWithBytes) (deeds : List Deed) (r : Option Consumed) (v : CoapWaiting) : Type 0 where
-  ends_by_it : (by_it : Consumed) → Meets o c w e deeds (Some by_it) v → r ≡ Some by_it → MeetsAndGoesOn o c w e deeds r v
-  then_due : (first : List Deed) (u : CoapWaiting) (more : List Happening) → Meets o c w e first None u → FallsDue u more r v → deeds ≡ first ++ happen more → MeetsAndGoesOn o c w e deeds r v
+pub data MeetsAndGoesOn (p : Purpose) (c : Chosen) (w : CoapWaiting) (e : EventWithBytes) (deeds : List Deed) (r : Option Consumed) (v : CoapWaiting) : Type 0 where
+  ends_by_it : (by_it : Consumed) → Meets p c w e deeds (Some by_it) v → r ≡ Some by_it → MeetsAndGoesOn p c w e deeds r v
+  then_due : (first : List Deed) (u : CoapWaiting) (more : List Happening) → Meets p c w e first None u → FallsDue u more r v → deeds ≡ first ++ happen more → MeetsAndGoesOn p c w e deeds r v
 
 -- the moment is the greatest so far
-abbrev pub HearsByCoap : Operation → Chosen → CoapWaiting → EventWithBytes → List Deed → Option Consumed → CoapWaiting → Type 0
-HearsByCoap o c w e deeds r v = MeetsAndGoesOn o c (record w { moment = max w.moment e.event.moment }) e deeds r v
+abbrev pub HearsByCoap : Purpose → Chosen → CoapWaiting → EventWithBytes → List Deed → Option Consumed → CoapWaiting → Type 0
+HearsByCoap p c w e deeds r v = MeetsAndGoesOn p c (record w { moment = max w.moment e.event.moment }) e deeds r v

@@ -40,6 +40,11 @@ abbrev pub printed : List ℕ → List Deed
 printed [] = []
 printed (byte ∷ bytes) = prints ((byte ∷ bytes) ++ codes "\n") ∷ []
 
+-- what is printed of lines: they as they are, and nothing where there are none
+abbrev pub printed_lines : List ℕ → List Deed
+printed_lines [] = []
+printed_lines (byte ∷ bytes) = prints (byte ∷ bytes) ∷ []
+
 -- ## What the outside shows
 
 -- what is seen of the network and of the output at one time

@@ -5,8 +5,9 @@ use Rattle.wot_consumer.specs.declared.chosen.Chosen.{Chosen}
 use Rattle.consuming.specs.declared.operation.Operation.{Operation}
 use Rattle.consuming.specs.declared.consumed.Consumed.TheVariants.{Failed}
 use Rattle.consuming.specs.Deeds.{Deed, happened_in}
-use Rattle.consuming.specs.Consuming.{Consumes}
+use Rattle.consuming.specs.Consuming.{Consumes, Discovers}
 
--- In an operation that ended so a call of the network failed: nothing that comes leads to that.
-abbrev pub FailingBreaksTheNetwork : Type 0
-FailingBreaksTheNetwork = (o : Operation) (c : Chosen) (deeds : List Deed) → Consumes o c deeds Failed → 1 ≤ break_count (happened_in deeds)
+-- In an operation that ended so a call of the network failed, and so in a discovery: nothing that comes leads to that.
+pub record FailingBreaksTheNetwork : Type 0 where
+  pub consumes : (o : Operation) (c : Chosen) (deeds : List Deed) → Consumes o c deeds Failed → 1 ≤ break_count (happened_in deeds)
+  pub discovers : (c : Chosen) (deeds : List Deed) → Discovers c deeds Failed → 1 ≤ break_count (happened_in deeds)

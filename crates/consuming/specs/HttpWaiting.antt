@@ -4,7 +4,7 @@ use Rattle.std.specs.Prelude.{◌≡◌, ℕ, max, nat_eq, nat_le, List, [], ◌
 use Rattle.servient_outside.specs.declared.net.What.{What}
 use Rattle.servient_outside.specs.declared.net.What.TheVariants as what
 use Rattle.servient_outside.specs.declared.net.EventWithBytes.{EventWithBytes}
-use Rattle.consuming.specs.declared.operation.Operation.{Operation}
+use Rattle.consuming.specs.declared.purpose.Purpose.{Purpose}
 use Rattle.consuming.specs.declared.consumed.Consumed.{Consumed}
 use Rattle.consuming.specs.declared.consumed.Consumed.TheVariants.{Silent}
 use Rattle.consuming.specs.declared.consumed.Outcome.TheVariants as outcome
@@ -49,21 +49,21 @@ concerns c (what.Datagram from count) = false
 concerns c what.Tick = false
 
 -- what it comes to by what came, where this is received on connection c, or that it goes on
-pub data Brings (o : Operation) (c : ℕ) (received : List ℕ) (w : What) (r : Option Verdict) : Type 0 where
-  bytes_came : (count : ℕ) → w ≡ what.Bytes c count → ReceivesAs o false received r → Brings o c received w r
-  has_ended : w ≡ what.Ended c → ReceivesAs o true received r → Brings o c received w r
-  has_stopped : w ≡ what.Stop → r ≡ Some (verdict.Outcome outcome.Stopped) → Brings o c received w r
-  is_of_another : concerns c w ≡ false → r ≡ None → Brings o c received w r
-  event_memory : r ≡ Some verdict.NoMemory → Brings o c received w r
+pub data Brings (p : Purpose) (c : ℕ) (received : List ℕ) (w : What) (r : Option Verdict) : Type 0 where
+  bytes_came : (count : ℕ) → w ≡ what.Bytes c count → ReceivesAs p false received r → Brings p c received w r
+  has_ended : w ≡ what.Ended c → ReceivesAs p true received r → Brings p c received w r
+  has_stopped : w ≡ what.Stop → r ≡ Some (verdict.Outcome outcome.Stopped) → Brings p c received w r
+  is_of_another : concerns c w ≡ false → r ≡ None → Brings p c received w r
+  event_memory : r ≡ Some verdict.NoMemory → Brings p c received w r
 
 -- how it ends at this moment where nothing else ended it, or that it goes on
 abbrev pub at_deadline : ℕ → Option Consumed
 at_deadline moment = if nat_le deadline moment then Some Silent else None
 
 -- what is done by an event, after which it waits like this, and how it ends by it, or that it goes on
-pub data EndsOrWaits (o : Operation) (w : HttpWaiting) (e : EventWithBytes) (deeds : List Deed) (r : Option Consumed) : Type 0 where
-  has_come : (v : Verdict) (c : Consumed) → Brings o w.connection w.received e.event.what (Some v) → Closes v deeds c → r ≡ Some c → EndsOrWaits o w e deeds r
-  has_not_come : Brings o w.connection w.received e.event.what None → deeds ≡ [] → r ≡ at_deadline w.moment → EndsOrWaits o w e deeds r
+pub data EndsOrWaits (p : Purpose) (w : HttpWaiting) (e : EventWithBytes) (deeds : List Deed) (r : Option Consumed) : Type 0 where
+  has_come : (v : Verdict) (c : Consumed) → Brings p w.connection w.received e.event.what (Some v) → Closes v deeds c → r ≡ Some c → EndsOrWaits p w e deeds r
+  has_not_come : Brings p w.connection w.received e.event.what None → deeds ≡ [] → r ≡ at_deadline w.moment → EndsOrWaits p w e deeds r
 
-abbrev pub HearsByHttp : Operation → HttpWaiting → EventWithBytes → List Deed → Option Consumed → Type 0
-HearsByHttp o w e deeds r = EndsOrWaits o (after_event w e) e deeds r
+abbrev pub HearsByHttp : Purpose → HttpWaiting → EventWithBytes → List Deed → Option Consumed → Type 0
+HearsByHttp p w e deeds r = EndsOrWaits p (after_event w e) e deeds r

@@ -3,7 +3,7 @@ use Rattle.std.specs.Prelude.{◌≡◌, ◌≤◌, ⊤, ℕ, suc, List, [], ◌
 use Rattle.servient_outside.specs.declared.net.EventWithBytes.{EventWithBytes}
 use Rattle.servient_outside.specs.Network.{heard, broke, next_event}
 use Rattle.wot_consumer.specs.declared.chosen.Chosen.{Chosen}
-use Rattle.consuming.specs.declared.operation.Operation.{Operation}
+use Rattle.consuming.specs.declared.purpose.Purpose.{Purpose}
 use Rattle.consuming.specs.declared.consumed.Consumed.{Consumed}
 use Rattle.consuming.specs.declared.consumed.Consumed.TheVariants.{Failed, Spent}
 use Rattle.consuming.specs.declared.waiting.Came.{Came}
@@ -26,18 +26,18 @@ IsReady c (Http w) = ⊤
 IsReady c (Coap w) = (w.client.moment ≤ w.moment) × IsAskable c
 
 -- what is done by an event, and how the operation ends by it, or that it goes on, and what is awaited then
-pub data Hears (o : Operation) (c : Chosen) (w : Waiting) (e : EventWithBytes) (deeds : List Deed) (r : Option Consumed) (v : Waiting) : Type 0 where
-  by_http : (x : HttpWaiting) → w ≡ Http x → HearsByHttp o x e deeds r → (r ≡ None → v ≡ Http (after_event x e)) → Hears o c w e deeds r v
-  by_coap : (x y : CoapWaiting) → w ≡ Coap x → HearsByCoap o c x e deeds r y → v ≡ Coap y → Hears o c w e deeds r v
+pub data Hears (p : Purpose) (c : Chosen) (w : Waiting) (e : EventWithBytes) (deeds : List Deed) (r : Option Consumed) (v : Waiting) : Type 0 where
+  by_http : (x : HttpWaiting) → w ≡ Http x → HearsByHttp p x e deeds r → (r ≡ None → v ≡ Http (after_event x e)) → Hears p c w e deeds r v
+  by_coap : (x y : CoapWaiting) → w ≡ Coap x → HearsByCoap p c x e deeds r y → v ≡ Coap y → Hears p c w e deeds r v
 
 -- what is done, and how it ends, where at most n further events are taken
-pub data Awaits (o : Operation) (c : Chosen) (r : Consumed) : ℕ → Waiting → List Deed → Type 0 where
-  is_spent : (w : Waiting) (deeds : List Deed) → deeds ≡ [] → r ≡ Spent → Awaits o c r 0 w deeds
-  is_broken : (n : ℕ) (w : Waiting) (deeds : List Deed) → deeds ≡ happens (broke next_event) ∷ [] → r ≡ Failed → Awaits o c r (suc n) w deeds
-  comes_to : (n : ℕ) (w v : Waiting) (deeds : List Deed) (e : EventWithBytes) (by_it : List Deed) → Hears o c w e by_it (Some r) v
-      → deeds ≡ happens (heard e) ∷ by_it → Awaits o c r (suc n) w deeds
-  goes_on : (n : ℕ) (w v : Waiting) (deeds : List Deed) (e : EventWithBytes) (by_it rest : List Deed) → Hears o c w e by_it None v
-      → Awaits o c r n v rest → deeds ≡ happens (heard e) ∷ by_it ++ rest → Awaits o c r (suc n) w deeds
+pub data Awaits (p : Purpose) (c : Chosen) (r : Consumed) : ℕ → Waiting → List Deed → Type 0 where
+  is_spent : (w : Waiting) (deeds : List Deed) → deeds ≡ [] → r ≡ Spent → Awaits p c r 0 w deeds
+  is_broken : (n : ℕ) (w : Waiting) (deeds : List Deed) → deeds ≡ happens (broke next_event) ∷ [] → r ≡ Failed → Awaits p c r (suc n) w deeds
+  comes_to : (n : ℕ) (w v : Waiting) (deeds : List Deed) (e : EventWithBytes) (by_it : List Deed) → Hears p c w e by_it (Some r) v
+      → deeds ≡ happens (heard e) ∷ by_it → Awaits p c r (suc n) w deeds
+  goes_on : (n : ℕ) (w v : Waiting) (deeds : List Deed) (e : EventWithBytes) (by_it rest : List Deed) → Hears p c w e by_it None v
+      → Awaits p c r n v rest → deeds ≡ happens (heard e) ∷ by_it ++ rest → Awaits p c r (suc n) w deeds
 
 -- how many events are taken at most
 abbrev pub most_events : ℕ

@@ -1,14 +1,14 @@
 //! What an answer comes to, and the bytes of the connection on which it comes.
 
 ghost use Rattle.std.specs.Prelude.{◌≡◌, ◌/◌, IfOk, true};
-ghost use Rattle.consuming.specs.Answers.{is_success as is_success_status, AnswersAs, ReceivesAs, ScansAs};
-ghost use Rattle.consuming.specs.Answers.{CanBeAsked};
+ghost use Rattle.consuming.specs.Answers.{is_success as is_success_status, AnswersAs, CanBeAsked, CanBeJudged, LinksComeTo, ReceivesAs, ScansAs, SucceedsAs, ValueComesTo};
 
 use crate::judgement::{Judged, judge_payload};
-use crate::{Outcome, Status, Task};
+use crate::{Operation, Outcome, Purpose, Status, Task};
 use http_wire::{Body, ReplyScan, scan_reply};
 use servient_base::NoMemory;
 use std::alloc::Global;
+use wot_consumer::things_in;
 use wot_json::Bytes;
 
 /// What an answer comes to.
@@ -16,6 +16,8 @@ use wot_json::Bytes;
 pub enum Verdict {
     /// The operation is done, and this is the payload.
     Payload(Bytes),
+    /// The links were read, and these are the lines of the Things to which they lead.
+    Lines(Bytes),
     Outcome(Outcome),
     /// Out of memory.
     NoMemory,
@@ -23,16 +25,16 @@ pub enum Verdict {
 
 /// What these bytes of a connection come to, which has ended or goes on; nothing while the reply may still come.
 pub fn receive(task: &Task<'_>, received: &[u8], ended: bool) -> Option<Verdict>
-    requires { CanBeAsked task.now.operation }
-    ensures { ReceivesAs task.now.operation ended received.now result }
+    requires { CanBeJudged task.now.purpose }
+    ensures { ReceivesAs task.now.purpose ended received.now result }
 {
     scanned(task, scan_reply(received, ended), ended)
 }
 
 /// What is scanned comes to this.
 fn scanned(task: &Task<'_>, scan: ReplyScan<'_>, ended: bool) -> Option<Verdict>
-    requires { CanBeAsked task.now.operation }
-    ensures { ScansAs task.now.operation ended scan.entry result }
+    requires { CanBeJudged task.now.purpose }
+    ensures { ScansAs task.now.purpose ended scan.entry result }
 {
     match scan {
         ReplyScan::Short => {
@@ -50,8 +52,8 @@ fn scanned(task: &Task<'_>, scan: ReplyScan<'_>, ended: bool) -> Option<Verdict>
 
 /// What an answer over HTTP with this status and this body comes to.
 fn answer(task: &Task<'_>, status: u16, body: &Body<'_>) -> Verdict
-    requires { CanBeAsked task.now.operation }
-    ensures { AnswersAs task.now.operation (Status.Http status) body.now result }
+    requires { CanBeJudged task.now.purpose }
+    ensures { AnswersAs task.now.purpose (Status.Http status) body.now result }
 {
     let status = Status::Http(status);
     if !is_success(status) {
@@ -65,8 +67,8 @@ fn answer(task: &Task<'_>, status: u16, body: &Body<'_>) -> Verdict
 
 /// What an answer over CoAP with this code and this payload comes to.
 pub fn answer_message(task: &Task<'_>, code: u8, payload: &[u8]) -> Verdict
-    requires { CanBeAsked task.now.operation }
-    ensures { AnswersAs task.now.operation (Status.Coap code) payload.now result }
+    requires { CanBeJudged task.now.purpose }
+    ensures { AnswersAs task.now.purpose (Status.Coap code) payload.now result }
 {
     let status = Status::Coap(code);
     if !is_success(status) {
@@ -99,14 +101,40 @@ fn payload_of(alloc: Global, body: &Body<'_>) -> Result<Bytes, NoMemory>
 
 /// What an answer of success with this payload comes to.
 fn judge(task: &Task<'_>, status: Status, payload: Bytes) -> Verdict
-    requires asked { CanBeAsked task.now.operation }
-    requires success { is_success_status status ≡ true }
-    ensures { AnswersAs task.now.operation status payload result }
+    requires { CanBeJudged task.now.purpose }
+    ensures { SucceedsAs task.now.purpose status payload result }
 {
-    match judge_payload(task, status, payload.as_slice()) {
+    match task.purpose {
+        Purpose::Operation(operation) => judge_value(task.alloc, &operation, status, payload),
+        Purpose::Discovery(server) => judge_links(task.alloc, server, payload.as_slice()),
+    }
+}
+
+/// What an answer of success to an operation comes to, with this payload.
+fn judge_value(
+    alloc: Global,
+    operation: &Operation<'_>,
+    status: Status,
+    payload: Bytes,
+) -> Verdict
+    requires { CanBeAsked operation.now }
+    ensures { ValueComesTo operation.now status payload result }
+{
+    match judge_payload(alloc, operation, status, payload.as_slice()) {
         Judged::Taken => Verdict::Payload(payload),
         Judged::NotTaken => Verdict::Outcome(Outcome::Output),
         Judged::Unread => Verdict::Outcome(Outcome::Malformed),
         Judged::NoMemory => Verdict::NoMemory,
+    }
+}
+
+/// What the links of the server with this URL come to.
+fn judge_links(alloc: Global, server: &str, payload: &[u8]) -> Verdict
+    ensures { LinksComeTo server.now payload.now result }
+{
+    match things_in(alloc, server, payload) {
+        Ok(Some(lines)) => Verdict::Lines(lines),
+        Ok(None) => Verdict::Outcome(Outcome::Malformed),
+        Err(_) => Verdict::NoMemory,
     }
 }

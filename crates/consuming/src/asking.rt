@@ -1,23 +1,25 @@
 //! The whole of an operation: what is handed in is judged, the request is sent, and what comes of it is awaited.
 
-ghost use Rattle.std.specs.Prelude.{option_map};
+ghost use Rattle.std.specs.Prelude.{◌≡◌, option_map};
+ghost use Rattle.wot_forms.specs.declared.scheme.Scheme.TheVariants as scheme;
+ghost use Rattle.wot_json.specs.Meaning.{json_of};
 ghost use Rattle.wot_json.specs.Json.{text_of as text_of_value};
 ghost use Rattle.wot_consumer.specs.Messages.{request_bytes};
 ghost use Rattle.consuming.specs.Deeds.{put_of, sight, Shows};
-ghost use Rattle.consuming.specs.Answers.{CanBeAsked};
-ghost use Rattle.consuming.specs.Asking.{IsChoice};
-ghost use Rattle.consuming.specs.Consuming.{input_of, AsksBy, AsksByHttp, AsksOrNot, Consumes};
+ghost use Rattle.consuming.specs.Answers.{CanBeAsked, CanBeJudged};
+ghost use Rattle.consuming.specs.Asking.{IsAskable, IsChoice};
+ghost use Rattle.consuming.specs.Consuming.{AsksBy, AsksByHttp, AsksOrNot, Consumes};
 ghost use Rattle.consuming.specs.Waiting.{Awaits, IsReady};
 
 use crate::block_transfer::slice_of;
 use crate::coap_asking::ask_by_coap;
 use crate::http_waiting::HttpWaiting;
 use crate::waiting::{Came, Waiting};
-use crate::{Consumed, Operation, Outcome, Task};
+use crate::{Consumed, Operation, Outcome, Purpose, Task};
 use servient_outside::{Dialled, Net, Next, Out};
 use std::alloc::Global;
 use wot_consumer::{Chosen, Scheme, http_request, judge_input};
-use wot_json::{Bytes, text_of};
+use wot_json::{Bytes, Tree, text_of};
 
 /// Room for the bytes of one event.
 const BUFFER_BYTES: usize = 4096;
@@ -42,7 +44,7 @@ pub fn consume<N: Net, O: Out>(
 {
     let task = Task {
         alloc,
-        operation: *operation,
+        purpose: Purpose::Operation(*operation),
         chosen,
     };
     match judge_input(
@@ -52,21 +54,26 @@ pub fn consume<N: Net, O: Out>(
         operation.name,
         operation.input,
     ) {
-        Ok(true) => ask(&task, net, out),
+        Ok(true) => ask(&task, operation.input, net, out),
         Ok(false) => Consumed::Other(Outcome::Input),
         Err(_) => Consumed::NoMemory,
     }
 }
 
 /// Asks with the text of the value that is handed in, or with none.
-fn ask<N: Net, O: Out>(task: &Task<'_>, net: &mut N, out: &mut O) -> Consumed
-    requires asked { CanBeAsked task.now.operation }
-    requires choice { IsChoice task.now.operation task.now.chosen.now }
-    ensures { Shows (λ deeds. AsksOrNot task.now.operation task.now.chosen.now
-        (option_map text_of_value (input_of task.now.operation)) deeds result)
+fn ask<N: Net, O: Out>(
+    task: &Task<'_>,
+    input: Option<&Tree>,
+    net: &mut N,
+    out: &mut O,
+) -> Consumed
+    requires asked { CanBeJudged task.now.purpose }
+    requires askable { task.now.chosen.now.scheme ≡ scheme.Coap → IsAskable task.now.chosen.now }
+    ensures { Shows (λ deeds. AsksOrNot task.now.purpose task.now.chosen.now
+        (option_map text_of_value (option_map (λ v. json_of v.now) input.entry)) deeds result)
         (sight (N.seen net.old) (O.seen out.old)) (sight (N.seen net.new) (O.seen out.new)) (put_of result) }
 {
-    match task.operation.input {
+    match input {
         None => ask_with(task, None, net, out),
         Some(value) => match text_of(task.alloc, value) {
             Ok(body) => ask_with(task, Some(body), net, out),
@@ -82,9 +89,9 @@ fn ask_with<N: Net, O: Out>(
     net: &mut N,
     out: &mut O,
 ) -> Consumed
-    requires asked { CanBeAsked task.now.operation }
-    requires choice { IsChoice task.now.operation task.now.chosen.now }
-    ensures { Shows (λ deeds. AsksBy task.now.operation task.now.chosen.now body task.now.chosen.now.scheme deeds result)
+    requires asked { CanBeJudged task.now.purpose }
+    requires askable { task.now.chosen.now.scheme ≡ scheme.Coap → IsAskable task.now.chosen.now }
+    ensures { Shows (λ deeds. AsksBy task.now.purpose task.now.chosen.now body task.now.chosen.now.scheme deeds result)
         (sight (N.seen net.old) (O.seen out.old)) (sight (N.seen net.new) (O.seen out.new)) (put_of result) }
 {
     match task.chosen.scheme {
@@ -100,8 +107,8 @@ fn ask_by_http<N: Net, O: Out>(
     net: &mut N,
     out: &mut O,
 ) -> Consumed
-    requires { CanBeAsked task.now.operation }
-    ensures { Shows (λ deeds. AsksByHttp task.now.operation task.now.chosen.now
+    requires { CanBeJudged task.now.purpose }
+    ensures { Shows (λ deeds. AsksByHttp task.now.purpose task.now.chosen.now
         (request_bytes task.now.chosen.now (option_map (λ b. b.now) body.entry)) deeds result)
         (sight (N.seen net.old) (O.seen out.old)) (sight (N.seen net.new) (O.seen out.new)) (put_of result) }
 {
@@ -118,8 +125,8 @@ fn send_by_http<N: Net, O: Out>(
     net: &mut N,
     out: &mut O,
 ) -> Consumed
-    requires { CanBeAsked task.now.operation }
-    ensures { Shows (λ deeds. AsksByHttp task.now.operation task.now.chosen.now request.now deeds result)
+    requires { CanBeJudged task.now.purpose }
+    ensures { Shows (λ deeds. AsksByHttp task.now.purpose task.now.chosen.now request.now deeds result)
         (sight (N.seen net.old) (O.seen out.old)) (sight (N.seen net.new) (O.seen out.new)) (put_of result) }
 {
     match net.dial(task.alloc, task.chosen.host.as_str(), task.chosen.port) {
@@ -133,7 +140,7 @@ fn send_by_http<N: Net, O: Out>(
     }
 }
 
-/// Takes events until one ends the operation, and at most this many.
+/// Takes events until one ends the wait, and at most this many.
 pub fn await_end<N: Net, O: Out>(
     task: &Task<'_>,
     waiting: &mut Waiting,
@@ -141,9 +148,9 @@ pub fn await_end<N: Net, O: Out>(
     net: &mut N,
     out: &mut O,
 ) -> Consumed
-    requires asked { CanBeAsked task.now.operation }
+    requires asked { CanBeJudged task.now.purpose }
     requires ready { IsReady task.now.chosen.now waiting.old }
-    ensures { Shows (Awaits task.now.operation task.now.chosen.now result most waiting.old)
+    ensures { Shows (Awaits task.now.purpose task.now.chosen.now result most waiting.old)
         (sight (N.seen net.old) (O.seen out.old)) (sight (N.seen net.new) (O.seen out.new)) (put_of result) }
 {
     let mut buffer = [0u8; BUFFER_BYTES];

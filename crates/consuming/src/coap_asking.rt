@@ -1,11 +1,10 @@
 //! A request over CoAP: its server is looked up, and what is chosen is asked there (RFC 7252, section 5).
 
 ghost use Rattle.std.specs.Prelude.{◌≡◌};
-ghost use Rattle.wot_forms.specs.declared.scheme.Scheme.TheVariants as scheme;
 ghost use Rattle.coap_client.specs.Exchange.{IsNew};
 ghost use Rattle.consuming.specs.Deeds.{put_of, sight, Shows};
-ghost use Rattle.consuming.specs.Answers.{CanBeAsked};
-ghost use Rattle.consuming.specs.Asking.{method_code as code_of_method, IsChoice};
+ghost use Rattle.consuming.specs.Answers.{CanBeJudged};
+ghost use Rattle.consuming.specs.Asking.{method_code as code_of_method, IsAskable};
 ghost use Rattle.consuming.specs.Blockwise.{nothing_joined};
 ghost use Rattle.consuming.specs.Consuming.{AsksByCoap, AsksPeer, IsFresh};
 
@@ -30,10 +29,9 @@ pub fn ask_by_coap<N: Net, O: Out>(
     net: &mut N,
     out: &mut O,
 ) -> Consumed
-    requires asked { CanBeAsked task.now.operation }
-    requires choice { IsChoice task.now.operation task.now.chosen.now }
-    requires coap { task.now.chosen.now.scheme ≡ scheme.Coap }
-    ensures { Shows (λ deeds. AsksByCoap task.now.operation task.now.chosen.now body deeds result)
+    requires asked { CanBeJudged task.now.purpose }
+    requires askable { IsAskable task.now.chosen.now }
+    ensures { Shows (λ deeds. AsksByCoap task.now.purpose task.now.chosen.now body deeds result)
         (sight (N.seen net.old) (O.seen out.old)) (sight (N.seen net.new) (O.seen out.new)) (put_of result) }
 {
     match Transfer::new(task.alloc) {
@@ -49,11 +47,10 @@ fn make_client<N: Net, O: Out>(
     net: &mut N,
     out: &mut O,
 ) -> Consumed
-    requires asked { CanBeAsked task.now.operation }
-    requires choice { IsChoice task.now.operation task.now.chosen.now }
-    requires coap { task.now.chosen.now.scheme ≡ scheme.Coap }
+    requires asked { CanBeJudged task.now.purpose }
+    requires askable { IsAskable task.now.chosen.now }
     requires transfer { transfer ≡ nothing_joined transfer.input }
-    ensures { Shows (λ deeds. AsksByCoap task.now.operation task.now.chosen.now transfer.input deeds result)
+    ensures { Shows (λ deeds. AsksByCoap task.now.purpose task.now.chosen.now transfer.input deeds result)
         (sight (N.seen net.old) (O.seen out.old)) (sight (N.seen net.new) (O.seen out.new)) (put_of result) }
 {
     match Client::new(task.alloc, FIRST_ID) {
@@ -70,12 +67,11 @@ fn find<N: Net, O: Out>(
     net: &mut N,
     out: &mut O,
 ) -> Consumed
-    requires asked { CanBeAsked task.now.operation }
-    requires choice { IsChoice task.now.operation task.now.chosen.now }
-    requires coap { task.now.chosen.now.scheme ≡ scheme.Coap }
+    requires asked { CanBeJudged task.now.purpose }
+    requires askable { IsAskable task.now.chosen.now }
     requires client { IsNew 0 client }
     requires transfer { transfer ≡ nothing_joined transfer.input }
-    ensures { Shows (λ deeds. AsksByCoap task.now.operation task.now.chosen.now transfer.input deeds result)
+    ensures { Shows (λ deeds. AsksByCoap task.now.purpose task.now.chosen.now transfer.input deeds result)
         (sight (N.seen net.old) (O.seen out.old)) (sight (N.seen net.new) (O.seen out.new)) (put_of result) }
 {
     match net.find(task.alloc, task.chosen.host.as_str(), task.chosen.port) {
@@ -84,7 +80,7 @@ fn find<N: Net, O: Out>(
                 client,
                 moment: 0,
                 peer,
-                left: task.operation.count,
+                left: task.purpose.count(),
                 transfer,
             };
             ask_peer(task, waiting, net, out)
@@ -101,11 +97,10 @@ fn ask_peer<N: Net, O: Out>(
     net: &mut N,
     out: &mut O,
 ) -> Consumed
-    requires asked { CanBeAsked task.now.operation }
-    requires choice { IsChoice task.now.operation task.now.chosen.now }
-    requires coap { task.now.chosen.now.scheme ≡ scheme.Coap }
-    requires fresh { IsFresh task.now.operation waiting.transfer.input waiting.peer waiting }
-    ensures { Shows (λ deeds. AsksPeer task.now.operation task.now.chosen.now waiting deeds result)
+    requires asked { CanBeJudged task.now.purpose }
+    requires askable { IsAskable task.now.chosen.now }
+    requires fresh { IsFresh task.now.purpose waiting.transfer.input waiting.peer waiting }
+    ensures { Shows (λ deeds. AsksPeer task.now.purpose task.now.chosen.now waiting deeds result)
         (sight (N.seen net.old) (O.seen out.old)) (sight (N.seen net.new) (O.seen out.new)) (put_of result) }
 {
     let mut waiting = waiting;

@@ -4,7 +4,7 @@ ghost use Rattle.std.specs.Prelude.{◌≡◌, ◌≤◌, length, IfSome};
 ghost use Rattle.coap_msg.specs.Blocks.{IsBlock};
 ghost use Rattle.servient_outside.specs.Network.{NetShows};
 ghost use Rattle.consuming.specs.Deeds.{put_in, sight, Shows, ShowsHappenings};
-ghost use Rattle.consuming.specs.Answers.{CanBeAsked};
+ghost use Rattle.consuming.specs.Answers.{CanBeJudged};
 ghost use Rattle.consuming.specs.Waiting.{event_of};
 ghost use Rattle.coap_client.specs.Exchange.{SaysBlock};
 ghost use Rattle.consuming.specs.Asking.{AreBlocks, IsAskable};
@@ -49,10 +49,10 @@ impl CoapWaiting {
         net: &mut N,
         out: &mut O,
     ) -> Option<Consumed>
-        requires asked { CanBeAsked task.now.operation }
+        requires asked { CanBeJudged task.now.purpose }
         requires askable { IsAskable task.now.chosen.now }
         requires in_time { self.old.client.moment ≤ self.old.moment }
-        ensures hears { Shows (λ deeds. HearsByCoap task.now.operation task.now.chosen.now self.old (event_of came.now) deeds result self.new)
+        ensures hears { Shows (λ deeds. HearsByCoap task.now.purpose task.now.chosen.now self.old (event_of came.now) deeds result self.new)
             (sight (N.seen net.old) (O.seen out.old)) (sight (N.seen net.new) (O.seen out.new)) (put_in result) }
         ensures in_time { self.new.client.moment ≤ self.new.moment }
     {
@@ -71,10 +71,10 @@ impl CoapWaiting {
         net: &mut N,
         out: &mut O,
     ) -> Option<Consumed>
-        requires asked { CanBeAsked task.now.operation }
+        requires asked { CanBeJudged task.now.purpose }
         requires askable { IsAskable task.now.chosen.now }
         requires in_time { self.old.client.moment ≤ self.old.moment }
-        ensures meets { Shows (λ deeds. Meets task.now.operation task.now.chosen.now self.old (event_of came.now) deeds result self.new)
+        ensures meets { Shows (λ deeds. Meets task.now.purpose task.now.chosen.now self.old (event_of came.now) deeds result self.new)
             (sight (N.seen net.old) (O.seen out.old)) (sight (N.seen net.new) (O.seen out.new)) (put_in result) }
         ensures in_time { self.new.client.moment ≤ self.new.moment }
     {
@@ -110,11 +110,11 @@ impl CoapWaiting {
         net: &mut N,
         out: &mut O,
     ) -> Option<Consumed>
-        requires asked { CanBeAsked task.now.operation }
+        requires asked { CanBeJudged task.now.purpose }
         requires askable { IsAskable task.now.chosen.now }
         requires in_time { self.old.client.moment ≤ self.old.moment }
         requires block { SaysBlock news }
-        ensures follows { Shows (λ deeds. Follows task.now.operation task.now.chosen.now self.old news.entry deeds result self.new)
+        ensures follows { Shows (λ deeds. Follows task.now.purpose task.now.chosen.now self.old news.entry deeds result self.new)
             (sight (N.seen net.old) (O.seen out.old)) (sight (N.seen net.new) (O.seen out.new)) (put_in result) }
         ensures in_time { self.new.client.moment ≤ self.new.moment }
     {
@@ -142,11 +142,11 @@ impl CoapWaiting {
         net: &mut N,
         out: &mut O,
     ) -> Option<Consumed>
-        requires asked { CanBeAsked task.now.operation }
+        requires asked { CanBeJudged task.now.purpose }
         requires askable { IsAskable task.now.chosen.now }
         requires in_time { self.old.client.moment ≤ self.old.moment }
         requires block { IfSome answer.now.block2 IsBlock }
-        ensures follows { Shows (λ deeds. FollowsAnswer task.now.operation task.now.chosen.now self.old answer.now.code answer.now.block2 answer.now.payload.now deeds result self.new)
+        ensures follows { Shows (λ deeds. FollowsAnswer task.now.purpose task.now.chosen.now self.old answer.now.code answer.now.block2 answer.now.payload.now deeds result self.new)
             (sight (N.seen net.old) (O.seen out.old)) (sight (N.seen net.new) (O.seen out.new)) (put_in result) }
         ensures in_time { self.new.client.moment ≤ self.new.moment }
     {
@@ -190,10 +190,10 @@ impl CoapWaiting {
         net: &mut N,
         out: &mut O,
     ) -> Option<Consumed>
-        requires asked { CanBeAsked task.now.operation }
+        requires asked { CanBeJudged task.now.purpose }
         requires askable { IsAskable task.now.chosen.now }
         requires in_time { self.old.client.moment ≤ self.old.moment }
-        ensures follows { Shows (λ deeds. FollowsValue task.now.operation task.now.chosen.now self.old payload.now deeds result self.new)
+        ensures follows { Shows (λ deeds. FollowsValue task.now.purpose task.now.chosen.now self.old payload.now deeds result self.new)
             (sight (N.seen net.old) (O.seen out.old)) (sight (N.seen net.new) (O.seen out.new)) (put_in result) }
         ensures in_time { self.new.client.moment ≤ self.new.moment }
     {

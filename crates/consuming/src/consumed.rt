@@ -1,9 +1,9 @@
-//! How an operation ends.
+//! How an operation ends, or a discovery.
 
-/// How an operation ended.
+/// How an operation ended, or a discovery.
 #[derive(Clone, Copy, Debug, PartialEq, Eq)]
 pub enum Consumed {
-    /// It was done. Each payload that it brought was printed, where it isn't empty.
+    /// It was done. Each payload that it brought was printed, where it isn't empty, or the lines of the Things.
     Done,
     /// It came to something else, and nothing of that was printed.
     Other(Outcome),
@@ -26,7 +26,8 @@ pub enum Outcome {
     Input,
     /// The value that came back isn't as the description says.
     Output,
-    /// The answer isn't HTTP, or its payload no JSON; or it has a block that can't follow what came before.
+    /// The answer isn't HTTP, or its payload no JSON, or no links that can be joined; or it has a block that can't follow what
+    /// came before.
     Malformed,
     /// The answer has more than 65,536 bytes, over HTTP with its head; or a request has more than 1,152 over CoAP: of the first
     /// one nothing was sent.

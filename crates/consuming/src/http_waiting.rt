@@ -3,7 +3,7 @@
 ghost use Rattle.std.specs.Prelude.{◌≡◌, ◌++◌, IsNone, OnOk};
 ghost use Rattle.servient_outside.specs.Network.{NetSeen};
 ghost use Rattle.consuming.specs.Deeds.{put_in, sight, Shows};
-ghost use Rattle.consuming.specs.Answers.{CanBeAsked};
+ghost use Rattle.consuming.specs.Answers.{CanBeJudged};
 ghost use Rattle.consuming.specs.Waiting.{event_of};
 ghost use Rattle.consuming.specs.HttpWaiting.{waiting_on, bytes_on, Brings, HearsByHttp, after_event};
 ghost use Rattle.consuming.specs.HttpWaiting.{at_deadline as ends_at_deadline};
@@ -50,8 +50,8 @@ impl HttpWaiting {
         came: &Came<'_>,
         out: &mut O,
     ) -> Option<Consumed>
-        requires { CanBeAsked task.now.operation }
-        ensures hears { (n : NetSeen) → Shows (λ deeds. HearsByHttp task.now.operation self.old (event_of came.now) deeds result)
+        requires { CanBeJudged task.now.purpose }
+        ensures hears { (n : NetSeen) → Shows (λ deeds. HearsByHttp task.now.purpose self.old (event_of came.now) deeds result)
             (sight n (O.seen out.old)) (sight n (O.seen out.new)) (put_in result) }
         ensures waits { IsNone result → self.new ≡ after_event self.old (event_of came.now) }
     {
@@ -64,8 +64,8 @@ impl HttpWaiting {
 
     /// Keeps what came, and says what it comes to by that.
     fn take(&mut self, task: &Task<'_>, came: &Came<'_>) -> Option<Verdict>
-        requires { CanBeAsked task.now.operation }
-        ensures brings { Brings task.now.operation self.old.connection
+        requires { CanBeJudged task.now.purpose }
+        ensures brings { Brings task.now.purpose self.old.connection
             (self.old.received ++ bytes_on self.old.connection came.now.event.what came.now.bytes.now) came.now.event.what result }
         ensures waits { IsNone result → self.new ≡ record self.old {
           received = self.old.received ++ bytes_on self.old.connection came.now.event.what came.now.bytes.now;
@@ -93,8 +93,8 @@ impl HttpWaiting {
 
     /// What it comes to by what came, which was kept, or that it goes on.
     fn came(&self, task: &Task<'_>, what: What) -> Option<Verdict>
-        requires { CanBeAsked task.now.operation }
-        ensures { Brings task.now.operation self.now.connection self.now.received what result }
+        requires { CanBeJudged task.now.purpose }
+        ensures { Brings task.now.purpose self.now.connection self.now.received what result }
     {
         match what {
             What::Bytes(connection, _) if connection == self.connection => {

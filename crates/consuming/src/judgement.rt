@@ -4,7 +4,7 @@ ghost use Rattle.std.specs.Prelude.{◌≡◌, ◌≢◌, ◌↔◌, IfOk, IfErr
 ghost use Rattle.wot_json.specs.Meaning.{json_of};
 ghost use Rattle.consuming.specs.Answers.{value_in, is_created as is_created_status, CanBeAsked, IsTaken, IsJudged};
 
-use crate::{Status, Task};
+use crate::{Operation, Status};
 use servient_base::NoMemory;
 use std::alloc::Global;
 use wot_consumer::judge_output;
@@ -30,12 +30,17 @@ pub enum Judged {
 }
 
 /// How the payload of an answer with this status is judged.
-pub fn judge_payload(task: &Task<'_>, status: Status, payload: &[u8]) -> Judged
-    requires { CanBeAsked task.now.operation }
-    ensures { IsJudged task.now.operation status payload.now result }
+pub fn judge_payload(
+    alloc: Global,
+    operation: &Operation<'_>,
+    status: Status,
+    payload: &[u8],
+) -> Judged
+    requires { CanBeAsked operation.now }
+    ensures { IsJudged operation.now status payload.now result }
 {
-    match value_of(task.alloc, payload) {
-        Ok(value) => match is_taken(task, status, value.as_ref()) {
+    match value_of(alloc, payload) {
+        Ok(value) => match is_taken(alloc, operation, status, value.as_ref()) {
             Ok(true) => Judged::Taken,
             Ok(false) => Judged::NotTaken,
             Err(_) => Judged::NoMemory,
@@ -72,16 +77,20 @@ fn is_created(status: Status) -> bool
 }
 
 /// The description takes the value that comes back, or it isn't judged.
-fn is_taken(task: &Task<'_>, status: Status, value: Option<&Tree>) -> Result<bool, NoMemory>
-    requires { CanBeAsked task.now.operation }
-    ensures { IfOk result (λ b. IsTrue b ↔ IsTaken task.now.operation status (option_map (λ v. json_of v.now) value.entry)) }
+fn is_taken(
+    alloc: Global,
+    operation: &Operation<'_>,
+    status: Status,
+    value: Option<&Tree>,
+) -> Result<bool, NoMemory>
+    requires { CanBeAsked operation.now }
+    ensures { IfOk result (λ b. IsTrue b ↔ IsTaken operation.now status (option_map (λ v. json_of v.now) value.entry)) }
 {
     if is_created(status) {
         return Ok(true);
     }
-    let operation = task.operation;
     judge_output(
-        task.alloc,
+        alloc,
         operation.tree,
         operation.op,
         operation.name,

@@ -1,7 +1,8 @@
-//! Consuming a Thing: one operation by the form that was chosen for it, over HTTP or over CoAP.
+//! Consuming a Thing: one operation by the form that was chosen for it, over HTTP or over CoAP. And discovering Things: a
+//! server is asked for its links, over CoAP.
 //!
-//! `consume` is the relation `Consumes` of `specs/Consuming.antt`: which acts are done to the network, which events are
-//! taken from it, what is printed, and how it ends. What an answer comes to is `specs/Answers.antt`; what each event does
+//! `consume` is the relation `Consumes` of `specs/Consuming.antt`, and `discover` is `Discovers`: which acts are done to the
+//! network, which events are taken from it, what is printed, and how it ends. What an answer comes to is `specs/Answers.antt`; what each event does
 //! is `specs/HttpWaiting.antt` and `specs/CoapWaiting.antt`; how what is handed in and what comes back travel in blocks over
 //! CoAP is `specs/Blockwise.antt`. A law says that an operation fails by the network alone (`specs/Failing.antt`).
 //!
@@ -12,6 +13,7 @@
 //!     Consumed::Done => 0,
 //!     ended => report(ended),
 //! }
+//! let ended = discover(alloc, "lamp.local", 5683, &mut net, &mut out);
 //! ```
 #![tactic(auto)]
 
@@ -22,16 +24,20 @@ mod blocks;
 mod coap_asking;
 mod coap_waiting;
 mod consumed;
+mod discovering;
 mod http_waiting;
 mod judgement;
 mod laws;
 mod operation;
 mod printing;
+mod purpose;
 mod task;
 mod waiting;
 
 pub use asking::consume;
 pub use consumed::{Consumed, Outcome, Status};
+pub use discovering::discover;
 pub use laws::failing_breaks_the_network;
 pub use operation::Operation;
+pub(crate) use purpose::Purpose;
 pub(crate) use task::Task;

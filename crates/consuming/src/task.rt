@@ -1,13 +1,13 @@
-//! What stays the same while an operation is done.
+//! What stays the same while an answer is awaited.
 
-use crate::Operation;
+use crate::Purpose;
 use std::alloc::Global;
 use wot_consumer::Chosen;
 
-/// An operation, what was chosen for it, and where memory is taken.
+/// What is asked, what for, and where memory is taken.
 #[derive(Clone, Copy)]
 pub struct Task<'a> {
     pub alloc: Global,
-    pub operation: Operation<'a>,
+    pub purpose: Purpose<'a>,
     pub chosen: &'a Chosen,
 }

@@ -1,7 +1,7 @@
 //! A request was sent, and what comes of it is awaited.
 
 ghost use Rattle.consuming.specs.Deeds.{put_in, sight, Shows};
-ghost use Rattle.consuming.specs.Answers.{CanBeAsked};
+ghost use Rattle.consuming.specs.Answers.{CanBeJudged};
 ghost use Rattle.consuming.specs.Waiting.{event_of, Hears, IsReady};
 
 use crate::coap_waiting::CoapWaiting;
@@ -32,9 +32,9 @@ impl Waiting {
         net: &mut N,
         out: &mut O,
     ) -> Option<Consumed>
-        requires asked { CanBeAsked task.now.operation }
+        requires asked { CanBeJudged task.now.purpose }
         requires ready { IsReady task.now.chosen.now self.old }
-        ensures hears { Shows (λ deeds. Hears task.now.operation task.now.chosen.now self.old (event_of came.now) deeds result self.new)
+        ensures hears { Shows (λ deeds. Hears task.now.purpose task.now.chosen.now self.old (event_of came.now) deeds result self.new)
             (sight (N.seen net.old) (O.seen out.old)) (sight (N.seen net.new) (O.seen out.new)) (put_in result) }
         ensures ready { IsReady task.now.chosen.now self.new }
     {

@@ -13,16 +13,14 @@ use Rattle.servient_core.specs.Trace.{happened_in}
 use Rattle.servient_cli.specs.declared.replay.Inputs.{Inputs}
 use Rattle.command_words.specs.Grammar.{meaning_of}
 use Rattle.command_words.specs.declared.command.Command.{Command}
-use Rattle.command_words.specs.declared.command.Command.TheVariants.{Replay, Serve, Derive, Check, Consume, Storm}
+use Rattle.command_words.specs.declared.command.Command.TheVariants.{Replay, Serve, Derive, Check, Consume, Storm, Discover}
 use Rattle.servient_cli.specs.Stages.{Deed, did_write, sightings_in, HasFailed, Outcome, ends, Around}
 use Rattle.servient_cli.specs.declared.ending.Ending.{Ending}
 use Rattle.servient_cli.specs.declared.ending.Ended.{Ended}
 use Rattle.command_words.specs.declared.fault.WordsFault.{WordsFault}
 use Rattle.command_words.specs.declared.fault.WordsFault.TheVariants.{Usage, NoMemory}
 use Rattle.command_words.specs.Parts.{Reads}
-use Rattle.command_words.specs.declared.command.Consumption.{Consumption}
 use Rattle.servient_cli.specs.Words.{EndsAs}
-use Rattle.servient_cli.specs.Consuming.{ConsumesThing}
 use Rattle.servient_cli.specs.Lines.{memory_line, usage_line}
 use Rattle.servient_cli.specs.Ending.{EndsBy, final_status, final_text, status_of, text_of}
 use Rattle.servient_cli.proofs.StageLaws.{ends_so, line_alone, shows_wrote}
@@ -31,16 +29,16 @@ use Rattle.servient_cli.specs.Replaying.{plan_name, ReadsInputs, run_events, Run
 use Rattle.servient_cli.specs.Checking.{Checks, IsFaultlessDescription, Judges}
 use Rattle.servient_cli.specs.Deriving.{ReadsPlanned, Derives, derived_of, Prints, DerivesAndPrints}
 use Rattle.servient_outside.specs.Out.{OutSeen, NoWriteFailed}
-use Rattle.servient_cli.specs.Command.{IsFaultless, HasFaultlessFiles, IsReported, Ends, NothingFailed, IsAnswered, IsWell, Does, Commands, EndsAndReports, consumption_in, is_consuming, is_networked, is_serving, is_no_command, is_command, words_memory}
+use Rattle.servient_cli.specs.Command.{IsFaultless, HasFaultlessFiles, IsReported, Ends, NothingFailed, IsAnswered, IsWell, Does, Commands, EndsAndReports, is_asking, is_discovering, is_networked, is_serving, is_no_command, is_command, words_memory}
 use Rattle.servient_cli.proofs.FaultlessStages.{GoesOn, EndsWell, by_memory, same_status, HasTrouble, what_trouble, rose_some, then_well, read_well, tree_well, judge_well, derive_well, print_well, planned_well, with_events, inputs_well, run_on_well}
 use Rattle.servient_base.specs.Count.{Rose}
-use Rattle.servient_cli.proofs.FaultlessConsuming.{IsConsumed, MayEnd, consume_well}
+use Rattle.servient_cli.proofs.FaultlessConsuming.{IsConsumed, MayEnd, consume_well, discover_well}
 use Rattle.servient_cli.proofs.ServedStages.{IsServed, serving_well}
 use Rattle.servient_cli.proofs.StormStages.{storm_well}
 
--- the command did what it is for, was out of memory, served and has spent its budget, or consumed another Thing
+-- the command did what it is for, was out of memory, served and has spent its budget, or asked others
 abbrev IsDoneBy : Option Command → Outcome (Unit {0}) → Type 0
-IsDoneBy command o = EndsWell o ⊎ ((is_serving command ≡ true) × (o ≡ ends 8)) ⊎ ((is_consuming command ≡ true) × IsConsumed o)
+IsDoneBy command o = EndsWell o ⊎ ((is_serving command ≡ true) × (o ≡ ends 8)) ⊎ ((is_asking command ≡ true) × IsConsumed o)
 
 abbrev IsDone : Command → Outcome (Unit {0}) → Type 0
 IsDone command o = IsDoneBy (Some command) o
@@ -77,6 +75,7 @@ does_well held files kinds (Derive plan) seen o is_held fine quiet stage = inl (
     any_things r (inr nine) = inr nine
 does_well held files kinds (Serve plan events idle) seen o is_held fine quiet stage = served_done plan events idle o (serving_well held files kinds plan events idle fine seen o is_held quiet stage)
 does_well held files kinds (Consume consumption) seen o is_held fine quiet stage = inr (inr (refl, consume_well held files consumption fine seen o is_held quiet stage))
+does_well held files kinds (Discover host port) seen o is_held fine quiet stage = inr (inr (refl, discover_well host port seen o quiet stage))
 does_well held files kinds (Storm seed events) seen o is_held fine quiet stage = inl (storm_well kinds seed events fine seen o quiet stage)
 
 command_well : (held : Option (List HeldFile)) (kinds : List Kind) (words : List (List ℕ)) (seen : List Deed) (o : Outcome (Unit {0})) → IsFaultless words held kinds → ¬ (HasTrouble seen) → Commands held kinds words seen o
@@ -106,39 +105,42 @@ stages_reported P before now out out_now r result ended reported fits =
 pub command_ends : (words : List (List ℕ)) (before now : Around) (out out_now : OutSeen) (command : Command) (result : ℕ) → meaning_of words ≡ Some command → EndsAndReports (Does before.files.held (kinds_of before.outside.slots) command) before now out out_now result → Ends words before now out out_now result
 command_ends words before now out out_now command result meaning e = record { seen = e.seen; status = e.status; stage = is_command command meaning e.stage; shows = e.shows; reported = e.reported; no_failure = e.no_failure }
 
--- of a command but `consume`
+-- of a command that asks no others
 pub built_ends : (words : List (List ℕ)) (before now : Around) (out out_now : OutSeen) (command : Command) (r : Result Ending Ended) (result : ℕ) → meaning_of words ≡ Some command → EndsBy (Does before.files.held (kinds_of before.outside.slots) command) before now r → IsReported (final_status r) (final_text r) out out_now result
     → NoWriteFailed out out_now (final_text r) → Ends words before now out out_now result
 built_ends words before now out out_now command r result meaning ended reported fits =
     command_ends words before now out out_now command result meaning (stages_reported (Does before.files.held (kinds_of before.outside.slots) command) before now out out_now r result ended reported fits)
 
--- of `consume`
-is_consume : (command : Command) (k : Consumption) → consumption_in command ≡ Some k → command ≡ Consume k
-is_consume (Replay script plan events) k is = absurd cc
-is_consume (Serve plan events idle) k is = absurd cc
-is_consume (Check description) k is = absurd cc
-is_consume (Derive plan) k is = absurd cc
-is_consume (Storm seed events) k is = absurd cc
-is_consume (Consume consumption) k is = ap (λ (x : Consumption). Consume x) (same_Some consumption k is)
+asking_networked : (command : Command) → is_asking (Some command) ≡ true → is_networked (Some command) ≡ true
+asking_networked (Replay script plan events) is = absurd cc
+asking_networked (Serve plan events idle) is = absurd cc
+asking_networked (Check description) is = absurd cc
+asking_networked (Derive plan) is = absurd cc
+asking_networked (Storm seed events) is = absurd cc
+asking_networked (Consume consumption) is = refl
+asking_networked (Discover host port) is = refl
 
-pub consume_ends : (words : List (List ℕ)) (before now : Around) (out out_now : OutSeen) (command : Command) (k : Consumption) (result : ℕ) → meaning_of words ≡ Some command → consumption_in command ≡ Some k → EndsAndReports (ConsumesThing before.files.held k) before now out out_now result
-    → Ends words before now out out_now result
-consume_ends words before now out out_now command k result meaning is e =
-    command_ends words before now out out_now (Consume k) result (meaning ∙ ap (λ (c : Command). Some c) (is_consume command k is)) e
+pub asking_uses_network : (words : List (List ℕ)) (command : Command) → meaning_of words ≡ Some command → is_asking (Some command) ≡ true → is_networked (meaning_of words) ≡ false → ⊥
+asking_uses_network words command meaning is none = let bad : true ≡ false = sym (asking_networked command is) ∙ ap is_networked (sym meaning) ∙ none in cc
 
-pub consume_is : (words : List (List ℕ)) (command : Command) (k : Consumption) → meaning_of words ≡ Some command → consumption_in command ≡ Some k → is_networked (meaning_of words) ≡ true
-consume_is words command k meaning is = ap is_networked (meaning ∙ ap (λ (c : Command). Some c) (is_consume command k is))
+discovering_asks : (command : Command) → is_discovering (Some command) ≡ true → is_asking (Some command) ≡ true
+discovering_asks (Replay script plan events) is = absurd cc
+discovering_asks (Serve plan events idle) is = absurd cc
+discovering_asks (Check description) is = absurd cc
+discovering_asks (Derive plan) is = absurd cc
+discovering_asks (Storm seed events) is = absurd cc
+discovering_asks (Consume consumption) is = refl
+discovering_asks (Discover host port) is = refl
 
-other_is : (command : Command) → consumption_in command ≡ None → is_consuming (Some command) ≡ false
-other_is (Replay script plan events) is = refl
-other_is (Serve plan events idle) is = refl
-other_is (Check description) is = refl
-other_is (Derive plan) is = refl
-other_is (Storm seed events) is = refl
-other_is (Consume consumption) is = absurd cc
+pub other_is_not : (words : List (List ℕ)) (command : Command) → meaning_of words ≡ Some command → is_asking (Some command) ≡ false → is_asking (meaning_of words) ≡ false
+other_is_not words command meaning is = ap is_asking meaning ∙ is
 
-pub other_is_not : (words : List (List ℕ)) (command : Command) → meaning_of words ≡ Some command → consumption_in command ≡ None → is_consuming (meaning_of words) ≡ false
-other_is_not words command meaning is = ap is_consuming meaning ∙ other_is command is
+pub other_asks_not : (words : List (List ℕ)) (command : Command) → meaning_of words ≡ Some command → is_asking (Some command) ≡ false → is_asking (meaning_of words) ≡ true → ⊥
+other_asks_not words command meaning is asks = let bad : true ≡ false = sym asks ∙ other_is_not words command meaning is in cc
+
+pub other_discovers_not : (words : List (List ℕ)) (command : Command) → meaning_of words ≡ Some command → is_asking (Some command) ≡ false → is_discovering (meaning_of words) ≡ true → ⊥
+other_discovers_not words command meaning is discovers =
+    let bad : true ≡ false = sym (discovering_asks command (ap is_discovering (sym meaning) ∙ discovers)) ∙ is in cc
 
 -- of words that are refused
 pub refusal_ends : (words : List (List ℕ)) (a : Around) (out out_now : OutSeen) (fault : WordsFault) (e : Ended) (result : ℕ) → Reads {A = Command} (meaning_of words) (Err fault) → EndsAs fault e → IsReported (status_of e) (text_of e) out out_now result → NoWriteFailed out out_now (text_of e) → Ends words a a out out_now result
@@ -175,7 +177,7 @@ ends_well words before now out out_now result e fine kept output = elim e.report
   | inr failed ↦ absurd (kept.no_write failed.1)
 ]
   where
-    consumed_well : is_consuming (meaning_of words) ≡ true → (n : ℕ) → result ≡ n → MayEnd n → IsWell words result
+    consumed_well : is_asking (meaning_of words) ≡ true → (n : ℕ) → result ≡ n → MayEnd n → IsWell words result
     consumed_well consumes n same (inl zero) = inl (same ∙ zero)
     consumed_well consumes n same (inr (inl nine)) = inr (inl (same ∙ nine))
     consumed_well consumes n same (inr (inr (inl seven))) = absurd (kept.no_write (output (same ∙ seven)))

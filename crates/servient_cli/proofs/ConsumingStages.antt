@@ -1,4 +1,4 @@
--- `consume`: what an operation does as what a command does, and what was written before the end.
+-- `consume` and `discover`: what an operation does as what a command does, and what was written before the end.
 use Rattle.std.proofs.Common.{◌≡◌, ◌≤◌, ◌∙◌, ℕ, List, [], ◌∷◌, ◌++◌, Option, Result, Ok, Err, refl, sym, ap, subst, arith, inl, inr, append_assoc}
 use Rattle.std.specs.Prelude.{map, IfOk, MatchResult}
 use Rattle.std.specs.declared.alloc.AllocError.{AllocError}
@@ -43,7 +43,7 @@ use Rattle.servient_cli.specs.declared.ending.Ended.TheVariants as ended
 use Rattle.servient_cli.specs.Stages.{Deed, did_write, HasFailed, reads_in, sightings_in, text_in, written_in, Outcome, goes_on, ends, AndThen, ends_first, goes_further, Around, around, ShowsDeeds}
 use Rattle.servient_cli.specs.Ending.{ComesOut, Performs, status_of, text_of, final_status, final_text}
 use Rattle.servient_cli.specs.Command.{IsReported, EndsAndReports}
-use Rattle.servient_cli.specs.Consuming.{ReadsDescription, ConsumesBy, ConsumesThing, Chooses, is_chosen, has_no_affordance, has_no_form, choose_memory, OperatesOn, deeds_of, line_after, status_after, IsAskedFor, Operates, has_ended, line_memory, IsEndOf, EndsPrinting}
+use Rattle.servient_cli.specs.Consuming.{ReadsDescription, ConsumesBy, ConsumesThing, Chooses, is_chosen, has_no_affordance, has_no_form, choose_memory, OperatesOn, deeds_of, line_after, status_after, IsAskedFor, EndsAfter, has_ended, line_memory, IsOperated, Operates, IsEndOf, EndsPrinting}
 use Rattle.servient_cli.proofs.StageLaws.{line_alone, shows_network, shows_then, shows_wrote}
 use Rattle.servient_cli.proofs.UsageStages.{EndsPlainly, description_not, choose_not}
 
@@ -103,22 +103,20 @@ ends_unprinted : (r : Consumed) (result : Result Ending Ended) → IsEndOf r res
 ends_unprinted r result (inl is) seven = printed_not r (sym is.0 ∙ seven)
 ends_unprinted r result (inr is) seven = let bad : 9 ≡ 7 = sym is.1 ∙ seven in absurd (omega (arith, bad))
 
-end_stage : (k : Consumption) (tree : Tree) (input : Option Tree) (c : Chosen) (x : Operation) (r : Consumed) (deeds : List operation.Deed) (result : Result Ending Ended) → IsAskedFor k tree input x → Consumes x c deeds r → IsEndOf r result
-    → Operates k tree input c (deeds_of deeds ++ did_write (final_text result) ∷ []) (ends (final_status result))
-end_stage k tree input c x r deeds result asked consumes (inl is) =
-    has_ended x r deeds asked consumes (ap (λ (t : List ℕ). deeds_of deeds ++ did_write t ∷ []) is.1, ap (λ (n : ℕ). ends n) is.0)
-end_stage k tree input c x r deeds result asked consumes (inr is) =
-    line_memory x r deeds asked consumes (ap (λ (t : List ℕ). deeds_of deeds ++ did_write t ∷ []) is.2, ap (λ (n : ℕ). ends n) is.1)
+end_stage : (P : List operation.Deed → Consumed → Type 0) (r : Consumed) (deeds : List operation.Deed) (result : Result Ending Ended) → P deeds r → IsEndOf r result → EndsAfter P (deeds_of deeds ++ did_write (final_text result) ∷ []) (ends (final_status result))
+end_stage P r deeds result did_so (inl is) = has_ended r deeds did_so (ap (λ (t : List ℕ). deeds_of deeds ++ did_write t ∷ []) is.1, ap (λ (n : ℕ). ends n) is.0)
+end_stage P r deeds result did_so (inr is) = line_memory r deeds did_so (ap (λ (t : List ℕ). deeds_of deeds ++ did_write t ∷ []) is.2, ap (λ (n : ℕ). ends n) is.1)
 
-pub operated : (files : FilesSeen) (n m : NetSeen) (slots : List Seen) (o q : OutSeen) (k : Consumption) (tree : Tree) (input : Option Tree) (c : Chosen) (x : Operation) (r : Consumed) (result : Result Ending Ended) → IsAskedFor k tree input x
-    → operation.Shows (λ deeds. Consumes x c deeds r) (sight n o) (sight m q) (put_of r) → IsEndOf r result → EndsPrinting (Operates k tree input c) (around files (outside n slots)) (around files (outside m slots)) o q result
-operated files n m slots o q k tree input c x r result asked shows is =
+-- what was asked of others ended so
+pub asked_others : (files : FilesSeen) (n m : NetSeen) (slots : List Seen) (o q : OutSeen) (P : List operation.Deed → Consumed → Type 0) (r : Consumed) (result : Result Ending Ended) → operation.Shows (λ deeds. P deeds r) (sight n o) (sight m q) (put_of r) → IsEndOf r result
+    → EndsPrinting (EndsAfter P) (around files (outside n slots)) (around files (outside m slots)) o q result
+asked_others files n m slots o q P r result shows is =
     let before = around files (outside n slots) in
     let now = around files (outside m slots) in
     let line = final_text result in
     record {
       seen = deeds_of shows.deeds ++ did_write line ∷ [];
-      stage = end_stage k tree input c x r shows.deeds result asked shows.holds is;
+      stage = end_stage P r shows.deeds result shows.holds is;
       shows = shows_then before now now (deeds_of shows.deeds) (did_write line ∷ []) (shows_operation files n m slots o q (put_of r) shows.deeds shows.shows) (shows_wrote now line);
       printed = operation.text_in shows.deeds;
       answer = put_of r;
@@ -127,6 +125,11 @@ operated files n m slots o q k tree input c x r result asked shows is =
       failed = unprinted_ends r result is;
       unprinted = ends_unprinted r result is;
     }
+
+pub operated : (files : FilesSeen) (n m : NetSeen) (slots : List Seen) (o q : OutSeen) (k : Consumption) (tree : Tree) (input : Option Tree) (c : Chosen) (x : Operation) (r : Consumed) (result : Result Ending Ended) → IsAskedFor k tree input x
+    → operation.Shows (λ deeds. Consumes x c deeds r) (sight n o) (sight m q) (put_of r) → IsEndOf r result → EndsPrinting (Operates k tree input c) (around files (outside n slots)) (around files (outside m slots)) o q result
+operated files n m slots o q k tree input c x r result asked shows is =
+    asked_others files n m slots o q (IsOperated k tree input c) r result (record { deeds = shows.deeds; holds = record { request = x; asked = asked; consumes = shows.holds }; shows = shows.shows }) is
 
 pub outcome_ends : (x : ConsumedOutcome) (made : Result Ending AllocError) (e : Ended) → IfOk made (λ y. (y.status ≡ 10) × (y.text ≡ line_after (consumed.Other x))) → MatchResult made (λ y. e ≡ ended.With y) (λ _. e ≡ ended.NoMemory) → IsEndOf (consumed.Other x) (Err e)
 outcome_ends x (Ok ending) e is comes = inl (ap status_of comes ∙ is.0, ap text_of comes ∙ is.1)

@@ -1,4 +1,4 @@
--- `consume` where nothing is wrong and nothing failed: it ends as the operation does.
+-- `consume` and `discover` where nothing is wrong and nothing failed: they end as what they ask does.
 use Rattle.std.proofs.Common.{◌≡◌, ◌⊎◌, ℕ, List, [], ◌∷◌, ◌++◌, Option, Some, None, Bool, true, false, cond, refl, sym, ap, ◌∙◌, subst, inl, inr}
 use Rattle.std.proofs.lemmas.Option.{same_Some}
 use Rattle.wot_json.specs.Tree.{Json}
@@ -10,6 +10,7 @@ use Rattle.wot_terms.specs.declared.op.Op.{Op}
 use Rattle.wot_forms.specs.declared.form.Form.{Form}
 use Rattle.wot_forms.specs.declared.scheme.Scheme.{Scheme}
 use Rattle.wot_consumer.specs.declared.chosen.Chosen.{Chosen}
+use Rattle.wot_consumer.specs.Discovery.{links_of}
 use Rattle.wot_consumer.specs.Choice.{IsFirst, IsChosen, base_of, forms_for, wanted}
 use Rattle.command_words.specs.Operations.{form_operation}
 use Rattle.command_words.specs.declared.command.Consumption.{Consumption}
@@ -20,15 +21,16 @@ use Rattle.consuming.specs.declared.consumed.Consumed.TheVariants as consumed
 use Rattle.consuming.specs.declared.operation.Operation.{Operation}
 use Rattle.consuming.specs.Deeds.{happens, prints}
 use Rattle.consuming.specs.Deeds as operation
-use Rattle.consuming.specs.Consuming.{Consumes}
-use Rattle.consuming.proofs.FailureLaws.{Breaks, failing_breaks}
+use Rattle.consuming.specs.Consuming.{Consumes, Discovers}
+use Rattle.consuming.proofs.FailureLaws.{Breaks, failing_breaks, discovering_breaks}
 use Rattle.servient_cli.specs.Stages.{Deed, Outcome, ends, did_write}
 use Rattle.servient_cli.specs.Reading.{ReadsFile, ReadsTree, longest_json}
-use Rattle.servient_cli.specs.Consuming.{TakesDescription, is_taken, has_fault, description_memory, DescriptionIn, ReadsDescription, ReadsValue, HasInput, has_input, has_no_input, ReadsInput, Chooses, is_chosen, has_no_affordance, has_no_form, choose_memory, deeds_of, status_after, line_after, Operates, has_ended, line_memory, OperatesOn, ConsumesBy, ConsumesThing}
+use Rattle.servient_cli.specs.Consuming.{TakesDescription, is_taken, has_fault, description_memory, DescriptionIn, ReadsDescription, ReadsValue, HasInput, has_input, has_no_input, ReadsInput, Chooses, is_chosen, has_no_affordance, has_no_form, choose_memory, deeds_of, status_after, line_after, EndsAfter, has_ended, line_memory, IsOperated, Operates, OperatesOn, ConsumesBy, ConsumesThing}
+use Rattle.servient_cli.specs.Discovering.{DiscoversThings}
 use Rattle.servient_cli.specs.Command.{HoldsInput, IsFaultlessConsumption, IsAnswered}
 use Rattle.servient_cli.proofs.FaultlessStages.{GoesOn, HasTrouble, trouble_before, then_well, then_goes, read_well, tree_well, no_fault}
 
--- ---- an operation that failed broke the network
+-- ---- what failed broke the network
 
 breaks_trouble : (deeds : List operation.Deed) → Breaks deeds → HasTrouble (deeds_of deeds)
 breaks_trouble [] breaks = absurd breaks
@@ -39,6 +41,9 @@ breaks_trouble (prints text ∷ deeds) breaks = breaks_trouble deeds breaks
 
 failed_trouble : (o : Operation) (c : Chosen) (deeds : List operation.Deed) → Consumes o c deeds consumed.Failed → HasTrouble (deeds_of deeds)
 failed_trouble o c deeds consumes = breaks_trouble deeds (failing_breaks o c deeds consumes)
+
+discovery_trouble : (c : Chosen) (deeds : List operation.Deed) → Discovers c deeds consumed.Failed → HasTrouble (deeds_of deeds)
+discovery_trouble c deeds discovers = breaks_trouble deeds (discovering_breaks c deeds discovers)
 
 -- ---- how it ends
 
@@ -52,19 +57,28 @@ IsConsumed o = (n : ℕ) × (o ≡ ends n) × MayEnd n
 by_memory : (o : Outcome (Unit {0})) → o ≡ ends 9 → IsConsumed o
 by_memory o nine = (9, nine, inr (inl refl))
 
-ended_well : (x : Operation) (c : Chosen) (r : Consumed) (deeds : List operation.Deed) (seen : List Deed) (o : Outcome (Unit {0})) → ¬ (HasTrouble seen) → seen ≡ deeds_of deeds ++ did_write (line_after r) ∷ [] → o ≡ ends (status_after r) → Consumes x c deeds r → IsConsumed o
-ended_well x c consumed.Done deeds seen o quiet is end did_so = (0, end, inl refl)
-ended_well x c (consumed.Other other) deeds seen o quiet is end did_so = (10, end, inr (inr (inr (inl refl))))
-ended_well x c consumed.Silent deeds seen o quiet is end did_so = (11, end, inr (inr (inr (inr (inl refl)))))
-ended_well x c consumed.Failed deeds seen o quiet is end did_so =
-    absurd (quiet (subst HasTrouble (sym is) (trouble_before (deeds_of deeds) (did_write (line_after consumed.Failed) ∷ []) (failed_trouble x c deeds did_so))))
-ended_well x c consumed.Unprinted deeds seen o quiet is end did_so = (7, end, inr (inr (inl refl)))
-ended_well x c consumed.Spent deeds seen o quiet is end did_so = (8, end, inr (inr (inr (inr (inr refl)))))
-ended_well x c consumed.NoMemory deeds seen o quiet is end did_so = (9, end, inr (inl refl))
+abbrev BreaksSo : (List operation.Deed → Consumed → Type 0) → Type 0
+BreaksSo P = (deeds : List operation.Deed) → P deeds consumed.Failed → HasTrouble (deeds_of deeds)
+
+ended_well : (P : List operation.Deed → Consumed → Type 0) (r : Consumed) (deeds : List operation.Deed) (seen : List Deed) (o : Outcome (Unit {0})) → BreaksSo P → ¬ (HasTrouble seen) → seen ≡ deeds_of deeds ++ did_write (line_after r) ∷ [] → o ≡ ends (status_after r) → P deeds r → IsConsumed o
+ended_well P consumed.Done deeds seen o breaks quiet is end did_so = (0, end, inl refl)
+ended_well P (consumed.Other other) deeds seen o breaks quiet is end did_so = (10, end, inr (inr (inr (inl refl))))
+ended_well P consumed.Silent deeds seen o breaks quiet is end did_so = (11, end, inr (inr (inr (inr (inl refl)))))
+ended_well P consumed.Failed deeds seen o breaks quiet is end did_so =
+    absurd (quiet (subst HasTrouble (sym is) (trouble_before (deeds_of deeds) (did_write (line_after consumed.Failed) ∷ []) (breaks deeds did_so))))
+ended_well P consumed.Unprinted deeds seen o breaks quiet is end did_so = (7, end, inr (inr (inl refl)))
+ended_well P consumed.Spent deeds seen o breaks quiet is end did_so = (8, end, inr (inr (inr (inr (inr refl)))))
+ended_well P consumed.NoMemory deeds seen o breaks quiet is end did_so = (9, end, inr (inl refl))
+
+asked_well : (P : List operation.Deed → Consumed → Type 0) (seen : List Deed) (o : Outcome (Unit {0})) → BreaksSo P → ¬ (HasTrouble seen) → EndsAfter P seen o → IsConsumed o
+asked_well P seen o breaks quiet (has_ended r deeds did_so end) = ended_well P r deeds seen o breaks quiet end.0 end.1 did_so
+asked_well P seen o breaks quiet (line_memory r deeds did_so end) = by_memory o end.1
 
 operate_well : (k : Consumption) (tree : Tree) (input : Option Tree) (c : Chosen) (seen : List Deed) (o : Outcome (Unit {0})) → ¬ (HasTrouble seen) → Operates k tree input c seen o → IsConsumed o
-operate_well k tree input c seen o quiet (has_ended x r deeds asked did_so end) = ended_well x c r deeds seen o quiet end.0 end.1 did_so
-operate_well k tree input c seen o quiet (line_memory x r deeds asked did_so end) = by_memory o end.1
+operate_well k tree input c seen o quiet stage = asked_well (IsOperated k tree input c) seen o (λ deeds did_so. failed_trouble did_so.request c deeds did_so.consumes) quiet stage
+
+pub discover_well : (host : List ℕ) (port : ℕ) (seen : List Deed) (o : Outcome (Unit {0})) → ¬ (HasTrouble seen) → DiscoversThings host port seen o → IsConsumed o
+discover_well host port seen o quiet stage = asked_well (Discovers (links_of host port)) seen o (discovery_trouble (links_of host port)) quiet stage
 
 -- ---- the files
 

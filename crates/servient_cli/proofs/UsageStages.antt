@@ -1,8 +1,8 @@
 -- No stage of a command ends with status 2, so that this status is left to words that are no command; nor does one end
--- with 7, but for an operation whose payload can't be printed, so that this status is left to the output.
-use Rattle.std.proofs.Common.{◌≡◌, ◌*◌, subst, refl, false, ◌⊎◌, ◌∙◌, ℕ, List, [], ◌∷◌, Option, Some, None, ap, arith, inl, inr, sym}
+-- with 7, but where others are asked and what they answer can't be printed, so that this status is left to the output.
+use Rattle.std.proofs.Common.{◌≡◌, ◌*◌, subst, refl, true, false, ◌⊎◌, ◌∙◌, ℕ, List, [], ◌∷◌, Option, Some, None, ap, arith, inl, inr, sym}
 use Rattle.command_words.specs.declared.command.Command.{Command}
-use Rattle.command_words.specs.declared.command.Command.TheVariants.{Replay, Serve, Derive, Check, Consume, Storm}
+use Rattle.command_words.specs.declared.command.Command.TheVariants.{Replay, Serve, Derive, Check, Consume, Storm, Discover}
 use Rattle.wot_json.specs.declared.tree.Tree.{Tree}
 use Rattle.tm_parts.specs.Library.{Models}
 use Rattle.wot_json.specs.Tree.{Json}
@@ -30,7 +30,8 @@ use Rattle.wot_forms.specs.declared.scheme.Scheme.{Scheme}
 use Rattle.wot_consumer.specs.declared.chosen.Chosen.{Chosen}
 use Rattle.consuming.specs.declared.consumed.Consumed.{Consumed}
 use Rattle.consuming.specs.declared.consumed.Consumed.TheVariants as consumed
-use Rattle.servient_cli.specs.Consuming.{TakesDescription, is_taken, has_fault, description_memory, DescriptionIn, ReadsDescription, ReadsValue, HasInput, has_input, has_no_input, ReadsInput, Chooses, is_chosen, has_no_affordance, has_no_form, choose_memory, status_after, Operates, has_ended, line_memory, OperatesOn, ConsumesBy, ConsumesThing}
+use Rattle.consuming.specs.Deeds as operation
+use Rattle.servient_cli.specs.Consuming.{TakesDescription, is_taken, has_fault, description_memory, DescriptionIn, ReadsDescription, ReadsValue, HasInput, has_input, has_no_input, ReadsInput, Chooses, is_chosen, has_no_affordance, has_no_form, choose_memory, status_after, EndsAfter, has_ended, line_memory, Operates, OperatesOn, ConsumesBy, ConsumesThing}
 use Rattle.servient_cli.specs.Opening.{Exposes, is_exposed, is_misfit, expose_memory, Opens}
 use Rattle.servient_cli.specs.Listening.{Listens, is_listening, cannot_listen, place_memory, listen_memory, ServesEvents, has_served, ServesPlanned}
 use Rattle.servient_cli.specs.Checking.{Checks, Judges, is_valid, is_refused, judge_memory}
@@ -44,7 +45,7 @@ use Rattle.command_words.specs.declared.fault.WordsFault.TheVariants.{Usage, NoM
 use Rattle.servient_cli.specs.declared.ending.Ended.{Ended}
 use Rattle.servient_cli.specs.Words.{EndsAs}
 use Rattle.servient_cli.specs.Ending.{status_of as ended_status}
-use Rattle.servient_cli.specs.Command.{Commands, Does, Ends, IsNoCommand, IsReported, is_consuming, is_command, is_no_command, words_memory}
+use Rattle.servient_cli.specs.Command.{Commands, Does, Ends, IsNoCommand, IsReported, MayDiscover, is_asking, is_discovering, is_command, is_no_command, words_memory}
 
 abbrev pub status_of : {A : Type 0} → Outcome A → ℕ
 status_of (goes_on value) = 0
@@ -234,10 +235,13 @@ status_not consumed.Unprinted = λ two. absurd (omega (arith, two))
 status_not consumed.Spent = λ two. absurd (omega (arith, two))
 status_not consumed.NoMemory = λ two. absurd (omega (arith, two))
 
--- of an operation only the first is said
+-- of what is asked of others only the first is said
+asked_not : (P : List operation.Deed → Consumed → Type 0) (seen : List Deed) (o : Outcome (Unit {0})) → EndsAfter P seen o → NotTwo (status_of o)
+asked_not P seen o (has_ended r deeds a e) = subst NotTwo (sym (ap status_of e.1)) (status_not r)
+asked_not P seen o (line_memory r deeds a e) = (by_status o 9 e.1 (omega arith, omega arith)).0
+
 operate_not : (k : Consumption) (tree : Tree) (input : Option Tree) (c : Chosen) (seen : List Deed) (o : Outcome (Unit {0})) → Operates k tree input c seen o → NotTwo (status_of o)
-operate_not k tree input c seen o (has_ended x r deeds a b e) = subst NotTwo (sym (ap status_of e.1)) (status_not r)
-operate_not k tree input c seen o (line_memory x r deeds a b e) = (by_status o 9 e.1 (omega arith, omega arith)).0
+operate_not k tree input c seen o stage = asked_not _ seen o stage
 
 consume_not : (held : Option (List HeldFile)) (k : Consumption) (seen : List Deed) (o : Outcome (Unit {0})) → ConsumesThing held k seen o → NotTwo (status_of o)
 consume_not held k seen o stage =
@@ -246,7 +250,7 @@ consume_not held k seen o stage =
     (λ input s2 r2 p2. then_so NotTwo (Chooses tree (form_operation k.operation) k.name k.scheme) (Operates k tree input) s2 r2
     (λ s3 r3 p3. (choose_not tree (form_operation k.operation) k.name k.scheme s3 r3 p3).0) (operate_not k tree input) p2) p) stage
 
-ends_plainly : (held : Option (List HeldFile)) (kinds : List Kind) (command : Command) (seen : List Deed) (o : Outcome (Unit {0})) → is_consuming (Some command) ≡ false → Does held kinds command seen o → EndsPlainly o
+ends_plainly : (held : Option (List HeldFile)) (kinds : List Kind) (command : Command) (seen : List Deed) (o : Outcome (Unit {0})) → is_asking (Some command) ≡ false → Does held kinds command seen o → EndsPlainly o
 ends_plainly held kinds (Replay script plan events) seen o other stage =
     then_not (ReadsInputs held plan script) (RunsOn (plan_name plan) kinds events) seen o (inputs_not held plan script) (run_on_not (plan_name plan) kinds events) stage
 ends_plainly held kinds (Check description) seen o other stage =
@@ -259,6 +263,7 @@ ends_plainly held kinds (Serve plan events idle) seen o other stage =
     then_not (ReadsPlanned held plan) (ServesPlanned plan kinds events idle) seen o (planned_not held plan) (serving_not plan kinds events idle) stage
 ends_plainly held kinds (Storm seed events) seen o other stage = storm_not kinds seed events seen o stage
 ends_plainly held kinds (Consume consumption) seen o other stage = absurd cc
+ends_plainly held kinds (Discover host port) seen o other stage = absurd cc
 
 does_not_end_so : (held : Option (List HeldFile)) (kinds : List Kind) (command : Command) (seen : List Deed) (o : Outcome (Unit {0})) → Does held kinds command seen o → NotTwo (status_of o)
 does_not_end_so held kinds (Replay script plan events) seen o stage = (ends_plainly held kinds (Replay script plan events) seen o refl stage).0
@@ -267,6 +272,7 @@ does_not_end_so held kinds (Derive plan) seen o stage = (ends_plainly held kinds
 does_not_end_so held kinds (Serve plan events idle) seen o stage = (ends_plainly held kinds (Serve plan events idle) seen o refl stage).0
 does_not_end_so held kinds (Storm seed events) seen o stage = (ends_plainly held kinds (Storm seed events) seen o refl stage).0
 does_not_end_so held kinds (Consume consumption) seen o stage = consume_not held consumption seen o stage
+does_not_end_so held kinds (Discover host port) seen o stage = asked_not _ seen o stage
 
 -- the words lead to status 2 exactly where they are no command, unless it is out of memory for them
 two_is_no_command : (held : Option (List HeldFile)) (kinds : List Kind) (words : List (List ℕ)) (seen : List Deed) (status : ℕ) → Commands held kinds words seen (ends status)
@@ -297,14 +303,14 @@ usage_is_exact words before now out out_now result e =
 
 -- ---- status 7
 
-never_seven : (held : Option (List HeldFile)) (kinds : List Kind) (words : List (List ℕ)) (seen : List Deed) (status : ℕ) → is_consuming (meaning_of words) ≡ false → Commands held kinds words seen (ends status) → ¬ (status ≡ 7)
+never_seven : (held : Option (List HeldFile)) (kinds : List Kind) (words : List (List ℕ)) (seen : List Deed) (status : ℕ) → is_asking (meaning_of words) ≡ false → Commands held kinds words seen (ends status) → ¬ (status ≡ 7)
 never_seven held kinds words seen status other (is_no_command none e) = λ seven. let bad : 2 ≡ 7 = sym (ap status_of e.1) ∙ seven in absurd (omega (arith, bad))
 never_seven held kinds words seen status other (is_command command meaning stage) =
-    (ends_plainly held kinds command seen (ends status) (sym (ap is_consuming meaning) ∙ other) stage).1
+    (ends_plainly held kinds command seen (ends status) (sym (ap is_asking meaning) ∙ other) stage).1
 never_seven held kinds words seen status other (words_memory e) = λ seven. let bad : 9 ≡ 7 = sym (ap status_of e.1) ∙ seven in absurd (omega (arith, bad))
 
--- where nothing is consumed, that is the output's
-pub output_failed : (words : List (List ℕ)) (before now : Around) (out out_now : OutSeen) (result : ℕ) → Ends words before now out out_now result → is_consuming (meaning_of words) ≡ false → result ≡ 7 → Rose out.faults out_now.faults
+-- where nothing is asked of others, that is the output's
+pub output_failed : (words : List (List ℕ)) (before now : Around) (out out_now : OutSeen) (result : ℕ) → Ends words before now out out_now result → is_asking (meaning_of words) ≡ false → result ≡ 7 → Rose out.faults out_now.faults
 output_failed words before now out out_now result e other seven = elim e.reported [
   | inl done ↦ absurd (never_seven before.files.held (kinds_of before.outside.slots) words e.seen e.status other e.stage (sym done.0 ∙ seven))
   | inr failed ↦ failed.1
@@ -316,3 +322,42 @@ refusal_failed out out_now Usage e text result is (inl done) seven = let bad : 2
 refusal_failed out out_now NoMemory e text result is (inl done) seven = let bad : 9 ≡ 7 = sym (ap ended_status is) ∙ sym done.0 ∙ seven in absurd (omega (arith, bad))
 refusal_failed out out_now Usage e text result is (inr failed) seven = failed.1
 refusal_failed out out_now NoMemory e text result is (inr failed) seven = failed.1
+
+-- ---- a discovery
+
+discovered_status : (r : Consumed) → MayDiscover (status_after r)
+discovered_status consumed.Done = (λ bad. absurd (omega (arith, bad)), λ bad. absurd (omega (arith, bad)), λ bad. absurd (omega (arith, bad)), λ bad. absurd (omega (arith, bad)))
+discovered_status (consumed.Other x) = (λ bad. absurd (omega (arith, bad)), λ bad. absurd (omega (arith, bad)), λ bad. absurd (omega (arith, bad)), λ bad. absurd (omega (arith, bad)))
+discovered_status consumed.Silent = (λ bad. absurd (omega (arith, bad)), λ bad. absurd (omega (arith, bad)), λ bad. absurd (omega (arith, bad)), λ bad. absurd (omega (arith, bad)))
+discovered_status consumed.Failed = (λ bad. absurd (omega (arith, bad)), λ bad. absurd (omega (arith, bad)), λ bad. absurd (omega (arith, bad)), λ bad. absurd (omega (arith, bad)))
+discovered_status consumed.Unprinted = (λ bad. absurd (omega (arith, bad)), λ bad. absurd (omega (arith, bad)), λ bad. absurd (omega (arith, bad)), λ bad. absurd (omega (arith, bad)))
+discovered_status consumed.Spent = (λ bad. absurd (omega (arith, bad)), λ bad. absurd (omega (arith, bad)), λ bad. absurd (omega (arith, bad)), λ bad. absurd (omega (arith, bad)))
+discovered_status consumed.NoMemory = (λ bad. absurd (omega (arith, bad)), λ bad. absurd (omega (arith, bad)), λ bad. absurd (omega (arith, bad)), λ bad. absurd (omega (arith, bad)))
+
+may_discover : (n m : ℕ) → n ≡ m → MayDiscover m → MayDiscover n
+may_discover n m same may = subst MayDiscover (sym same) may
+
+discovered_so : (P : List operation.Deed → Consumed → Type 0) (seen : List Deed) (o : Outcome (Unit {0})) → EndsAfter P seen o → MayDiscover (status_of o)
+discovered_so P seen o (has_ended r deeds a e) = may_discover (status_of o) (status_after r) (ap status_of e.1) (discovered_status r)
+discovered_so P seen o (line_memory r deeds a e) = may_discover (status_of o) 9 (ap status_of e.1) (discovered_status consumed.NoMemory)
+
+does_discover : (held : Option (List HeldFile)) (kinds : List Kind) (command : Command) (seen : List Deed) (o : Outcome (Unit {0})) → is_discovering (Some command) ≡ true → Does held kinds command seen o → MayDiscover (status_of o)
+does_discover held kinds (Replay script plan events) seen o is stage = absurd cc
+does_discover held kinds (Serve plan events idle) seen o is stage = absurd cc
+does_discover held kinds (Check description) seen o is stage = absurd cc
+does_discover held kinds (Derive plan) seen o is stage = absurd cc
+does_discover held kinds (Storm seed events) seen o is stage = absurd cc
+does_discover held kinds (Consume consumption) seen o is stage = absurd cc
+does_discover held kinds (Discover host port) seen o is stage = discovered_so _ seen o stage
+
+words_discover : (held : Option (List HeldFile)) (kinds : List Kind) (words : List (List ℕ)) (seen : List Deed) (status : ℕ) → is_discovering (meaning_of words) ≡ true → Commands held kinds words seen (ends status) → MayDiscover status
+words_discover held kinds words seen status is (is_no_command none e) = may_discover status 2 (ap status_of e.1) (λ bad. absurd (omega (arith, bad)), λ bad. absurd (omega (arith, bad)), λ bad. absurd (omega (arith, bad)), λ bad. absurd (omega (arith, bad)))
+words_discover held kinds words seen status is (is_command command meaning stage) = does_discover held kinds command seen (ends status) (sym (ap is_discovering meaning) ∙ is) stage
+words_discover held kinds words seen status is (words_memory e) = may_discover status 9 (ap status_of e.1) (discovered_status consumed.NoMemory)
+
+-- the whole call ends as a discovery may
+pub discovery_ends : (words : List (List ℕ)) (before now : Around) (out out_now : OutSeen) (result : ℕ) → Ends words before now out out_now result → is_discovering (meaning_of words) ≡ true → MayDiscover result
+discovery_ends words before now out out_now result e is = elim e.reported [
+  | inl done ↦ may_discover result e.status done.0 (words_discover before.files.held (kinds_of before.outside.slots) words e.seen e.status is e.stage)
+  | inr failed ↦ may_discover result 7 failed.0 (discovered_status consumed.Unprinted)
+]

@@ -6,9 +6,9 @@
 -- there. `check TD` reads a Thing Description and says whether it is valid, or its first fault. `derive PLAN` reads a
 -- plan and its models, and prints the descriptions of its Things, or the first fault. `storm SEED N` runs events that
 -- are drawn from a seed on the built-in Thing, and counts what came of them. `consume TD OPERATION NAME` reads a
--- description, and does an operation on the Thing that it describes. Each is a row of stages, in a file of its
--- own. A further command adds its file and a row.
-use Rattle.std.specs.Prelude.{◌≡◌, ◌≤◌, ◌⊎◌, ℕ, Bool, true, false, List, [], ◌++◌, Option, Some, None, Ok, length}
+-- description, and does an operation on the Thing that it describes. `discover HOST:PORT` asks a server which Things it
+-- has. Each is a row of stages, in a file of its own. A further command adds its file and a row.
+use Rattle.std.specs.Prelude.{◌≡◌, ◌≢◌, ◌≤◌, ◌⊎◌, ℕ, Bool, true, false, List, [], ◌++◌, Option, Some, None, Ok, length}
 use Rattle.servient_base.specs.Count.{Rose}
 use Rattle.wot_json.specs.Tree.{Json}
 use Rattle.wot_json.specs.Reading.{tree_of}
@@ -22,7 +22,7 @@ use Rattle.command_words.specs.Grammar.{meaning_of}
 use Rattle.command_words.specs.declared.command.Command.{Command}
 use Rattle.command_words.specs.declared.command.Consumption.{Consumption}
 use Rattle.command_words.specs.Operations.{form_operation}
-use Rattle.command_words.specs.declared.command.Command.TheVariants.{Replay, Serve, Check, Derive, Consume, Storm}
+use Rattle.command_words.specs.declared.command.Command.TheVariants.{Replay, Serve, Check, Derive, Consume, Storm, Discover}
 use Rattle.servient_outside.specs.declared.files.HeldFile.{HeldFile}
 use Rattle.servient_outside.specs.Told.{Continues}
 use Rattle.servient_outside.specs.Files.{content_of}
@@ -35,6 +35,7 @@ use Rattle.servient_cli.specs.Replaying.{Replays, IsFaultlessScript, built_in}
 use Rattle.servient_cli.specs.Storming.{Storms}
 use Rattle.servient_cli.specs.Listening.{ServesPlan}
 use Rattle.servient_cli.specs.Consuming.{ConsumesThing}
+use Rattle.servient_cli.specs.Discovering.{DiscoversThings}
 use Rattle.servient_cli.specs.Checking.{Checks, IsFaultlessDescription}
 use Rattle.servient_cli.specs.Deriving.{ReadsPlanned, DerivesAndPrints, IsFaultlessPlan, derived_of}
 
@@ -49,6 +50,7 @@ Does held kinds (Check description) = AndThen (ReadsFile held longest_json descr
 Does held kinds (Derive plan) = AndThen (ReadsPlanned held plan) DerivesAndPrints
 Does held kinds (Storm seed events) = Storms kinds seed events
 Does held kinds (Consume consumption) = ConsumesThing held consumption
+Does held kinds (Discover host port) = DiscoversThings host port
 
 -- the words mean that a plan is served
 abbrev pub is_serving : Option Command → Bool
@@ -60,24 +62,22 @@ abbrev pub is_storm : Option Command → Bool
 is_storm (Some (Storm seed events)) = true
 is_storm command = false
 
--- what is to be consumed, where the words mean that
-abbrev pub consumption_in : Command → Option Consumption
-consumption_in (Replay script plan events) = None
-consumption_in (Serve plan events idle) = None
-consumption_in (Check description) = None
-consumption_in (Derive plan) = None
-consumption_in (Storm seed events) = None
-consumption_in (Consume consumption) = Some consumption
+-- the words mean that others are asked: another Thing is consumed, or a server is asked for its Things
+abbrev pub is_asking : Option Command → Bool
+is_asking (Some (Consume consumption)) = true
+is_asking (Some (Discover host port)) = true
+is_asking command = false
 
--- the words mean that another Thing is consumed
-abbrev pub is_consuming : Option Command → Bool
-is_consuming (Some (Consume consumption)) = true
-is_consuming command = false
+-- the words mean that a server is asked for its Things
+abbrev pub is_discovering : Option Command → Bool
+is_discovering (Some (Discover host port)) = true
+is_discovering command = false
 
 -- the words mean a command that uses the network
 abbrev pub is_networked : Option Command → Bool
 is_networked (Some (Serve plan events idle)) = true
 is_networked (Some (Consume consumption)) = true
+is_networked (Some (Discover host port)) = true
 is_networked command = false
 
 -- the words are outside the grammar
@@ -180,6 +180,7 @@ HasFaultlessFiles files kinds (Check description) = HoldsFaultless files longest
 HasFaultlessFiles files kinds (Derive plan) = IsFaultlessDerivation files plan
 HasFaultlessFiles files kinds (Storm seed events) = IsFaultlessStorm kinds
 HasFaultlessFiles files kinds (Consume consumption) = IsFaultlessConsumption files consumption
+HasFaultlessFiles files kinds (Discover host port) = Unit {0}
 
 -- Nothing is wrong with the words, the files and the rack: the words mean a command, and nothing is wrong with it.
 pub record IsFaultless (words : List (List ℕ)) (held : Option (List HeldFile)) (kinds : List Kind) : Type 0 where
@@ -195,13 +196,17 @@ pub record NothingFailed (before now : Around) (out out_now : OutSeen) : Type 0 
   pub no_call : ¬ (Rose before.outside.net.faults now.outside.net.faults)
   pub no_write : ¬ (Rose out.faults out_now.faults)
 
--- how `consume` may also end, which the other Thing decides: by what came in place of a success, by silence, or by more
--- events than are awaited
+-- how a discovery may end: not by a file, a fault of a description, or the want of a form
+abbrev pub MayDiscover : ℕ → Type 0
+MayDiscover result = (result ≢ 3) × (result ≢ 4) × (result ≢ 5) × (result ≢ 12)
+
+-- how `consume` and `discover` may also end, which those that are asked decide: by what came in place of a success, by
+-- silence, or by more events than are awaited
 abbrev pub IsAnswered : ℕ → Type 0
 IsAnswered result = (result ≡ 10) ⊎ (result ≡ 11) ⊎ (result ≡ 8)
 
--- The command did what it is for, or was out of memory; serving may have spent its budget, and what is consumed may have
+-- The command did what it is for, or was out of memory; serving may have spent its budget, and what is asked may have
 -- answered otherwise.
 abbrev pub IsWell : List (List ℕ) → ℕ → Type 0
 IsWell words result =
-    (result ≡ 0) ⊎ (result ≡ 9) ⊎ ((is_serving (meaning_of words) ≡ true) × (result ≡ 8)) ⊎ ((is_consuming (meaning_of words) ≡ true) × IsAnswered result)
+    (result ≡ 0) ⊎ (result ≡ 9) ⊎ ((is_serving (meaning_of words) ≡ true) × (result ≡ 8)) ⊎ ((is_asking (meaning_of words) ≡ true) × IsAnswered result)

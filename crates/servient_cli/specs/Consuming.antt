@@ -99,7 +99,7 @@ outcome_text outcome.Reset = codes "reset"
 outcome_text outcome.Stopped = codes "stopped"
 outcome_text (outcome.Status s) = status_text s
 
--- how an operation that ended so ends the command: the status, and the line
+-- how an operation that ended so ends the command, or a discovery: the status, and the line
 abbrev pub status_after : Consumed → ℕ
 status_after consumed.Done = 0
 status_after (consumed.Other x) = 10
@@ -126,13 +126,20 @@ pub record IsAskedFor (k : Consumption) (tree : Tree) (input : Option Tree) (x :
   pub input_is : option_map (λ v. json_of v.now) x.input ≡ option_map json_of input
   pub count_is : x.count ≡ k.count
 
--- Doing the operation by what was chosen for it.
-pub data Operates (k : Consumption) (tree : Tree) (input : Option Tree) (c : Chosen) (seen : List Deed) (o : Outcome (Unit {0})) : Type 0 where
-  has_ended : (x : Operation) (r : Consumed) (deeds : List operation.Deed) → IsAskedFor k tree input x → Consumes x c deeds r
-      → EndsWith (deeds_of deeds) (status_after r) (line_after r) seen o → Operates k tree input c seen o
+-- What was asked of others ended so: its deeds, and then the line on how it ended.
+pub data EndsAfter (P : List operation.Deed → Consumed → Type 0) (seen : List Deed) (o : Outcome (Unit {0})) : Type 0 where
+  has_ended : (r : Consumed) (deeds : List operation.Deed) → P deeds r → EndsWith (deeds_of deeds) (status_after r) (line_after r) seen o → EndsAfter P seen o
   -- the line was out of memory
-  line_memory : (x : Operation) (r : Consumed) (deeds : List operation.Deed) → IsAskedFor k tree input x → Consumes x c deeds r
-      → RunsOut (deeds_of deeds) seen o → Operates k tree input c seen o
+  line_memory : (r : Consumed) (deeds : List operation.Deed) → P deeds r → RunsOut (deeds_of deeds) seen o → EndsAfter P seen o
+
+-- Doing the operation by what was chosen for it.
+pub record IsOperated (k : Consumption) (tree : Tree) (input : Option Tree) (c : Chosen) (deeds : List operation.Deed) (r : Consumed) : Type 0 where
+  pub request : Operation
+  pub asked : IsAskedFor k tree input request
+  pub consumes : Consumes request c deeds r
+
+abbrev pub Operates : Consumption → Tree → Option Tree → Chosen → List Deed → Outcome (Unit {0}) → Type 0
+Operates k tree input c = EndsAfter (IsOperated k tree input c)
 
 -- what is done with a description and a value
 abbrev pub OperatesOn : Consumption → Tree → Option Tree → List Deed → Outcome (Unit {0}) → Type 0

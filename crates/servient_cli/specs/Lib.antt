@@ -15,5 +15,6 @@ pub mod Checking
 pub mod Deriving
 pub mod Ending
 pub mod Consuming
+pub mod Discovering
 pub mod Command
 pub mod Words

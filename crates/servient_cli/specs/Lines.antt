@@ -3,7 +3,7 @@ use Rattle.std.specs.Prelude.{ℕ, List, ◌++◌, codes, decimal}
 use Rattle.wot_json.specs.Json.{json_string}
 
 abbrev pub usage_line : List ℕ
-usage_line = codes "usage: servient replay|serve|derive|check|consume|storm ..\n"
+usage_line = codes "usage: servient replay|serve|derive|check|consume|storm|discover ..\n"
 
 abbrev pub file_line : List ℕ → List ℕ → List ℕ
 file_line name what = codes "servient: file " ++ json_string name ++ codes " " ++ what ++ codes "\n"

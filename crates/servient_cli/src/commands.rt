@@ -1,12 +1,12 @@
 //! What each command does, from the names of its files on.
 
-ghost use Rattle.std.specs.Prelude.{◌≡◌, None, Some, false};
+ghost use Rattle.std.specs.Prelude.{◌≡◌, Some, false};
 ghost use Rattle.servient_core.specs.Trace.{Outside, outside};
 ghost use Rattle.thing_site.specs.Exposing.{kinds_of};
 ghost use Rattle.servient_cli.specs.Stages.{AndThen, around};
 ghost use Rattle.servient_cli.specs.Reading.{ReadsFile, longest_json};
 ghost use Rattle.servient_cli.specs.Checking.{Checks};
-ghost use Rattle.servient_cli.specs.Command.{consumption_in, is_networked, Does};
+ghost use Rattle.servient_cli.specs.Command.{is_asking, is_networked, Does};
 ghost use Rattle.servient_cli.specs.Ending.{EndsBy};
 
 use crate::checking::check_file;
@@ -21,7 +21,7 @@ use servient_outside::{Files, Net};
 use std::alloc::Global;
 use thing_handler::Handlers;
 
-/// Does a command but `consume`, which writes as it goes.
+/// Does a command that asks no others: those write as they go.
 pub fn run_command<F: Files, N: Net, R: Handlers>(
     alloc: Global,
     command: &Command,
@@ -29,7 +29,7 @@ pub fn run_command<F: Files, N: Net, R: Handlers>(
     net: &mut N,
     rack: &mut R,
 ) -> Result<Ending, Ended>
-    requires { consumption_in command.now ≡ None }
+    requires { is_asking (Some command.now) ≡ false }
     ensures ends { EndsBy (Does (F.seen files.old).held (kinds_of (R.slots rack.old)) command.now)
         (around (F.seen files.old) (outside (N.seen net.old) (R.slots rack.old)))
         (around (F.seen files.new) (outside (N.seen net.new) (R.slots rack.new))) result }
@@ -56,6 +56,7 @@ pub fn run_command<F: Files, N: Net, R: Handlers>(
         Command::Derive { plan } => derive_plan(alloc, plan.as_str(), files),
         Command::Storm { seed, events } => storm(alloc, *seed, *events, rack),
         Command::Consume(_) => unreachable!(),
+        Command::Discover { .. } => unreachable!(),
     }
 }
 

@@ -134,8 +134,8 @@ fn operate<N: Net, O: Out>(
     end_of(alloc, consume(alloc, operation, chosen, net, out))
 }
 
-/// How the command ends whose operation ended so.
-fn end_of(alloc: Global, consumed: Consumed) -> Result<Ending, Ended>
+/// How the command ends whose operation ended so, or whose discovery.
+pub fn end_of(alloc: Global, consumed: Consumed) -> Result<Ending, Ended>
     ensures { IsEndOf consumed result }
 {
     match consumed {

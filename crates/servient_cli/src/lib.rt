@@ -2,7 +2,8 @@
 //!
 //! `servient_main` is what the program does. Its contract, `Ends` of `specs/Command.antt`, says for each
 //! exit status why it came and what was written. The whole output is one call of `Out::put`, but that `consume`
-//! writes each payload as it comes; so at status 7 what was written is a prefix of a text.
+//! writes each payload as it comes, and `discover` the lines of the Things before the rest; so at status 7 what was
+//! written is a prefix of a text.
 //!
 //! ```
 //! use servient_cli::servient_main;
@@ -22,6 +23,7 @@ mod consumption;
 mod counting;
 mod derivation;
 mod described;
+mod discovery;
 mod ending;
 mod fault_lines;
 mod laws;

@@ -1,6 +1,7 @@
 //! The top call: from the words of the command line to the exit status.
 
-ghost use Rattle.std.specs.Prelude.{◌≡◌, ◌≢◌, ◌≤◌, ◌⊎◌, true, false, List, option_map};
+ghost use Rattle.std.specs.Prelude.{◌≡◌, ◌≢◌, ◌≤◌, ◌⊎◌, true, false, List, Some};
+ghost use Rattle.wot_terms.specs.declared.kind.Kind.{Kind};
 ghost use Rattle.thing_site.specs.Exposing.{kinds_of};
 ghost use Rattle.servient_cli.specs.Stages.{around};
 ghost use Rattle.command_words.specs.Grammar.{meaning_of};
@@ -8,22 +9,23 @@ ghost use Rattle.servient_base.specs.Count.{Rose};
 ghost use Rattle.servient_outside.specs.Out.{NoWriteFailed};
 ghost use Rattle.servient_core.specs.Trace.{outside};
 ghost use Rattle.thing_handler.specs.Handler.{Seen};
-ghost use Rattle.servient_cli.specs.Consuming.{ConsumesThing};
-ghost use Rattle.servient_cli.specs.Command.{consumption_in as in_command, is_consuming, is_networked, is_storm};
-ghost use Rattle.servient_cli.specs.Command.{Ends, EndsAndReports, IsFaultless, IsNoCommand, IsReported, IsWell, NothingFailed};
+ghost use Rattle.servient_cli.specs.Command.{is_asking, is_discovering, is_networked, is_storm};
+ghost use Rattle.servient_cli.specs.Command.{Does, Ends, EndsAndReports, IsFaultless, IsNoCommand, IsReported, IsWell, MayDiscover, NothingFailed};
+ghost use Rattle.servient_cli.specs.Consuming.{EndsPrinting};
 ghost use Rattle.servient_cli.specs.Ending.{final_status as status_in, final_text as text_in};
 
 use crate::commands::run_command;
 use crate::consumption::consume_thing;
+use crate::discovery::discover_things;
 use crate::ending::{Ended, Ending, SPENT_LINE};
-use command_words::{Command, Consumption};
+use command_words::Command;
 use servient_outside::{Files, Net, Out, Put};
 use std::alloc::Global;
 use thing_handler::Handlers;
 use wot_json::Text;
 
 /// The line for words that are no command line.
-const USAGE_LINE: &[u8] = b"usage: servient replay|serve|derive|check|consume|storm ..\n";
+const USAGE_LINE: &[u8] = b"usage: servient replay|serve|derive|check|consume|storm|discover ..\n";
 
 /// The line where the network failed.
 const NETWORK_LINE: &[u8] = b"servient: net\n";
@@ -50,7 +52,7 @@ pub fn servient_main<F: Files, N: Net, R: Handlers, O: Out>(
         (O.seen out.old)
         (O.seen out.new) result }
     // Where nothing is wrong and nothing failed, the command does what it is for, unless it is out of memory; but
-    // serving may spend its budget, and what is consumed may answer otherwise.
+    // serving may spend its budget, and what is asked may answer otherwise.
     ensures complete { IsFaultless words.now (F.seen files.old).held (kinds_of (R.slots rack.old))
         → NothingFailed
         (around (F.seen files.old) (outside (N.seen net.old) (R.slots rack.old)))
@@ -64,49 +66,84 @@ pub fn servient_main<F: Files, N: Net, R: Handlers, O: Out>(
     ensures output { result ≡ 7 → Rose (O.seen out.old).faults (O.seen out.new).faults }
     // A storm has no more events than its budget: the last of them is the Stop.
     ensures storm { is_storm (meaning_of words.now) ≡ true → result ≢ 8 }
-    // Where no plan is served and nothing is consumed, nothing is done to the network.
+    // A discovery reads no file, derives nothing and chooses no form, and so it doesn't end by any of that.
+    ensures discovery { is_discovering (meaning_of words.now) ≡ true → MayDiscover result }
+    // Where no plan is served and nothing is asked of others, nothing is done to the network.
     ensures net { is_networked (meaning_of words.now) ≡ false → net.new ≡ net.old }
-    // Where another Thing is consumed, no handler is called.
-    ensures rack { is_consuming (meaning_of words.now) ≡ true → rack.new ≡ rack.old }
+    // Where others are asked, no handler is called.
+    ensures rack { is_asking (meaning_of words.now) ≡ true → rack.new ≡ rack.old }
+    // A discovery leaves the files as they were.
+    ensures files { is_discovering (meaning_of words.now) ≡ true → files.new ≡ files.old }
 {
     match Command::read(alloc, words) {
-        Ok(command) => match consumption_in(&command) {
-            Some(consumption) => consume_and_report(alloc, consumption, files, net, out),
-            None => report(out, &run_command(alloc, &command, files, net, rack)),
-        },
+        Ok(command) => {
+            if asks_others(&command) {
+                ask_and_report(alloc, &command, files, net, out)
+            } else {
+                report(out, &run_command(alloc, &command, files, net, rack))
+            }
+        }
         Err(fault) => report(out, &Err(Ended::from(fault))),
     }
 }
 
-/// What is to be consumed, where a command is that.
-fn consumption_in(command: &Command) -> Option<&Consumption>
-    ensures { option_map (λ k. k.now) result ≡ in_command command.now }
+/// A command asks others, and writes as it goes.
+fn asks_others(command: &Command) -> bool
+    ensures { result ≡ is_asking (Some command.now) }
 {
     match command {
-        Command::Consume(consumption) => Some(consumption),
-        Command::Replay { .. }
-        | Command::Serve { .. }
-        | Command::Check { .. }
-        | Command::Derive { .. }
-        | Command::Storm { .. } => None,
+        Command::Consume(_) => true,
+        Command::Discover { .. } => true,
+        Command::Replay { .. } => false,
+        Command::Serve { .. } => false,
+        Command::Check { .. } => false,
+        Command::Derive { .. } => false,
+        Command::Storm { .. } => false,
     }
 }
 
-/// Consumes a Thing, and reports how that ended.
-fn consume_and_report<F: Files, N: Net, O: Out>(
+/// Asks others as a command says, and reports how that ended.
+fn ask_and_report<F: Files, N: Net, O: Out>(
     alloc: Global,
-    consumption: &Consumption,
+    command: &Command,
     files: &mut F,
     net: &mut N,
     out: &mut O,
 ) -> u8
-    ensures ends { (slots : List Seen) → EndsAndReports (ConsumesThing (F.seen files.old).held consumption.now)
+    requires { is_asking (Some command.now) ≡ true }
+    ensures ends { (kinds : List Kind) → (slots : List Seen) → EndsAndReports (Does (F.seen files.old).held kinds command.now)
         (around (F.seen files.old) (outside (N.seen net.old) slots)) (around (F.seen files.new) (outside (N.seen net.new) slots))
         (O.seen out.old) (O.seen out.new) result }
     ensures output { result ≡ 7 → Rose (O.seen out.old).faults (O.seen out.new).faults }
+    ensures files { is_discovering (Some command.now) ≡ true → files.new ≡ files.old }
 {
-    let ended = consume_thing(alloc, consumption, files, net, out);
+    let ended = ask_others(alloc, command, files, net, out);
     report(out, &ended)
+}
+
+/// Asks others as a command says.
+fn ask_others<F: Files, N: Net, O: Out>(
+    alloc: Global,
+    command: &Command,
+    files: &mut F,
+    net: &mut N,
+    out: &mut O,
+) -> Result<Ending, Ended>
+    requires { is_asking (Some command.now) ≡ true }
+    ensures ends { (kinds : List Kind) → (slots : List Seen) → EndsPrinting (Does (F.seen files.old).held kinds command.now)
+        (around (F.seen files.old) (outside (N.seen net.old) slots)) (around (F.seen files.new) (outside (N.seen net.new) slots))
+        (O.seen out.old) (O.seen out.new) result }
+    ensures files { is_discovering (Some command.now) ≡ true → files.new ≡ files.old }
+{
+    match command {
+        Command::Consume(consumption) => consume_thing(alloc, consumption, files, net, out),
+        Command::Discover { host, port } => discover_things(alloc, host.as_str(), *port, net, out),
+        Command::Replay { .. } => unreachable!(),
+        Command::Serve { .. } => unreachable!(),
+        Command::Check { .. } => unreachable!(),
+        Command::Derive { .. } => unreachable!(),
+        Command::Storm { .. } => unreachable!(),
+    }
 }
 
 /// Writes the text with which a command ended, and gives its status, or 7 where the output failed.

@@ -9,11 +9,12 @@ use Rattle.wot_terms.specs.declared.kind.Kind.{Kind}
 use Rattle.wot_terms.specs.declared.op.Op.{Op}
 use Rattle.wot_forms.specs.declared.scheme.Scheme.{Scheme}
 use Rattle.wot_consumer.specs.declared.chosen.Chosen.{Chosen}
+use Rattle.wot_consumer.specs.Discovery.{links_of}
 use Rattle.thing_site.specs.Site.{Slots}
 use Rattle.thing_site.specs.Exposing.{kinds_of}
 use Rattle.tm_parts.specs.Library.{Models}
 use Rattle.command_words.specs.declared.command.Command.{Command}
-use Rattle.command_words.specs.declared.command.Command.TheVariants.{Replay, Serve, Check, Derive, Storm, Consume}
+use Rattle.command_words.specs.declared.command.Command.TheVariants.{Replay, Serve, Check, Derive, Storm, Consume, Discover}
 use Rattle.command_words.specs.declared.command.Consumption.{Consumption}
 use Rattle.command_words.specs.Operations.{form_operation}
 use Rattle.servient_outside.specs.declared.files.FileRead.{FileRead}
@@ -27,10 +28,9 @@ use Rattle.servient_plan.specs.declared.plan.Plan.{Plan}
 use Rattle.servient_plan.specs.Plan.{place_of}
 use Rattle.consuming.specs.declared.consumed.Consumed.{Consumed}
 use Rattle.consuming.specs.declared.consumed.Consumed.TheVariants as consumed
-use Rattle.consuming.specs.declared.operation.Operation.{Operation}
 use Rattle.consuming.specs.Deeds.{happens, prints}
 use Rattle.consuming.specs.Deeds as operation
-use Rattle.consuming.specs.Consuming.{Consumes}
+use Rattle.consuming.specs.Consuming.{Discovers}
 use Rattle.consuming.proofs.FailureLaws.{failing_breaks_the_network}
 use Rattle.servient_core.specs.declared.serving.Served.TheVariants as served
 use Rattle.servient_core.specs.Trace.{Sighting, at_network, at_handler, happened_in}
@@ -43,7 +43,7 @@ use Rattle.servient_cli.specs.Stages.{Deed, did_read, did_fail, did_see, did_wri
 use Rattle.servient_cli.specs.Reading.{ReadsFile, is_read, is_absent, is_unreadable, is_long, file_memory, file_read, ReadsTree, is_tree, has_no_tree, tree_memory, longest_json, longest_script}
 use Rattle.servient_cli.specs.Replaying.{Plans, TakesBuiltIn, is_built_in, built_in_memory, plan_name, ReadsEvents, ReadsInputs, HasRead, has_read, RunsOn, ReadsScript, is_script, is_no_script, script_memory, RunsScript, is_whole, is_spent, run_memory}
 use Rattle.servient_cli.specs.Storming.{RunsStorm, is_counted, storm_memory, Storms, StormsOn, with_few_exchanges}
-use Rattle.servient_cli.specs.Consuming.{TakesDescription, is_taken, has_fault, description_memory, DescriptionIn, ReadsDescription, ReadsValue, HasInput, has_input, HasNoInput, has_no_input, ReadsInput, Chooses, is_chosen, has_no_affordance, has_no_form, choose_memory, deeds_of, status_after, line_after, Operates, has_ended, line_memory, OperatesOn, ConsumesBy, ConsumesThing}
+use Rattle.servient_cli.specs.Consuming.{TakesDescription, is_taken, has_fault, description_memory, DescriptionIn, ReadsDescription, ReadsValue, HasInput, has_input, HasNoInput, has_no_input, ReadsInput, Chooses, is_chosen, has_no_affordance, has_no_form, choose_memory, deeds_of, status_after, line_after, EndsAfter, has_ended, line_memory, IsOperated, Operates, OperatesOn, ConsumesBy, ConsumesThing}
 use Rattle.servient_cli.specs.Opening.{Exposes, is_exposed, is_misfit, expose_memory, Opens}
 use Rattle.servient_cli.specs.Listening.{Listens, is_listening, cannot_listen, place_memory, listen_memory, ServesEvents, has_served, ServesPlanned}
 use Rattle.servient_cli.specs.Checking.{Checks, Judges, is_valid, is_refused, judge_memory}
@@ -253,20 +253,27 @@ breaks_among (happens (did act) ∷ deeds) rest breaks = breaks_among deeds rest
 breaks_among (happens (broke call) ∷ deeds) rest breaks = omega arith
 breaks_among (prints text ∷ deeds) rest breaks = breaks_among deeds rest breaks
 
-done_tells : (held : Option (List HeldFile)) (x : Operation) (c : Chosen) (r : Consumed) (deeds : List operation.Deed) (seen : List Deed) (status : ℕ) → Consumes x c deeds r
+-- a failure of what is asked of others breaks the network
+abbrev BreaksSo : (List operation.Deed → Consumed → Type 0) → Type 0
+BreaksSo P = (deeds : List operation.Deed) → P deeds consumed.Failed → 1 ≤ break_count (operation.happened_in deeds)
+
+done_tells : (held : Option (List HeldFile)) (P : List operation.Deed → Consumed → Type 0) (r : Consumed) (deeds : List operation.Deed) (seen : List Deed) (status : ℕ) → BreaksSo P → P deeds r
     → seen ≡ deeds_of deeds ++ did_write (line_after r) ∷ [] → ◌≡◌ {A = Outcome (Unit {0})} (ends status) (ends (status_after r)) → Tells held seen status
-done_tells held x c consumed.Done deeds seen status did_so saw is = ended held seen status 0 is (omega arith, omega arith)
-done_tells held x c (consumed.Other outcome) deeds seen status did_so saw is = ended held seen status 10 is (omega arith, omega arith)
-done_tells held x c consumed.Silent deeds seen status did_so saw is = ended held seen status 11 is (omega arith, omega arith)
-done_tells held x c consumed.Failed deeds seen status did_so saw is =
-    six_only held seen status (same_status status 6 is) (subst NetFails (sym saw) (breaks_among deeds (did_write (line_after consumed.Failed) ∷ []) (failing_breaks_the_network x c deeds did_so)))
-done_tells held x c consumed.Unprinted deeds seen status did_so saw is = ended held seen status 7 is (omega arith, omega arith)
-done_tells held x c consumed.Spent deeds seen status did_so saw is = ended held seen status 8 is (omega arith, omega arith)
-done_tells held x c consumed.NoMemory deeds seen status did_so saw is = ended held seen status 9 is (omega arith, omega arith)
+done_tells held P consumed.Done deeds seen status breaks did_so saw is = ended held seen status 0 is (omega arith, omega arith)
+done_tells held P (consumed.Other outcome) deeds seen status breaks did_so saw is = ended held seen status 10 is (omega arith, omega arith)
+done_tells held P consumed.Silent deeds seen status breaks did_so saw is = ended held seen status 11 is (omega arith, omega arith)
+done_tells held P consumed.Failed deeds seen status breaks did_so saw is =
+    six_only held seen status (same_status status 6 is) (subst NetFails (sym saw) (breaks_among deeds (did_write (line_after consumed.Failed) ∷ []) (breaks deeds did_so)))
+done_tells held P consumed.Unprinted deeds seen status breaks did_so saw is = ended held seen status 7 is (omega arith, omega arith)
+done_tells held P consumed.Spent deeds seen status breaks did_so saw is = ended held seen status 8 is (omega arith, omega arith)
+done_tells held P consumed.NoMemory deeds seen status breaks did_so saw is = ended held seen status 9 is (omega arith, omega arith)
+
+asked_tells : (held : Option (List HeldFile)) (P : List operation.Deed → Consumed → Type 0) → BreaksSo P → Telling held (EndsAfter P)
+asked_tells held P breaks seen status (has_ended r deeds did_so e) = done_tells held P r deeds seen status breaks did_so e.0 e.1
+asked_tells held P breaks seen status (line_memory r deeds did_so e) = ended held seen status 9 e.1 (omega arith, omega arith)
 
 operate_tells : (held : Option (List HeldFile)) (k : Consumption) (tree : Tree) (input : Option Tree) (c : Chosen) → Telling held (Operates k tree input c)
-operate_tells held k tree input c seen status (has_ended x r deeds asked did_so e) = done_tells held x c r deeds seen status did_so e.0 e.1
-operate_tells held k tree input c seen status (line_memory x r deeds asked did_so e) = ended held seen status 9 e.1 (omega arith, omega arith)
+operate_tells held k tree input c = asked_tells held (IsOperated k tree input c) (λ deeds did_so. failing_breaks_the_network.consumes did_so.request c deeds did_so.consumes)
 
 described_tells : (held : Option (List HeldFile)) (tree : Tree) → Telling held (TakesDescription tree)
 described_tells held tree seen status (is_taken a b is) = went held seen status tree is
@@ -315,6 +322,7 @@ does_tell held kinds (Consume k) =
     (λ content. then_tells held (ReadsTree k.description content) TakesDescription (tree_tells held k.description content) (described_tells held)))
     (λ tree. then_tells held (ReadsInput held k.input) (OperatesOn k tree) (input_tells held k.input)
     (λ input. then_tells held (Chooses tree (form_operation k.operation) k.name k.scheme) (Operates k tree input) (choose_tells held tree (form_operation k.operation) k.name k.scheme) (operate_tells held k tree input)))
+does_tell held kinds (Discover host port) = asked_tells held (Discovers (links_of host port)) (failing_breaks_the_network.discovers (links_of host port))
 
 commands_tell : (held : Option (List HeldFile)) (kinds : List Kind) (words : List (List ℕ)) → Telling held (Commands held kinds words)
 commands_tell held kinds words seen status (is_no_command none e) = ended held seen status 2 e.1 (omega arith, omega arith)

@@ -10,7 +10,7 @@ use Rattle.thing_handler.specs.Turns.{GrewBy, CountMisses, RackShows}
 use Rattle.thing_site.specs.Exposing.{kinds_of}
 use Rattle.command_words.specs.Grammar.{meaning_of}
 use Rattle.command_words.specs.declared.command.Command.{Command}
-use Rattle.command_words.specs.declared.command.Command.TheVariants.{Replay, Serve, Check, Derive, Consume, Storm}
+use Rattle.command_words.specs.declared.command.Command.TheVariants.{Replay, Serve, Check, Derive, Consume, Storm, Discover}
 use Rattle.servient_outside.specs.declared.files.HeldFile.{HeldFile}
 use Rattle.servient_outside.specs.declared.place.Place.{Place}
 use Rattle.servient_outside.specs.Network.{event_in, events_in}
@@ -120,6 +120,7 @@ quiet_command held kinds (Replay script plan events) is = absurd cc
 quiet_command held kinds (Serve plan events idle) is = absurd cc
 quiet_command held kinds (Storm seed events) is = absurd cc
 quiet_command held kinds (Consume consumption) is = absurd cc
+quiet_command held kinds (Discover host port) is = absurd cc
 
 quiet_words : (held : Option (List HeldFile)) (kinds : List Kind) (words : List (List ℕ)) (seen : List Deed) (o : Outcome (Unit {0})) → IsNoCommand words ⊎ (calls_nothing (meaning_of words) ≡ true)
     → Commands held kinds words seen o → IsUnseen seen
@@ -219,6 +220,7 @@ serving_settles held kinds (Derive plan) seen status is does = absurd cc
 serving_settles held kinds (Replay script plan events) seen status is does = absurd cc
 serving_settles held kinds (Storm seed events) seen status is does = absurd cc
 serving_settles held kinds (Consume consumption) seen status is does = absurd cc
+serving_settles held kinds (Discover host port) seen status is does = absurd cc
 
 words_settle : (held : Option (List HeldFile)) (kinds : List Kind) (words : List (List ℕ)) (seen : List Deed) (status : ℕ) → is_serving (meaning_of words) ≡ true → Commands held kinds words seen (ends status)
     → TookNothing seen ⊎ MayHaveServed status

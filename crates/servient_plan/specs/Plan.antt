@@ -1,11 +1,10 @@
 -- The plan: an object that says which Things a servient exposes, where, and with which handlers. Its format is the
 -- product's own; docs/PROFILE.md retells it. It is a table of rows, each a value or the pointer to its member, and the
 -- first row without a value is the fault: so a wrong entry of a list is a fault of the list, and one pass reads all.
-use Rattle.std.specs.Prelude.{◌≡◌, ◌≤◌, ℕ, pos, ◌==◌, ◌&&◌, ◌||◌, not, nat_le, nat_lt, Bool, true, false, List, [], ◌∷◌, ◌++◌, length, drop, codes, decimal, Option, Some, None, is_some, unwrap_or, option_map, option_and_then, Result, Ok, Err, if◌then◌else◌}
-use Rattle.std.specs.Char.{is_ascii_alphanumeric}
-use Rattle.std.specs.List.{list_all, position_or_len, before_first, after_first, starts_with}
+use Rattle.std.specs.Prelude.{◌≡◌, ◌≤◌, ℕ, pos, ◌==◌, ◌&&◌, ◌||◌, not, nat_le, nat_lt, Bool, true, false, List, [], ◌∷◌, ◌++◌, length, drop, codes, Option, Some, None, is_some, unwrap_or, option_map, option_and_then, Result, Ok, Err, if◌then◌else◌}
+use Rattle.std.specs.List.{list_all, starts_with}
 use Rattle.std.specs.Str.{bytes_eq}
-use Rattle.std.specs.Str.Parse.{digits_value}
+use Rattle.host_ports.specs.HostPorts.{point_in}
 use Rattle.wot_json.specs.Tree.{Json, integer, string, array, object, Elements, no_elements, element}
 use Rattle.wot_json.specs.Lookup.{member_list, member_named}
 use Rattle.wot_json.specs.Merge.{members_under}
@@ -31,33 +30,8 @@ is_reserved text =
 abbrev pub is_root_segment : List ℕ → Bool
 is_root_segment text = list_all is_name_byte text && nat_lt 0 (length text) && nat_le (length text) 64 && not (is_reserved text)
 
--- a host: 1 to 253 of A-Z a-z 0-9 . -
-abbrev pub is_host_byte : ℕ → Bool
-is_host_byte b = is_ascii_alphanumeric b || b == 46 || b == 45
-
-abbrev pub is_host : List ℕ → Bool
-is_host text = list_all is_host_byte text && nat_lt 0 (length text) && nat_le (length text) 253
-
--- a port: a number from 1 to 65,535 in decimal digits with no leading zero, which is to say the
--- spelling of its own value
-abbrev pub is_port : List ℕ → Bool
-is_port text =
-    nat_le 1 (digits_value 10 text) && nat_le (digits_value 10 text) 65535 && bytes_eq text (decimal (digits_value 10 text))
-
-abbrev pub port_in : List ℕ → Option ℕ
-port_in text = if is_port text then Some (digits_value 10 text) else None
-
-abbrev pub is_colon : ℕ → Bool
-is_colon b = b == 58
-
--- the host and the port of HOST:PORT
-abbrev pub point_in : List ℕ → Option (List ℕ × ℕ)
-point_in text =
-    if nat_lt (position_or_len is_colon text) (length text) && is_host (before_first is_colon text)
-    then option_map (λ port. (before_first is_colon text, port)) (port_in (after_first is_colon text)) else None
-
--- those of a base: a scheme with `://`, and then HOST:PORT; the port is always there, because forms are built from a
--- base as it is written
+-- the host and the port of a base: a scheme with `://`, and then HOST:PORT; the port is always there, because forms are
+-- built from a base as it is written
 abbrev pub base_point : List ℕ → List ℕ → Option (List ℕ × ℕ)
 base_point scheme text = if starts_with (λ a b. a == b) text scheme then point_in (drop (length scheme) text) else None
 

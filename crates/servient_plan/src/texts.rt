@@ -5,13 +5,10 @@ ghost use Rattle.std.specs.List.{list_all};
 ghost use Rattle.tm_derive.specs.Submodels as submodels;
 ghost use Rattle.servient_plan.specs.Plan as spec;
 
-use servient_base::parse_decimal;
+use host_ports::point_in;
 
 /// The most bytes of the segment of the root.
 const MOST_SEGMENT: usize = 64;
-
-/// The most bytes of a host (RFC 1035, section 2.3.4).
-const MOST_HOST: usize = 253;
 
 /// A member of a plan that is a text. `takes_text` of `specs/Plan.antt` is the table.
 #[derive(Clone, Copy, Debug)]
@@ -80,57 +77,6 @@ fn is_root_segment(text: &str) -> bool
         && !text.is_empty()
         && text.len() <= MOST_SEGMENT
         && !is_reserved(text)
-}
-
-/// A byte that a host may have.
-fn is_host_byte(byte: u8) -> bool
-    ensures { result ≡ spec.is_host_byte byte }
-{
-    byte.is_ascii_alphanumeric() || byte == b'.' || byte == b'-'
-}
-
-/// All bytes are such that a host may have.
-fn has_host_bytes(text: &[u8]) -> bool
-    ensures { result ≡ list_all spec.is_host_byte text.now }
-{
-    text.iter().all(|byte| is_host_byte(*byte))
-}
-
-/// The text is a host.
-fn is_host(text: &str) -> bool
-    ensures { result ≡ spec.is_host text.now }
-{
-    has_host_bytes(text.as_bytes()) && !text.is_empty() && text.len() <= MOST_HOST
-}
-
-/// The number of a port, where the text is one.
-fn port_in(text: &str) -> Option<u16>
-    ensures { result ≡ spec.port_in text.now }
-{
-    match parse_decimal(text, u64::from(u16::MAX)) {
-        Some(0) | None => None,
-        Some(port) => Some(port as u16),
-    }
-}
-
-/// The host and the port of HOST:PORT, where the text is that.
-fn point_in(text: &str) -> Option<(&str, u16)>
-    ensures { MatchOption result (spec.point_in text.now ≡ None) (λ p. spec.point_in text.now ≡ Some (p.0.now, p.1)) }
-{
-    match text.split_once(':') {
-        Some((host, port)) if is_host(host) => point_of(host, port_in(port)),
-        _ => None,
-    }
-}
-
-/// A host and its port, where it has one.
-fn point_of(host: &str, port: Option<u16>) -> Option<(&str, u16)>
-    ensures { MatchOption result (port ≡ None) (λ p. (p.0.now ≡ host.now) × (port ≡ Some p.1)) }
-{
-    match port {
-        Some(port) => Some((host, port)),
-        None => None,
-    }
 }
 
 /// The host and the port of a base with this scheme, where the text is one.

@@ -73,6 +73,11 @@ fn put_command(said: &mut String, command: &Command) -> Result<(), AllocError> {
         }
         Command::Consume(consumption) => put_consumption(said, consumption),
         Command::Storm { seed, events } => write!(said, "storm {seed} {events}"),
+        Command::Discover { host, port } => {
+            said.push_str("discover")?;
+            put_text(said, host)?;
+            write!(said, " {port}")
+        }
     }
 }
 

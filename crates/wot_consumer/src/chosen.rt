@@ -1,4 +1,4 @@
-//! What is chosen for an operation, and why nothing is.
+//! What is chosen for an operation, or asked of a server for its links, and why nothing is.
 
 use std::alloc::AllocError;
 use thing_ops::{Segments, Verb};
@@ -6,7 +6,7 @@ use thiserror::Error;
 use wot_forms::Scheme;
 use wot_json::Text;
 
-/// Where and how an operation is asked for.
+/// Where and how something is asked for: an operation, or the links of a server.
 #[derive(Debug, Drop)]
 pub struct Chosen {
     pub scheme: Scheme,

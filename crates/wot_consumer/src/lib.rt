@@ -3,7 +3,8 @@
 //!
 //! `choose` gives the first form that qualifies, as `IsChosen` of `specs/Choice.antt` says; `http_request` writes the
 //! request, `request_bytes` of `specs/Messages.antt`; `judge_input` and `judge_output` hold values against schemas,
-//! `AcceptsInput` and `AcceptsOutput` of `specs/Judgement.antt`. Nothing here knows a socket or a moment.
+//! `AcceptsInput` and `AcceptsOutput` of `specs/Judgement.antt`. And what it takes from the links of a server: which Things
+//! they lead to, `things_in`, as `SaysOfThings` of `specs/Discovery.antt` says. Nothing here knows a socket or a moment.
 //!
 //! ```text
 //! let chosen = choose(alloc, &tree, Op::WriteProperty, "status", Some(Scheme::Http))?;
@@ -16,11 +17,16 @@
 //! // Connection: close
 //! //
 //! // true
+//!
+//! let server = server_url(alloc, "lamp.local", 5683)?;
+//! let lines = things_in(alloc, server.as_str(), br#"</lamp>;rt="wot.thing",</x>"#)?;
+//! // Some("coap://lamp.local:5683/lamp\n")
 //! ```
 #![tactic(auto)]
 
 mod choice;
 mod chosen;
+mod discovery;
 mod judgement;
 mod messages;
 mod operations;
@@ -29,6 +35,7 @@ mod wanted;
 
 pub use choice::choose;
 pub use chosen::{ChooseFault, Chosen};
+pub use discovery::{links_request, server_url, things_in};
 pub use judgement::{judge_input, judge_output};
 pub use messages::http_request;
 pub use servient_base::NoMemory;

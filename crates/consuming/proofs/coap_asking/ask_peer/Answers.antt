@@ -1,17 +1,16 @@
 use Rattle.std.proofs.Common.{refl, arith}
 use Rattle.consuming.specs.Deeds.{sight}
 use Rattle.consuming.proofs.AskingLaws.{peer_asked, asked_too_long}
-use Rattle.consuming.proofs.ChoiceLaws.{choice_is_askable}
 use Rattle.consuming.proofs.coap_asking.ask_peer.Goals as goal
 
 pub send-requires-clause-askable : goal.send-requires-clause-askable
-send-requires-clause-askable g c = choice_is_askable c.args.task.now.operation c.args.task.now.chosen.now c.requires.choice c.requires.coap
+send-requires-clause-askable g c = c.requires.askable
 
 pub send-requires-clause-in_time : goal.send-requires-clause-in_time
 send-requires-clause-in_time g c = let client = c.requires.fresh.new.moment in let own = c.requires.fresh.moment in omega arith
 
 pub await_end-requires-clause-ready : goal.await_end-requires-clause-ready
-await_end-requires-clause-ready g c = (c.send.ensures.in_time, choice_is_askable c.args.task.now.operation c.args.task.now.chosen.now c.requires.choice c.requires.coap)
+await_end-requires-clause-ready g c = (c.send.ensures.in_time, c.requires.askable)
 
 pub returns-in-Ok : goal.returns-in-Ok
 returns-in-Ok g c =

@@ -15,10 +15,10 @@ returns-in-Reset-clause-follows g c = reset_follows _ _ c.args.self.now c.args.s
 
 pub returns-in-Answered-clause-follows : goal.returns-in-Answered-clause-follows
 returns-in-Answered-clause-follows g c =
-    news_follow c.args.task.now.operation c.args.task.now.chosen.now c.args.self.now c.follow_answer.new.self c.args.news (news.Answered c.in-Answered.code c.in-Answered.block2 c.in-Answered.payload) _ (sight (g.N.Net.seen c.args.net.now) (g.O.Out.seen c.args.out.now)) (sight (g.N.Net.seen c.follow_answer.new.net) (g.O.Out.seen c.follow_answer.new.out)) _
+    news_follow c.args.task.now.purpose c.args.task.now.chosen.now c.args.self.now c.follow_answer.new.self c.args.news (news.Answered c.in-Answered.code c.in-Answered.block2 c.in-Answered.payload) _ (sight (g.N.Net.seen c.args.net.now) (g.O.Out.seen c.args.out.now)) (sight (g.N.Net.seen c.follow_answer.new.net) (g.O.Out.seen c.follow_answer.new.out)) _
     c.in-Answered.is c.follow_answer.ensures.follows
 
 pub returns-in-Value-clause-follows : goal.returns-in-Value-clause-follows
 returns-in-Value-clause-follows g c =
-    news_follow c.args.task.now.operation c.args.task.now.chosen.now c.args.self.now c.follow_value.new.self c.args.news (news.Value c.in-Value.payload) _ (sight (g.N.Net.seen c.args.net.now) (g.O.Out.seen c.args.out.now)) (sight (g.N.Net.seen c.follow_value.new.net) (g.O.Out.seen c.follow_value.new.out)) _
+    news_follow c.args.task.now.purpose c.args.task.now.chosen.now c.args.self.now c.follow_value.new.self c.args.news (news.Value c.in-Value.payload) _ (sight (g.N.Net.seen c.args.net.now) (g.O.Out.seen c.args.out.now)) (sight (g.N.Net.seen c.follow_value.new.net) (g.O.Out.seen c.follow_value.new.out)) _
     c.in-Value.is c.follow_value.ensures.follows

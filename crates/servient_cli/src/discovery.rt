@@ -1,0 +1,30 @@
+//! `discover HOST:PORT`: which Things a server has.
+
+ghost use Rattle.std.specs.Prelude.{List};
+ghost use Rattle.thing_handler.specs.Handler.{Seen};
+ghost use Rattle.servient_outside.specs.Files.{FilesSeen};
+ghost use Rattle.servient_core.specs.Trace.{outside};
+ghost use Rattle.servient_cli.specs.Stages.{around};
+ghost use Rattle.servient_cli.specs.Consuming.{EndsPrinting};
+ghost use Rattle.servient_cli.specs.Discovering.{DiscoversThings};
+
+use crate::consumption::end_of;
+use crate::ending::{Ended, Ending};
+use consuming::discover;
+use servient_outside::{Net, Out};
+use std::alloc::Global;
+
+/// Asks the server at this host and port for its links, and prints the URLs of its Things.
+pub fn discover_things<N: Net, O: Out>(
+    alloc: Global,
+    host: &str,
+    port: u16,
+    net: &mut N,
+    out: &mut O,
+) -> Result<Ending, Ended>
+    ensures { (files : FilesSeen) → (slots : List Seen) → EndsPrinting (DiscoversThings host.now port)
+        (around files (outside (N.seen net.old) slots)) (around files (outside (N.seen net.new) slots))
+        (O.seen out.old) (O.seen out.new) result }
+{
+    end_of(alloc, discover(alloc, host, port, net, out))
+}

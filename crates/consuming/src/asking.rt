@@ -42,9 +42,10 @@ pub fn consume<N: Net, O: Out>(
     ensures { Shows (λ deeds. Consumes operation.now chosen.now deeds result)
         (sight (N.seen net.old) (O.seen out.old)) (sight (N.seen net.new) (O.seen out.new)) (put_of result) }
 {
+    let purpose = Purpose::Operation(*operation);
     let task = Task {
         alloc,
-        purpose: Purpose::Operation(*operation),
+        purpose,
         chosen,
     };
     match judge_input(

@@ -160,13 +160,8 @@ consumed_no_memory o c a = record { deeds = []; holds = whole.input_memory refl 
 pub discovered_nothing : (c : Chosen) (a : Sight) → Shows (λ deeds. Discovers c deeds ended.NoMemory) a a put.Done
 discovered_nothing c a = record { deeds = []; holds = whole.discovery_memory refl refl; shows = shows_none a }
 
-pub discovered : (c : Chosen) (server : Bor (List ℕ)) (host text : List ℕ) (r : Consumed) (a b : Sight) (p : Put) → host ≡ c.host → text ≡ server_url host c.port → server.now ≡ text → Shows (λ deeds. AsksByCoap (purpose.Discovery server) c None deeds r) a b p
-    → Shows (λ deeds. Discovers c deeds r) a b p
-discovered c server host text r a b p at_host url same asks = record {
-  deeds = asks.deeds;
-  holds = whole.has_asked server (same ∙ url ∙ ap (λ (x : List ℕ). server_url x c.port) at_host) asks.holds;
-  shows = asks.shows;
-}
+pub discovered : (c : Chosen) (server : Bor (List ℕ)) (r : Consumed) (a b : Sight) (p : Put) → server.now ≡ server_url c.host c.port → Shows (λ deeds. AsksByCoap (purpose.Discovery server) c None deeds r) a b p → Shows (λ deeds. Discovers c deeds r) a b p
+discovered c server r a b p url asks = record { deeds = asks.deeds; holds = whole.has_asked server url asks.holds; shows = asks.shows }
 
 pub discovered_at : (c d : Chosen) (r : Consumed) (a b : Sight) (p : Put) → c ≡ d → Shows (λ deeds. Discovers c deeds r) a b p → Shows (λ deeds. Discovers d deeds r) a b p
 discovered_at c d r a b p is shown = record { deeds = shown.deeds; holds = subst (λ (x : Chosen). Discovers x shown.deeds r) is shown.holds; shows = shown.shows }

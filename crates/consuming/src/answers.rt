@@ -111,12 +111,7 @@ fn judge(task: &Task<'_>, status: Status, payload: Bytes) -> Verdict
 }
 
 /// What an answer of success to an operation comes to, with this payload.
-fn judge_value(
-    alloc: Global,
-    operation: &Operation<'_>,
-    status: Status,
-    payload: Bytes,
-) -> Verdict
+fn judge_value(alloc: Global, operation: &Operation<'_>, status: Status, payload: Bytes) -> Verdict
     requires { CanBeAsked operation.now }
     ensures { ValueComesTo operation.now status payload result }
 {

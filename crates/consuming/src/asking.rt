@@ -42,9 +42,10 @@ pub fn consume<N: Net, O: Out>(
     ensures { Shows (λ deeds. Consumes operation.now chosen.now deeds result)
         (sight (N.seen net.old) (O.seen out.old)) (sight (N.seen net.new) (O.seen out.new)) (put_of result) }
 {
+    let purpose = Purpose::Operation(*operation);
     let task = Task {
         alloc,
-        purpose: Purpose::Operation(*operation),
+        purpose,
         chosen,
     };
     match judge_input(
@@ -61,12 +62,7 @@ pub fn consume<N: Net, O: Out>(
 }
 
 /// Asks with the text of the value that is handed in, or with none.
-fn ask<N: Net, O: Out>(
-    task: &Task<'_>,
-    input: Option<&Tree>,
-    net: &mut N,
-    out: &mut O,
-) -> Consumed
+fn ask<N: Net, O: Out>(task: &Task<'_>, input: Option<&Tree>, net: &mut N, out: &mut O) -> Consumed
     requires asked { CanBeJudged task.now.purpose }
     requires askable { task.now.chosen.now.scheme ≡ scheme.Coap → IsAskable task.now.chosen.now }
     ensures { Shows (λ deeds. AsksOrNot task.now.purpose task.now.chosen.now

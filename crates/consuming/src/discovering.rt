@@ -1,6 +1,7 @@
 //! Which Things a server has: it is asked for its links (RFC 6690).
 
-ghost use Rattle.wot_consumer.specs.Discovery.{links_of};
+ghost use Rattle.std.specs.Prelude.{◌≡◌};
+ghost use Rattle.wot_consumer.specs.Discovery.{links_of, server_url as url_of_server};
 ghost use Rattle.consuming.specs.Deeds.{put_of, sight, Shows};
 ghost use Rattle.consuming.specs.Asking.{IsAskable};
 ghost use Rattle.consuming.specs.Consuming.{Discovers};
@@ -42,14 +43,29 @@ fn ask_for_links<N: Net, O: Out>(
         (sight (N.seen net.old) (O.seen out.old)) (sight (N.seen net.new) (O.seen out.new)) (put_of result) }
 {
     match server_url(alloc, request.host.as_str(), request.port) {
-        Ok(server) => {
-            let task = Task {
-                alloc,
-                purpose: Purpose::Discovery(server.as_str()),
-                chosen: request,
-            };
-            ask_by_coap(&task, None, net, out)
-        }
+        Ok(server) => ask_server(alloc, request, server.as_str(), net, out),
         Err(_) => Consumed::NoMemory,
     }
+}
+
+/// Asks the server with this URL for its links.
+fn ask_server<'a, N: Net, O: Out>(
+    alloc: Global,
+    request: &'a Chosen,
+    server: &'a str,
+    net: &mut N,
+    out: &mut O,
+) -> Consumed
+    requires askable { IsAskable request.now }
+    requires server { server.now ≡ url_of_server request.now.host request.now.port }
+    ensures { Shows (λ deeds. Discovers request.now deeds result)
+        (sight (N.seen net.old) (O.seen out.old)) (sight (N.seen net.new) (O.seen out.new)) (put_of result) }
+{
+    let purpose = Purpose::Discovery(server);
+    let task = Task {
+        alloc,
+        purpose,
+        chosen: request,
+    };
+    ask_by_coap(&task, None, net, out)
 }

@@ -89,11 +89,5 @@ fn is_taken(
     if is_created(status) {
         return Ok(true);
     }
-    judge_output(
-        alloc,
-        operation.tree,
-        operation.op,
-        operation.name,
-        value,
-    )
+    judge_output(alloc, operation.tree, operation.op, operation.name, value)
 }

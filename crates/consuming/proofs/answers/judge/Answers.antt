@@ -1,6 +1,6 @@
-use Rattle.std.proofs.Common.{subst, sym}
+use Rattle.std.proofs.Common.{ℕ, List, subst, sym}
 use Rattle.consuming.specs.declared.purpose.Purpose.{Purpose}
-use Rattle.consuming.specs.Answers.{CanBeJudged, SucceedsAs}
+use Rattle.consuming.specs.Answers.{CanBeJudged, LinksComeTo, SucceedsAs}
 use Rattle.consuming.proofs.answers.judge.Goals as goal
 
 pub judge_value-requires : goal.judge_value-requires
@@ -10,4 +10,6 @@ pub returns-in-Operation : goal.returns-in-Operation
 returns-in-Operation c = subst (λ (p : Purpose). SucceedsAs p c.args.status c.args.payload c.judge_value.result) (sym c.in-Operation.is) c.judge_value.ensures
 
 pub returns-in-Discovery : goal.returns-in-Discovery
-returns-in-Discovery c = subst (λ (p : Purpose). SucceedsAs p c.args.status c.args.payload c.judge_links.result) (sym c.in-Discovery.is) (subst (λ x. SucceedsAs _ c.args.status x c.judge_links.result) c.as_slice.ensures c.judge_links.ensures)
+returns-in-Discovery c =
+    subst (λ (p : Purpose). SucceedsAs p c.args.status c.args.payload c.judge_links.result) (sym c.in-Discovery.is)
+    (subst (λ (x : List ℕ). LinksComeTo c.in-Discovery.server.now x c.judge_links.result) c.as_slice.ensures c.judge_links.ensures)

@@ -1,11 +1,11 @@
+use Rattle.std.proofs.Common.{◌∙◌, ℕ, List, ap}
+use Rattle.wot_consumer.specs.Discovery.{server_url}
 use Rattle.consuming.specs.Deeds.{sight}
-use Rattle.consuming.proofs.AskingLaws.{discovered, discovered_nothing}
+use Rattle.consuming.proofs.AskingLaws.{discovered_nothing}
 use Rattle.consuming.proofs.discovering.ask_for_links.Goals as goal
 
-pub returns-in-Ok : goal.returns-in-Ok
-returns-in-Ok g c =
-    discovered c.args.request.now _ _ _ _ (sight (g.N.Net.seen c.args.net.now) (g.O.Out.seen c.args.out.now)) (sight (g.N.Net.seen c.ask_by_coap.new.net) (g.O.Out.seen c.ask_by_coap.new.out)) _ c.as_str.ensures c.in-Ok.ensures c.as_str-in-Ok.ensures
-    c.ask_by_coap.ensures
+pub ask_server-requires-clause-server : goal.ask_server-requires-clause-server
+ask_server-requires-clause-server g c = c.as_str-in-Ok.ensures ∙ c.in-Ok.ensures ∙ ap (λ (host : List ℕ). server_url host c.args.request.now.port) c.as_str.ensures
 
 pub returns-in-Err : goal.returns-in-Err
 returns-in-Err g c = discovered_nothing _ (sight (g.N.Net.seen c.args.net.now) (g.O.Out.seen c.args.out.now))

@@ -164,3 +164,12 @@ returns-clause-complete g c = λ fine kept.
 pub returns-clause-output : goal.returns-clause-output
 returns-clause-output g c =
     refusal_failed (g.O.Out.seen c.args.out.now) (g.O.Out.seen c.report-in-Err.new.out) c.in-Err.fault c.from.result (text_of c.from.result) c.report-in-Err.result c.from.ensures c.report-in-Err.ensures.reported
+
+pub returns-clause-discovery : goal.returns-clause-discovery
+returns-clause-discovery g c =
+    let before = around (g.F.Files.seen c.args.files.now) (outside (g.N.Net.seen c.args.net.now) (g.R.Handlers.slots c.args.rack.now)) in
+    let out = g.O.Out.seen c.args.out.now in
+    let out_now = g.O.Out.seen c.report-in-Err.new.out in
+    let result = c.report-in-Err.result in
+    let whole = refusal_ends c.args.words.now before out out_now c.in-Err.fault c.from.result result c.in-Err.ensures c.from.ensures c.report-in-Err.ensures.reported c.report-in-Err.ensures.no_failure in
+    discovery_ends c.args.words.now before before out out_now result whole

@@ -1,20 +1,24 @@
 //! The servient of a plan, and what one event does.
 
-ghost use Rattle.std.specs.Prelude.{◌≡◌, ◌≤◌, ◌<◌, [], length, IfOk, IfErr, OnOk};
+ghost use Rattle.std.specs.Prelude.{◌≡◌, ◌≤◌, ◌<◌, [], true, length, IfOk, IfErr, OnOk};
 ghost use Rattle.std.specs.List.{AllByRecursion};
 ghost use Rattle.servient_base.specs.Moves.{Refines};
+ghost use Rattle.tm_derive.specs.Submodels.{is_plain_segment};
 ghost use Rattle.wot_terms.specs.Faults.{IsValid};
 ghost use Rattle.thing_site.specs.Site.{site_of, expose_faults};
 ghost use Rattle.thing_site.specs.Exposing.{kinds_of};
 ghost use Rattle.thing_site.specs.Fits.{Fits};
 ghost use Rattle.servient_outside.specs.Network.{byte_count, IsEvent};
 ghost use Rattle.servient_core.specs.Trace.{Shows, outside};
+ghost use Rattle.core_links.specs.Links.{IsLinkText};
+ghost use Rattle.servient_core.specs.Links.{links_to, segments_of};
 ghost use Rattle.servient_core.specs.Machine.{start, Step};
 ghost use Rattle.servient_core.specs.Serving.{StandsFor, IsOpenFault};
 
 use crate::capacity::MOST_WATCHERS;
 use crate::connections::Rooms;
 use crate::layers::Layers;
+use crate::links::text_of_links;
 use crate::{Event, Net, Plan};
 use coap_bind::CoapBind;
 use directory_requests::DirectoryServer;
@@ -83,17 +87,21 @@ impl Servient {
         rack: &R,
     ) -> Result<Servient, OpenFault>
         requires valid { AllByRecursion (λ t. IsValid t.1) things }
+        requires plain { AllByRecursion (λ t. is_plain_segment t.0 ≡ true) things }
         requires least { 16 ≤ plan.now.exchanges }
         requires most { plan.now.exchanges ≤ 65536 }
         ensures site { IfOk result (λ s. s.exposed.site ≡ site_of plan.now.slots things) }
         ensures start { IfOk result (λ s. StandsFor s (start s.exposed.site plan.now.exchanges)) }
+        // Its links are a link text, with a link to each Thing in order.
+        ensures links { IfOk result (λ s. IsLinkText s.coap.links (links_to (segments_of s.exposed.site))) }
         ensures faultless { OnOk result (expose_faults (kinds_of (R.slots rack.now)) plan.now.slots things ≡ []) }
         ensures fits { IfOk result (λ s. Fits s.exposed.site (R.slots rack.now)) }
         ensures fault { IfErr result (λ fault. IsOpenFault (expose_faults (kinds_of (R.slots rack.now)) plan.now.slots things) fault) }
     {
         let rooms = Rooms::new(alloc)?;
         let http = HttpBind::new(alloc)?;
-        let coap = CoapBind::new(alloc, plan.exchanges, MOST_WATCHERS)?;
+        let mut coap = CoapBind::new(alloc, plan.exchanges, MOST_WATCHERS)?;
+        coap.set_links(text_of_links(alloc, things.as_slice())?);
         let exposed = match Exposed::new(alloc, things, &plan.slots, rack) {
             Ok(exposed) => exposed,
             Err(fault) => return Err(OpenFault::Expose(fault)),

@@ -3,7 +3,7 @@
 ghost use Rattle.std.specs.Prelude.{◌≡◌, ◌⊎◌, ◌++◌, ◌∷◌, [], true, codes, IfOk, OnErr, OnOk};
 ghost use Rattle.wot_json.specs.Meaning.{json_of};
 ghost use Rattle.wot_json.specs.Merge.{members_under};
-ghost use Rattle.servient_plan.specs.Plan.{plan_of, place_of, Reads, HasFewExchanges};
+ghost use Rattle.servient_plan.specs.Plan.{plan_of, place_of, Reads, MayBeServed};
 ghost use Rattle.servient_plan.specs.Plan as spec;
 ghost use Rattle.tm_derive.specs.Submodels.{is_plain_segment};
 
@@ -144,8 +144,7 @@ impl Plan {
     #[tactic(auto, using(crate::proofs::PlanLaws::refused_there, crate::proofs::PlanLaws::goes_on_there))]
     pub fn read(alloc: Global, tree: &Tree) -> Result<Plan, PlanFault>
         ensures reads { Reads result (plan_of (json_of tree.now)) }
-        ensures exchanges { IfOk result HasFewExchanges }
-        ensures segment { IfOk result (λ plan. is_plain_segment plan.frame.segment ≡ true) }
+        ensures served { IfOk result MayBeServed }
     {
         if !is_object(tree) {
             return Err(PlanFault::At(Text::copy_of(alloc, "")?));

@@ -297,7 +297,7 @@ pub data Reads (from : Endpoint) (now : ℕ) (m : CoapMessage) (slot : ℕ) (hea
   -- it is a GET for the links, which are given
   gives_links : (bytes : List ℕ) → faults_of m.options ≡ [] → wanted_in m ≡ wanted.Act → asks_links m ≡ true → m.code ≡ GET
       → Replies (links_reply (size_asked (observing_in m) (what_is_asked m)) s.links) (opened m slot) bytes
-        (links_given from now m.token (observing_in m) (what_is_asked m) s) t
+      (links_given from now m.token (observing_in m) (what_is_asked m) s) t
       → heard ≡ answered_at_once bytes → Reads from now m slot heard s t
   -- it is asked
   asks : faults_of m.options ≡ [] → wanted_in m ≡ wanted.Act → asks_links m ≡ false → heard ≡ asked (what_is_asked m) (opened_ask from now m slot) → t ≡ s

@@ -109,7 +109,7 @@ IsOpenAfter (read.AsksWhole ask ticket place) s = MayAnswer ticket s
 pub data AnswersLinks (a : Arrived) (request : OpenRequest) (what : PlainAsk) (n : ℕ) (old new : List ℕ) (s t : Server) : Type 0 where
   gives : a.code ≡ GET
       → RepliesAs (links_reply (size_asked (observing_of a.code what.observe) what) s.links) request n old new
-        (links_given a.from a.now request.head.token (observing_of a.code what.observe) what s) t
+      (links_given a.from a.now request.head.token (observing_of a.code what.observe) what s) t
       → AnswersLinks a request what n old new s t
   refuses : a.code ≢ GET → RepliesAs method_reply request n old new s t → AnswersLinks a request what n old new s t
 

@@ -178,7 +178,14 @@ pub fn is_links_path(path: &Segments) -> bool
 fn are_well_known_core(first: &[u8], second: &[u8]) -> bool
     ensures { result ≡ (bytes_eq second.now (codes "core") && bytes_eq first.now (codes ".well-known")) }
 {
-    second == b"core" && first == b".well-known"
+    is(second, b"core") && is(first, b".well-known")
+}
+
+/// The segment is this word.
+fn is(segment: &[u8], word: &[u8]) -> bool
+    ensures { result ≡ bytes_eq segment.now word.now }
+{
+    segment == word
 }
 
 /// Whether a text of this length is kept, where a block of this size was asked for, or none.

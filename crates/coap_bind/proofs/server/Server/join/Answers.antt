@@ -35,8 +35,8 @@ returns-clause-ok c =
     λ m r joining. treat_added c.args.arrived c.args.request (plain_ask c.args.ask) m c.args.block answer.Full _ c.add.new.self c.refuse-in-Full.result _ _ c.args.self.now _ refl
     c.in-Full.ensures.joined c.refuse-in-Full.ensures r joining
 
-pub returns-in-Complete-then-is_links_path-clause-ok : goal.returns-in-Complete-then-is_links_path-clause-ok
-returns-in-Complete-then-is_links_path-clause-ok c =
+pub returns-then-is_links_path-clause-ok : goal.returns-then-is_links_path-clause-ok
+returns-then-is_links_path-clause-ok c =
     λ m r joining. treat_no_body c.args.arrived c.args.request (plain_ask c.args.ask) m c.args.block c.in-Complete.place c.add.new.self c.refuse_whole.result _ _ c.args.self.now _
     c.in-Complete.ensures.joined (sym c.is_links_path.ensures ∙ c.if-is_links_path.true) c.refuse_whole.ensures r joining
 

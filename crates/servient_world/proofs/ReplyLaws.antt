@@ -25,7 +25,6 @@ use Rattle.coap_bind.specs.declared.blocks.BlockUse.TheVariants as blocks
 use Rattle.coap_bind.specs.declared.observing.Observing.{Observing}
 use Rattle.coap_bind.specs.declared.observing.Observing.TheVariants as observing
 use Rattle.coap_blocks.specs.Bodies.{longest_body}
-use Rattle.coap_bind.specs.declared.links.TheConstants.{LINK_FORMAT}
 use Rattle.coap_bind.specs.Links.{links_content, links_reply}
 use Rattle.coap_bind.specs.Blocks.{content_format, content_reply, given_portion, block2_of, use_of, with_block, option_of, portion_of, most_bytes, reply_with, answer_reply}
 use Rattle.coap_bind.specs.Server.{observing_in}
@@ -100,15 +99,15 @@ answer_unnumbered u o =
 
 -- ---- the links
 
-block_unnumbered : (b : Option BlockOption) → sequence_of (with_block b (content_format (Some LINK_FORMAT))) ≡ None
-block_unnumbered None = refl
-block_unnumbered (Some (option.Block1 b)) = refl
-block_unnumbered (Some (option.Block2 b)) = refl
+block_unnumbered : (format : ℕ) (b : Option BlockOption) → sequence_of (with_block b (content_format (Some format))) ≡ None
+block_unnumbered format None = refl
+block_unnumbered format (Some (option.Block1 b)) = refl
+block_unnumbered format (Some (option.Block2 b)) = refl
 
 links_unnumbered_at : (long : Bool) (szx : Option ℕ) (text : List ℕ)
     → sequence_of (reply_options (cond long long_reply (content_reply (given_portion szx text) (links_content text)))) ≡ None
 links_unnumbered_at true szx text = refl
-links_unnumbered_at false szx text = block_unnumbered (given_portion szx text).block
+links_unnumbered_at false szx text = block_unnumbered 40 (given_portion szx text).block
 
 -- a reply with the links has no Observe
 pub links_unnumbered : (szx : Option ℕ) (text : List ℕ) → sequence_of (reply_options (links_reply szx text)) ≡ None

@@ -1,17 +1,22 @@
 -- The links to the Things: their text as it is written, and that it is read back.
-use Rattle.std.proofs.Common.{◌≡◌, ◌∙◌, ℕ, ◌<◌, List, [], ◌∷◌, ◌++◌, map, Bool, true, false, ◌&&◌, refl, sym, ap, subst, append_assoc, arith}
+use Rattle.std.proofs.Common.{◌≡◌, ◌∙◌, ℕ, ◌+◌, ◌<◌, List, [], ◌∷◌, ◌++◌, map, length, drop, get_or, Bool, true, false, ◌&&◌, refl, sym, ap, subst, append_assoc, add-one, drop-cons, arith}
 use Rattle.std.specs.Prelude.{◌||◌, ◌==◌, codes}
-use Rattle.std.specs.List.{AllByRecursion, list_all}
+use Rattle.std.specs.List.{AllByRecursion, flat_map, list_all}
 use Rattle.std.proofs.lemmas.Bool.{and_parts}
 use Rattle.std.proofs.lemmas.Bool.Decides.{nat_tests}
 use Rattle.wot_json.specs.Tree.{Json}
 use Rattle.core_links.specs.Links.{IsLinkText, is_target_byte}
-use Rattle.core_links.specs.Writing.{CanBeWritten, is_link, link_text}
+use Rattle.core_links.specs.Writing.{CanBeWritten, further_text, is_link, link_text}
 use Rattle.core_links.proofs.ReadsBack.{text_is, read_back}
-use Rattle.tm_derive.specs.Submodels.{is_name_byte, is_plain_segment, is_segment_byte}
+use Rattle.tm_derive.specs.Segments.{is_plain_segment, is_segment_byte}
+use Rattle.tm_derive.specs.Submodels.{is_name_byte}
 use Rattle.thing_site.specs.Site.{Site, Slots, exposed, site_of}
 use Rattle.wot_terms.specs.declared.thing.Thing.{Thing}
 use Rattle.wot_terms.specs.ThingLists.{kept_things, segments_in}
+use Rattle.coap_bind.specs.declared.server.Server.{Server}
+use Rattle.coap_bind.specs.Server.{start as nothing_came, with_links}
+use Rattle.servient_core.specs.declared.capacity.TheConstants.{MOST_WATCHERS}
+use Rattle.servient_core.specs.Machine.{start}
 use Rattle.servient_core.specs.Links.{LinksNameEachThing, link_to, links_to, segments_of, text_of_links}
 
 -- ---- the text as it is put
@@ -19,6 +24,18 @@ use Rattle.servient_core.specs.Links.{LinksNameEachThing, link_to, links_to, seg
 pub link_put : (old segment : List ℕ) → ((old ++ codes "</") ++ segment) ++ codes ">;rt=\"wot.thing\";ct=432" ≡ old ++ link_text (link_to segment)
 link_put old segment =
     append_assoc (old ++ codes "</") segment (codes ">;rt=\"wot.thing\";ct=432") ∙ append_assoc old (codes "</") (segment ++ codes ">;rt=\"wot.thing\";ct=432")
+
+left_at : (list : List Thing) (i : ℕ) (t : Thing) → i < length list → t ≡ get_or list i t → drop i list ≡ t ∷ drop (i + 1) list
+left_at list i t within is = (rw (add-one, drop-cons list i t)) ∙ ap (λ (y : Thing). y ∷ drop (i + 1) list) (sym is)
+
+-- a link more
+pub further_more : (list : List Thing) (i : ℕ) (t : Thing) (text more whole : List ℕ) → i < length list → t ≡ get_or list i t
+    → text ++ flat_map further_text (links_to (segments_in (drop i list))) ≡ whole → more ≡ text ++ further_text (link_to t.segment)
+    → more ++ flat_map further_text (links_to (segments_in (drop (i + 1) list))) ≡ whole
+further_more list i t text more whole within is so_far put =
+    let rest : List ℕ = flat_map further_text (links_to (segments_in (drop (i + 1) list))) in
+    ap (λ (x : List ℕ). x ++ rest) put ∙ append_assoc text (further_text (link_to t.segment)) rest
+    ∙ ap (λ (ts : List Thing). text ++ flat_map further_text (links_to (segments_in ts))) (sym (left_at list i t within is)) ∙ so_far
 
 -- ---- it can be written
 
@@ -53,6 +70,12 @@ pub segments_same : (slots : Slots) (list : List Thing) (things : List (List ℕ
     → segments_in list ≡ segments_of site
 segments_same slots list things site kept is =
     segments_are slots list ∙ ap (λ (ts : List (List ℕ × Json)). segments_of (site_of slots ts)) kept ∙ sym (ap segments_of is)
+
+-- the CoAP server is that with which the machine begins
+pub coap_starts : (slots : Slots) (list : List Thing) (things : List (List ℕ × Json)) (site : Site) (exchanges : ℕ) (coap : Server) → kept_things list ≡ things → site ≡ site_of slots things
+    → coap ≡ with_links (text_of_links (segments_in list)) (nothing_came exchanges MOST_WATCHERS) → (start site exchanges).coap ≡ coap
+coap_starts slots list things site exchanges coap kept is coap_is =
+    ap (λ (ss : List (List ℕ)). with_links (text_of_links ss) (nothing_came exchanges MOST_WATCHERS)) (sym (segments_same slots list things site kept is)) ∙ sym coap_is
 
 plain_segments : (slots : Slots) (things : List (List ℕ × Json)) → AllByRecursion (λ t. is_plain_segment t.0 ≡ true) things
     → AllByRecursion (λ s. is_plain_segment s ≡ true) (segments_of (site_of slots things))

@@ -9,7 +9,7 @@ use Rattle.core_links.specs.declared.reading.LinkFault.{LinkFault}
 use Rattle.core_links.specs.declared.reading.LinkFault.TheVariants.{NoMemory}
 use Rattle.core_links.specs.Links.{ReadsLinks}
 use Rattle.core_links.specs.Writing.{links_text}
-use Rattle.tm_derive.specs.Submodels.{is_plain_segment}
+use Rattle.tm_derive.specs.Segments.{is_plain_segment}
 use Rattle.thing_site.specs.Site.{Site}
 
 abbrev pub param : List ℕ → List ℕ → Param

@@ -3,13 +3,12 @@ use Rattle.std.proofs.Common.{◌≡◌, ◌∙◌, ℕ, ◌<◌, List, [], ◌�
 use Rattle.std.specs.Prelude.{◌||◌, ◌==◌, IfOk, nat_lt, nat_le, not, if◌then◌else◌}
 use Rattle.std.specs.List.{list_all}
 use Rattle.std.proofs.lemmas.Bool.{and_parts}
-use Rattle.wot_json.specs.Tree.{Json}
-use Rattle.wot_json.specs.Lookup.{member_named}
-use Rattle.tm_derive.specs.Submodels.{is_name_byte, is_plain_segment, is_segment_byte}
+use Rattle.tm_derive.specs.Segments.{is_plain_segment, is_segment_byte}
+use Rattle.tm_derive.specs.Submodels.{is_name_byte}
 use Rattle.servient_plan.specs.declared.plan.PlanFault.{PlanFault}
 use Rattle.servient_plan.specs.declared.plan.PlanFault.TheVariants.{At, NoMemory}
 use Rattle.servient_plan.specs.declared.texts.TextRow.{TextRow}
-use Rattle.servient_plan.specs.Plan.{Reads, is_reserved, is_root_segment, member_of, row_of, taken_text, takes_text, text_in, text_row}
+use Rattle.servient_plan.specs.Plan.{Reads, is_reserved, is_root_segment, row_of, taken_text, takes_text}
 
 -- ---- a text that was taken
 
@@ -27,11 +26,12 @@ row_is : (name : List ℕ) (value : Option (List ℕ)) (t : List ℕ) → row_of
 row_is name None t is = absurd (cc)
 row_is name (Some value) t is = cc
 
--- a member that was read is such as its row takes
-pub is_taken : (r : TextRow) (ms : List (List ℕ × Json)) (result : Result (List ℕ) PlanFault) → Reads result (text_row r ms) → IfOk result (λ text. takes_text r text ≡ true)
-is_taken r ms (Ok t) is = taken_is r (text_in (member_named (member_of r) ms)) t (row_is (member_of r) (taken_text r (text_in (member_named (member_of r) ms))) t is)
-is_taken r ms (Err (At p)) is = tt
-is_taken r ms (Err NoMemory) is = tt
+-- what a row reads of a text that may be taken is such as it takes
+pub is_taken : (r : TextRow) (name : List ℕ) (found value : Option (List ℕ)) (result : Result (List ℕ) PlanFault) → value ≡ taken_text r found → Reads result (row_of name value)
+    → IfOk result (λ text. takes_text r text ≡ true)
+is_taken r name found value (Ok t) taken is = taken_is r found t (sym taken ∙ row_is name value t is)
+is_taken r name found value (Err (At p)) taken is = tt
+is_taken r name found value (Err NoMemory) taken is = tt
 
 -- ---- the segment of the root
 

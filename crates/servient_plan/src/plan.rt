@@ -5,7 +5,7 @@ ghost use Rattle.wot_json.specs.Meaning.{json_of};
 ghost use Rattle.wot_json.specs.Merge.{members_under};
 ghost use Rattle.servient_plan.specs.Plan.{plan_of, place_of, Reads, MayBeServed};
 ghost use Rattle.servient_plan.specs.Plan as spec;
-ghost use Rattle.tm_derive.specs.Submodels.{is_plain_segment};
+ghost use Rattle.tm_derive.specs.Segments.{is_plain_segment};
 
 use crate::texts::{TextRow, base_point};
 use crate::values::{

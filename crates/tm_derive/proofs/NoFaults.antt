@@ -21,7 +21,8 @@ use Rattle.tm_resolve.specs.declared.fault.ResolveFault.{ResolveFault}
 use Rattle.wot_terms.specs.Faults.{faults_of, IsValid}
 use Rattle.tm_derive.specs.Given.{Choice, Given, most_below}
 use Rattle.tm_derive.specs.Optional.{is_among}
-use Rattle.tm_derive.specs.Submodels.{allowed_name, below, child_name, children_from, instance_name, is_name_byte, is_plain_segment, is_segment_byte, link_child, link_faults, link_kind, may_name, name_faults, named_child, segments_of, submodel_faults, target_faults}
+use Rattle.tm_derive.specs.Submodels.{allowed_name, below, child_name, children_from, instance_name, is_name_byte, link_child, link_faults, link_kind, may_name, name_faults, named_child, segments_of, submodel_faults, target_faults}
+use Rattle.tm_derive.specs.Segments.{is_plain_segment, is_segment_byte}
 use Rattle.tm_derive.specs.Derivation.{Outcome, Things, all_faults, children, choosing_faults, derived, invalid_fault, outcome, outcomes, outcomes_within, root_place, submodels, thing_faults, thing_of, thing_tree, things_or_fault, tree_faults, tree_of, unbound_faults, unless_faulty}
 use Rattle.tm_derive.specs.declared.frame.Frame.{Frame}
 use Rattle.tm_derive.specs.declared.place.Place.{Place}

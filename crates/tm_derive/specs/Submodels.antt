@@ -33,13 +33,6 @@ is_name_byte b = is_ascii_alphanumeric b || b == 46 || b == 95 || b == 45
 abbrev pub below : List ℕ → List ℕ → List ℕ
 below above name = above ++ codes "~" ++ name
 
--- a segment of bytes that a URL has as they are (RFC 3986, section 2.3): those of instance names, and the `~` before them
-abbrev pub is_segment_byte : ℕ → Bool
-is_segment_byte b = is_name_byte b || b == 126
-
-abbrev pub is_plain_segment : List ℕ → Bool
-is_plain_segment segment = list_all is_segment_byte segment
-
 -- a Thing of this segment may have an instance of this name
 abbrev pub may_name : List ℕ → List ℕ → Bool
 may_name segment name =

@@ -7,7 +7,7 @@ ghost use Rattle.tm_derive.specs.Kept.{given_of};
 ghost use Rattle.tm_derive.specs.Making.{Derives, PutsThings};
 ghost use Rattle.tm_derive.specs.Optional.{is_among, choices_elsewhere};
 ghost use Rattle.tm_derive.specs.Refusals.{Finds};
-ghost use Rattle.tm_derive.specs.Submodels.{is_plain_segment};
+ghost use Rattle.tm_derive.specs.Segments.{is_plain_segment};
 ghost use Rattle.wot_terms.specs.Faults.{IsValid};
 ghost use Rattle.wot_terms.specs.ThingLists.{segments_in};
 

@@ -13,8 +13,8 @@ invariant_of-result g c = record {
 }
 
 -- the CoAP server is that of the machine's beginning
-pub returns-in-Ok-clause-start : goal.returns-in-Ok-clause-start
-returns-in-Ok-clause-start g c =
+pub returns-clause-start : goal.returns-clause-start
+returns-clause-start g c =
     let site = ap (λ (k : Kept). k.site) c.in-Ok.ensures.ok in
     record {
       moment = refl;
@@ -24,8 +24,8 @@ returns-in-Ok-clause-start g c =
       directory = search rules;
     }
 
-pub returns-in-Ok-clause-links : goal.returns-in-Ok-clause-links
-returns-in-Ok-clause-links g c =
+pub returns-clause-links : goal.returns-clause-links
+returns-clause-links g c =
     let site = ap (λ (k : Kept). k.site) c.in-Ok.ensures.ok in
     let coap = coap_starts c.args.plan.now.slots c.as_slice.result.now c.args.things c.in-Ok.exposed.site c.args.plan.now.exchanges c.in_ok-coap.coap c.as_slice.ensures site c.in_ok-coap.ensures in
     links_stand c.args.plan.now.slots c.args.things c.in-Ok.exposed.site c.in_ok-coap.coap.links site (sym (ap (λ (x : Server). x.links) coap)) c.requires.plain

@@ -12,6 +12,7 @@ use Rattle.core_links.specs.Writing.{links_text}
 use Rattle.tm_derive.specs.Segments.{is_plain_segment}
 use Rattle.thing_site.specs.Site.{Site}
 
+-- a parameter of a link
 abbrev pub param : List ℕ → List ℕ → Param
 param name value = record { name = name; value = Some value }
 

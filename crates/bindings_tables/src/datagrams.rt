@@ -1,5 +1,6 @@
 //! The CoAP server, in which 16 exchanges may live, or as many as a line `room for N exchanges` says, and to which there
-//! may be four watchers, or as many as a line `room for N watchers` says. A step is a datagram: its moment, its host,
+//! may be four watchers, or as many as a line `room for N watchers` says. A line `links TEXT` gives it the text of its
+//! links, as bytes are written. A step is a datagram: its moment, its host,
 //! what it comes to where it is asked (`-` where it isn't to be), and its message; and what is done with it. What a
 //! request for target 3 comes to is written `3/Content:7`. Other steps are in `notifications.rt`, `crowds.rt` and
 //! `transfers.rt`.
@@ -13,13 +14,14 @@ use crate::outcomes::outcome_of;
 use crate::targets::put_path;
 use crate::watchers::target_of;
 use crate::{crowds, notifications, runs, transfers};
-use case_notation::{message_of, number, put_message};
+use case_notation::{bytes_of, message_of, number, put_message};
 use coap_bind::{CoapBind, CoapNext};
 use coap_msg::{Endpoint, LONGEST_DATAGRAM, LONGEST_MESSAGE, decode};
 use coap_opts::CoapAsk;
 use std::alloc::{AllocError, Global};
 use std::fmt::Write;
 use thing_ops::Outcome;
+use wot_json::Bytes;
 
 /// The most bytes of a body that comes in blocks.
 pub const LONGEST_BODY: usize = 16_384;
@@ -221,8 +223,19 @@ fn watchers_of(history: &str) -> u32
     room_for(history, "watchers").unwrap_or(4).clamp(1, 1024)
 }
 
+/// The text of the links, where a history says one.
+fn links_of(alloc: Global, history: &str) -> Result<Bytes, AllocError> {
+    for line in history.lines() {
+        if let Some(written) = line.strip_prefix("links ") {
+            return Ok(Bytes::from_vec(bytes_of(alloc, written)?));
+        }
+    }
+    Ok(Bytes::new(alloc))
+}
+
 pub fn put(text: &mut String, alloc: Global, history: &str) -> Result<(), AllocError> {
     let mut server = CoapBind::new(alloc, exchanges_of(history), watchers_of(history))?;
+    server.set_links(links_of(alloc, history)?);
     let mut now = 0;
     for line in history.lines() {
         match line.split_once(" => ") {

@@ -100,7 +100,7 @@ fn put_history(
 ) -> Result<(), AllocError> {
     match table {
         "exchanges" => exchanges::put(text, alloc, history),
-        "datagrams" | "observations" | "blocks" => datagrams::put(text, alloc, history),
+        "datagrams" | "observations" | "blocks" | "links" => datagrams::put(text, alloc, history),
         "watchers" => watchers::put(text, alloc, history),
         _ => connections::put(text, alloc, history),
     }
@@ -130,6 +130,7 @@ fn put_table(text: &mut String, alloc: Global, table: &str, lines: &str) -> Resu
         | "datagrams"
         | "observations"
         | "blocks"
+        | "links"
         | "connections"
         | "tagged" => { put_histories(text, alloc, table, lines) }
         _ => put_rows(text, alloc, table, lines),

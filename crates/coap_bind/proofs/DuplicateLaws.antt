@@ -18,6 +18,7 @@ use Rattle.coap_exchange.specs.Table.{Exchange, Table, at_moment, exchange_in, d
 use Rattle.coap_exchange.specs.declared.met.Met.{Met}
 use Rattle.coap_exchange.specs.declared.met.Met.TheVariants.{Fresh, Repeat, Full}
 use Rattle.coap_exchange.proofs.HistoryLaws.{lives_before}
+use Rattle.coap_opts.specs.Reading.{asked as what_is_asked}
 use Rattle.coap_bind.specs.declared.head.OpenRequest.{OpenRequest}
 use Rattle.coap_bind.specs.declared.head.OpenAsk.{OpenAsk}
 use Rattle.coap_bind.specs.declared.server.Server.{Server}
@@ -26,8 +27,8 @@ use Rattle.coap_observe.specs.declared.notice.Notice.{Notice}
 use Rattle.coap_observe.specs.Watching.{Watching}
 use Rattle.coap_bind.specs.Blocks.{bodies_after}
 use Rattle.coap_bind.specs.Writing.{Reply}
-use Rattle.coap_bind.specs.Server.{start, Heard, answered_at_once, with_id_used, with_kept, with_watchers, with_emitted, with_notice_sent, with_report, Replies, Answers, is_request, duplicate_reply, arrival, IsMet, malformed, no_request, duplicate, full, with_parts, with_bodies, replied, bad_option_ignored, asks, asks_whole, opened, Reads, settled, admitted, Hears}
-use Rattle.coap_bind.specs.Laws.{IsOpen, DidFrom, Did, nothing, heard_of, answered, emitted, sent}
+use Rattle.coap_bind.specs.Server.{start, Heard, answered_at_once, with_id_used, with_kept, with_watchers, with_emitted, with_links, with_notice_sent, with_report, Replies, Answers, is_request, duplicate_reply, arrival, IsMet, malformed, no_request, duplicate, full, with_parts, with_bodies, replied, bad_option_ignored, gives_links, links_given, observing_in, asks, asks_whole, opened, Reads, settled, admitted, Hears}
+use Rattle.coap_bind.specs.Laws.{IsOpen, DidFrom, Did, nothing, heard_of, answered, emitted, sent, linked}
 use Rattle.coap_bind.specs.Duplicates.{may_keep, OnlyConfirmableAreKept, OnlyTimePassed, DuplicatesChangeNothing, IsRepliedTo, at_once, afterwards, repeated, DuplicatesGetTheFirstReply}
 use Rattle.coap_bind.proofs.HistoryLaws.{sent_stays, met_as_duplicate}
 use Rattle.coap_bind.proofs.OpenLaws.{fresh_is_there}
@@ -81,8 +82,10 @@ tidy_reads : (from : Endpoint) (now : ℕ) (m : CoapMessage) (slot : ℕ) (heard
     → exchange_in slot s.exchanges ≡ Some e → request_type m.kind ≡ e.arrival.kind → Tidy s.exchanges → Tidy t.exchanges
 tidy_reads from now m slot heard s t e (replied r parts bytes why replies is) there kind h = tidy_replies r (opened m slot) bytes (with_parts parts s) t e replies there kind h
 tidy_reads from now m slot heard s t e (bad_option_ignored number fault non is same) there kind h = tidy_same s t same h
-tidy_reads from now m slot heard s t e (asks none act is same) there kind h = tidy_same s t same h
-tidy_reads from now m slot heard s t e (asks_whole b place parts whole none joining adds found is same) there kind h = tidy_same (with_parts (remove parts place) s) t same h
+tidy_reads from now m slot heard s t e (gives_links bytes none act links get replies is) there kind h =
+    tidy_replies _ (opened m slot) bytes (links_given from now m.token (observing_in m) (what_is_asked m) s) t e replies there kind h
+tidy_reads from now m slot heard s t e (asks none act apart is same) there kind h = tidy_same s t same h
+tidy_reads from now m slot heard s t e (asks_whole b place parts whole none joining apart adds found is same) there kind h = tidy_same (with_parts (remove parts place) s) t same h
 
 pub used_stays : (kind : RequestType) (s : Server) → (with_id_used kind s).exchanges ≡ s.exchanges
 used_stays Confirmable s = refl
@@ -116,6 +119,7 @@ tidy_from before history s (answered past r t ask o target bytes did waiting ans
 tidy_from before history s (emitted past r t target did is) h = tidy_same (with_emitted target r) t is (tidy_from before past r did h)
 tidy_from before history s (sent past r t now n did sends) h =
     subst Tidy (sym (sent_exchanges n (with_watchers sends.watchers r) t sends.after)) (tidy_from before past r did h)
+tidy_from before history s (linked past r t text did is) h = tidy_same (with_links text r) t is (tidy_from before past r did h)
 
 pub tidy : (capacity : ℕ) (history : List Arrival) (s : Server) → Did capacity history s → Tidy s.exchanges
 tidy capacity history s did = tidy_from (start capacity did.0) history s did.1 (record { distinct = tt; kept = tt })
@@ -204,8 +208,10 @@ keeps_reads : (from : Endpoint) (now : ℕ) (m : CoapMessage) (other : ℕ) (hea
 keeps_reads from now m other heard s t e slot request reply (replied r parts bytes why replies is) there waits kind k =
     keeps_replies r (opened m other) bytes (with_parts parts s) t e slot request reply replies there waits kind k
 keeps_reads from now m other heard s t e slot request reply (bad_option_ignored number fault non is same) there waits kind k = keeps_same slot request _ s.exchanges t.exchanges (ap (λ (x : Server). x.exchanges) same) k
-keeps_reads from now m other heard s t e slot request reply (asks none act is same) there waits kind k = keeps_same slot request _ s.exchanges t.exchanges (ap (λ (x : Server). x.exchanges) same) k
-keeps_reads from now m other heard s t e slot request reply (asks_whole b place parts whole none joining adds found is same) there waits kind k =
+keeps_reads from now m other heard s t e slot request reply (gives_links bytes none act links get replies is) there waits kind k =
+    keeps_replies _ (opened m other) bytes (links_given from now m.token (observing_in m) (what_is_asked m) s) t e slot request reply replies there waits kind k
+keeps_reads from now m other heard s t e slot request reply (asks none act apart is same) there waits kind k = keeps_same slot request _ s.exchanges t.exchanges (ap (λ (x : Server). x.exchanges) same) k
+keeps_reads from now m other heard s t e slot request reply (asks_whole b place parts whole none joining apart adds found is same) there waits kind k =
     keeps_same slot request _ s.exchanges t.exchanges (ap (λ (x : Server). x.exchanges) same) k
 
 keeps_hears : (from : Endpoint) (bytes : List ℕ) (now : ℕ) (heard : Heard) (s t : Server) (slot : ℕ) (request : Arrival) (reply : List ℕ) → Hears from bytes now heard s t
@@ -248,6 +254,9 @@ keeps_from before history s now slot request reply (emitted past r t target did 
 keeps_from before history s now slot request reply (sent past r t m n did sends) early alive k =
     let same : t.exchanges ≡ r.exchanges = sent_exchanges n (with_watchers sends.watchers r) t sends.after in
     keeps_same slot request _ r.exchanges t.exchanges same (keeps_from before past r now slot request reply did (moment_same r.exchanges t.exchanges now same early) alive k)
+keeps_from before history s now slot request reply (linked past r t text did is) early alive k =
+    let same : t.exchanges ≡ r.exchanges = ap (λ (x : Server). x.exchanges) is in
+    keeps_same slot request _ r.exchanges t.exchanges same (keeps_from before past r now slot request reply did (moment_same r.exchanges t.exchanges now same early) alive k)
 
 -- ---- the first reply
 
@@ -276,8 +285,11 @@ keeps_first_read : (from : Endpoint) (now : ℕ) (m : CoapMessage) (slot : ℕ) 
 keeps_first_read from now m slot reply s t e (replied r parts bytes why replies is) there waits kind =
     subst (λ b. Keeps slot e.arrival (kept_reply e.arrival.kind b) t.exchanges) (same_bytes reply bytes is) (keeps_first r (opened m slot) bytes (with_parts parts s) t e replies there waits kind)
 keeps_first_read from now m slot reply s t e (bad_option_ignored number fault non is same) there waits kind = cc
-keeps_first_read from now m slot reply s t e (asks none act is same) there waits kind = cc
-keeps_first_read from now m slot reply s t e (asks_whole b place parts whole none joining adds found is same) there waits kind = cc
+keeps_first_read from now m slot reply s t e (gives_links bytes none act links get replies is) there waits kind =
+    subst (λ b. Keeps slot e.arrival (kept_reply e.arrival.kind b) t.exchanges) (same_bytes reply bytes is)
+    (keeps_first _ (opened m slot) bytes (links_given from now m.token (observing_in m) (what_is_asked m) s) t e replies there waits kind)
+keeps_first_read from now m slot reply s t e (asks none act apart is same) there waits kind = cc
+keeps_first_read from now m slot reply s t e (asks_whole b place parts whole none joining apart adds found is same) there waits kind = cc
 
 replied_keeps : (request : Arrival) (reply : List ℕ) (s t : Server) → IsRepliedTo request reply s t → (slot : ℕ) × Keeps slot request (kept_reply request.kind reply) t.exchanges
 replied_keeps request reply s t (at_once from bytes now m slot u later met reads is) = (
@@ -304,6 +316,7 @@ only_time_passed from bytes now m kept s t met = record {
   next_id = met.same_id;
   bodies = met.same_bodies;
   parts = met.same_parts;
+  links = met.same_links;
 }
 
 -- a duplicate of an exchange gets its reply

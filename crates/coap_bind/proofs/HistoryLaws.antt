@@ -20,14 +20,14 @@ use Rattle.coap_exchange.specs.declared.met.Met.{Met}
 use Rattle.coap_exchange.specs.declared.met.Met.TheVariants.{Fresh, Repeat, Full}
 use Rattle.coap_exchange.proofs.HistoryLaws.{tables_follow_the_history}
 use Rattle.coap_observe.specs.declared.notice.Notice.{Notice}
-use Rattle.coap_opts.specs.Reading.{PlainAsk}
+use Rattle.coap_opts.specs.Reading.{PlainAsk, asked as what_is_asked}
 use Rattle.coap_bind.specs.declared.head.OpenRequest.{OpenRequest}
 use Rattle.coap_bind.specs.declared.head.OpenAsk.{OpenAsk}
 use Rattle.coap_bind.specs.declared.server.Server.{Server}
 use Rattle.coap_bind.specs.Blocks.{bodies_after}
 use Rattle.coap_bind.specs.Writing.{Reply}
-use Rattle.coap_bind.specs.Server.{start, Heard, asked, with_next_id, with_id_used, with_kept, with_watchers, with_emitted, with_notice_sent, with_report, Replies, is_request, replied_at_once, duplicate_reply, arrival, IsMet, malformed, no_request, duplicate, full, with_parts, with_bodies, replied, bad_option_ignored, asks, asks_whole, opened, Reads, settled, admitted, Hears}
-use Rattle.coap_bind.specs.Laws.{AreArrivals, DidFrom, Did, nothing, heard_of, answered, emitted, sent, ExchangesAreOfTheHistory, DuplicatesAskNothing}
+use Rattle.coap_bind.specs.Server.{start, Heard, asked, with_next_id, with_id_used, with_kept, with_watchers, with_emitted, with_links, with_notice_sent, with_report, Replies, is_request, replied_at_once, duplicate_reply, arrival, IsMet, malformed, no_request, duplicate, full, with_parts, with_bodies, replied, bad_option_ignored, gives_links, links_given, observing_in, asks, asks_whole, opened, Reads, settled, admitted, Hears}
+use Rattle.coap_bind.specs.Laws.{AreArrivals, DidFrom, Did, nothing, heard_of, answered, emitted, sent, linked, ExchangesAreOfTheHistory, DuplicatesAskNothing}
 
 -- ---- replies change no arrival
 
@@ -86,8 +86,10 @@ follows_reads : (capacity : ℕ) (history : List Arrival) (from : Endpoint) (now
 follows_reads capacity history from now m slot heard s t (replied r parts bytes why replies h) f =
     follows_replies capacity history r (opened m slot) bytes (with_parts parts s) t replies f
 follows_reads capacity history from now m slot heard s t (bad_option_ignored number fault non h is) f = follows_same capacity history s t is f
-follows_reads capacity history from now m slot heard s t (asks none act h is) f = follows_same capacity history s t is f
-follows_reads capacity history from now m slot heard s t (asks_whole b place parts whole none joining adds there h is) f =
+follows_reads capacity history from now m slot heard s t (gives_links bytes none act links get replies h) f =
+    follows_replies capacity history _ (opened m slot) bytes (links_given from now m.token (observing_in m) (what_is_asked m) s) t replies f
+follows_reads capacity history from now m slot heard s t (asks none act apart h is) f = follows_same capacity history s t is f
+follows_reads capacity history from now m slot heard s t (asks_whole b place parts whole none joining apart adds there h is) f =
     follows_same capacity history (with_parts (remove parts place) s) t is f
 
 -- ---- the requests of a datagram
@@ -161,6 +163,8 @@ follows_from capacity watchers history s (emitted before r t target did is) =
 follows_from capacity watchers history s (sent before r t now n did sends) =
     follows_same capacity before (with_notice_sent n (with_watchers sends.watchers r)) t sends.after
     (follows_sent capacity before n (with_watchers sends.watchers r) (follows_from capacity watchers before r did))
+follows_from capacity watchers history s (linked before r t text did is) =
+    follows_same capacity before (with_links text r) t is (follows_from capacity watchers before r did)
 
 follows : (capacity : ℕ) (history : List Arrival) (s : Server) → Did capacity history s → Follows capacity history s.exchanges
 follows capacity history s did = follows_from capacity did.0 history s did.1

@@ -277,7 +277,7 @@ either_false : (a b : Bool) → (a || b) ≡ false → a ≡ false
 either_false true b e = absurd cc
 either_false false b e = refl
 
-given_short : (szx : Option ℕ) (payload : List ℕ) → IfSome szx (λ z. z ≤ 6) → (length (given_portion szx payload).payload ≤ LONGEST_PAYLOAD) × (length (given_portion szx payload).payload ≤ length payload)
+pub given_short : (szx : Option ℕ) (payload : List ℕ) → IfSome szx (λ z. z ≤ 6) → (length (given_portion szx payload).payload ≤ LONGEST_PAYLOAD) × (length (given_portion szx payload).payload ≤ length payload)
 given_short szx payload fits = at (is_in_blocks szx (length payload)) refl
   where
     at : (b : Bool) → is_in_blocks szx (length payload) ≡ b

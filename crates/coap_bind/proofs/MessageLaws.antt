@@ -4,10 +4,10 @@ use Rattle.std.specs.Prelude.{nat_lt, All, take}
 use Rattle.std.specs.Option.{option_map_or}
 use Rattle.std.proofs.lemmas.List.{length-take}
 use Rattle.std.proofs.lemmas.List.Elements.{All-head, All-tail}
-use Rattle.coap_msg.specs.declared.constants.TheConstants.{LOCATION_PATH, CONTENT_FORMAT, JSON, LONGEST_SEGMENT}
+use Rattle.coap_msg.specs.declared.constants.TheConstants.{LOCATION_PATH, CONTENT_FORMAT, JSON, LONGEST_SEGMENT, LONGEST_TOKEN}
 use Rattle.coap_msg.specs.declared.message.RequestType.{RequestType}
 use Rattle.coap_msg.specs.declared.message.RequestType.TheVariants.{Confirmable, NonConfirmable}
-use Rattle.coap_msg.specs.Grammar.{CoapOption, AreInOrder}
+use Rattle.coap_msg.specs.Grammar.{CoapOption, AreInOrder, IsWellFormed}
 use Rattle.coap_msg.specs.Blocks.{block_number}
 use Rattle.coap_msg.proofs.NumberValues.{number_length}
 use Rattle.coap_msg.specs.Numbers.{number_bytes}
@@ -15,13 +15,17 @@ use Rattle.coap_msg.specs.Opts.{segment_options}
 use Rattle.thing_ops.specs.declared.outcome.Outcome.{Outcome}
 use Rattle.thing_ops.specs.declared.outcome.Outcome.TheVariants as outcome
 use Rattle.thing_ops.specs.Outcomes.{HasCode, payload_of, text_of}
+use Rattle.coap_bind.specs.declared.head.RequestHead.{RequestHead}
 use Rattle.coap_bind.specs.declared.blocks.BlockOption.{BlockOption}
 use Rattle.coap_bind.specs.declared.blocks.BlockOption.TheVariants as option
 use Rattle.coap_bind.specs.declared.blocks.BlockUse.{BlockUse}
-use Rattle.coap_bind.specs.Blocks.{Portion, answer_reply, block_options, most_bytes, portion_of, reply_with}
-use Rattle.coap_bind.specs.Writing.{Reply, long_reply, whole_reply, place_of, text_format, format_options, etag_options, observe_options, reply_id}
+use Rattle.coap_blocks.specs.Bodies.{longest_body}
+use Rattle.coap_bind.specs.declared.links.TheConstants.{LINK_FORMAT, METHOD_NOT_ALLOWED}
+use Rattle.coap_bind.specs.Links.{links_content, links_reply, method_reply}
+use Rattle.coap_bind.specs.Blocks.{Portion, given_portion, content_format, content_reply, with_block, answer_reply, block_options, most_bytes, portion_of, reply_with}
+use Rattle.coap_bind.specs.Writing.{Reply, long_reply, whole_reply, place_of, text_format, format_options, etag_options, observe_options, reply_options, reply_id, coap_reply}
 use Rattle.coap_bind.specs.Laws.{HasShortPlace}
-use Rattle.coap_bind.specs.Messages.{RepliesAreMessages, NotificationsAreMessages}
+use Rattle.coap_bind.specs.Messages.{RepliesAreMessages, LinksAreMessages, NotificationsAreMessages}
 use Rattle.coap_bind.proofs.LengthLaws.{block_alone, place_bound}
 
 -- ---- options in order
@@ -169,6 +173,35 @@ replies_are_messages o observe u head next code short id token counter =
           (observe_in_order observe r.options (in_order_at (nat_lt (most_bytes u o) (length (payload_of o))) (reply_with (portion_of u o) o) (part_in_order o (portion_of u o) short)));
       empty = λ none. absurd (some_code r.code is none);
     }
+
+-- a reply with a code of a response and options in order
+plain_message : (r : Reply) (head : RequestHead) (next : ℕ) → IsResponse r.code → AreInOrder 0 (reply_options r) → head.id < 2 ^ 16 → length head.token ≤ LONGEST_TOKEN → next < 2 ^ 16
+    → IsWellFormed (coap_reply r head next)
+plain_message r head next is order id token counter = record {
+  code = let small = is.small in omega arith;
+  class = inr is.class;
+  id = id_at head.kind head.id next id counter;
+  token = token;
+  options = order;
+  empty = λ none. absurd (some_code r.code is none);
+}
+
+links_in_order : (b : Option BlockOption) → AreInOrder 0 (with_block b (content_format (Some LINK_FORMAT)))
+links_in_order b =
+    subst (AreInOrder 0) (sym (block_alone b (content_format (Some LINK_FORMAT))))
+    (record { order = omega arith; number = omega arith; value = let few = number_length LINK_FORMAT in omega arith }, block_in_order b 12 (omega arith))
+
+links_message_at : (long : Bool) (szx : Option ℕ) (text : List ℕ) (head : RequestHead) (next : ℕ) → head.id < 2 ^ 16 → length head.token ≤ LONGEST_TOKEN → next < 2 ^ 16
+    → IsWellFormed (coap_reply (cond long long_reply (content_reply (given_portion szx text) (links_content text))) head next)
+links_message_at true szx text head next id token counter = plain_message long_reply head next (server_error 0 (omega arith)) tt id token counter
+links_message_at false szx text head next id token counter =
+    plain_message (content_reply (given_portion szx text) (links_content text)) head next (success 5 (omega arith)) (links_in_order (given_portion szx text).block) id token counter
+
+pub links_are_messages : LinksAreMessages
+links_are_messages szx text head next id token counter = (
+  links_message_at (nat_lt longest_body (length text)) szx text head next id token counter,
+  plain_message method_reply head next (client_error 5 (omega arith)) tt id token counter,
+)
 
 short_take : (n : ℕ) (bytes : List ℕ) → length (take n bytes) ≤ n
 short_take n bytes = omega (arith, length-take n bytes)

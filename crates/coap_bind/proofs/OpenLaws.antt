@@ -14,7 +14,7 @@ use Rattle.coap_opts.specs.Reading.{PlainAsk}
 use Rattle.coap_bind.specs.declared.head.OpenAsk.{OpenAsk}
 use Rattle.coap_bind.specs.declared.server.Server.{Server}
 use Rattle.coap_exchange.specs.declared.met.Met.TheVariants.{Fresh}
-use Rattle.coap_bind.specs.Server.{asked, IsMet, answered_at_once, arrival, malformed, no_request, duplicate, full, replied, bad_option_ignored, asks, asks_whole, with_parts, opened_ask, joined_ask, Reads, settled, admitted}
+use Rattle.coap_bind.specs.Server.{asked, IsMet, answered_at_once, arrival, malformed, no_request, duplicate, full, replied, bad_option_ignored, gives_links, asks, asks_whole, with_parts, opened_ask, joined_ask, Reads, settled, admitted}
 use Rattle.coap_bind.specs.Laws.{IsOpen, AsksAreOpen}
 use Rattle.coap_bind.proofs.HistoryLaws.{not_replied, not_duplicate}
 
@@ -49,10 +49,11 @@ reads_open : (from : Endpoint) (now : ℕ) (m : CoapMessage) (slot : ℕ) (what 
     → exchange_in slot s.exchanges ≡ Some e → e.reply ≡ None → request_type m.kind ≡ e.arrival.kind → IsOpen ask t
 reads_open from now m slot what ask s t e (replied r parts bytes why replies h) there waits kind = absurd (asks_at_once what ask bytes h)
 reads_open from now m slot what ask s t e (bad_option_ignored number fault non h is) there waits kind = cc
-reads_open from now m slot what ask s t e (asks none act h is) there waits kind =
+reads_open from now m slot what ask s t e (gives_links bytes none act links get replies h) there waits kind = absurd (asks_at_once what ask bytes h)
+reads_open from now m slot what ask s t e (asks none act apart h is) there waits kind =
     let same : ask ≡ opened_ask from now m slot = cc in
     open_at ask (opened_ask from now m slot) s t s e same is refl there waits kind
-reads_open from now m slot what ask s t e (asks_whole b place parts whole none joining adds found h is) there waits kind =
+reads_open from now m slot what ask s t e (asks_whole b place parts whole none joining apart adds found h is) there waits kind =
     let same : ask ≡ joined_ask from m slot b = cc in
     open_at ask (joined_ask from m slot b) s t (with_parts (remove parts place) s) e same is refl there waits kind
 

@@ -14,13 +14,14 @@ use Rattle.coap_msg.proofs.FaultLaws.{no_fault_of_message}
 use Rattle.coap_exchange.specs.Admission.{Arrival, lives, is_duplicate_of, admitted as is_admitted, duplicate as is_duplicate, refused as is_refused}
 use Rattle.coap_exchange.specs.Table.{Exchange, Table, at_moment, exchange_in}
 use Rattle.coap_exchange.specs.declared.met.Met.TheVariants.{Fresh, Full}
+use Rattle.coap_opts.specs.Reading.{asked as what_is_asked}
 use Rattle.coap_bind.specs.declared.head.OpenRequest.{OpenRequest}
 use Rattle.coap_bind.specs.declared.server.Server.{Server}
 use Rattle.coap_bind.specs.Writing.{Reply}
-use Rattle.coap_bind.specs.Server.{start, Heard, ignored, answered_at_once, with_id_used, with_kept, with_watchers, Replies, Answers, is_request, duplicate_reply, arrival, IsMet, malformed, no_request, duplicate, full, with_parts, replied, bad_option_ignored, asks, asks_whole, opened, Reads, settled, admitted, Hears}
+use Rattle.coap_bind.specs.Server.{start, Heard, ignored, answered_at_once, with_id_used, with_kept, with_watchers, Replies, Answers, is_request, duplicate_reply, arrival, IsMet, malformed, no_request, duplicate, full, with_parts, replied, bad_option_ignored, gives_links, links_given, observing_in, asks, asks_whole, opened, Reads, settled, admitted, Hears}
 use Rattle.thing_ops.specs.declared.outcome.Outcome.{Outcome}
 use Rattle.coap_bind.specs.declared.head.OpenAsk.{OpenAsk}
-use Rattle.coap_bind.specs.Laws.{AreArrivals, IsOpen, DidFrom, nothing, heard_of, answered, emitted, sent}
+use Rattle.coap_bind.specs.Laws.{AreArrivals, IsOpen, DidFrom, nothing, heard_of, answered, emitted, sent, linked}
 use Rattle.coap_bind.specs.Duplicates.{may_keep, IsRepliedTo, at_once, afterwards, WasRepliedTo, OnlyTheFirstReplyIsRepeated}
 use Rattle.coap_bind.proofs.HistoryLaws.{met_as_duplicate}
 use Rattle.coap_bind.proofs.OpenLaws.{fresh_is_there}
@@ -71,8 +72,11 @@ reads_back : (from : Endpoint) (now : ℕ) (m : CoapMessage) (other : ℕ) (hear
 reads_back from now m other heard s t slot reply e f (replied r parts bytes why replies is) there has found =
     told slot heard bytes f.arrival reply s.exchanges e is (replies_back r (opened m other) bytes (with_parts parts s) t slot reply e f replies there has found)
 reads_back from now m other heard s t slot reply e f (bad_option_ignored number fault non is same) there has found = inl (same_back slot e s.exchanges t.exchanges (ap (λ (x : Server). x.exchanges) same) found)
-reads_back from now m other heard s t slot reply e f (asks none act is same) there has found = inl (same_back slot e s.exchanges t.exchanges (ap (λ (x : Server). x.exchanges) same) found)
-reads_back from now m other heard s t slot reply e f (asks_whole b place parts whole none joining adds at is same) there has found =
+reads_back from now m other heard s t slot reply e f (gives_links bytes none act links get replies is) there has found =
+    told slot heard bytes f.arrival reply s.exchanges e is
+    (replies_back _ (opened m other) bytes (links_given from now m.token (observing_in m) (what_is_asked m) s) t slot reply e f replies there has found)
+reads_back from now m other heard s t slot reply e f (asks none act apart is same) there has found = inl (same_back slot e s.exchanges t.exchanges (ap (λ (x : Server). x.exchanges) same) found)
+reads_back from now m other heard s t slot reply e f (asks_whole b place parts whole none joining apart adds at is same) there has found =
     inl (same_back slot e s.exchanges t.exchanges (ap (λ (x : Server). x.exchanges) same) found)
 
 moment_back : (now slot : ℕ) (t : Table) (e : Exchange) → Tidy t → exchange_in slot (at_moment now t) ≡ Some e → exchange_in slot t ≡ Some e
@@ -163,6 +167,9 @@ was_replied before history t slot reply e (emitted past r u target did is) h non
 was_replied before history t slot reply e (sent past r u now n did sends) h none found has =
     let w = was_replied before past r slot reply e did h none (same_back slot e r.exchanges u.exchanges (sent_exchanges n (with_watchers sends.watchers r) u sends.after) found) has in
     record { history = w.history; later = w.later; s = w.s; t = w.t; did = w.did; replied = w.replied; since = sent w.later r u now n w.since sends }
+was_replied before history t slot reply e (linked past r u text did is) h none found has =
+    let w = was_replied before past r slot reply e did h none (same_back slot e r.exchanges u.exchanges (ap (λ (x : Server). x.exchanges) is) found) has in
+    record { history = w.history; later = w.later; s = w.s; t = w.t; did = w.did; replied = w.replied; since = linked w.later r u text w.since is }
 
 nothing_kept : (t : Table) → t.exchanges ≡ [] → KeepsNone t
 nothing_kept t empty slot e reply found has = absurd (none (sym (ap (find (λ z. z.slot == slot)) empty) ∙ found))

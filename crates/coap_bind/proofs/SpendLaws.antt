@@ -22,8 +22,8 @@ use Rattle.coap_bind.specs.declared.observing.Observing.{Observing}
 use Rattle.coap_bind.specs.declared.observing.Observing.TheVariants as observing
 use Rattle.coap_bind.specs.declared.server.Server.{Server}
 use Rattle.coap_bind.specs.Blocks.{added_reply, bodies_after, block2_of, wanted_by_get, wanted_by_body, wanted_of}
-use Rattle.coap_bind.specs.Laws.{DidFrom, nothing, heard_of, answered, emitted, sent}
-use Rattle.coap_bind.specs.Server.{start, Heard, with_next_id, with_id_used, with_kept, with_watchers, with_bodies, with_parts, with_notice_sent, Replies, observing_in, wanted_in, block_arrival, Adds, IsAnsweredAtOnce, bad_option, bad_block, for_proxy, no_memory, later_block, joined, Reads, replied, bad_option_ignored, asks, asks_whole, malformed, no_request, duplicate, full, settled, admitted, Hears, opened}
+use Rattle.coap_bind.specs.Laws.{DidFrom, nothing, heard_of, answered, emitted, sent, linked}
+use Rattle.coap_bind.specs.Server.{start, Heard, with_next_id, with_id_used, with_kept, with_watchers, with_bodies, with_parts, with_notice_sent, Replies, observing_in, wanted_in, block_arrival, Adds, IsAnsweredAtOnce, bad_option, bad_block, for_proxy, no_memory, later_block, joined, takes_no_other_verb, takes_no_body, Reads, replied, bad_option_ignored, asks_links, gives_links, links_given, asks, asks_whole, malformed, no_request, duplicate, full, settled, admitted, Hears, opened}
 use Rattle.coap_bind.specs.Transfers.{NamesNoBlock, RequestsWithoutBlocksAct, AnswersLeaveTheParts, Spends, no_call, goes_on, spends, NoWholeBodyStays}
 use Rattle.thing_ops.specs.declared.outcome.Outcome.TheVariants.{Memory}
 use Rattle.coap_bind.specs.Writing.{Reply, reply_of}
@@ -73,23 +73,31 @@ no_block_wants m none = act_at m.code (observing_in m) (what_is_asked m) none.bl
 faultless_fault : (faults : List AskFault) (f : AskFault) → faults ≡ [] → slice_get faults 0 ≡ Some f → ⊥
 faultless_fault faults f none is = let no : slice_get faults 0 ≡ None = ap (λ l. slice_get l 0) none in cc
 
+both_paths : (m : CoapMessage) → asks_links m ≡ true → asks_links m ≡ false → ⊥
+both_paths m is isnt = cc
+
 pub requests_without_blocks_act : RequestsWithoutBlocksAct
-requests_without_blocks_act from now m slot heard s t none faultless (replied r parts bytes (bad_option number fault con is same) replies h) = absurd (faultless_fault _ _ faultless fault)
-requests_without_blocks_act from now m slot heard s t none faultless (replied r parts bytes (bad_block fault is same) replies h) = absurd (faultless_fault _ _ faultless fault)
-requests_without_blocks_act from now m slot heard s t none faultless (replied r parts bytes (for_proxy fault is same) replies h) = absurd (faultless_fault _ _ faultless fault)
-requests_without_blocks_act from now m slot heard s t none faultless (replied r parts bytes (no_memory fine is same) replies h) =
+requests_without_blocks_act from now m slot heard s t none faultless apart (replied r parts bytes (bad_option number fault con is same) replies h) = absurd (faultless_fault _ _ faultless fault)
+requests_without_blocks_act from now m slot heard s t none faultless apart (replied r parts bytes (bad_block fault is same) replies h) = absurd (faultless_fault _ _ faultless fault)
+requests_without_blocks_act from now m slot heard s t none faultless apart (replied r parts bytes (for_proxy fault is same) replies h) = absurd (faultless_fault _ _ faultless fault)
+requests_without_blocks_act from now m slot heard s t none faultless apart (replied r parts bytes (no_memory fine is same) replies h) =
     inr (
       bytes,
       h,
       subst (λ (ps : List Part). Replies (reply_of Memory) (opened m slot) bytes (with_parts ps s) t) same (subst (λ (x : Reply). Replies x (opened m slot) bytes (with_parts parts s) t) is replies),
     )
-requests_without_blocks_act from now m slot heard s t none faultless (replied r parts bytes (later_block b fine wants is same) replies h) =
+requests_without_blocks_act from now m slot heard s t none faultless apart (replied r parts bytes (later_block b fine wants is same) replies h) =
     absurd (let act = no_block_wants m none in cc)
-requests_without_blocks_act from now m slot heard s t none faultless (replied r parts bytes (joined b added fine wants adding is) replies h) =
+requests_without_blocks_act from now m slot heard s t none faultless apart (replied r parts bytes (joined b added fine wants adding is) replies h) =
     absurd (let act = no_block_wants m none in cc)
-requests_without_blocks_act from now m slot heard s t none faultless (bad_option_ignored number fault non is same) = absurd (faultless_fault _ _ faultless fault)
-requests_without_blocks_act from now m slot heard s t none faultless (asks fine act h same) = inl (h, same)
-requests_without_blocks_act from now m slot heard s t none faultless (asks_whole b place parts whole fine wants adding there h same) = absurd (let act = no_block_wants m none in cc)
+requests_without_blocks_act from now m slot heard s t none faultless apart (replied r parts bytes (takes_no_other_verb fine wants links other is same) replies h) =
+    absurd (both_paths m links apart)
+requests_without_blocks_act from now m slot heard s t none faultless apart (replied r parts bytes (takes_no_body b place whole fine wants links adding is same) replies h) =
+    absurd (both_paths m links apart)
+requests_without_blocks_act from now m slot heard s t none faultless apart (bad_option_ignored number fault non is same) = absurd (faultless_fault _ _ faultless fault)
+requests_without_blocks_act from now m slot heard s t none faultless apart (gives_links bytes fine act links get replies h) = absurd (both_paths m links apart)
+requests_without_blocks_act from now m slot heard s t none faultless apart (asks fine act not_links h same) = inl (h, same)
+requests_without_blocks_act from now m slot heard s t none faultless apart (asks_whole b place parts whole fine wants not_links adding there h same) = absurd (let act = no_block_wants m none in cc)
 
 -- ---- parts
 
@@ -123,13 +131,18 @@ spent_at_once from now m r s parts (for_proxy fault is same) h = spent_same s.pa
 spent_at_once from now m r s parts (no_memory fine is same) h = spent_same s.parts parts same h
 spent_at_once from now m r s parts (later_block b fine wants is same) h = spent_same s.parts parts same h
 spent_at_once from now m r s parts (joined b added fine wants adding is) h = spent_joined from now m b s added parts r adding is h
+spent_at_once from now m r s parts (takes_no_other_verb fine wants links other is same) h = spent_same s.parts parts same h
+spent_at_once from now m r s parts (takes_no_body b place whole fine wants links adding is same) h =
+    spent_same (remove whole place) parts same (spent_whole from now m b s place whole adding h)
 
 spent_reads : (from : Endpoint) (now : ℕ) (m : CoapMessage) (slot : ℕ) (heard : Heard) (s t : Server) → Reads from now m slot heard s t → AreSpent s.parts → AreSpent t.parts
 spent_reads from now m slot heard s t (replied r parts bytes why replies is) h =
     spent_same parts t.parts (replies_parts r (opened m slot) bytes (with_parts parts s) t replies) (spent_at_once from now m r s parts why h)
 spent_reads from now m slot heard s t (bad_option_ignored number fault non is same) h = spent_same s.parts t.parts (ap (λ (x : Server). x.parts) same) h
-spent_reads from now m slot heard s t (asks fine act is same) h = spent_same s.parts t.parts (ap (λ (x : Server). x.parts) same) h
-spent_reads from now m slot heard s t (asks_whole b place parts whole fine wants adding there is same) h =
+spent_reads from now m slot heard s t (gives_links bytes fine act links get replies is) h =
+    spent_same s.parts t.parts (replies_parts _ (opened m slot) bytes (links_given from now m.token (observing_in m) (what_is_asked m) s) t replies) h
+spent_reads from now m slot heard s t (asks fine act apart is same) h = spent_same s.parts t.parts (ap (λ (x : Server). x.parts) same) h
+spent_reads from now m slot heard s t (asks_whole b place parts whole fine wants apart adding there is same) h =
     spent_same (remove parts place) t.parts (ap (λ (x : Server). x.parts) same) (spent_whole from now m b s place parts adding h)
 
 spent_hears : (from : Endpoint) (bytes : List ℕ) (now : ℕ) (heard : Heard) (s t : Server) → Hears from bytes now heard s t → AreSpent s.parts → AreSpent t.parts
@@ -148,6 +161,7 @@ spent_from capacity watchers history s (answered past r t ask o target bytes did
 spent_from capacity watchers history s (emitted past r t target did is) = spent_same r.parts t.parts (ap (λ (x : Server). x.parts) is) (spent_from capacity watchers past r did)
 spent_from capacity watchers history s (sent past r t now n did sends) =
     spent_same r.parts t.parts (ap (λ (x : Server). x.parts) sends.after ∙ sent_parts n (with_watchers sends.watchers r)) (spent_from capacity watchers past r did)
+spent_from capacity watchers history s (linked past r t text did is) = spent_same r.parts t.parts (ap (λ (x : Server). x.parts) is) (spent_from capacity watchers past r did)
 
 -- calls one after another
 calls_append : (parts : List Part) (calls more : List Call) → parts_after parts (calls ++ more) ≡ parts_after (parts_after parts calls) more

@@ -30,9 +30,10 @@ use Rattle.coap_bind.specs.declared.settled.Read.TheVariants as read
 use Rattle.coap_bind.specs.declared.observing.Observing.{Observing}
 use Rattle.coap_bind.specs.declared.observing.Observing.TheVariants as observing
 use Rattle.coap_bind.specs.Blocks.{IsUse, added_reply, block2_of, later_reply, use_of, wanted_by_body, wanted_by_get, wanted_of}
+use Rattle.coap_bind.specs.Links.{is_links_path, size_asked, links_reply, method_reply}
 use Rattle.coap_bind.specs.Observing.{observing_of}
-use Rattle.coap_bind.specs.Server.{Heard, asked, opened_ask, joined_ask, wanted_in, with_parts, with_whole_body, block_arrival, Adds, IsMet, no_memory, later_block, joined, Reads, asks, asks_whole, admitted}
-use Rattle.coap_bind.specs.Settling.{AsksWhole, HandsOut, HasWhole, IsOpenAfter, IsReadOf, ReadsAs}
+use Rattle.coap_bind.specs.Server.{Heard, answered_at_once, asked, opened, observing_in, opened_ask, joined_ask, wanted_in, with_parts, with_whole_body, block_arrival, Adds, IsMet, no_memory, later_block, joined, takes_no_other_verb, takes_no_body, asks_links, links_given, Reads, gives_links, asks, asks_whole, admitted}
+use Rattle.coap_bind.specs.Settling.{AnswersLinks, gives, refuses, AsksWhole, HandsOut, HasWhole, IsOpenAfter, IsReadOf, ReadsAs}
 use Rattle.coap_bind.specs.Telling.{HearsAs, MayAnswer, RepliesAs, Tells, TicketIsOpen}
 use Rattle.coap_bind.specs.Writing.{Reply, reply_of}
 use Rattle.coap_bind.proofs.ReadingLaws.{reads_replied}
@@ -45,6 +46,9 @@ wanted_at code what = wanted_of code (observing_of code what.observe) what
 pub wanted_is : (arrived : Arrived) (request : OpenRequest) (what : PlainAsk) (m : CoapMessage) (w : Wanted) → IsReadOf arrived request what m → wanted_at arrived.code what ≡ w → wanted_in m ≡ w
 wanted_is arrived request what m w r is = sym (λ i. wanted_at (r.code i) (r.what_is i)) ∙ is
 
+path_is : {a b : PlainAsk} → a ≡ b → (is : Bool) → is_links_path a.request.path ≡ is → is_links_path b.request.path ≡ is
+path_is {a} {b} same is h = subst (λ (x : PlainAsk). is_links_path x.request.path ≡ is) same h
+
 -- what is open of a request that wants an act
 abbrev pub asked_open : Arrived → OpenRequest → PlainAsk → OpenAsk
 asked_open arrived request what = record {
@@ -55,8 +59,8 @@ asked_open arrived request what = record {
 }
 
 pub treat_asks : (arrived : Arrived) (request : OpenRequest) (what : PlainAsk) (ticket : OpenAsk) (m : CoapMessage) (s : Server) → IsReadOf arrived request what m
-    → wanted_in m ≡ wanted.Act → ticket ≡ asked_open arrived request what → Reads arrived.from arrived.now m arrived.slot (asked what ticket) s s
-treat_asks arrived request what ticket m s r act is =
+    → wanted_in m ≡ wanted.Act → is_links_path what.request.path ≡ false → ticket ≡ asked_open arrived request what → Reads arrived.from arrived.now m arrived.slot (asked what ticket) s s
+treat_asks arrived request what ticket m s r act apart is =
     let which : ticket ≡ opened_ask arrived.from arrived.now m arrived.slot =
     is ∙ (λ i. record {
       request = r.request_is i;
@@ -64,13 +68,35 @@ treat_asks arrived request what ticket m s r act is =
       observing = observing_of (r.code i) (r.what_is i).observe;
       blocks = use_of arrived.now (r.code i) (observing_of (r.code i) (r.what_is i).observe) (r.what_is i);
     }) in
-    asks r.faultless act (λ i. asked (r.what_is i) (which i)) refl
+    asks r.faultless act (path_is r.what_is false apart) (λ i. asked (r.what_is i) (which i)) refl
 
 pub treat_out_of_memory : (arrived : Arrived) (request : OpenRequest) (what : PlainAsk) (m : CoapMessage) (n : ℕ) (old new : List ℕ) (s t : Server) → IsReadOf arrived request what m
     → RepliesAs (reply_of Memory) request n old new s t → ReadsAs arrived.from arrived.now m arrived.slot (read.Done (Some n)) old new s t
 treat_out_of_memory arrived request what m n old new s t r h =
     reads_replied arrived.from arrived.now m arrived.slot n (reply_of Memory) s.parts old new s t (no_memory r.faultless refl refl)
     (subst (λ (x : OpenRequest). RepliesAs (reply_of Memory) x n old new s t) r.request_is h)
+
+-- ---- the links
+
+-- a request with this code that asks this was replied to with the links
+abbrev LinksReplied : Arrived → ℕ → PlainAsk → OpenRequest → ℕ → List ℕ → List ℕ → Server → Server → Type 0
+LinksReplied arrived code a q n old new s t =
+    RepliesAs (links_reply (size_asked (observing_of code a.observe) a) s.links) q n old new
+    (links_given arrived.from arrived.now q.head.token (observing_of code a.observe) a s) t
+
+pub treat_links : (arrived : Arrived) (request : OpenRequest) (what : PlainAsk) (m : CoapMessage) (n : ℕ) (old new : List ℕ) (s t : Server) → IsReadOf arrived request what m
+    → wanted_in m ≡ wanted.Act → is_links_path what.request.path ≡ true → AnswersLinks arrived request what n old new s t
+    → ReadsAs arrived.from arrived.now m arrived.slot (read.Done (Some n)) old new s t
+treat_links arrived request what m n old new s t r act links (gives get h) =
+    let F : ℕ → PlainAsk → OpenRequest → Type 0 = λ code a q. LinksReplied arrived code a q n old new s t in
+    let given : F m.code (what_is_asked m) (opened m arrived.slot)
+    = subst (λ (q : OpenRequest). F m.code (what_is_asked m) q) r.request_is
+    (subst (λ (a : PlainAsk). F m.code a request) r.what_is (subst (λ (code : ℕ). F code what request) r.code h)) in
+    (answered_at_once given.bytes, gives_links given.bytes r.faultless act (path_is r.what_is true links) (sym r.code ∙ get) given.replies refl, given.written)
+treat_links arrived request what m n old new s t r act links (refuses other h) =
+    reads_replied arrived.from arrived.now m arrived.slot n method_reply s.parts old new s t
+    (takes_no_other_verb r.faultless act (path_is r.what_is true links) (λ get. other (r.code ∙ get)) refl refl)
+    (subst (λ (x : OpenRequest). RepliesAs method_reply x n old new s t) r.request_is h)
 
 -- the reply to a request for a later block
 abbrev pub later_of : Arrived → Block → PlainAsk → Server → Reply
@@ -98,7 +124,7 @@ block_of arrived b what = record {
 
 adds_of : (arrived : Arrived) (request : OpenRequest) (what : PlainAsk) (m : CoapMessage) (b : Block) (s : Server) (added : Added) (parts : List Part) → IsReadOf arrived request what m
     → Gives (after_block (block_of arrived b what) (living arrived.now s.parts)) added parts → Adds arrived.from arrived.now m b s added parts
-adds_of arrived request what m b s added parts r gives =
+adds_of arrived request what m b s added parts r gives_parts =
     let same : block_of arrived b what ≡ block_arrival arrived.from arrived.now m b =
     λ i. record {
       origin = record { from = arrived.from; code = r.code i; path = (r.what_is i).request.path };
@@ -106,16 +132,26 @@ adds_of arrived request what m b s added parts r gives =
       payload = (r.what_is i).request.body;
       moment = arrived.now;
     } in
-    subst (λ (a : Arrival). Gives (after_block a (living arrived.now s.parts)) added parts) same gives
+    subst (λ (a : Arrival). Gives (after_block a (living arrived.now s.parts)) added parts) same gives_parts
 
 pub treat_added : (arrived : Arrived) (request : OpenRequest) (what : PlainAsk) (m : CoapMessage) (b : Block) (added : Added) (reply : Reply) (parts : List Part) (n : ℕ) (old new : List ℕ) (s t : Server)
     → added_reply b added ≡ Some reply → Gives (after_block (block_of arrived b what) (living arrived.now s.parts)) added parts
     → RepliesAs reply request n old new (with_parts parts s) t → IsReadOf arrived request what m → wanted_in m ≡ wanted.Joining b
     → ReadsAs arrived.from arrived.now m arrived.slot (read.Done (Some n)) old new s t
-treat_added arrived request what m b added reply parts n old new s t is gives h r joining =
+treat_added arrived request what m b added reply parts n old new s t is gives_parts h r joining =
     reads_replied arrived.from arrived.now m arrived.slot n reply parts old new s t
-    (joined b added r.faultless joining (adds_of arrived request what m b s added parts r gives) is)
+    (joined b added r.faultless joining (adds_of arrived request what m b s added parts r gives_parts) is)
     (subst (λ (x : OpenRequest). RepliesAs reply x n old new (with_parts parts s) t) r.request_is h)
+
+-- a body that is whole, for the links
+pub treat_no_body : (arrived : Arrived) (request : OpenRequest) (what : PlainAsk) (m : CoapMessage) (b : Block) (place : ℕ) (parts : List Part) (n : ℕ) (old new : List ℕ) (s t : Server)
+    → Gives (after_block (block_of arrived b what) (living arrived.now s.parts)) (Complete place) parts → is_links_path what.request.path ≡ true
+    → RepliesAs method_reply request n old new (with_parts (remove parts place) s) t → IsReadOf arrived request what m → wanted_in m ≡ wanted.Joining b
+    → ReadsAs arrived.from arrived.now m arrived.slot (read.Done (Some n)) old new s t
+treat_no_body arrived request what m b place parts n old new s t gives_parts links h r joining =
+    reads_replied arrived.from arrived.now m arrived.slot n method_reply (remove parts place) old new s t
+    (takes_no_body b place parts r.faultless joining (path_is r.what_is true links) (adds_of arrived request what m b s (Complete place) parts r gives_parts) refl refl)
+    (subst (λ (x : OpenRequest). RepliesAs method_reply x n old new (with_parts (remove parts place) s) t) r.request_is h)
 
 -- what is open of a request that came in blocks
 abbrev pub whole_open : Arrived → OpenRequest → PlainAsk → Block → OpenAsk
@@ -128,14 +164,15 @@ whole_open arrived request what b = record {
 
 pub treat_whole : (arrived : Arrived) (request : OpenRequest) (what : PlainAsk) (ticket : OpenAsk) (m : CoapMessage) (b : Block) (place : ℕ) (parts : List Part) (s : Server)
     → Gives (after_block (block_of arrived b what) (living arrived.now s.parts)) (Complete place) parts → place < length parts
-    → IfSome (slice_get parts place) (λ p. length p.bytes ≤ longest_request) → ticket ≡ whole_open arrived request what b
+    → IfSome (slice_get parts place) (λ p. length p.bytes ≤ longest_request) → is_links_path what.request.path ≡ false → ticket ≡ whole_open arrived request what b
     → IsReadOf arrived request what m → wanted_in m ≡ wanted.Joining b → AsksWhole arrived.from arrived.now m arrived.slot what ticket place s (with_parts parts s)
-treat_whole arrived request what ticket m b place parts s gives within short is r joining = record {
+treat_whole arrived request what ticket m b place parts s gives_parts within short apart is r joining = record {
   block = b;
   parts = parts;
   faultless = r.faultless;
   wanted = joining;
-  adds = adds_of arrived request what m b s (Complete place) parts r gives;
+  apart = path_is r.what_is false apart;
+  adds = adds_of arrived request what m b s (Complete place) parts r gives_parts;
   there = within;
   short = short;
   what_is = r.what_is;
@@ -200,7 +237,7 @@ hears_read from bytes now m slot (read.AsksWhole ask ticket place) (Ask given sp
     let ask_is : joined_ask from m slot w.block ≡ spent = sym w.ask_is ∙ sym h.3 in
     record {
       heard = asked (with_whole_body whole.0.bytes (what_is_asked m)) (joined_ask from m slot w.block);
-      hears = admitted m slot u met (asks_whole w.block place w.parts whole.0 w.faultless w.wanted w.adds whole.1 refl after);
+      hears = admitted m slot u met (asks_whole w.block place w.parts whole.0 w.faultless w.wanted w.apart w.adds whole.1 refl after);
       tells = (λ i. asked (what i) (ask_is i), r.1);
     }
 
@@ -274,6 +311,10 @@ joining_is_block code o a b h e = by_tests (code == GET) (code == POST || code =
 szx_fits : (x : Option Block) → IfSome x IsBlock → IfSome (option_map (λ b. b.szx) x) (λ z. z ≤ 6)
 szx_fits None fits = tt
 szx_fits (Some b) fits = fits.szx
+
+-- the size that is asked for is such as there is
+pub size_fits : (o : Observing) (a : PlainAsk) → HasBlocks a → IfSome (size_asked o a) (λ z. z ≤ 6)
+size_fits o a h = szx_fits (block2_of o a) (block2_fits o a h)
 
 pub use_fits : (now code : ℕ) (o : Observing) (a : PlainAsk) → HasBlocks a → path_size a.request.path ≤ largest_path → IsUse (use_of now code o a)
 use_fits now code o a h short = by_test (code == GET)

@@ -27,12 +27,13 @@ use Rattle.coap_blocks.specs.Parts.{Part}
 use Rattle.coap_bind.specs.declared.blocks.Wanted.TheVariants as wanted
 use Rattle.coap_bind.specs.declared.head.OpenRequest.{OpenRequest}
 use Rattle.coap_bind.specs.Blocks.{answer_reply}
+use Rattle.coap_bind.specs.Links.{links_reply, size_asked, watchers_with_links}
 use Rattle.coap_bind.specs.Observing.{effect_of, Watches}
 use Rattle.coap_bind.proofs.DuplicateLaws.{ready}
 use Rattle.coap_bind.specs.Writing.{Reply, observed, head_of, coap_reply}
-use Rattle.coap_bind.specs.Server.{Heard, ignored, answered_at_once, asked, with_id_used, with_kept, replied_at_once, Replies, is_request, arrival, IsMet, malformed, no_request as is_no_request, duplicate, full, IsAnsweredAtOnce, bad_option, bad_block, for_proxy, no_memory, later_block, joined, replied, bad_option_ignored, asks, asks_whole, wanted_in, with_parts, with_whole_body, opened, opened_ask, joined_ask, settled, admitted, Hears, Answers}
+use Rattle.coap_bind.specs.Server.{Heard, ignored, answered_at_once, asked, with_id_used, with_kept, replied_at_once, Replies, is_request, arrival, IsMet, malformed, no_request as is_no_request, duplicate, full, IsAnsweredAtOnce, bad_option, bad_block, for_proxy, no_memory, later_block, joined, takes_no_other_verb, takes_no_body, replied, bad_option_ignored, gives_links, links_given, observing_in, asks, asks_whole, wanted_in, with_parts, with_whole_body, opened, opened_ask, joined_ask, settled, admitted, Hears, Answers}
 use Rattle.coap_bind.specs.Laws.{HasShortPlace}
-use Rattle.coap_bind.specs.Treating.{Acted, ignores, answers, acts, IsReplied, faulty, memory, of_blocks, acted, acted_on_whole, kept_for, sent_back, IsTreated, no_request, is_duplicate, finds_full, is_answered, is_ignored, AllAreTreated}
+use Rattle.coap_bind.specs.Treating.{Acted, ignores, answers, acts, IsReplied, faulty, memory, of_blocks, of_links, no_method, acted, acted_on_whole, kept_for, sent_back, IsTreated, no_request, is_duplicate, finds_full, is_answered, is_ignored, AllAreTreated}
 use Rattle.coap_bind.proofs.HistoryLaws.{not_replied, not_duplicate}
 
 -- ---- the table
@@ -104,14 +105,14 @@ ask_in a (asked what ask) = ask
 
 -- ---- the cases
 
--- a request that was admitted, and answered at once, with other parts than before
-treated_at_once : (from : Endpoint) (bytes : List ℕ) (now : ℕ) (act : Option Acted) (back : List (List ℕ)) (s v u t : Server) (m : CoapMessage) (slot : ℕ) (r : Reply) (reply : List ℕ)
-    → IsMet from bytes now m (Fresh slot) s u → v.watchers ≡ u.watchers → v.exchanges ≡ u.exchanges → Replies r (opened m slot) reply v t
-    → (v.next_id ≡ u.next_id) → (t.watchers ≡ s.watchers → IsReplied from now m act r s.watchers t.watchers)
+-- a request that was admitted, and answered at once by a server that has changed, with these watchers
+treated_at_once : (from : Endpoint) (bytes : List ℕ) (now : ℕ) (act : Option Acted) (back : List (List ℕ)) (s v u t : Server) (m : CoapMessage) (slot : ℕ) (r : Reply) (reply : List ℕ) (w : Watching)
+    → IsMet from bytes now m (Fresh slot) s u → v.watchers ≡ w → v.exchanges ≡ u.exchanges → Replies r (opened m slot) reply v t
+    → (v.next_id ≡ u.next_id) → (t.watchers ≡ w → IsReplied from now m act r s.watchers t.watchers)
     → back ≡ reply ∷ [] → IsTreated from bytes now act back s t
-treated_at_once from bytes now act back s v u t m slot r reply met watchers exchanges replies id why is =
+treated_at_once from bytes now act back s v u t m slot r reply w met watchers exchanges replies id why is =
     is_answered m slot r reply met.spells met.request met.meets.1.1
-    (why (ap (λ (x : Server). x.watchers) replies.after ∙ (kept_watchers (request_type m.kind) slot reply v ∙ (watchers ∙ met.same_watchers))))
+    (why (ap (λ (x : Server). x.watchers) replies.after ∙ (kept_watchers (request_type m.kind) slot reply v ∙ watchers)))
     (replies.bytes_are ∙ ap (λ (n : ℕ). spelling (coap_reply r (head_of m) n)) (id ∙ met.same_id)) is
     (ap (λ (x : Server). x.exchanges.exchanges) replies.after
     ∙ kept_exchanges (request_type m.kind) slot reply v (arrival from now m) (at_moment now s.exchanges) (exchanges ∙ met.meets.1.2) met.meets.1.1)
@@ -131,6 +132,8 @@ why_replied from now m act r s parts none (for_proxy fault is same) w = faulty (
 why_replied from now m act r s parts none (no_memory faultless is same) w = memory is none w
 why_replied from now m act r s parts none (later_block b faultless wants is same) w = of_blocks (later_is_no_act m b wants) none w
 why_replied from now m act r s parts none (joined b added faultless wants adds is) w = of_blocks (joining_is_no_act m b wants) none w
+why_replied from now m act r s parts none (takes_no_other_verb faultless wants links other is same) w = no_method links none w is
+why_replied from now m act r s parts none (takes_no_body b place whole faultless wants links adds is same) w = no_method links none w is
 
 -- what is settled, and not asked for
 treated_settled : (from : Endpoint) (bytes : List ℕ) (now : ℕ) (h : Heard) (act : Option Acted) (back : List (List ℕ)) (s t : Server) → act ≡ None → back ≡ sent_back h
@@ -160,13 +163,17 @@ treated_settled from bytes now h act back s t none is (settled (full m u met e s
     (ap (λ (x : Server). x.exchanges) same ∙ (used_exchanges (request_type m.kind) u ∙ met.meets.1.1))
     (ap (λ (x : Server). x.watchers) same ∙ (used_watchers (request_type m.kind) u ∙ met.same_watchers))
 treated_settled from bytes now h act back s t none is (admitted m slot u met (replied r parts b why replies e)) unasked =
-    treated_at_once from bytes now act back s (with_parts parts u) u t m slot r b met refl refl replies refl (λ w. why_replied from now m act r u parts none why w) (is ∙ ap sent_back e)
+    treated_at_once from bytes now act back s (with_parts parts u) u t m slot r b s.watchers met met.same_watchers refl replies refl (λ w. why_replied from now m act r u parts none why w) (is ∙ ap sent_back e)
+treated_settled from bytes now h act back s t none is (admitted m slot u met (gives_links b faultless wants links get replies e)) unasked =
+    treated_at_once from bytes now act back s (links_given from now m.token (observing_in m) (what_is_asked m) u) u t m slot
+    (links_reply (size_asked (observing_in m) (what_is_asked m)) u.links) b (watchers_with_links (observing_in m) from m.token s.watchers) met
+    (ap (watchers_with_links (observing_in m) from m.token) met.same_watchers) refl replies refl (λ w. of_links u.links links none w refl) (is ∙ ap sent_back e)
 treated_settled from bytes now h act back s t none is (admitted m slot u met (bad_option_ignored number fault non e same)) unasked =
     is_ignored m slot met.spells met.request (some_fault m _ fault) none (is ∙ ap sent_back e)
     (ap (λ (x : Server). x.exchanges.exchanges) same ∙ ap (λ (x : Table). x.exchanges) met.meets.1.2)
     (ap (λ (x : Server). x.watchers) same ∙ met.same_watchers)
-treated_settled from bytes now h act back s t none is (admitted m slot u met (asks faultless wants e same)) unasked = absurd (unasked _ _ e)
-treated_settled from bytes now h act back s t none is (admitted m slot u met (asks_whole b place parts whole faultless wants adds there e same)) unasked = absurd (unasked _ _ e)
+treated_settled from bytes now h act back s t none is (admitted m slot u met (asks faultless wants apart e same)) unasked = absurd (unasked _ _ e)
+treated_settled from bytes now h act back s t none is (admitted m slot u met (asks_whole b place parts whole faultless wants apart adds there e same)) unasked = absurd (unasked _ _ e)
 
 -- a request that was asked, and answered
 treated_answered : (from : Endpoint) (bytes : List ℕ) (now : ℕ) (act : Option Acted) (back : List (List ℕ)) (s v u t : Server) (a : Acted) (m : CoapMessage) (slot : ℕ) (ask : OpenAsk) (reply : List ℕ)
@@ -218,11 +225,12 @@ treated_asked from bytes now act back s v t a ask reply (settled (duplicate m ke
 treated_asked from bytes now act back s v t a ask reply (settled (full m u met h same)) code place answer acted_is is = absurd (cc)
 treated_asked from bytes now act back s v t a ask reply (admitted m slot u met (replied r parts b why replies h)) code place answer acted_is is = absurd (cc)
 treated_asked from bytes now act back s v t a ask reply (admitted m slot u met (bad_option_ignored number fault non h same)) code place answer acted_is is = absurd (cc)
-treated_asked from bytes now act back s v t a ask reply (admitted m slot u met (asks faultless wants h same)) code place answer acted_is is =
+treated_asked from bytes now act back s v t a ask reply (admitted m slot u met (gives_links b faultless wants links get replies h)) code place answer acted_is is = absurd (cc)
+treated_asked from bytes now act back s v t a ask reply (admitted m slot u met (asks faultless wants apart h same)) code place answer acted_is is =
     let which : ask ≡ opened_ask from now m slot = ap (ask_in ask) h in
     answered_ask from bytes now act back s u v t a m slot reply met wants (ap (what_in a.what) h) code place same
     (subst (λ (x : OpenAsk). Answers x a.outcome a.target reply v t) which answer) acted_is is
-treated_asked from bytes now act back s v t a ask reply (admitted m slot u met (asks_whole b at parts whole faultless wants adds there h same)) code place answer acted_is is =
+treated_asked from bytes now act back s v t a ask reply (admitted m slot u met (asks_whole b at parts whole faultless wants apart adds there h same)) code place answer acted_is is =
     let which : ask ≡ joined_ask from m slot b = ap (ask_in ask) h in
     answered_whole from bytes now act back s u v t a m slot b whole.bytes reply (remove parts at) met wants (ap (what_in a.what) h) code place same
     (subst (λ (x : OpenAsk). Answers x a.outcome a.target reply v t) which answer) acted_is is

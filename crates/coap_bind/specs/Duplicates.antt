@@ -34,6 +34,7 @@ pub record OnlyTimePassed (now : ℕ) (s t : Server) : Type 0 where
   pub next_id : t.next_id ≡ s.next_id
   pub bodies : t.bodies ≡ s.bodies
   pub parts : t.parts ≡ s.parts
+  pub links : t.links ≡ s.links
 
 -- A duplicate of a request that was admitted and lives changes nothing.
 abbrev pub DuplicatesChangeNothing : Type 0

@@ -12,7 +12,7 @@ use Rattle.coap_opts.specs.Reading.{PlainAsk}
 use Rattle.coap_bind.specs.declared.head.OpenAsk.{OpenAsk}
 use Rattle.coap_bind.specs.declared.server.Server.{Server}
 use Rattle.coap_bind.specs.Telling.{HasRoom, MayAnswer}
-use Rattle.coap_bind.specs.Server.{start, is_request, arrival, Heard, asked, Hears, Answers, with_emitted, SendsNext}
+use Rattle.coap_bind.specs.Server.{start, is_request, arrival, Heard, asked, Hears, Answers, with_emitted, with_links, SendsNext}
 
 -- these are the requests of a datagram: one, if it is a request, and else none
 abbrev pub AreArrivals : Endpoint → List ℕ → ℕ → List Arrival → Type 0
@@ -41,6 +41,8 @@ pub data DidFrom (before : Server) : List Arrival → Server → Type 0 where
   emitted : (history : List Arrival) (s t : Server) (target : ℕ) → DidFrom before history s → t ≡ with_emitted target s → DidFrom before history t
   -- it was asked what is to be sent to watchers
   sent : (history : List Arrival) (s t : Server) (now : ℕ) (n : Option Notice) → DidFrom before history s → SendsNext now n s t → DidFrom before history t
+  -- it was given the text of its links
+  linked : (history : List Arrival) (s t : Server) (text : List ℕ) → DidFrom before history s → t ≡ with_links text s → DidFrom before history t
 
 -- What a server in which n exchanges may live did so far, from its beginning.
 abbrev pub Did : ℕ → List Arrival → Server → Type 0

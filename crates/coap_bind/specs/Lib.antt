@@ -2,6 +2,7 @@ pub mod Observing
 pub mod Writing
 pub mod Blocks
 pub mod Portions
+pub mod Links
 pub mod Server
 pub mod Telling
 pub mod Laws

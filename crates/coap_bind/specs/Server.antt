@@ -4,13 +4,14 @@
 -- What it holds is `Server` of src/server.rt: the `exchanges` that live, with the replies that are kept
 -- (coap_exchange/specs/Table.antt), the `watchers` (coap_observe/specs/Watching.antt), `next_id`, the message ID of the
 -- next message that isn't an acknowledgement, the `bodies` of responses that are kept for their later blocks, and the
--- `parts`, the bodies of requests as far as their blocks came (coap_blocks/specs). What a request asks for is
--- coap_opts/specs/Reading.antt, what it wants of the watchers is in Observing.antt, and what it wants of blocks in
--- Blocks.antt; what a reply is on the wire is in Writing.antt.
+-- `parts`, the bodies of requests as far as their blocks came (coap_blocks/specs); and `links`, the text of the links that
+-- it was given. What a request asks for is coap_opts/specs/Reading.antt, what it wants of the watchers is in
+-- Observing.antt, what it wants of blocks in Blocks.antt, and what is said of the links in Links.antt; what a reply is on
+-- the wire is in Writing.antt.
 --
 -- The state is what the code holds, because a second relation between the code and a history would say no more: the law
 -- `ExchangesAreOfTheHistory` ties the table to what came.
-use Rattle.std.specs.Prelude.{◌≡◌, ℕ, ◌+◌, ◌%◌, ◌==◌, ◌&&◌, nat_lt, Bool, true, false, List, [], Option, Some, None, option_map, slice_get, if◌then◌else◌}
+use Rattle.std.specs.Prelude.{◌≡◌, ◌≢◌, ℕ, ◌+◌, ◌%◌, ◌==◌, ◌&&◌, nat_lt, Bool, true, false, List, [], Option, Some, None, option_map, slice_get, if◌then◌else◌}
 use Rattle.std.specs.List.{remove}
 use Rattle.coap_msg.specs.declared.block.Block.{Block}
 use Rattle.coap_msg.specs.declared.endpoint.Endpoint.{Endpoint}
@@ -23,7 +24,7 @@ use Rattle.coap_msg.specs.Grammar.{CoapMessage, Spells, spelling}
 use Rattle.coap_msg.specs.Faults.{HasMsgFault}
 use Rattle.coap_msg.specs.Requests.{request_type}
 use Rattle.coap_msg.specs.Empty.{empty_reply, rejection_of}
-use Rattle.coap_msg.specs.declared.constants.TheConstants.{EMPTY}
+use Rattle.coap_msg.specs.declared.constants.TheConstants.{EMPTY, GET}
 use Rattle.coap_exchange.specs.Admission.{Arrival}
 use Rattle.coap_exchange.specs.Table.{Exchange, empty_table, at_moment, duplicated_exchange, with_reply, Meets}
 use Rattle.coap_exchange.specs.declared.met.Met.{Met}
@@ -46,13 +47,14 @@ use Rattle.coap_bind.specs.declared.blocks.Wanted.{Wanted}
 use Rattle.coap_bind.specs.declared.blocks.Wanted.TheVariants as wanted
 use Rattle.coap_bind.specs.declared.observing.Observing.{Observing}
 use Rattle.coap_bind.specs.Blocks.{wanted_of, use_of, answer_reply, bodies_after, block_reply, later_reply, added_reply}
+use Rattle.coap_bind.specs.Links.{is_links_path, size_asked, links_reply, method_reply, watchers_with_links, bodies_with_links}
 use Rattle.coap_bind.specs.Observing.{observing_of, effect_of, Watches}
 use Rattle.coap_bind.specs.Writing.{Reply, full_reply, proxy_reply, option_reply, reply_of, observed, head_of, coap_reply}
 
 -- A server to which nothing came yet, in which so many exchanges may live and so many watchers may be. Its message IDs
 -- begin at 0 and not at a random number (docs/DECISIONS.md, "CoAP").
 abbrev pub start : ℕ → ℕ → Server
-start exchanges watchers = record { exchanges = empty_table exchanges; watchers = none_watch watchers; next_id = 0; bodies = []; parts = [] }
+start exchanges watchers = record { exchanges = empty_table exchanges; watchers = none_watch watchers; next_id = 0; bodies = []; parts = []; links = [] }
 
 -- What is done with a datagram.
 pub data Heard : Type 0 where
@@ -95,6 +97,10 @@ with_bodies bodies s = record s { bodies = bodies }
 
 abbrev pub with_parts : List Part → Server → Server
 with_parts parts s = record s { parts = parts }
+
+-- the server with this text of its links
+abbrev pub with_links : List ℕ → Server → Server
+with_links text s = record s { links = text }
 
 -- What was asked, of this target if it has one, has this outcome, and is answered in these bytes: first its sender is
 -- registered or deregistered, and a body that is given in blocks is kept; then the reply says the sequence number of a
@@ -179,6 +185,7 @@ pub record IsMet (from : Endpoint) (bytes : List ℕ) (now : ℕ) (m : CoapMessa
   pub same_id : t.next_id ≡ s.next_id
   pub same_bodies : t.bodies ≡ s.bodies
   pub same_parts : t.parts ≡ s.parts
+  pub same_links : t.links ≡ s.links
 
 -- What is done with a datagram that isn't admitted. It takes no memory, and so is said apart: a duplicate, what finds
 -- the table full and what is no request are never out of memory.
@@ -242,8 +249,19 @@ block_arrival from now m b = record {
 abbrev pub Adds : Endpoint → ℕ → CoapMessage → Block → Server → Added → List Part → Type 0
 Adds from now m b s added parts = Gives (after_block (block_arrival from now m b) (living now s.parts)) added parts
 
+-- it is for the links
+abbrev pub asks_links : CoapMessage → Bool
+asks_links m = is_links_path (what_is_asked m).request.path
+
+-- The server once the links are given to a request that came from an endpoint at a moment, with this token, wants this of
+-- the watchers and asks this: its sender is deregistered where it wants that, and a text that is given in blocks is kept.
+abbrev pub links_given : Endpoint → ℕ → List ℕ → Observing → PlainAsk → Server → Server
+links_given from now token o a s =
+    with_bodies (bodies_with_links from a.request.path now (size_asked o a) s.links s.bodies) (with_watchers (watchers_with_links o from token s.watchers) s)
+
 -- Why a request that was admitted is answered at once, by which reply, and the parts then: by the first fault of its
--- options, or out of memory, which is free to come where there is none; or because it wants no act.
+-- options, or out of memory, which is free to come where there is none; because it wants no act; or because it is for
+-- the links and isn't a GET.
 pub data IsAnsweredAtOnce (from : Endpoint) (now : ℕ) (m : CoapMessage) (r : Reply) (s : Server) (parts : List Part) : Type 0 where
   -- a bad option of a Confirmable request (RFC 7252, section 5.4.1)
   bad_option : (number : ℕ) → slice_get (faults_of m.options) 0 ≡ Some (fault.BadOption number) → request_type m.kind ≡ Confirmable
@@ -261,6 +279,12 @@ pub data IsAnsweredAtOnce (from : Endpoint) (now : ℕ) (m : CoapMessage) (r : R
   -- a block of a request, and others are to come, or it isn't taken
   joined : (b : Block) (added : Added) → faults_of m.options ≡ [] → wanted_in m ≡ wanted.Joining b
       → Adds from now m b s added parts → added_reply b added ≡ Some r → IsAnsweredAtOnce from now m r s parts
+  -- another verb than GET is for the links (RFC 7252, section 5.9.2.6)
+  takes_no_other_verb : faults_of m.options ≡ [] → wanted_in m ≡ wanted.Act → asks_links m ≡ true → m.code ≢ GET → r ≡ method_reply → parts ≡ s.parts
+      → IsAnsweredAtOnce from now m r s parts
+  -- and so is the last block of a request: the body that was joined leaves the parts
+  takes_no_body : (b : Block) (place : ℕ) (joined_parts : List Part) → faults_of m.options ≡ [] → wanted_in m ≡ wanted.Joining b → asks_links m ≡ true
+      → Adds from now m b s (Complete place) joined_parts → r ≡ method_reply → parts ≡ remove joined_parts place → IsAnsweredAtOnce from now m r s parts
 
 -- What is done with a request that was admitted.
 pub data Reads (from : Endpoint) (now : ℕ) (m : CoapMessage) (slot : ℕ) (heard : Heard) (s t : Server) : Type 0 where
@@ -270,11 +294,16 @@ pub data Reads (from : Endpoint) (now : ℕ) (m : CoapMessage) (slot : ℕ) (hea
   -- a bad option of any other request than a Confirmable one: it is ignored; it was admitted, so a duplicate of it is one
   bad_option_ignored : (number : ℕ) → slice_get (faults_of m.options) 0 ≡ Some (fault.BadOption number) → request_type m.kind ≡ NonConfirmable
       → heard ≡ ignored → t ≡ s → Reads from now m slot heard s t
+  -- it is a GET for the links, which are given
+  gives_links : (bytes : List ℕ) → faults_of m.options ≡ [] → wanted_in m ≡ wanted.Act → asks_links m ≡ true → m.code ≡ GET
+      → Replies (links_reply (size_asked (observing_in m) (what_is_asked m)) s.links) (opened m slot) bytes
+      (links_given from now m.token (observing_in m) (what_is_asked m) s) t
+      → heard ≡ answered_at_once bytes → Reads from now m slot heard s t
   -- it is asked
-  asks : faults_of m.options ≡ [] → wanted_in m ≡ wanted.Act → heard ≡ asked (what_is_asked m) (opened_ask from now m slot) → t ≡ s
+  asks : faults_of m.options ≡ [] → wanted_in m ≡ wanted.Act → asks_links m ≡ false → heard ≡ asked (what_is_asked m) (opened_ask from now m slot) → t ≡ s
       → Reads from now m slot heard s t
   -- it is the last block of a request, which is asked with the body that was joined; that leaves the parts
-  asks_whole : (b : Block) (place : ℕ) (parts : List Part) (whole : Part) → faults_of m.options ≡ [] → wanted_in m ≡ wanted.Joining b
+  asks_whole : (b : Block) (place : ℕ) (parts : List Part) (whole : Part) → faults_of m.options ≡ [] → wanted_in m ≡ wanted.Joining b → asks_links m ≡ false
       → Adds from now m b s (Complete place) parts → slice_get parts place ≡ Some whole
       → heard ≡ asked (with_whole_body whole.bytes (what_is_asked m)) (joined_ask from m slot b) → t ≡ with_parts (remove parts place) s
       → Reads from now m slot heard s t

@@ -1,9 +1,10 @@
 -- Inside the crate: what is found of a datagram before its result is made, and of a request that was admitted.
-use Rattle.std.specs.Prelude.{◌≡◌, ◌<◌, ◌≤◌, ℕ, List, [], length, slice_get, option_map, IfSome, Option, Some, None}
+use Rattle.std.specs.Prelude.{◌≡◌, ◌≢◌, ◌<◌, ◌≤◌, ℕ, false, List, [], length, slice_get, option_map, IfSome, Option, Some, None}
 use Rattle.std.specs.List.{remove}
 use Rattle.coap_msg.specs.declared.block.Block.{Block}
 use Rattle.coap_msg.specs.declared.message.RequestType.TheVariants.{Confirmable, NonConfirmable}
 use Rattle.coap_msg.specs.declared.endpoint.Endpoint.{Endpoint}
+use Rattle.coap_msg.specs.declared.constants.TheConstants.{GET}
 use Rattle.coap_msg.specs.Grammar.{CoapMessage}
 use Rattle.coap_msg.specs.MessageOf.{message_of}
 use Rattle.coap_msg.specs.Written.{IsWritten}
@@ -28,8 +29,10 @@ use Rattle.coap_bind.specs.declared.head.OpenAsk.{OpenAsk}
 use Rattle.coap_bind.specs.declared.head.OpenRequest.{OpenRequest}
 use Rattle.coap_bind.specs.declared.server.Server.{Server}
 use Rattle.coap_bind.specs.Blocks.{block_reply}
+use Rattle.coap_bind.specs.Links.{size_asked, links_reply, method_reply}
+use Rattle.coap_bind.specs.Observing.{observing_of}
 use Rattle.coap_bind.specs.Writing.{option_reply, proxy_reply, reply_of}
-use Rattle.coap_bind.specs.Server.{Heard, ignored, answered_at_once, asked, with_parts, with_whole_body, opened, IsMet, Settles, Reads, Adds, wanted_in, joined_ask}
+use Rattle.coap_bind.specs.Server.{Heard, ignored, answered_at_once, asked, with_parts, with_whole_body, opened, IsMet, Settles, Reads, Adds, asks_links, links_given, wanted_in, joined_ask}
 use Rattle.coap_bind.specs.Telling.{RepliesAs, MayAnswer}
 
 -- n bytes are to be sent, or nothing
@@ -52,6 +55,7 @@ pub record AsksWhole (from : Endpoint) (now : ℕ) (m : CoapMessage) (slot : ℕ
   pub parts : List Part
   pub faultless : faults_of m.options ≡ []
   pub wanted : wanted_in m ≡ Joining block
+  pub apart : asks_links m ≡ false
   pub adds : Adds from now m block s (Complete place) parts
   pub there : place < length parts
   pub short : IfSome (slice_get parts place) (λ p. length p.bytes ≤ longest_request)
@@ -100,6 +104,14 @@ abbrev pub IsOpenAfter : Read → Server → Type 0
 IsOpenAfter (read.Done reply) s = Unit {0}
 IsOpenAfter (read.Asks ask ticket) s = MayAnswer ticket s
 IsOpenAfter (read.AsksWhole ask ticket place) s = MayAnswer ticket s
+
+-- A request for the links is answered: a GET with their text, and any other verb that it can't be.
+pub data AnswersLinks (a : Arrived) (request : OpenRequest) (what : PlainAsk) (n : ℕ) (old new : List ℕ) (s t : Server) : Type 0 where
+  gives : a.code ≡ GET
+      → RepliesAs (links_reply (size_asked (observing_of a.code what.observe) what) s.links) request n old new
+      (links_given a.from a.now request.head.token (observing_of a.code what.observe) what s) t
+      → AnswersLinks a request what n old new s t
+  refuses : a.code ≢ GET → RepliesAs method_reply request n old new s t → AnswersLinks a request what n old new s t
 
 -- a Confirmable request with a bad option gets a reply, and any other doesn't
 abbrev pub RefusesOption : OpenRequest → ℕ → Option ℕ → List ℕ → List ℕ → Server → Server → Type 0

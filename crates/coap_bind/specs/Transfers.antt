@@ -1,5 +1,5 @@
 -- Blocks over all that a server does (RFC 7959, sections 2.4 and 2.5).
-use Rattle.std.specs.Prelude.{◌≡◌, ◌⊎◌, ℕ, Option, Some, None, List, [], ◌∷◌, ◌++◌}
+use Rattle.std.specs.Prelude.{◌≡◌, ◌⊎◌, ℕ, false, Option, Some, None, List, [], ◌∷◌, ◌++◌}
 use Rattle.coap_msg.specs.declared.endpoint.Endpoint.{Endpoint}
 use Rattle.coap_msg.specs.Grammar.{CoapMessage}
 use Rattle.coap_exchange.specs.Admission.{Arrival}
@@ -13,7 +13,7 @@ use Rattle.coap_opts.specs.Reading.{faults_of, asked as what_is_asked}
 use Rattle.coap_bind.specs.declared.head.OpenAsk.{OpenAsk}
 use Rattle.coap_bind.specs.declared.server.Server.{Server}
 use Rattle.coap_bind.specs.Laws.{Did}
-use Rattle.coap_bind.specs.Server.{Heard, answered_at_once, asked, opened, opened_ask, Replies, Reads, Answers}
+use Rattle.coap_bind.specs.Server.{Heard, answered_at_once, asked, asks_links, opened, opened_ask, Replies, Reads, Answers}
 use Rattle.coap_bind.specs.Writing.{reply_of}
 
 -- a request names no block
@@ -21,12 +21,12 @@ pub record NamesNoBlock (m : CoapMessage) : Type 0 where
   pub block1 : (what_is_asked m).block1 ≡ None
   pub block2 : (what_is_asked m).block2 ≡ None
 
--- A request that names no block is asked as it is, or is out of memory: it is never answered from a body that is kept, and
--- never comes to the parts.
+-- A request that names no block and isn't for the links is asked as it is, or is out of memory: it is never answered from a
+-- body that is kept, and never comes to the parts.
 abbrev pub RequestsWithoutBlocksAct : Type 0
 RequestsWithoutBlocksAct =
     (from : Endpoint) (now : ℕ) (m : CoapMessage) (slot : ℕ) (heard : Heard) (s t : Server) → NamesNoBlock m → faults_of m.options ≡ []
-    → Reads from now m slot heard s t
+    → asks_links m ≡ false → Reads from now m slot heard s t
     → ((heard ≡ asked (what_is_asked m) (opened_ask from now m slot)) × (t ≡ s))
     ⊎ ((bytes : List ℕ) × (heard ≡ answered_at_once bytes) × Replies (reply_of Memory) (opened m slot) bytes s t)
 

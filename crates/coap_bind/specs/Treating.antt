@@ -20,8 +20,9 @@ use Rattle.coap_bind.specs.Writing.{Reply, full_reply, reply_of, observed, head_
 use Rattle.coap_bind.specs.declared.blocks.BlockUse.TheVariants.{Joined}
 use Rattle.coap_bind.specs.declared.blocks.Wanted.TheVariants.{Act, Joining}
 use Rattle.coap_bind.specs.Blocks.{answer_reply, use_of}
+use Rattle.coap_bind.specs.Links.{size_asked, links_reply, method_reply, watchers_with_links}
 use Rattle.coap_bind.specs.Observing.{effect_of, Watches}
-use Rattle.coap_bind.specs.Server.{Heard, ignored, answered_at_once, asked, told_by, is_request, duplicate_reply, arrival, observing_in, wanted_in, with_whole_body, Hears, Answers}
+use Rattle.coap_bind.specs.Server.{Heard, ignored, answered_at_once, asked, told_by, is_request, duplicate_reply, arrival, asks_links, observing_in, wanted_in, with_whole_body, Hears, Answers}
 use Rattle.coap_bind.specs.Laws.{HasShortPlace}
 
 -- An act: what was asked, its outcome, and the target that the request was for, if it was for one.
@@ -43,12 +44,15 @@ pub data Treats (from : Endpoint) (bytes : List ℕ) (now : ℕ) (act : Option A
 -- ---- the cases
 
 -- Why a request that was admitted at a moment gets this reply, and what becomes of the watchers: its options are faulty, or
--- memory is out; or it wants no act; or it was acted on, as it is or with a body that was joined of blocks, and that is what
--- the act came to.
+-- memory is out; or it wants no act; or it is for the links, and gets their text or is refused; or it was acted on, as it is
+-- or with a body that was joined of blocks, and that is what the act came to.
 pub data IsReplied (from : Endpoint) (now : ℕ) (m : CoapMessage) (act : Option Acted) (r : Reply) (old new : Watching) : Type 0 where
   faulty : faults_of m.options ≢ [] → act ≡ None → new ≡ old → IsReplied from now m act r old new
   memory : r ≡ reply_of Memory → act ≡ None → new ≡ old → IsReplied from now m act r old new
   of_blocks : wanted_in m ≢ Act → act ≡ None → new ≡ old → IsReplied from now m act r old new
+  of_links : (text : List ℕ) → asks_links m ≡ true → act ≡ None → new ≡ watchers_with_links (observing_in m) from m.token old
+      → r ≡ links_reply (size_asked (observing_in m) (what_is_asked m)) text → IsReplied from now m act r old new
+  no_method : asks_links m ≡ true → act ≡ None → new ≡ old → r ≡ method_reply → IsReplied from now m act r old new
   acted : (a : Acted) (observe : Option ℕ) → act ≡ Some a → wanted_in m ≡ Act → a.what ≡ what_is_asked m → HasCode a.outcome → HasShortPlace a.outcome
       → Watches (effect_of (observing_in m) a.outcome a.target) from m.token old observe new
       → r ≡ observed observe (answer_reply (use_of now m.code (observing_in m) (what_is_asked m)) a.outcome) → IsReplied from now m act r old new

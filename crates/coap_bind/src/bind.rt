@@ -13,6 +13,7 @@ use coap_observe::{Notice, Watchers};
 use std::alloc::Global;
 use std::marker::Model;
 use thing_ops::Outcome;
+use wot_json::Bytes;
 
 /// The server's side of all its exchanges. Contracts see what it holds (`Server`, which specs/Server.antt explains).
 ///
@@ -40,7 +41,7 @@ impl CoapBind {
     ghost use Rattle.coap_observe.specs.Unsent.{unsent};
     ghost use Rattle.coap_observe.specs.Watching.{IsSendable};
     ghost use Rattle.coap_bind.specs.Writing.{notification};
-    ghost use Rattle.coap_bind.specs.Server.{start, with_emitted, SendsNext};
+    ghost use Rattle.coap_bind.specs.Server.{start, with_emitted, with_links, SendsNext};
     ghost use Rattle.coap_blocks.specs.Parts.{longest_request};
     ghost use Rattle.coap_bind.specs.Telling.{HearsAs, SettlesAs, IsAdmitted, TicketIsOpen, HasRoom, AnswersAs};
 
@@ -63,8 +64,17 @@ impl CoapBind {
                 next_id: 0,
                 bodies: Bodies::new(alloc)?,
                 parts: Parts::new(alloc)?,
+                links: Bytes::new(alloc),
             },
         })
+    }
+
+    /// Takes the text of the links, which a GET of `/.well-known/core` is answered with (RFC 6690, section 4). Before that
+    /// it is empty.
+    pub fn set_links(&mut self, text: Bytes)
+        ensures { self.new ≡ with_links text self.old }
+    {
+        self.server.links = text;
     }
 
     /// Takes a datagram of at most 1,280 bytes that came from an endpoint. Bytes to be sent back are written to the

@@ -1,8 +1,9 @@
 //! What a request wants of blocks, and what its reply says of them (RFC 7959).
 
-ghost use Rattle.std.specs.Prelude.{◌≡◌};
+ghost use Rattle.std.specs.Prelude.{◌≡◌, option_map};
 ghost use Rattle.coap_opts.specs.PlainAsk.{plain_ask};
 ghost use Rattle.coap_bind.specs.Blocks.{block2_of, wanted_by_body, wanted_by_get, wanted_of};
+ghost use Rattle.coap_bind.specs.Links.{size_asked};
 
 use crate::observing::Observing;
 use coap_msg::{Block, GET, POST, PUT};
@@ -69,6 +70,23 @@ pub fn block2_of(observing: Observing, ask: &CoapAsk<'_>) -> Option<Block>
     match observing {
         Observing::Registers => None,
         Observing::Unchanged | Observing::Deregisters => ask.block2,
+    }
+}
+
+/// The exponent of the size of a block that a GET asks for, if it asks for one.
+pub fn size_asked(observing: Observing, ask: &CoapAsk<'_>) -> Option<u8>
+    ensures { result ≡ size_asked observing (plain_ask ask.now) }
+{
+    size_of(block2_of(observing, ask))
+}
+
+/// The exponent of the size of a block.
+fn size_of(block: Option<Block>) -> Option<u8>
+    ensures { result ≡ option_map (λ b. b.szx) block }
+{
+    match block {
+        Some(block) => Some(block.szx),
+        None => None,
     }
 }
 

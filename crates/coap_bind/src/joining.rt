@@ -3,6 +3,7 @@
 
 use crate::blocks::{BlockOption, BlockUse};
 use crate::head::{Arrived, OpenAsk, OpenRequest};
+use crate::links::is_links_path;
 use crate::next::{CoapNext, Ticket};
 use crate::observing::observing_of;
 use crate::portion::Portion;
@@ -43,7 +44,8 @@ impl Server {
     ghost use Rattle.coap_bind.specs.Settling.{HandsOut, HasWhole, IsOpenAfter, IsReadOf, ReadsAs};
     ghost use Rattle.coap_bind.specs.Telling.{RepliesAs};
 
-    /// Joins a block of a request to those before it. Where that makes the body whole, it is asked.
+    /// Joins a block of a request to those before it. Where that makes the body whole, it is asked, unless it is for the
+    /// links.
     pub fn join<'a>(
         &mut self,
         arrived: Arrived,
@@ -68,6 +70,9 @@ impl Server {
         {
             Added::Continue => Read::Done(Some(self.go_on(&request, block, out))),
             Added::Complete(place) => {
+                if is_links_path(path) {
+                    return Read::Done(Some(self.refuse_whole(&request, place, out)));
+                }
                 let open = OpenAsk {
                     request,
                     from: arrived.from,

@@ -3,7 +3,7 @@
 ghost use Rattle.coap_bind.specs.Duplicates.{OnlyConfirmableAreKept, DuplicatesChangeNothing, DuplicatesGetTheFirstReply, OnlyTheFirstReplyIsRepeated};
 ghost use Rattle.coap_bind.specs.Histories.{HearingGoesOn, AskedIsAdmitted};
 ghost use Rattle.coap_bind.specs.Laws.{ExchangesAreOfTheHistory, DuplicatesAskNothing, AsksAreOpen, RepliesFit};
-ghost use Rattle.coap_bind.specs.Messages.{RepliesAreMessages, NotificationsAreMessages};
+ghost use Rattle.coap_bind.specs.Messages.{RepliesAreMessages, LinksAreMessages, NotificationsAreMessages};
 ghost use Rattle.coap_bind.specs.Transfers.{AnswersLeaveTheParts, NoWholeBodyStays, RequestsWithoutBlocksAct};
 ghost use Rattle.coap_bind.specs.Treating.{AllAreTreated};
 
@@ -68,8 +68,8 @@ pub fn all_are_treated()
     ensures { AllAreTreated }
 {}
 
-/// A request that names no block is asked as it is, or is out of memory: it is never answered from a body that is kept,
-/// and never comes to the parts (RFC 7959, sections 2.4 and 2.5).
+/// A request that names no block and isn't for the links is asked as it is, or is out of memory: it is never answered from
+/// a body that is kept, and never comes to the parts (RFC 7959, sections 2.4 and 2.5).
 pub fn requests_without_blocks_act()
     ensures { RequestsWithoutBlocksAct }
 {}
@@ -83,5 +83,6 @@ pub fn no_whole_body_stays()
 /// Replies and notifications are messages (RFC 7252, section 3).
 pub fn sent_are_messages()
     ensures replies { RepliesAreMessages }
+    ensures links { LinksAreMessages }
     ensures notifications { NotificationsAreMessages }
 {}

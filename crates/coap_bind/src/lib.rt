@@ -29,9 +29,9 @@
 //! ```
 //!
 //! What a server holds and what its calls do is one machine, `specs/Server.antt`; what a request wants of the watchers is
-//! `specs/Observing.antt`, what it wants of blocks and which part of a payload a reply has is `specs/Blocks.antt`, and what
-//! a reply and a notification are on the wire is `specs/Writing.antt`. The contract in a sentence: each call does what the
-//! machine does (`Hears`, `Answers`, `SendsNext`), for all that comes in any order. The laws (`specs/Laws.antt`,
+//! `specs/Observing.antt`, what it wants of blocks and which part of a payload a reply has is `specs/Blocks.antt`, what is
+//! said of the links is `specs/Links.antt`, and what a reply and a notification are on the wire is `specs/Writing.antt`.
+//! The contract in a sentence: each call does what the machine does (`Hears`, `Answers`, `SendsNext`), for all that comes in any order. The laws (`specs/Laws.antt`,
 //! `specs/Duplicates.antt`, `specs/Transfers.antt`): the exchanges of a server are those of the admitted requests that
 //! live; a duplicate asks for nothing and changes nothing, and where it is answered it gets the bytes that were sent
 //! first, which it gets exactly where both requests are Confirmable and the first was replied to; a request without blocks
@@ -45,6 +45,7 @@ mod blocks;
 mod head;
 mod joining;
 mod laws;
+mod links;
 mod next;
 mod observing;
 mod options;

@@ -106,7 +106,7 @@ fn all_of(payload: &[u8]) -> Portion<'_>
 }
 
 /// What is given of a payload, where a block of this size was asked for, or none.
-fn given_portion(szx: Option<u8>, payload: &[u8]) -> Portion<'_>
+pub fn given_portion(szx: Option<u8>, payload: &[u8]) -> Portion<'_>
     requires { IfSome szx (λ z. z ≤ 6) }
     ensures ok { portion_seen result ≡ given_portion szx payload.now }
     ensures block { HoldsBlock result.block }

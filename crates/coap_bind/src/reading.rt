@@ -1,8 +1,9 @@
 //! What is done with a request that was admitted: it is asked, or answered at once.
 
-use crate::blocks::{BlockUse, Giving, Wanted, block2_of, wanted_of};
+use crate::blocks::{BlockUse, Giving, Wanted, size_asked, wanted_of};
 use crate::head::{Arrived, OpenAsk, OpenRequest, RequestHead};
 use crate::joining::BAD_REQUEST;
+use crate::links::is_links_path;
 use crate::next::Ticket;
 use crate::observing::{Observing, observing_of};
 use crate::portion::portion_at;
@@ -16,7 +17,7 @@ use std::alloc::Global;
 use thing_ops::{NoMemory, Outcome, Segments};
 
 impl Server {
-    ghost use Rattle.std.specs.Prelude.{◌≡◌, ◌<◌, ◌≤◌, ◌/◌, ◌⊎◌, true, length, option_map, slice_get, IfSome, Some};
+    ghost use Rattle.std.specs.Prelude.{◌≡◌, ◌<◌, ◌≤◌, ◌/◌, ◌⊎◌, true, false, length, option_map, slice_get, IfSome, Some};
     ghost use Rattle.coap_msg.specs.Blocks.{IsBlock};
     ghost use Rattle.coap_msg.specs.Grammar.{CoapMessage, spelling};
     ghost use Rattle.coap_msg.specs.MessageOf.{message_of};
@@ -29,6 +30,7 @@ impl Server {
     ghost use Rattle.thing_ops.specs.declared.outcome.Outcome.TheVariants.{Memory};
     ghost use Rattle.coap_bind.specs.declared.blocks.Wanted.TheVariants.{Act};
     ghost use Rattle.coap_bind.specs.Blocks.{later_reply};
+    ghost use Rattle.coap_bind.specs.Links.{is_links_path};
     ghost use Rattle.coap_bind.specs.Server.{is_request, wanted_in};
     ghost use Rattle.coap_bind.specs.Settling.{IsOpenAfter, IsReadOf, ReadsAs, RefusesFault};
     ghost use Rattle.coap_bind.specs.Telling.{RepliesAs};
@@ -116,13 +118,36 @@ impl Server {
     {
         let observing = observing_of(arrived.code, ask.observe);
         match wanted_of(arrived.code, observing, &ask) {
-            Wanted::Act => self.ask(alloc, arrived, request, ask, out),
+            Wanted::Act => self.take_up(alloc, arrived, request, ask, out),
             Wanted::LaterBlock(block) => {
                 let path = &ask.request.path;
                 Read::Done(Some(self.give_later(arrived, &request, path, block, out)))
             }
             Wanted::Joining(block) => self.join(arrived, request, ask, block, out),
         }
+    }
+
+    /// Asks a request that wants an act, unless it is for the links.
+    fn take_up<'a>(
+        &mut self,
+        alloc: Global,
+        arrived: Arrived,
+        request: OpenRequest,
+        ask: CoapAsk<'a>,
+        out: &mut [u8; LONGEST_MESSAGE],
+    ) -> Read<'a>
+        requires token { length request.head.token ≤ 8 }
+        requires blocks { HasBlocks (plain_ask ask) }
+        requires path { path_size ask.request.path ≤ largest_path }
+        requires slot { IsAwaited request.slot self.old.exchanges }
+        ensures ok { (m : CoapMessage) → IsReadOf arrived request (plain_ask ask.entry) m → wanted_in m ≡ Act →
+            ReadsAs arrived.from arrived.now m arrived.slot result out.old out.new self.old self.new }
+        ensures open { IsOpenAfter result self.new }
+    {
+        if is_links_path(&ask.request.path) {
+            return Read::Done(Some(self.answer_links(arrived, &request, &ask, out)));
+        }
+        self.ask(alloc, arrived, request, ask, out)
     }
 
     /// Asks a request that wants an act.
@@ -137,6 +162,7 @@ impl Server {
         requires token { length request.head.token ≤ 8 }
         requires blocks { HasBlocks (plain_ask ask) }
         requires path { path_size ask.request.path ≤ largest_path }
+        requires apart { is_links_path ask.request.path ≡ false }
         requires slot { IsAwaited request.slot self.old.exchanges }
         ensures ok { (m : CoapMessage) → IsReadOf arrived request (plain_ask ask.entry) m → wanted_in m ≡ Act →
             ReadsAs arrived.from arrived.now m arrived.slot result out.old out.new self.old self.new }
@@ -203,19 +229,9 @@ fn use_of(
     }
     Ok(BlockUse::Gives(Giving {
         path: ask.request.path.copied(alloc)?,
-        szx: size_of(block2_of(observing, ask)),
+        szx: size_asked(observing, ask),
         moment: arrived.now,
     }))
-}
-
-/// The exponent of the size of a block.
-fn size_of(block: Option<Block>) -> Option<u8>
-    ensures { result ≡ option_map (λ b. b.szx) block }
-{
-    match block {
-        Some(block) => Some(block.szx),
-        None => None,
-    }
 }
 
 /// Writes the reply to a request for a later block, where this body is kept, and returns how many bytes it has.

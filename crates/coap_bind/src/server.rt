@@ -14,6 +14,7 @@ use coap_msg::{
 };
 use coap_observe::{Notice, Watchers};
 use servient_base::put_bytes;
+use wot_json::Bytes;
 
 /// What a server holds. What is done to it is specs/Server.antt.
 #[derive(Drop)]
@@ -28,6 +29,8 @@ pub struct Server {
     pub bodies: Bodies,
     /// The bodies of requests, as far as their blocks came.
     pub parts: Parts,
+    /// The text of the links.
+    pub links: Bytes,
 }
 
 impl Server {

@@ -3,4 +3,4 @@ mod Runs
 mod Stands
 mod Means
 mod Outcomes
-mod ReadsBack
+pub mod ReadsBack

@@ -1,7 +1,10 @@
 -- A servient and a client as they are made are as a rehearsal asks for them.
-use Rattle.std.proofs.Common.{ℕ, refl}
+use Rattle.std.proofs.Common.{◌≡◌, ℕ, true, ap, refl}
 use Rattle.coap_client.specs.declared.state.State.{State}
 use Rattle.coap_client.specs.Exchange.{IsNew}
+use Rattle.tm_derive.specs.Segments.{is_plain_segment}
+use Rattle.servient_plan.specs.declared.plan.Plan.{Plan}
+use Rattle.servient_plan.specs.BuiltIn.{built_in_plan}
 use Rattle.servient_core.specs.declared.layers.Layers.{Layers}
 use Rattle.servient_core.specs.Machine.{start}
 use Rattle.servient_core.specs.Serving.{StandsFor}
@@ -20,3 +23,7 @@ new_of first_id s new = record {
   ids = new.ids;
   unused = new.unused;
 }
+
+-- the segment of the built-in Thing is plain
+pub plain_of : (plan : Plan) → plan ≡ built_in_plan → is_plain_segment plan.frame.segment ≡ true
+plain_of plan is = ap (λ (p : Plan). is_plain_segment p.frame.segment) is

@@ -1,7 +1,8 @@
 //! The servient of the built-in Thing, and a rehearsal with it.
 
-ghost use Rattle.std.specs.Prelude.{IfOk};
+ghost use Rattle.std.specs.Prelude.{◌≡◌, true, IfOk};
 ghost use Rattle.std.specs.List.{AllByRecursion};
+ghost use Rattle.tm_derive.specs.Segments.{is_plain_segment};
 ghost use Rattle.wot_terms.specs.Faults.{IsValid};
 ghost use Rattle.thing_site.specs.Fits.{Fits};
 ghost use Rattle.servient_rehearsal.specs.Moves.{AreShort};
@@ -24,7 +25,9 @@ pub const FADE: usize = 34;
 
 /// The Things of the built-in plan.
 fn things_of(alloc: Global, plan: &Plan) -> Result<Things, AllocError>
-    ensures { IfOk result (AllByRecursion (λ t. IsValid t.1)) }
+    requires plain { is_plain_segment plan.now.frame.segment ≡ true }
+    ensures valid { IfOk result (AllByRecursion (λ t. IsValid t.1)) }
+    ensures plain { IfOk result (AllByRecursion (λ t. is_plain_segment t.0 ≡ true)) }
 {
     let root = plan.root.as_str();
     let model = Plan::built_in_model(alloc)?;
@@ -47,7 +50,7 @@ fn things_of(alloc: Global, plan: &Plan) -> Result<Things, AllocError>
 }
 
 /// A new servient of the built-in Thing.
-#[tactic(auto, using(crate::proofs::Beginnings::unused_of))]
+#[tactic(auto, using(crate::proofs::Beginnings::unused_of, crate::proofs::Beginnings::plain_of))]
 fn servient_on<R: Handlers>(alloc: Global, rack: &R) -> Result<Servient, AllocError>
     ensures fits { IfOk result (λ s. Fits s.exposed.site (R.slots rack.now)) }
     ensures unused { IfOk result (λ s. IsUnused s) }

@@ -1,11 +1,12 @@
 //! Reading a plan and its models, and deriving its Things.
 
-ghost use Rattle.std.specs.Prelude.{◌≡◌, ◌++◌, [], List, IfOk, OnOk};
+ghost use Rattle.std.specs.Prelude.{◌≡◌, ◌++◌, [], List, true, IfOk, OnOk};
 ghost use Rattle.servient_core.specs.Trace.{Outside};
 ghost use Rattle.std.specs.List.{AllByRecursion};
+ghost use Rattle.tm_derive.specs.Segments.{is_plain_segment};
 ghost use Rattle.wot_terms.specs.Faults.{IsValid};
 ghost use Rattle.wot_terms.specs.ThingLists.{kept_thing, kept_things};
-ghost use Rattle.servient_plan.specs.Plan.{HasFewExchanges};
+ghost use Rattle.servient_plan.specs.Plan.{MayBeServed};
 ghost use Rattle.servient_cli.specs.Stages.{AndThen, Around, around};
 ghost use Rattle.servient_cli.specs.Reading.{ReadsFile, longest_json};
 ghost use Rattle.servient_cli.specs.Deriving.{AddsModel, Derives, DerivesAndPrints, ReadsPlan, ReadsPlanned, TakesModel, TakesModels, thing_text, things_text};
@@ -49,7 +50,7 @@ fn derive_and_print(alloc: Global, planned: &Planned) -> Result<Ending, Ended>
 pub fn read_planned<F: Files>(alloc: Global, name: &str, files: &mut F) -> Result<Planned, Ended>
     ensures stage { (w : Outside) → Performs (ReadsPlanned (F.seen files.old).held name.now) (around (F.seen files.old) w) (around (F.seen files.new) w) result }
     ensures held { (F.seen files.new).held ≡ (F.seen files.old).held }
-    ensures exchanges { IfOk result (λ p. HasFewExchanges p.plan) }
+    ensures served { IfOk result (λ p. MayBeServed p.plan) }
 {
     let content = read_file(alloc, name, LONGEST_JSON, files)?;
     let tree = read_tree(alloc, name, content.as_slice())?;
@@ -61,7 +62,7 @@ pub fn read_planned<F: Files>(alloc: Global, name: &str, files: &mut F) -> Resul
 /// The plan that a tree is.
 fn read_plan(alloc: Global, name: &str, tree: &Tree) -> Result<Plan, Ended>
     ensures stage { (a : Around) → Performs (ReadsPlan name.now tree.now) a a result }
-    ensures exchanges { IfOk result HasFewExchanges }
+    ensures served { IfOk result MayBeServed }
 {
     match Plan::read(alloc, tree) {
         Ok(plan) => Ok(plan),
@@ -137,6 +138,7 @@ fn add_model(
 pub fn derive_things(alloc: Global, planned: &Planned) -> Result<Things, Ended>
     ensures stage { (a : Around) → Performs (Derives planned.now) a a result }
     ensures valid { IfOk result (AllByRecursion (λ thing. IsValid thing.1)) }
+    ensures plain { IfOk result (λ things. is_plain_segment planned.now.plan.frame.segment ≡ true → AllByRecursion (λ thing. is_plain_segment thing.0 ≡ true) things) }
 {
     let plan = &planned.plan;
     let root = plan.root.as_str();

@@ -5,7 +5,7 @@ ghost use Rattle.thing_site.specs.Exposing.{kinds_of};
 ghost use Rattle.thing_site.specs.Fits.{Fits};
 ghost use Rattle.thing_handler.specs.Handler.{Seen};
 ghost use Rattle.servient_core.specs.Trace.{outside};
-ghost use Rattle.servient_plan.specs.Plan.{HasFewExchanges, place_of};
+ghost use Rattle.servient_plan.specs.Plan.{MayBeServed, place_of};
 ghost use Rattle.servient_core.specs.Machine.{start};
 ghost use Rattle.servient_core.specs.Serving.{StandsFor};
 ghost use Rattle.servient_outside.specs.Files.{FilesSeen};
@@ -57,7 +57,7 @@ fn serve_planned<N: Net, R: Handlers>(
     net: &mut N,
     rack: &mut R,
 ) -> Result<Ending, Ended>
-    requires { HasFewExchanges planned.now.plan }
+    requires { MayBeServed planned.now.plan }
     ensures { (files : FilesSeen) → EndsBy (ServesPlanned request.entry.plan.now (kinds_of (R.slots rack.old)) request.entry.events request.entry.idle planned.now)
         (around files (outside (N.seen net.old) (R.slots rack.old)))
         (around files (outside (N.seen net.new) (R.slots rack.new))) result }

@@ -1,11 +1,12 @@
 //! Opening a servient: the root of a plan is derived, and each affordance of its Things gets its handler.
 
-ghost use Rattle.std.specs.Prelude.{IfOk};
+ghost use Rattle.std.specs.Prelude.{◌≡◌, true, IfOk};
 ghost use Rattle.std.specs.List.{AllByRecursion};
+ghost use Rattle.tm_derive.specs.Segments.{is_plain_segment};
 ghost use Rattle.wot_terms.specs.Faults.{IsValid};
 ghost use Rattle.thing_site.specs.Exposing.{kinds_of};
 ghost use Rattle.thing_site.specs.Fits.{Fits};
-ghost use Rattle.servient_plan.specs.Plan.{HasFewExchanges};
+ghost use Rattle.servient_plan.specs.Plan.{MayBeServed};
 ghost use Rattle.servient_core.specs.Machine.{start};
 ghost use Rattle.servient_core.specs.Serving.{StandsFor};
 ghost use Rattle.servient_cli.specs.Stages.{Around};
@@ -27,7 +28,7 @@ pub fn open<R: Handlers>(
     planned: &Planned,
     rack: &R,
 ) -> Result<Servient, Ended>
-    requires exchanges { HasFewExchanges planned.now.plan }
+    requires served { MayBeServed planned.now.plan }
     ensures stage { (a : Around) → Performs (Opens name.now (kinds_of (R.slots rack.now)) planned.now) a a (site_in result) }
     ensures start { IfOk result (λ s. StandsFor s (start s.exposed.site planned.now.plan.exchanges)) }
     ensures fits { IfOk result (λ s. Fits s.exposed.site (R.slots rack.now)) }
@@ -44,8 +45,9 @@ fn expose<R: Handlers>(
     things: Things,
     rack: &R,
 ) -> Result<Servient, Ended>
-    requires exchanges { HasFewExchanges plan.now }
+    requires served { MayBeServed plan.now }
     requires valid { AllByRecursion (λ thing. IsValid thing.1) things }
+    requires plain { AllByRecursion (λ thing. is_plain_segment thing.0 ≡ true) things }
     ensures stage { (a : Around) → Performs (Exposes name.now (kinds_of (R.slots rack.now)) plan.now.slots things) a a (site_in result) }
     ensures start { IfOk result (λ s. StandsFor s (start s.exposed.site plan.now.exchanges)) }
     ensures fits { IfOk result (λ s. Fits s.exposed.site (R.slots rack.now)) }

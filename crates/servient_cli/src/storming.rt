@@ -6,7 +6,7 @@ ghost use Rattle.servient_outside.specs.NetMemory.{left_events, told_history};
 ghost use Rattle.servient_outside.specs.Files.{FilesSeen};
 ghost use Rattle.thing_site.specs.Exposing.{kinds_of};
 ghost use Rattle.thing_site.specs.Fits.{Fits};
-ghost use Rattle.servient_plan.specs.Plan.{HasFewExchanges};
+ghost use Rattle.servient_plan.specs.Plan.{MayBeServed};
 ghost use Rattle.servient_core.specs.Trace.{outside};
 ghost use Rattle.servient_core.specs.Machine.{start};
 ghost use Rattle.servient_core.specs.Serving.{StandsFor};
@@ -62,7 +62,7 @@ fn storm_on<R: Handlers>(
     count: u32,
     rack: &mut R,
 ) -> Result<Ending, Ended>
-    requires { HasFewExchanges planned.now.plan }
+    requires { MayBeServed planned.now.plan }
     ensures { (files : FilesSeen) → (net : NetSeen) → EndsBy (StormsOn (kinds_of (R.slots rack.old)) seed count planned.now)
         (around files (outside net (R.slots rack.old))) (around files (outside net (R.slots rack.new))) result }
 {

@@ -1,5 +1,6 @@
 pub mod TraceLaws
 pub mod PartLaws
+pub mod LinkLaws
 pub mod LoopLaws
 pub mod ConnectionLaws
 pub mod DeliverLaws

@@ -12,10 +12,10 @@ use Rattle.coap_exchange.specs.declared.met.Met.{Met}
 use Rattle.coap_exchange.specs.declared.met.Met.TheVariants.{Fresh, Repeat, Full}
 use Rattle.coap_bind.specs.declared.head.OpenAsk.{OpenAsk}
 use Rattle.coap_bind.specs.declared.server.Server.{Server}
-use Rattle.coap_bind.specs.Server.{Heard, ignored, answered_at_once, asked, arrival, is_request, with_watchers, IsMet, malformed, no_request, duplicate, full, Hears, settled, admitted, Answers, SendsNext}
+use Rattle.coap_bind.specs.Server.{start as nothing_came, Heard, ignored, answered_at_once, asked, arrival, is_request, with_watchers, IsMet, malformed, no_request, duplicate, full, Hears, settled, admitted, Answers, SendsNext}
 use Rattle.coap_opts.specs.Reading.{PlainAsk}
 use Rattle.coap_observe.specs.declared.notice.Notice.{Notice}
-use Rattle.coap_bind.specs.Laws.{AreArrivals, IsOpen, Did, nothing, heard_of, answered, emitted, sent}
+use Rattle.coap_bind.specs.Laws.{AreArrivals, IsOpen, Did, nothing, heard_of, answered, emitted, sent, linked}
 use Rattle.coap_bind.proofs.HistoryLaws.{sent_stays}
 use Rattle.coap_exchange.specs.Table.{Table}
 use Rattle.coap_bind.proofs.OpenLaws.{asks_are_open}
@@ -34,6 +34,7 @@ use Rattle.servient_core.specs.declared.serving.Served.{Served}
 use Rattle.servient_core.specs.declared.serving.Served.TheVariants as served
 use Rattle.servient_core.specs.declared.capacity.TheConstants.{MOST_WATCHERS}
 use Rattle.servient_core.specs.Trace.{Sighting, at_handler}
+use Rattle.servient_core.specs.Links.{segments_of, text_of_links}
 use Rattle.servient_core.specs.Machine.{Site, State, start, Move, OnCoap, SendsIfAny, RepliesToWait, AnswersWait, AnswersLateWait, Delivers, DeliversEach, observed_target, PerformsByHttp, AnswersDatagram, HearsDatagram, AnswersTaken, TakesNextMessage, ClosesIdle, PollsAndDelivers, SendsNotification, NothingIsDue, EndsEvent, Follows, Step, Run}
 use Rattle.servient_core.specs.Serving.{Ends}
 use Rattle.servient_core.specs.Runs.{AreRequestsOf, AreRequestsFrom, HasHistory, EachRunHasAHistory, ServingHasAHistory}
@@ -310,7 +311,7 @@ run_goes_on k history now site (e ∷ es) s t seen r h =
 
 pub each_run_has_a_history : EachRunHasAHistory
 each_run_has_a_history site k took seen t r =
-    let run = run_goes_on k [] 0 site took (start site k) t seen r (record { did = (MOST_WATCHERS, nothing); early = omega arith; at = refl }) in
+    let run = run_goes_on k [] 0 site took (start site k) t seen r (record { did = (MOST_WATCHERS, linked [] (nothing_came k MOST_WATCHERS) (start site k).coap (text_of_links (segments_of site)) nothing refl); early = omega arith; at = refl }) in
     record { history = run.new; requests = run.requests; did = run.holds.did; moment = omega (arith, run.holds.early, run.holds.at) }
 
 -- the end of serving changes nothing

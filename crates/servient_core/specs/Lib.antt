@@ -1,4 +1,5 @@
 pub mod Trace
+pub mod Links
 pub mod Machine
 pub mod Keeping
 pub mod Serving

@@ -31,7 +31,7 @@ use Rattle.coap_opts.specs.Reading.{PlainAsk}
 use Rattle.coap_bind.specs.declared.head.OpenAsk.{OpenAsk}
 use Rattle.coap_bind.specs.declared.server.Server.{Server}
 use Rattle.servient_core.specs.declared.capacity.TheConstants.{MOST_WATCHERS}
-use Rattle.coap_bind.specs.Server.{start as nothing_came, Heard, ignored, answered_at_once, asked, Hears, Answers, with_emitted, SendsNext}
+use Rattle.coap_bind.specs.Server.{start as nothing_came, Heard, ignored, answered_at_once, asked, Hears, Answers, with_emitted, with_links, SendsNext}
 use Rattle.coap_bind.specs.Writing.{notification}
 use Rattle.http_bind.specs.Streams.{Streams, none_open, Taken, asks, wants_continue, is_faulty, interrupts, Opened, Ended, Lengthened, Takes, IsDry, Answers as AnswersRequest, Wakes, Continues, Refuses, Closes, oldest_for, oldest_late, IsIdle, NoneIdle}
 use Rattle.servient_outside.specs.declared.net.What.{What}
@@ -41,6 +41,7 @@ use Rattle.servient_outside.specs.declared.net.Act.{Act}
 use Rattle.servient_outside.specs.declared.net.Act.TheVariants as act
 use Rattle.servient_outside.specs.Network.{heard, did}
 use Rattle.servient_core.specs.Trace.{Sighting, at_network, at_handler}
+use Rattle.servient_core.specs.Links.{segments_of, text_of_links}
 
 -- ---- the state
 
@@ -58,9 +59,9 @@ pub record State : Type 0 where
   pub thing : ThingState
   pub directory : Contents
 
--- before the first event, where n exchanges may live; nobody watches
+-- before the first event, where n exchanges may live; nobody watches, and the CoAP server has the links to the Things
 abbrev pub start : Site → ℕ → State
-start site exchanges = record { moment = 0; http = none_open; coap = nothing_came exchanges MOST_WATCHERS; thing = no_request_yet site; directory = empty_directory }
+start site exchanges = record { moment = 0; http = none_open; coap = with_links (text_of_links (segments_of site)) (nothing_came exchanges MOST_WATCHERS); thing = no_request_yet site; directory = empty_directory }
 
 abbrev pub Move : Type 1
 Move = State → List Sighting → State → Type 0

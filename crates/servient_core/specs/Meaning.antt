@@ -19,7 +19,8 @@ use Rattle.servient_core.specs.Trace.{Sighting, calls_in}
 use Rattle.servient_core.specs.Machine.{Site, State, Move, Performs, PerformsByHttp, AnswersAsk, AnswersDatagram, AnswersMessage, AnswersTaken, DeliversEach}
 
 -- A message that was read as a request: by CoAP from an endpoint, where it asks for this and has to be answered, or by
--- HTTP on a connection.
+-- HTTP on a connection. A CoAP message for the links is none, since it is answered at once and asks for nothing: so what
+-- follows isn't said of that path.
 pub data Message : Type 0 where
   by_coap : Endpoint → PlainAsk → OpenAsk → Message
   by_http : ℕ → PlainRequest → Message

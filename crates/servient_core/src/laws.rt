@@ -10,6 +10,7 @@ ghost use Rattle.servient_outside.specs.Network.{break_count};
 ghost use Rattle.servient_core.specs.declared.serving.Served.{Served};
 ghost use Rattle.servient_core.specs.declared.serving.Served.TheVariants as served;
 ghost use Rattle.servient_core.specs.Trace.{Sighting, happened_in, calls_in};
+ghost use Rattle.servient_core.specs.Links.{LinksNameEachThing};
 ghost use Rattle.servient_core.specs.Machine.{Site, State};
 ghost use Rattle.servient_core.specs.Serving.{Serves, BreaksAtEnd, StandsFor};
 ghost use Rattle.servient_core.specs.Promises.{DuplicatesActOnNothing, FullTableActsOnNothing};
@@ -67,6 +68,12 @@ pub fn directory_is_apart()
 pub fn each_run_has_a_history()
     ensures runs { EachRunHasAHistory }
     ensures serving { ServingHasAHistory }
+{}
+
+/// The text of the links to Things whose segments are plain, read again, has a link to each Thing, in order and no other
+/// (RFC 6690).
+pub fn links_name_each_thing()
+    ensures { LinksNameEachThing }
 {}
 
 /// Each handler's count of misses rises by how often it was out of memory, unless it is at its last value.

@@ -24,14 +24,15 @@ mod delivering;
 mod ending;
 mod laws;
 mod layers;
+mod links;
 mod performing;
 mod servient;
 mod serving;
 
 pub use laws::{
     directory_is_apart, duplicates_act_on_nothing, each_run_has_a_history, each_stands_for_a_state,
-    failing_is_exact, full_table_acts_on_nothing, misses_are_counted, one_meaning,
-    turns_are_numbered,
+    failing_is_exact, full_table_acts_on_nothing, links_name_each_thing, misses_are_counted,
+    one_meaning, turns_are_numbered,
 };
 pub use servient::{OpenFault, Servient};
 pub use servient_edge::{

@@ -1,30 +1,38 @@
 //! The servient of a plan, and what one event does.
 
-ghost use Rattle.std.specs.Prelude.{◌≡◌, ◌≤◌, ◌<◌, [], length, IfOk, IfErr, OnOk};
+ghost use Rattle.std.specs.Prelude.{◌≡◌, ◌≤◌, ◌<◌, [], true, length, IfOk, IfErr, OnOk};
 ghost use Rattle.std.specs.List.{AllByRecursion};
 ghost use Rattle.servient_base.specs.Moves.{Refines};
+ghost use Rattle.tm_derive.specs.Segments.{is_plain_segment};
 ghost use Rattle.wot_terms.specs.Faults.{IsValid};
 ghost use Rattle.thing_site.specs.Site.{site_of, expose_faults};
 ghost use Rattle.thing_site.specs.Exposing.{kinds_of};
 ghost use Rattle.thing_site.specs.Fits.{Fits};
 ghost use Rattle.servient_outside.specs.Network.{byte_count, IsEvent};
 ghost use Rattle.servient_core.specs.Trace.{Shows, outside};
+ghost use Rattle.core_links.specs.Links.{IsLinkText};
+ghost use Rattle.coap_bind.specs.Server.{start as nothing_came, with_links};
+ghost use Rattle.servient_core.specs.declared.capacity.TheConstants.{MOST_WATCHERS};
+ghost use Rattle.wot_terms.specs.ThingLists.{segments_in};
+ghost use Rattle.servient_core.specs.Links.{links_to, segments_of, text_of_links};
 ghost use Rattle.servient_core.specs.Machine.{start, Step};
 ghost use Rattle.servient_core.specs.Serving.{StandsFor, IsOpenFault};
 
 use crate::capacity::MOST_WATCHERS;
 use crate::connections::Rooms;
 use crate::layers::Layers;
+use crate::links::text_of_links;
 use crate::{Event, Net, Plan};
 use coap_bind::CoapBind;
 use directory_requests::DirectoryServer;
 use http_bind::HttpBind;
+use servient_base::NoMemory;
 use std::alloc::{AllocError, Global};
 use std::marker::Model;
 use thing_core::{ExposeFault, Exposed};
 use thing_handler::Handlers;
 use thiserror::Error;
-use wot_terms::Things;
+use wot_terms::{Thing, Things};
 
 /// The servient of a plan. Contracts see what it keeps (`Layers`), and which states of the machine they stand for
 /// (`StandsFor` of `specs/Serving.antt`).
@@ -73,6 +81,17 @@ impl From<AllocError> for OpenFault {
     }
 }
 
+/// The CoAP server of a servient of these Things, in which `exchanges` exchanges may live: with the links to them.
+fn coap_of(alloc: Global, exchanges: u32, things: &[Thing]) -> Result<CoapBind, NoMemory>
+    requires least { 16 ≤ exchanges }
+    requires most { exchanges ≤ 65536 }
+    ensures { IfOk result (λ c. c ≡ with_links (text_of_links (segments_in things.now)) (nothing_came exchanges MOST_WATCHERS)) }
+{
+    let mut coap = CoapBind::new(alloc, exchanges, MOST_WATCHERS)?;
+    coap.set_links(text_of_links(alloc, things)?);
+    Ok(coap)
+}
+
 impl Servient {
     /// The servient of a plan and of the Things that were derived from it, before its first event. Every buffer that
     /// later steps use is taken here.
@@ -83,17 +102,20 @@ impl Servient {
         rack: &R,
     ) -> Result<Servient, OpenFault>
         requires valid { AllByRecursion (λ t. IsValid t.1) things }
+        requires plain { AllByRecursion (λ t. is_plain_segment t.0 ≡ true) things }
         requires least { 16 ≤ plan.now.exchanges }
         requires most { plan.now.exchanges ≤ 65536 }
         ensures site { IfOk result (λ s. s.exposed.site ≡ site_of plan.now.slots things) }
         ensures start { IfOk result (λ s. StandsFor s (start s.exposed.site plan.now.exchanges)) }
+        // Its links are a link text, with a link to each Thing in order.
+        ensures links { IfOk result (λ s. IsLinkText s.coap.links (links_to (segments_of s.exposed.site))) }
         ensures faultless { OnOk result (expose_faults (kinds_of (R.slots rack.now)) plan.now.slots things ≡ []) }
         ensures fits { IfOk result (λ s. Fits s.exposed.site (R.slots rack.now)) }
         ensures fault { IfErr result (λ fault. IsOpenFault (expose_faults (kinds_of (R.slots rack.now)) plan.now.slots things) fault) }
     {
         let rooms = Rooms::new(alloc)?;
         let http = HttpBind::new(alloc)?;
-        let coap = CoapBind::new(alloc, plan.exchanges, MOST_WATCHERS)?;
+        let coap = coap_of(alloc, plan.exchanges, things.as_slice())?;
         let exposed = match Exposed::new(alloc, things, &plan.slots, rack) {
             Ok(exposed) => exposed,
             Err(fault) => return Err(OpenFault::Expose(fault)),

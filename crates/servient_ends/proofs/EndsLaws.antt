@@ -12,9 +12,9 @@ servient_acts_once site first_id exchanges turns p q is all =
     let t = turns_play site first_id exchanges turns p q is all in acted_once first_id exchanges MOST_WATCHERS t.0 p.world q.world is.world t.1
 
 pub servient_answers_once : ServientAnswersOnce
-servient_answers_once site first_id exchanges turns p q k code payload is all few ended =
+servient_answers_once site first_id exchanges turns p q k code payload is all few apart ended =
     let t = turns_play site first_id exchanges turns p q is all in
-    answered_once first_id exchanges MOST_WATCHERS t.0 p.world q.world k code payload is.world t.1 few ended
+    answered_once first_id exchanges MOST_WATCHERS t.0 p.world q.world k code payload is.world t.1 few apart ended
 
 pub servient_observes_once : ServientObservesOnce
 servient_observes_once site first_id exchanges turns p q k is all few ended =

@@ -92,7 +92,8 @@ is_fresh s new = λ i. record {
 
 starts : (s : ClientState) → IsNew 0 s → IsBeginning [] 0 16 (beside s)
 starts s new = record {
-  world = record { client = new; server = refl; asks = refl; sent = refl; acts = refl; emitted = refl; ids = refl; ends = refl; taken = refl };
+  world = record { client = new; links = []; server = refl; asks = refl; sent = refl; acts = refl; emitted = refl; ids = refl; ends = refl; taken = refl };
+  server = refl;
   servient = refl;
 }
 
@@ -126,7 +127,7 @@ abbrev first_table : Table
 first_table = later 0 (nothing_came 16 MOST_WATCHERS).exchanges
 
 abbrev admitting : Server
-admitting = record { exchanges = with_exchange (arrival client_place 0 question) 0 first_table; watchers = (nothing_came 16 MOST_WATCHERS).watchers; next_id = 0; bodies = []; parts = [] }
+admitting = record { exchanges = with_exchange (arrival client_place 0 question) 0 first_table; watchers = (nothing_came 16 MOST_WATCHERS).watchers; next_id = 0; bodies = []; parts = []; links = [] }
 
 abbrev answered_server : Server
 answered_server = with_kept Confirmable 0 answer_bytes (with_id_used Confirmable admitting)
@@ -140,7 +141,8 @@ hears_it = admitted question 0 admitting (record {
   same_id = refl;
   same_bodies = refl;
   same_parts = refl;
-}) (asks refl refl refl refl)
+  same_links = refl;
+}) (asks refl refl refl refl refl)
 
 answers_it : Answers (opened_ask client_place 0 question 0) outcome.NotFound None answer_bytes admitting answered_server
 answers_it = record {

@@ -7,11 +7,11 @@ use Rattle.coap_observe.specs.declared.notice.Notice.{Notice}
 use Rattle.coap_observe.specs.Accounts.{Registration, Account, no_account, with_notice as account_noticed, with_value, Did as AccountDid, nothing as nothing_done, emitted as was_emitted, sent as was_sent, IsToRegistered, token_of}
 use Rattle.coap_observe.proofs.AccountLaws.{notices_go_to_the_registered}
 use Rattle.coap_bind.specs.declared.server.Server.{Server}
-use Rattle.coap_bind.specs.Server.{with_next_id, with_emitted, with_watchers, with_notice_sent, SendsNext, start as nothing_came}
+use Rattle.coap_bind.specs.Server.{with_next_id, with_emitted, with_watchers, with_notice_sent, SendsNext}
 use Rattle.coap_bind.specs.Treating.{Acted}
 use Rattle.coap_bind.proofs.TreatingLaws.{all_are_treated}
 use Rattle.servient_core.specs.declared.capacity.TheConstants.{MOST_WATCHERS}
-use Rattle.servient_core.specs.Machine.{Site}
+use Rattle.servient_core.specs.Machine.{Site, start}
 use Rattle.servient_world.specs.World.{Receives, too_long, treated}
 use Rattle.servient_world.proofs.WatchLaws.{IsByRequest, GoesOn, account_goes_on}
 use Rattle.servient_world.proofs.CounterLaws.{counter_receives, counter_sends}
@@ -27,7 +27,7 @@ pub record WatchesTargets (site : Site) (c : Server) : Type 0 where
 abbrev pub ActsOnTarget : Site → Option Acted → Type 0
 ActsOnTarget site act = (a : Acted) (n : ℕ) → act ≡ Some a → a.target ≡ Some n → IsTarget site n
 
-pub watches_at_start : (site : Site) (exchanges : ℕ) → WatchesTargets site (nothing_came exchanges MOST_WATCHERS)
+pub watches_at_start : (site : Site) (exchanges : ℕ) → WatchesTargets site (start site exchanges).coap
 watches_at_start site exchanges = record {
   account = no_account;
   did = nothing_done _ refl;

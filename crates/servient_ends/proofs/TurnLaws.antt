@@ -274,7 +274,7 @@ holds_at_start site exchanges emitted s none same = subst (λ (es : List Emissio
 
 begins : (site : Site) (first_id exchanges : ℕ) (p : EndsState) → IsBeginning site first_id exchanges p → Holds site p
 begins site first_id exchanges p is = record {
-  server = is.world.server ∙ sym (ap (λ (x : State). x.coap) is.servient);
+  server = is.server;
   moment = early p.servient.moment p.world.moment (ap (λ (x : State). x.moment) is.servient);
   machine = holds_at_start site exchanges p.world.emitted p.servient is.world.emitted is.servient;
 }

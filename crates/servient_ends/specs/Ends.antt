@@ -32,9 +32,10 @@ pub record EndsState : Type 0 where
   pub world : WorldState
   pub servient : State
 
--- nothing happened yet
+-- nothing happened yet, and the server of the world is the servient's, with the links to its Things
 pub record IsBeginning (site : Site) (first_id exchanges : ℕ) (p : EndsState) : Type 0 where
   pub world : IsStart first_id exchanges MOST_WATCHERS p.world
+  pub server : p.world.server ≡ p.servient.coap
   pub servient : p.servient ≡ start site exchanges
 
 -- ---- what is read off a step

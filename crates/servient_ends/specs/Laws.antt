@@ -4,7 +4,7 @@ use Rattle.servient_outside.specs.declared.net.EventWithBytes.{EventWithBytes}
 use Rattle.servient_core.specs.Trace.{Sighting}
 use Rattle.servient_core.specs.Machine.{Site, start, Run}
 use Rattle.servient_world.specs.World.{WorldMove, Act, answered, observed, PlaysAll}
-use Rattle.servient_world.specs.Laws.{AreForDifferentAsks, IsExcuse, IsAnsweredBy, NeverGoBack, HaveASource}
+use Rattle.servient_world.specs.Laws.{AreForDifferentAsks, AsksLinks, IsExcuse, IsAnsweredBy, NeverGoBack, HaveASource}
 use Rattle.servient_ends.specs.Ends.{EndsState, IsBeginning, Turn, TakesAll, datagrams_in, sent_by_servient}
 
 -- Whatever comes of turns is what comes of some moves of the world, in which the server is a CoAP server alone.
@@ -26,12 +26,13 @@ ServientActsOnce =
     (site : Site) (first_id exchanges : ℕ) (turns : List Turn) (p q : EndsState) → IsBeginning site first_id exchanges p → TakesAll site turns p q
     → AreForDifferentAsks q.world.acts
 
--- For an ask that ended with a response that is no excuse it made an act, and the response says what that came to.
+-- For an ask for another path than that of the links which ended with a response that is no excuse it made an act, and the
+-- response says what that came to.
 abbrev pub ServientAnswersOnce : Type 0
 ServientAnswersOnce =
     (site : Site) (first_id exchanges : ℕ) (turns : List Turn) (p q : EndsState) (k code : ℕ) (payload : List ℕ)
     → IsBeginning site first_id exchanges p → TakesAll site turns p q → length q.world.asks ≤ 65536
-    → Contains q.world.ends (record { ask = k; end = answered code payload })
+    → ¬ (AsksLinks q.world.asks k) → Contains q.world.ends (record { ask = k; end = answered code payload })
     → IsExcuse code payload ⊎ IsAnsweredBy q.world.acts k code payload
 
 -- For an ask that ended with a value of what it observes it made an act.

@@ -1,8 +1,10 @@
 -- What two CoAP servers that differ in slots alone do with one datagram, with one answer and with what is due.
-use Rattle.std.proofs.Common.{◌≡◌, ◌+◌, ◌%◌, ℕ, Bool, true, false, List, [], Option, Some, None, option_map, remove, refl, sym, ap, ap₂, subst, ◌∙◌, inl, inr}
-use Rattle.std.specs.Prelude.{◌⊎◌, slice_get}
+use Rattle.std.proofs.Common.{◌≡◌, ◌+◌, ◌%◌, ℕ, Bool, true, false, List, [], Option, Some, None, option_map, remove, refl, sym, ap, ap₂, subst, ◌∙◌, inl, inr, arith}
+use Rattle.std.specs.Prelude.{◌⊎◌, ◌≢◌, ◌==◌, slice_get}
+use Rattle.std.proofs.lemmas.Bool.Decides.{nat_tests}
 use Rattle.std.proofs.lemmas.Option.{same_Some}
 use Rattle.coap_msg.specs.declared.block.Block.{Block}
+use Rattle.coap_msg.specs.declared.constants.TheConstants.{GET}
 use Rattle.coap_msg.specs.declared.endpoint.Endpoint.{Endpoint}
 use Rattle.coap_msg.specs.declared.message.MsgFault.{MsgFault}
 use Rattle.coap_msg.specs.declared.message.RequestType.{RequestType}
@@ -34,8 +36,9 @@ use Rattle.coap_bind.specs.declared.blocks.BlockUse.TheVariants as blocks
 use Rattle.coap_bind.specs.declared.blocks.Wanted.{Wanted}
 use Rattle.coap_bind.specs.declared.blocks.Wanted.TheVariants.{Act, LaterBlock, Joining}
 use Rattle.coap_bind.specs.Blocks.{block_reply, later_reply, added_reply}
+use Rattle.coap_bind.specs.Links.{size_asked, links_reply, method_reply, watchers_with_links, bodies_with_links}
 use Rattle.coap_bind.specs.Writing.{Reply, full_reply, proxy_reply, option_reply, reply_of, head_of, coap_reply}
-use Rattle.coap_bind.specs.Server.{Heard, ignored, answered_at_once, asked, with_id_used, with_kept, Replies, told_by, with_report, replied_at_once, is_request, duplicate_reply, arrival, IsMet, malformed, no_request, duplicate, full, opened, observing_in, wanted_in, opened_ask, joined_ask, with_whole_body, block_arrival, Adds, with_parts, IsAnsweredAtOnce, bad_option, bad_block, for_proxy, no_memory, later_block, joined, Reads, replied, bad_option_ignored, asks, asks_whole, Hears, settled, admitted}
+use Rattle.coap_bind.specs.Server.{Heard, ignored, answered_at_once, asked, with_id_used, with_kept, Replies, told_by, with_report, replied_at_once, is_request, duplicate_reply, arrival, IsMet, malformed, no_request, duplicate, full, opened, observing_in, wanted_in, opened_ask, joined_ask, with_whole_body, block_arrival, Adds, with_parts, IsAnsweredAtOnce, bad_option, bad_block, for_proxy, no_memory, later_block, joined, takes_no_other_verb, takes_no_body, asks_links, links_given, Reads, replied, bad_option_ignored, gives_links, asks, asks_whole, Hears, settled, admitted}
 use Rattle.servient_laws.proofs.AlikeStates.{SameTable, SameServer}
 use Rattle.servient_laws.proofs.AlikeTables.{same_at_moment, same_reply, IsLast, MetAlike, met_alike, same_with_reply}
 
@@ -43,7 +46,7 @@ use Rattle.servient_laws.proofs.AlikeTables.{same_at_moment, same_reply, IsLast,
 
 same_id_used : (kind : RequestType) (s t : Server) → SameServer s t → SameServer (with_id_used kind s) (with_id_used kind t)
 same_id_used Confirmable s t same = same
-same_id_used NonConfirmable s t same = record { table = same.table; watchers = same.watchers; next = ap (λ (n : ℕ). (n + 1) % 65536) same.next; bodies = same.bodies; parts = same.parts }
+same_id_used NonConfirmable s t same = record { table = same.table; watchers = same.watchers; next = ap (λ (n : ℕ). (n + 1) % 65536) same.next; bodies = same.bodies; parts = same.parts; links = same.links }
 
 pub moved : (s t u v : Server) → u ≡ s → v ≡ t → SameServer s t → SameServer u v
 moved s t u v one other same = subst (λ (x : Server). SameServer u x) (sym other) (subst (λ (x : Server). SameServer x t) (sym one) same)
@@ -56,6 +59,7 @@ same_kept Confirmable slot other bytes s t same l k = record {
   next = same.next;
   bodies = same.bodies;
   parts = same.parts;
+  links = same.links;
 }
 same_kept NonConfirmable slot other bytes s t same l k = same_id_used NonConfirmable s t same
 
@@ -130,15 +134,55 @@ both_of r parts = (r, parts)
 abbrev added_at : Block → Added × List Part → Option AtOnce
 added_at b x = option_map (λ r. both_of r x.1) (added_reply b x.0)
 
+-- what is answered to a request that wants an act: that it can't be, where it is for the links and no GET
+abbrev act_at : Bool → Bool → List Part → Option AtOnce
+act_at true true parts = None
+act_at true false parts = Some (both_of method_reply parts)
+act_at false get parts = None
+
+-- what is answered to a block of a request for the links: that it can't be, where the body is whole
+abbrev refused_whole : Block → Added → List Part → Option AtOnce
+refused_whole b (added.Complete place) parts = Some (both_of method_reply (remove parts place))
+refused_whole b added.Continue parts = added_at b (added.Continue, parts)
+refused_whole b added.BadBlock parts = added_at b (added.BadBlock, parts)
+refused_whole b added.Incomplete parts = added_at b (added.Incomplete, parts)
+refused_whole b added.TooLarge parts = added_at b (added.TooLarge, parts)
+refused_whole b added.Full parts = added_at b (added.Full, parts)
+
+abbrev join_at : Bool → Block → Added × List Part → Option AtOnce
+join_at true b x = refused_whole b x.0 x.1
+join_at false b x = added_at b x
+
+refused_some : (b : Block) (a : Added) (parts : List Part) (r : Reply) → added_reply b a ≡ Some r → refused_whole b a parts ≡ Some (both_of r parts)
+refused_some b (added.Complete place) parts r is = absurd cc
+refused_some b added.Continue parts r is = ap (option_map (λ (q : Reply). both_of q parts)) is
+refused_some b added.BadBlock parts r is = ap (option_map (λ (q : Reply). both_of q parts)) is
+refused_some b added.Incomplete parts r is = ap (option_map (λ (q : Reply). both_of q parts)) is
+refused_some b added.TooLarge parts r is = ap (option_map (λ (q : Reply). both_of q parts)) is
+refused_some b added.Full parts r is = ap (option_map (λ (q : Reply). both_of q parts)) is
+
+join_some : (links : Bool) (b : Block) (x : Added × List Part) (r : Reply) → added_reply b x.0 ≡ Some r → join_at links b x ≡ Some (both_of r x.1)
+join_some true b x r is = refused_some b x.0 x.1 r is
+join_some false b x r is = ap (option_map (λ (q : Reply). both_of q x.1)) is
+
+join_whole : (links : Bool) (b : Block) (x : Added × List Part) (place : ℕ) → links ≡ true → x.0 ≡ added.Complete place → join_at links b x ≡ Some (both_of method_reply (remove x.1 place))
+join_whole links b x place is whole = ap (λ (l : Bool). join_at l b x) is ∙ ap (λ (a : Added). refused_whole b a x.1) whole
+
+not_get : (code : ℕ) → code ≢ GET → (code == GET) ≡ false
+not_get code other = grind (arith, nat_tests)
+
+is_get : (code : ℕ) → code ≡ GET → (code == GET) ≡ true
+is_get code get = grind (arith, nat_tests)
+
 -- it follows from the first fault and from what the request wants
 abbrev at_once : Endpoint → ℕ → CoapMessage → List Body → List Part → Option AskFault → Wanted → Option AtOnce
 at_once from now m bodies parts (Some (BadOption number)) wants = Some (option_reply number, parts)
 at_once from now m bodies parts (Some fault.Block) wants = Some (block_reply, parts)
 at_once from now m bodies parts (Some Proxy) wants = Some (proxy_reply, parts)
 at_once from now m bodies parts (Some fault.NoMemory) wants = None
-at_once from now m bodies parts None Act = None
+at_once from now m bodies parts None Act = act_at (asks_links m) (m.code == GET) parts
 at_once from now m bodies parts None (LaterBlock b) = Some (later_reply b (option_map (λ x. x.content) (body_for from (what_is_asked m).request.path now bodies)), parts)
-at_once from now m bodies parts None (Joining b) = added_at b (after_block (block_arrival from now m b) (living now parts))
+at_once from now m bodies parts None (Joining b) = join_at (asks_links m) b (after_block (block_arrival from now m b) (living now parts))
 
 -- of a server, with what the message has
 abbrev at_once_by : Endpoint → ℕ → CoapMessage → Server → Option AtOnce
@@ -166,8 +210,17 @@ answered_by from now m r s parts ample (joined b added none wants adds is) =
     let x : Added × List Part = after_block (block_arrival from now m b) (living now s.parts) in
     let said : added_reply b x.0 ≡ Some r = ap (added_reply b) (sym adds.answer_is) ∙ is in
     ap₂ (λ (f : Option AskFault) (w : Wanted). at_once from now m s.bodies s.parts f w) (no_fault m none) wants
-    ∙ ap (λ (o : Option Reply). option_map (λ (q : Reply). both_of q x.1) o) said
+    ∙ join_some (asks_links m) b x r said
     ∙ some_pair r r x.1 parts refl (sym adds.parts_are)
+answered_by from now m r s parts ample (takes_no_other_verb none wants links other is same) =
+    ap₂ (λ (f : Option AskFault) (w : Wanted). at_once from now m s.bodies s.parts f w) (no_fault m none) wants
+    ∙ ap₂ (λ (l g : Bool). act_at l g s.parts) links (not_get m.code other)
+    ∙ some_pair method_reply r s.parts parts (sym is) (sym same)
+answered_by from now m r s parts ample (takes_no_body b place whole none wants links adds is same) =
+    let x : Added × List Part = after_block (block_arrival from now m b) (living now s.parts) in
+    ap₂ (λ (f : Option AskFault) (w : Wanted). at_once from now m s.bodies s.parts f w) (no_fault m none) wants
+    ∙ join_whole (asks_links m) b x place links (sym adds.answer_is)
+    ∙ some_pair method_reply r (remove x.1 place) parts (sym is) (ap (λ (ps : List Part). remove ps place) (sym adds.parts_are) ∙ sym same)
 
 at_once_alike : (from : Endpoint) (now : ℕ) (m : CoapMessage) (s t : Server) → SameServer s t → at_once_by from now m s ≡ at_once_by from now m t
 at_once_alike from now m s t same =
@@ -182,23 +235,34 @@ not_ignored from now m r s parts number (for_proxy first is same) found non = le
 not_ignored from now m r s parts number (no_memory none is same) found non = first_fault (faults_of m.options) (BadOption number) found none
 not_ignored from now m r s parts number (later_block b none wants is same) found non = first_fault (faults_of m.options) (BadOption number) found none
 not_ignored from now m r s parts number (joined b added none wants adds is) found non = first_fault (faults_of m.options) (BadOption number) found none
+not_ignored from now m r s parts number (takes_no_other_verb none wants links other is same) found non = first_fault (faults_of m.options) (BadOption number) found none
+not_ignored from now m r s parts number (takes_no_body b place whole none wants links adds is same) found non = first_fault (faults_of m.options) (BadOption number) found none
 
 -- nor asked, as it is or with a body that was joined
 not_asked : (from : Endpoint) (now : ℕ) (m : CoapMessage) (r : Reply) (s : Server) (parts : List Part) → (r ≡ reply_of Memory → ⊥) → IsAnsweredAtOnce from now m r s parts
-    → faults_of m.options ≡ [] → wanted_in m ≡ Act → ⊥
-not_asked from now m r s parts ample why none acts =
+    → faults_of m.options ≡ [] → wanted_in m ≡ Act → act_at (asks_links m) (m.code == GET) s.parts ≡ None → ⊥
+not_asked from now m r s parts ample why none acts silent =
     let is = answered_by from now m r s parts ample why in
-    let isnt : at_once_by from now m s ≡ None = ap₂ (λ (f : Option AskFault) (w : Wanted). at_once from now m s.bodies s.parts f w) (no_fault m none) acts in
+    let isnt : at_once_by from now m s ≡ None = ap₂ (λ (f : Option AskFault) (w : Wanted). at_once from now m s.bodies s.parts f w) (no_fault m none) acts ∙ silent in
     cc
 
+-- a request that is asked, and one that the links are given to
+asked_silent : (m : CoapMessage) (parts : List Part) → asks_links m ≡ false → act_at (asks_links m) (m.code == GET) parts ≡ None
+asked_silent m parts apart = ap (λ (l : Bool). act_at l (m.code == GET) parts) apart
+
+given_silent : (m : CoapMessage) (parts : List Part) → asks_links m ≡ true → m.code ≡ GET → act_at (asks_links m) (m.code == GET) parts ≡ None
+given_silent m parts links get = ap₂ (λ (l g : Bool). act_at l g parts) links (is_get m.code get)
+
 not_whole : (from : Endpoint) (now : ℕ) (m : CoapMessage) (r : Reply) (s : Server) (parts rest : List Part) (b : Block) (place : ℕ) → (r ≡ reply_of Memory → ⊥)
-    → IsAnsweredAtOnce from now m r s parts → faults_of m.options ≡ [] → wanted_in m ≡ Joining b → Adds from now m b s (added.Complete place) rest → ⊥
-not_whole from now m r s parts rest b place ample why none joins adds =
+    → IsAnsweredAtOnce from now m r s parts → faults_of m.options ≡ [] → wanted_in m ≡ Joining b → asks_links m ≡ false
+    → Adds from now m b s (added.Complete place) rest → ⊥
+not_whole from now m r s parts rest b place ample why none joins apart adds =
     let is = answered_by from now m r s parts ample why in
     let x : Added × List Part = after_block (block_arrival from now m b) (living now s.parts) in
     let silent : added_reply b x.0 ≡ None = ap (added_reply b) (sym adds.answer_is) in
     let isnt : at_once_by from now m s ≡ None
     = ap₂ (λ (f : Option AskFault) (w : Wanted). at_once from now m s.bodies s.parts f w) (no_fault m none) joins
+    ∙ ap (λ (l : Bool). join_at l b x) apart
     ∙ ap (λ (o : Option Reply). option_map (λ (q : Reply). both_of q x.1) o) silent in
     cc
 
@@ -249,6 +313,9 @@ reply_is_ample h r p a s u ample replies is memory =
 same_joined : (a b : Block) → Joining a ≡ Joining b → a ≡ b
 same_joined a b e = cc
 
+both_paths : (m : CoapMessage) → asks_links m ≡ true → asks_links m ≡ false → ⊥
+both_paths m is isnt = cc
+
 same_reads : (from : Endpoint) (now : ℕ) (m : CoapMessage) (slot other : ℕ) (h k : Heard) (s t u v : Server) → SameServer s t → IsLast slot s.exchanges → IsLast other t.exchanges
     → IsAmple h → IsAmple k → Reads from now m slot h s u → Reads from now m other k t v → SameHeard h k u v × SameServer u v
 same_reads from now m slot other h k s t u v same l n on_h on_k (replied r parts a why replies is) (replied q rest b why' replies' is') =
@@ -257,30 +324,30 @@ same_reads from now m slot other h k s t u v same l n on_h on_k (replied r parts
     let said : both_of r parts ≡ both_of q rest = same_Some (both_of r parts) (both_of q rest) (sym one ∙ at_once_alike from now m s t same ∙ two) in
     let reply : q ≡ r = sym (ap (λ (x : AtOnce). x.0) said) in
     let servers : SameServer (with_parts parts s) (with_parts rest t)
-    = record { table = same.table; watchers = same.watchers; next = same.next; bodies = same.bodies; parts = ap (λ (x : AtOnce). x.1) said } in
+    = record { table = same.table; watchers = same.watchers; next = same.next; bodies = same.bodies; parts = ap (λ (x : AtOnce). x.1) said; links = same.links } in
     let both = same_replies r (opened m slot) (opened m other) a b (with_parts parts s) (with_parts rest t) u v servers refl l n replies
     (subst (λ (x : Reply). Replies x (opened m other) b (with_parts rest t) v) reply replies') in
     (heard_as (answered_at_once b) h k u v tt (is ∙ ap answered_at_once both.0) is', both.1)
 same_reads from now m slot other h k s t u v same l n on_h on_k (replied r parts a why replies is) (bad_option_ignored number first non is' after') =
     absurd (not_ignored from now m r s parts number why first non)
-same_reads from now m slot other h k s t u v same l n on_h on_k (replied r parts a why replies is) (asks none acts is' after') =
-    absurd (not_asked from now m r s parts (reply_is_ample h r (opened m slot) a (with_parts parts s) u on_h replies is) why none acts)
-same_reads from now m slot other h k s t u v same l n on_h on_k (replied r parts a why replies is) (asks_whole b place rest whole none joins adds there is' after') =
-    absurd (not_whole from now m r s parts rest b place (reply_is_ample h r (opened m slot) a (with_parts parts s) u on_h replies is) why none joins
+same_reads from now m slot other h k s t u v same l n on_h on_k (replied r parts a why replies is) (asks none acts apart is' after') =
+    absurd (not_asked from now m r s parts (reply_is_ample h r (opened m slot) a (with_parts parts s) u on_h replies is) why none acts (asked_silent m s.parts apart))
+same_reads from now m slot other h k s t u v same l n on_h on_k (replied r parts a why replies is) (asks_whole b place rest whole none joins apart adds there is' after') =
+    absurd (not_whole from now m r s parts rest b place (reply_is_ample h r (opened m slot) a (with_parts parts s) u on_h replies is) why none joins apart
     (subst (λ (ps : List Part). Adds from now m b (with_parts ps s) (added.Complete place) rest) (sym same.parts) adds))
 same_reads from now m slot other h k s t u v same l n on_h on_k (bad_option_ignored number first non is after) (replied q rest b why' replies' is') =
     absurd (not_ignored from now m q t rest number why' first non)
 same_reads from now m slot other h k s t u v same l n on_h on_k (bad_option_ignored number first non is after) (bad_option_ignored number' first' non' is' after') =
     (heard_as ignored h k u v tt is is', moved s t u v after after' same)
-same_reads from now m slot other h k s t u v same l n on_h on_k (bad_option_ignored number first non is after) (asks none acts is' after') =
+same_reads from now m slot other h k s t u v same l n on_h on_k (bad_option_ignored number first non is after) (asks none acts apart is' after') =
     absurd (first_fault (faults_of m.options) (BadOption number) first none)
-same_reads from now m slot other h k s t u v same l n on_h on_k (bad_option_ignored number first non is after) (asks_whole b place rest whole none joins adds there is' after') =
+same_reads from now m slot other h k s t u v same l n on_h on_k (bad_option_ignored number first non is after) (asks_whole b place rest whole none joins apart adds there is' after') =
     absurd (first_fault (faults_of m.options) (BadOption number) first none)
-same_reads from now m slot other h k s t u v same l n on_h on_k (asks none acts is after) (replied q rest b why' replies' is') =
-    absurd (not_asked from now m q t rest (reply_is_ample k q (opened m other) b (with_parts rest t) v on_k replies' is') why' none acts)
-same_reads from now m slot other h k s t u v same l n on_h on_k (asks none acts is after) (bad_option_ignored number' first' non' is' after') =
+same_reads from now m slot other h k s t u v same l n on_h on_k (asks none acts apart is after) (replied q rest b why' replies' is') =
+    absurd (not_asked from now m q t rest (reply_is_ample k q (opened m other) b (with_parts rest t) v on_k replies' is') why' none acts (asked_silent m t.parts apart))
+same_reads from now m slot other h k s t u v same l n on_h on_k (asks none acts apart is after) (bad_option_ignored number' first' non' is' after') =
     absurd (first_fault (faults_of m.options) (BadOption number') first' none)
-same_reads from now m slot other h k s t u v same l n on_h on_k (asks none acts is after) (asks none' acts' is' after') = (
+same_reads from now m slot other h k s t u v same l n on_h on_k (asks none acts apart is after) (asks none' acts' apart' is' after') = (
   asked_alike h k (what_is_asked m) (what_is_asked m) (opened_ask from now m slot) (opened_ask from now m other) u v is is' refl (record {
     head = refl;
     from = refl;
@@ -291,16 +358,16 @@ same_reads from now m slot other h k s t u v same l n on_h on_k (asks none acts 
   }),
   moved s t u v after after' same,
 )
-same_reads from now m slot other h k s t u v same l n on_h on_k (asks none acts is after) (asks_whole b place rest whole none' joins adds there is' after') =
+same_reads from now m slot other h k s t u v same l n on_h on_k (asks none acts apart is after) (asks_whole b place rest whole none' joins apart' adds there is' after') =
     absurd (let apart : Act ≡ Joining b = sym acts ∙ joins in cc)
-same_reads from now m slot other h k s t u v same l n on_h on_k (asks_whole b place parts whole none joins adds there is after) (replied q rest c why' replies' is') =
-    absurd (not_whole from now m q t rest parts b place (reply_is_ample k q (opened m other) c (with_parts rest t) v on_k replies' is') why' none joins
+same_reads from now m slot other h k s t u v same l n on_h on_k (asks_whole b place parts whole none joins apart adds there is after) (replied q rest c why' replies' is') =
+    absurd (not_whole from now m q t rest parts b place (reply_is_ample k q (opened m other) c (with_parts rest t) v on_k replies' is') why' none joins apart
     (subst (λ (ps : List Part). Adds from now m b (with_parts ps t) (added.Complete place) parts) same.parts adds))
-same_reads from now m slot other h k s t u v same l n on_h on_k (asks_whole b place parts whole none joins adds there is after) (bad_option_ignored number' first' non' is' after') =
+same_reads from now m slot other h k s t u v same l n on_h on_k (asks_whole b place parts whole none joins apart adds there is after) (bad_option_ignored number' first' non' is' after') =
     absurd (first_fault (faults_of m.options) (BadOption number') first' none)
-same_reads from now m slot other h k s t u v same l n on_h on_k (asks_whole b place parts whole none joins adds there is after) (asks none' acts' is' after') =
+same_reads from now m slot other h k s t u v same l n on_h on_k (asks_whole b place parts whole none joins apart adds there is after) (asks none' acts' apart' is' after') =
     absurd (let apart : Act ≡ Joining b = sym acts' ∙ joins in cc)
-same_reads from now m slot other h k s t u v same l n on_h on_k (asks_whole b place parts whole none joins adds there is after) (asks_whole b' place' rest body none' joins' adds' there' is' after') =
+same_reads from now m slot other h k s t u v same l n on_h on_k (asks_whole b place parts whole none joins apart adds there is after) (asks_whole b' place' rest body none' joins' apart' adds' there' is' after') =
     let one : b' ≡ b = same_joined b' b (sym joins' ∙ joins) in
     let both = same_whole from now m b s t place place' parts rest whole body same adds there
     (subst (λ (x : Block). Adds from now m x t (added.Complete place') rest) one adds') there' in (
@@ -314,8 +381,38 @@ same_reads from now m slot other h k s t u v same l n on_h on_k (asks_whole b pl
             last_too = subst (λ (x : Server). IsLast other x.exchanges) (sym after') n;
           }),
       moved (with_parts (remove parts place) s) (with_parts (remove rest place') t) u v after after'
-          (record { table = same.table; watchers = same.watchers; next = same.next; bodies = same.bodies; parts = both.1 }),
+          (record { table = same.table; watchers = same.watchers; next = same.next; bodies = same.bodies; parts = both.1; links = same.links }),
     )
+same_reads from now m slot other h k s t u v same l n on_h on_k (gives_links a none acts links get replies is) (gives_links b none' acts' links' get' replies' is') =
+    let size = size_asked (observing_in m) (what_is_asked m) in
+    let servers : SameServer (links_given from now m.token (observing_in m) (what_is_asked m) s) (links_given from now m.token (observing_in m) (what_is_asked m) t)
+    = record {
+      table = same.table;
+      watchers = ap (watchers_with_links (observing_in m) from m.token) same.watchers;
+      next = same.next;
+      bodies = ap₂ (λ (x : List ℕ) (y : List Body). bodies_with_links from (what_is_asked m).request.path now size x y) same.links same.bodies;
+      parts = same.parts;
+      links = same.links;
+    } in
+    let both = same_replies (links_reply size s.links) (opened m slot) (opened m other) a b (links_given from now m.token (observing_in m) (what_is_asked m) s)
+    (links_given from now m.token (observing_in m) (what_is_asked m) t) u v servers refl l n replies
+    (subst (λ (x : List ℕ). Replies (links_reply size x) (opened m other) b (links_given from now m.token (observing_in m) (what_is_asked m) t) v) (sym same.links) replies') in
+    (heard_as (answered_at_once b) h k u v tt (is ∙ ap answered_at_once both.0) is', both.1)
+same_reads from now m slot other h k s t u v same l n on_h on_k (gives_links a none acts links get replies is) (replied q rest b why' replies' is') =
+    absurd (not_asked from now m q t rest (reply_is_ample k q (opened m other) b (with_parts rest t) v on_k replies' is') why' none acts (given_silent m t.parts links get))
+same_reads from now m slot other h k s t u v same l n on_h on_k (gives_links a none acts links get replies is) (bad_option_ignored number' first' non' is' after') =
+    absurd (first_fault (faults_of m.options) (BadOption number') first' none)
+same_reads from now m slot other h k s t u v same l n on_h on_k (gives_links a none acts links get replies is) (asks none' acts' apart' is' after') =
+    absurd (both_paths m links apart')
+same_reads from now m slot other h k s t u v same l n on_h on_k (gives_links a none acts links get replies is) (asks_whole b place rest whole none' joins apart' adds there is' after') =
+    absurd (both_paths m links apart')
+same_reads from now m slot other h k s t u v same l n on_h on_k (replied r parts a why replies is) (gives_links b none acts links get replies' is') =
+    absurd (not_asked from now m r s parts (reply_is_ample h r (opened m slot) a (with_parts parts s) u on_h replies is) why none acts (given_silent m s.parts links get))
+same_reads from now m slot other h k s t u v same l n on_h on_k (bad_option_ignored number first non is after) (gives_links b none acts links get replies' is') =
+    absurd (first_fault (faults_of m.options) (BadOption number) first none)
+same_reads from now m slot other h k s t u v same l n on_h on_k (asks none acts apart is after) (gives_links b none' acts' links get replies' is') = absurd (both_paths m links apart)
+same_reads from now m slot other h k s t u v same l n on_h on_k (asks_whole b place parts whole none joins apart adds there is after) (gives_links c none' acts links get replies' is') =
+    absurd (both_paths m links apart)
 
 -- ---- by what a datagram is
 
@@ -360,6 +457,7 @@ between_same from bytes now m one other s t u v same a b table = record {
   next = a.same_id ∙ same.next ∙ sym b.same_id;
   bodies = a.same_bodies ∙ same.bodies ∙ sym b.same_bodies;
   parts = a.same_parts ∙ same.parts ∙ sym b.same_parts;
+  links = a.same_links ∙ same.links ∙ sym b.same_links;
 }
 
 same_requests : (from : Endpoint) (bytes : List ℕ) (now : ℕ) (h k : Heard) (s t u v : Server) → SameServer s t → IsAmple h → IsAmple k
@@ -388,7 +486,7 @@ same_requests from bytes now h k s t u v same on_h on_k p w x Full (Repeat kept)
 same_requests from bytes now h k s t u v same on_h on_k p w x Full (Fresh slot) a b f g alike = absurd alike
 
 same_reported : (from : Endpoint) (m : CoapMessage) (s t : Server) → SameServer s t → SameServer (with_report from m s) (with_report from m t)
-same_reported from m s t same = record { table = same.table; watchers = ap (λ (w : Watching). told_by from m w) same.watchers; next = same.next; bodies = same.bodies; parts = same.parts }
+same_reported from m s t same = record { table = same.table; watchers = ap (λ (w : Watching). told_by from m w) same.watchers; next = same.next; bodies = same.bodies; parts = same.parts; links = same.links }
 
 pub same_hearing : (from : Endpoint) (bytes : List ℕ) (now : ℕ) (h k : Heard) (s t u v : Server) → SameServer s t → IsAmple h → IsAmple k
     → Hears from bytes now h s u → Hears from bytes now k t v → SameHeard h k u v × SameServer u v

@@ -33,6 +33,7 @@ pub record SameServer (s t : Server) : Type 0 where
   pub next : s.next_id ≡ t.next_id
   pub bodies : s.bodies ≡ t.bodies
   pub parts : s.parts ≡ t.parts
+  pub links : s.links ≡ t.links
 
 pub record Alike (s t : State) : Type 0 where
   pub moment : s.moment ≡ t.moment
@@ -42,7 +43,7 @@ pub record Alike (s t : State) : Type 0 where
   pub directory : s.directory ≡ t.directory
 
 pub same_server : (s : Server) → SameServer s s
-same_server s = record { table = record { capacity = refl; moment = refl; exchanges = refl }; watchers = refl; next = refl; bodies = refl; parts = refl }
+same_server s = record { table = record { capacity = refl; moment = refl; exchanges = refl }; watchers = refl; next = refl; bodies = refl; parts = refl; links = refl }
 
 pub alike_self : (s : State) → Alike s s
 alike_self s = record { moment = refl; http = refl; coap = same_server s.coap; thing = refl; directory = refl }
@@ -54,6 +55,7 @@ server_back s t e = record {
   next = sym e.next;
   bodies = sym e.bodies;
   parts = sym e.parts;
+  links = sym e.links;
 }
 
 pub alike_back : (s t : State) → Alike s t → Alike t s

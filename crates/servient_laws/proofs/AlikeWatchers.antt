@@ -78,6 +78,7 @@ same_answers one other o target a b s t u v same_servers ask p q =
       next = same_servers.next;
       bodies = ap₂ (λ (x : BlockUse) (e : Endpoint). bodies_after x e o s.bodies) ask.blocks ask.from ∙ ap (λ (bodies : List Body). bodies_after other.blocks other.from o bodies) same_servers.bodies;
       parts = same_servers.parts;
+      links = same_servers.links;
     } in
     same_replies (observed p.observe (answer_reply one.blocks o)) one.request other.request a b (ready one o p.watchers s) (ready other o q.watchers t) u v servers ask.head ask.last ask.last_too
     p.replies (subst (λ (x : Option ℕ). Replies (observed x (answer_reply one.blocks o)) other.request b (ready other o q.watchers t) v) (sym once.0)
@@ -85,7 +86,7 @@ same_answers one other o target a b s t u v same_servers ask p q =
 
 -- the watchers of a target are marked
 pub same_emitted : (target : ℕ) (s t : Server) → SameServer s t → SameServer (with_emitted target s) (with_emitted target t)
-same_emitted target s t is = record { table = is.table; watchers = ap (λ (w : Watching). with_emission target w) is.watchers; next = is.next; bodies = is.bodies; parts = is.parts }
+same_emitted target s t is = record { table = is.table; watchers = ap (λ (w : Watching). with_emission target w) is.watchers; next = is.next; bodies = is.bodies; parts = is.parts; links = is.links }
 
 -- ---- what is due
 
@@ -158,7 +159,7 @@ sent_once now id ws us vs o p (nothing _ none nobody_free after) (nothing _ none
 -- ---- what is sent next
 
 id_after : (b c : Bool) (s t : Server) → b ≡ c → SameServer s t → SameServer (if b then with_next_id s else s) (if c then with_next_id t else t)
-id_after true true s t e is = record { table = is.table; watchers = is.watchers; next = ap (λ (n : ℕ). (n + 1) % 65536) is.next; bodies = is.bodies; parts = is.parts }
+id_after true true s t e is = record { table = is.table; watchers = is.watchers; next = ap (λ (n : ℕ). (n + 1) % 65536) is.next; bodies = is.bodies; parts = is.parts; links = is.links }
 id_after false false s t e is = is
 id_after true false s t e is = absurd cc
 id_after false true s t e is = absurd cc
@@ -180,7 +181,7 @@ same_next now o p s t u v is a b =
     let once = sent_once now s.next_id a.notifies.left a.watchers.list b.watchers.list o p a.notifies.sends
     (subst (λ (ws : List Watcher). Sends now s.next_id ws p b.watchers.list) left there.sends) in
     let watching : a.watchers ≡ b.watchers = same_watching a.watchers b.watchers (a.capacity ∙ ap (λ (w : Watching). w.capacity) is.watchers ∙ sym b.capacity) once.1 in
-    let servers : SameServer (with_watchers a.watchers s) (with_watchers b.watchers t) = record { table = is.table; watchers = watching; next = is.next; bodies = is.bodies; parts = is.parts } in (
+    let servers : SameServer (with_watchers a.watchers s) (with_watchers b.watchers t) = record { table = is.table; watchers = watching; next = is.next; bodies = is.bodies; parts = is.parts; links = is.links } in (
       once.0,
       moved (with_notice_sent o (with_watchers a.watchers s)) (with_notice_sent p (with_watchers b.watchers t)) u v a.after b.after
           (notice_sent o p (with_watchers a.watchers s) (with_watchers b.watchers t) once.0 servers),

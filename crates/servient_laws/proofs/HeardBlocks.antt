@@ -19,7 +19,8 @@ use Rattle.coap_bind.specs.declared.head.OpenAsk.{OpenAsk}
 use Rattle.coap_bind.specs.declared.head.OpenRequest.{OpenRequest}
 use Rattle.coap_bind.specs.declared.server.Server.{Server}
 use Rattle.coap_bind.specs.Blocks.{answer_reply, bodies_after}
-use Rattle.coap_bind.specs.Server.{Heard, asked, is_request, with_id_used, with_kept, with_watchers, with_bodies, with_parts, Replies, Answers, wanted_in, opened, opened_ask, joined_ask, with_whole_body, block_arrival, Adds, IsAnsweredAtOnce, bad_option, bad_block, for_proxy, no_memory, later_block, joined, Reads, replied, bad_option_ignored, asks, asks_whole as reads_whole, malformed, no_request, duplicate, full, settled, admitted, Hears, answered_at_once, ignored}
+use Rattle.coap_bind.specs.Links.{size_asked, bodies_with_links}
+use Rattle.coap_bind.specs.Server.{Heard, asked, is_request, with_id_used, with_kept, with_watchers, with_bodies, with_parts, Replies, Answers, wanted_in, opened, opened_ask, joined_ask, with_whole_body, block_arrival, Adds, IsAnsweredAtOnce, bad_option, bad_block, for_proxy, no_memory, later_block, joined, takes_no_other_verb, takes_no_body, Reads, replied, bad_option_ignored, asks_links, gives_links, links_given, observing_in, asks, asks_whole as reads_whole, malformed, no_request, duplicate, full, settled, admitted, Hears, answered_at_once, ignored}
 use Rattle.coap_bind.specs.Writing.{Reply, observed}
 use Rattle.coap_bind.proofs.HistoryLaws.{not_replied, not_duplicate}
 use Rattle.thing_ops.specs.declared.outcome.Outcome.{Outcome}
@@ -35,24 +36,26 @@ use Rattle.servient_laws.proofs.KeptBlocks.{SameBlocks, delivers_each_same}
 
 -- ---- what stays
 
-used_blocks : (kind : RequestType) (s : Server) → ((with_id_used kind s).parts ≡ s.parts) × ((with_id_used kind s).bodies ≡ s.bodies)
-used_blocks Confirmable s = (refl, refl)
-used_blocks NonConfirmable s = (refl, refl)
+used_blocks : (kind : RequestType) (s : Server) → ((with_id_used kind s).parts ≡ s.parts) × ((with_id_used kind s).bodies ≡ s.bodies) × ((with_id_used kind s).links ≡ s.links)
+used_blocks Confirmable s = (refl, refl, refl)
+used_blocks NonConfirmable s = (refl, refl, refl)
 
 kept_blocks : (kind : RequestType) (slot : ℕ) (bytes : List ℕ) (s : Server)
     → ((with_kept kind slot bytes (with_id_used kind s)).parts ≡ s.parts) × ((with_kept kind slot bytes (with_id_used kind s)).bodies ≡ s.bodies)
-kept_blocks Confirmable slot bytes s = (refl, refl)
-kept_blocks NonConfirmable slot bytes s = (refl, refl)
+    × ((with_kept kind slot bytes (with_id_used kind s)).links ≡ s.links)
+kept_blocks Confirmable slot bytes s = (refl, refl, refl)
+kept_blocks NonConfirmable slot bytes s = (refl, refl, refl)
 
 -- a reply leaves them
-pub replies_blocks : (r : Reply) (request : OpenRequest) (bytes : List ℕ) (s t : Server) → Replies r request bytes s t → (t.parts ≡ s.parts) × (t.bodies ≡ s.bodies)
+pub replies_blocks : (r : Reply) (request : OpenRequest) (bytes : List ℕ) (s t : Server) → Replies r request bytes s t
+    → (t.parts ≡ s.parts) × (t.bodies ≡ s.bodies) × (t.links ≡ s.links)
 replies_blocks r request bytes s t h =
     let kept = kept_blocks request.head.kind request.slot bytes s in
-    (ap (λ (x : Server). x.parts) h.after ∙ kept.0, ap (λ (x : Server). x.bodies) h.after ∙ kept.1)
+    (ap (λ (x : Server). x.parts) h.after ∙ kept.0, ap (λ (x : Server). x.bodies) h.after ∙ kept.1, ap (λ (x : Server). x.links) h.after ∙ kept.2)
 
 -- an answer keeps a body that is given in blocks
 answers_blocks : (ask : OpenAsk) (o : Outcome) (target : Option ℕ) (bytes : List ℕ) (s t : Server) → Answers ask o target bytes s t
-    → (t.parts ≡ s.parts) × (t.bodies ≡ bodies_after ask.blocks ask.from o s.bodies)
+    → (t.parts ≡ s.parts) × (t.bodies ≡ bodies_after ask.blocks ask.from o s.bodies) × (t.links ≡ s.links)
 answers_blocks ask o target bytes s t h =
     replies_blocks (observed h.observe (answer_reply ask.blocks o)) ask.request bytes (with_bodies (bodies_after ask.blocks ask.from o s.bodies) (with_watchers h.watchers s)) t h.replies
 
@@ -64,66 +67,95 @@ pub data AreBlocksOf (from : Endpoint) (bytes : List ℕ) (now : ℕ) (row : Lis
   one_block : (m : CoapMessage) (b : Block) → Spells m bytes → is_request m ≡ true → wanted_in m ≡ wanted.Joining b → row ≡ block_arrival from now m b ∷ []
       → AreBlocksOf from bytes now row
 
--- calls lead to the parts, by the blocks of the datagram; the bodies are as they were
+-- what a datagram does to the bodies: nothing, or they have the links, which it asks for
+pub data HearsBodies (from : Endpoint) (bytes : List ℕ) (now : ℕ) (s t : Server) : Type 0 where
+  same_bodies : t.bodies ≡ s.bodies → HearsBodies from bytes now s t
+  links_kept : (m : CoapMessage) → Spells m bytes → is_request m ≡ true → asks_links m ≡ true
+      → t.bodies ≡ bodies_with_links from (what_is_asked m).request.path now (size_asked (observing_in m) (what_is_asked m)) s.links s.bodies
+      → HearsBodies from bytes now s t
+
+-- calls lead to the parts, by the blocks of the datagram; the links are as they were
 pub record HearsBlocks (from : Endpoint) (bytes : List ℕ) (now : ℕ) (s t : Server) : Type 0 where
   pub calls : List Call
   pub parts : t.parts ≡ parts_after s.parts calls
   pub blocks : AreBlocksOf from bytes now (blocks_among calls)
-  pub bodies : t.bodies ≡ s.bodies
+  pub bodies : HearsBodies from bytes now s t
+  pub links : t.links ≡ s.links
 
-unheard : (from : Endpoint) (bytes : List ℕ) (now : ℕ) (s t : Server) → t.parts ≡ s.parts → t.bodies ≡ s.bodies → HearsBlocks from bytes now s t
-unheard from bytes now s t parts bodies = record { calls = []; parts = parts; blocks = no_block refl; bodies = bodies }
+unheard : (from : Endpoint) (bytes : List ℕ) (now : ℕ) (s t : Server) → t.parts ≡ s.parts → t.bodies ≡ s.bodies → t.links ≡ s.links → HearsBlocks from bytes now s t
+unheard from bytes now s t parts bodies links = record { calls = []; parts = parts; blocks = no_block refl; bodies = same_bodies bodies; links = links }
 
 at_once_blocks : (from : Endpoint) (bytes : List ℕ) (now : ℕ) (m : CoapMessage) (r : Reply) (s t : Server) (parts : List Part) → Spells m bytes → is_request m ≡ true
-    → IsAnsweredAtOnce from now m r s parts → t.parts ≡ parts → t.bodies ≡ s.bodies → HearsBlocks from bytes now s t
-at_once_blocks from bytes now m r s t parts spells request (bad_option number fault con is same) leaves bodies = unheard from bytes now s t (leaves ∙ same) bodies
-at_once_blocks from bytes now m r s t parts spells request (bad_block fault is same) leaves bodies = unheard from bytes now s t (leaves ∙ same) bodies
-at_once_blocks from bytes now m r s t parts spells request (for_proxy fault is same) leaves bodies = unheard from bytes now s t (leaves ∙ same) bodies
-at_once_blocks from bytes now m r s t parts spells request (no_memory fine is same) leaves bodies = unheard from bytes now s t (leaves ∙ same) bodies
-at_once_blocks from bytes now m r s t parts spells request (later_block b fine wants is same) leaves bodies = unheard from bytes now s t (leaves ∙ same) bodies
-at_once_blocks from bytes now m r s t parts spells request (joined b added fine wants adding is) leaves bodies = record {
+    → IsAnsweredAtOnce from now m r s parts → t.parts ≡ parts → t.bodies ≡ s.bodies → t.links ≡ s.links → HearsBlocks from bytes now s t
+at_once_blocks from bytes now m r s t parts spells request (bad_option number fault con is same) leaves bodies links = unheard from bytes now s t (leaves ∙ same) bodies links
+at_once_blocks from bytes now m r s t parts spells request (bad_block fault is same) leaves bodies links = unheard from bytes now s t (leaves ∙ same) bodies links
+at_once_blocks from bytes now m r s t parts spells request (for_proxy fault is same) leaves bodies links = unheard from bytes now s t (leaves ∙ same) bodies links
+at_once_blocks from bytes now m r s t parts spells request (no_memory fine is same) leaves bodies links = unheard from bytes now s t (leaves ∙ same) bodies links
+at_once_blocks from bytes now m r s t parts spells request (later_block b fine wants is same) leaves bodies links = unheard from bytes now s t (leaves ∙ same) bodies links
+at_once_blocks from bytes now m r s t parts spells request (joined b added fine wants adding is) leaves bodies links = record {
   calls = adds (block_arrival from now m b) ∷ [];
   parts = leaves ∙ adding.parts_are;
   blocks = one_block m b spells request wants refl;
-  bodies = bodies;
+  bodies = same_bodies bodies;
+  links = links;
+}
+at_once_blocks from bytes now m r s t parts spells request (takes_no_other_verb fine wants of_links other is same) leaves bodies links = unheard from bytes now s t (leaves ∙ same) bodies links
+at_once_blocks from bytes now m r s t parts spells request (takes_no_body b place whole fine wants of_links adding is same) leaves bodies links = record {
+  calls = adds (block_arrival from now m b) ∷ clears place ∷ [];
+  parts = leaves ∙ same ∙ ap (λ (ps : List Part). remove ps place) adding.parts_are;
+  blocks = one_block m b spells request wants refl;
+  bodies = same_bodies bodies;
+  links = links;
 }
 
 reads_blocks : (from : Endpoint) (bytes : List ℕ) (now : ℕ) (m : CoapMessage) (slot : ℕ) (h : Heard) (s t : Server) → Spells m bytes → is_request m ≡ true
     → Reads from now m slot h s t → HearsBlocks from bytes now s t
 reads_blocks from bytes now m slot h s t spells request (replied r parts sent why replies is) =
     let leaves = replies_blocks r (opened m slot) sent (with_parts parts s) t replies in
-    at_once_blocks from bytes now m r s t parts spells request why leaves.0 leaves.1
+    at_once_blocks from bytes now m r s t parts spells request why leaves.0 leaves.1 leaves.2
 reads_blocks from bytes now m slot h s t spells request (bad_option_ignored number fault non is same) =
-    unheard from bytes now s t (ap (λ (x : Server). x.parts) same) (ap (λ (x : Server). x.bodies) same)
-reads_blocks from bytes now m slot h s t spells request (asks fine act is same) =
-    unheard from bytes now s t (ap (λ (x : Server). x.parts) same) (ap (λ (x : Server). x.bodies) same)
-reads_blocks from bytes now m slot h s t spells request (reads_whole b place parts body fine wants adding there is same) = record {
+    unheard from bytes now s t (ap (λ (x : Server). x.parts) same) (ap (λ (x : Server). x.bodies) same) (ap (λ (x : Server). x.links) same)
+reads_blocks from bytes now m slot h s t spells request (gives_links sent fine act of_links get replies is) =
+    let leaves = replies_blocks _ (opened m slot) sent (links_given from now m.token (observing_in m) (what_is_asked m) s) t replies in
+    record { calls = []; parts = leaves.0; blocks = no_block refl; bodies = links_kept m spells request of_links leaves.1; links = leaves.2 }
+reads_blocks from bytes now m slot h s t spells request (asks fine act apart is same) =
+    unheard from bytes now s t (ap (λ (x : Server). x.parts) same) (ap (λ (x : Server). x.bodies) same) (ap (λ (x : Server). x.links) same)
+reads_blocks from bytes now m slot h s t spells request (reads_whole b place parts body fine wants apart adding there is same) = record {
   calls = adds (block_arrival from now m b) ∷ clears place ∷ [];
   parts = ap (λ (x : Server). x.parts) same ∙ ap (λ (ps : List Part). remove ps place) adding.parts_are;
   blocks = one_block m b spells request wants refl;
-  bodies = ap (λ (x : Server). x.bodies) same;
+  bodies = same_bodies (ap (λ (x : Server). x.bodies) same);
+  links = ap (λ (x : Server). x.links) same;
 }
 
--- of a server with the same parts and bodies
-heard_from : (from : Endpoint) (bytes : List ℕ) (now : ℕ) (s u t : Server) → u.parts ≡ s.parts → u.bodies ≡ s.bodies → HearsBlocks from bytes now u t → HearsBlocks from bytes now s t
-heard_from from bytes now s u t parts bodies h = record {
+-- of a server with the same parts, bodies and links
+bodies_from : (from : Endpoint) (bytes : List ℕ) (now : ℕ) (s u t : Server) → u.bodies ≡ s.bodies → u.links ≡ s.links → HearsBodies from bytes now u t → HearsBodies from bytes now s t
+bodies_from from bytes now s u t bodies links (same_bodies is) = same_bodies (is ∙ bodies)
+bodies_from from bytes now s u t bodies links (links_kept m spells request of_links is) =
+    links_kept m spells request of_links (is ∙ (λ i. bodies_with_links from (what_is_asked m).request.path now (size_asked (observing_in m) (what_is_asked m)) (links i) (bodies i)))
+
+heard_from : (from : Endpoint) (bytes : List ℕ) (now : ℕ) (s u t : Server) → u.parts ≡ s.parts → u.bodies ≡ s.bodies → u.links ≡ s.links → HearsBlocks from bytes now u t
+    → HearsBlocks from bytes now s t
+heard_from from bytes now s u t parts bodies links h = record {
   calls = h.calls;
   parts = h.parts ∙ ap (λ (ps : List Part). parts_after ps h.calls) parts;
   blocks = h.blocks;
-  bodies = h.bodies ∙ bodies;
+  bodies = bodies_from from bytes now s u t bodies links h.bodies;
+  links = h.links ∙ links;
 }
 
 pub hears_blocks : (from : Endpoint) (bytes : List ℕ) (now : ℕ) (h : Heard) (s t : Server) → Hears from bytes now h s t → HearsBlocks from bytes now s t
 hears_blocks from bytes now h s t (settled (malformed f fault is same)) =
-    unheard from bytes now s t (ap (λ (x : Server). x.parts) same) (ap (λ (x : Server). x.bodies) same)
+    unheard from bytes now s t (ap (λ (x : Server). x.parts) same) (ap (λ (x : Server). x.bodies) same) (ap (λ (x : Server). x.links) same)
 hears_blocks from bytes now h s t (settled (no_request m spells isnt is same)) =
-    unheard from bytes now s t (ap (λ (x : Server). x.parts) same) (ap (λ (x : Server). x.bodies) same)
-hears_blocks from bytes now h s t (settled (duplicate m kept e met found is)) = unheard from bytes now s t met.same_parts met.same_bodies
+    unheard from bytes now s t (ap (λ (x : Server). x.parts) same) (ap (λ (x : Server). x.bodies) same) (ap (λ (x : Server). x.links) same)
+hears_blocks from bytes now h s t (settled (duplicate m kept e met found is)) = unheard from bytes now s t met.same_parts met.same_bodies met.same_links
 hears_blocks from bytes now h s t (settled (full m u met is same)) =
     let used = used_blocks (request_type m.kind) u in
     unheard from bytes now s t (ap (λ (x : Server). x.parts) same ∙ (used.0 ∙ met.same_parts)) (ap (λ (x : Server). x.bodies) same ∙ (used.1 ∙ met.same_bodies))
+    (ap (λ (x : Server). x.links) same ∙ (used.2 ∙ met.same_links))
 hears_blocks from bytes now h s t (admitted m slot u met reads) =
-    heard_from from bytes now s u t met.same_parts met.same_bodies (reads_blocks from bytes now m slot h u t met.spells met.request reads)
+    heard_from from bytes now s u t met.same_parts met.same_bodies met.same_links (reads_blocks from bytes now m slot h u t met.spells met.request reads)
 
 -- ---- what is asked
 
@@ -144,8 +176,10 @@ reads_asks : (from : Endpoint) (bytes : List ℕ) (now : ℕ) (m : CoapMessage) 
     → Reads from now m slot h s t → AsksFor from bytes now h
 reads_asks from bytes now m slot h s t spells request (replied r parts sent why replies is) = asks_nothing (λ what ask asks_it. at_once_asks sent what ask (sym is ∙ asks_it))
 reads_asks from bytes now m slot h s t spells request (bad_option_ignored number fault non is same) = asks_nothing (λ what ask asks_it. ignored_asks what ask (sym is ∙ asks_it))
-reads_asks from bytes now m slot h s t spells request (asks fine wants is same) = asks_act m slot spells request is
-reads_asks from bytes now m slot h s t spells request (reads_whole b place parts body fine wants adding there is same) = asks_whole m slot b body.bytes is
+reads_asks from bytes now m slot h s t spells request (gives_links sent fine wants of_links get replies is) =
+    asks_nothing (λ what ask asks_it. at_once_asks sent what ask (sym is ∙ asks_it))
+reads_asks from bytes now m slot h s t spells request (asks fine wants apart is same) = asks_act m slot spells request is
+reads_asks from bytes now m slot h s t spells request (reads_whole b place parts body fine wants apart adding there is same) = asks_whole m slot b body.bytes is
 
 pub hears_asks : (from : Endpoint) (bytes : List ℕ) (now : ℕ) (h : Heard) (s t : Server) → Hears from bytes now h s t → AsksFor from bytes now h
 hears_asks from bytes now h s t (settled (malformed f fault is same)) = asks_nothing (λ what ask asks_it. not_replied what ask _ (sym asks_it ∙ is))
@@ -160,6 +194,7 @@ hears_asks from bytes now h s t (admitted m slot u met reads) = reads_asks from 
 pub record Answered (site : Site) (what : PlainAsk) (ask : OpenAsk) (done : Done) (s : State) (seen : List Sighting) (t : State) : Type 0 where
   pub acts : Acts site what.request done s.thing (calls_in seen) t.thing
   pub parts : t.coap.parts ≡ s.coap.parts
+  pub links : t.coap.links ≡ s.coap.links
   pub moment : t.moment ≡ s.moment
   pub bodies : t.coap.bodies ≡ bodies_after ask.blocks ask.from done.outcome s.coap.bodies
 
@@ -179,6 +214,7 @@ asked_is_answered site from what ask s t seen (done, w) =
       acts = subst (λ (x : ThingState). Acts site what.request done s.thing (calls_in seen) x) thing_is
           (subst (λ (x : List HandlerCall). Acts site what.request done s.thing x w.one.0) calls_are w.one.2);
       parts = delivered.parts ∙ (ap (λ (x : Server). x.parts) sent ∙ (answers.0 ∙ ap (λ (x : Server). x.parts) performed));
+      links = delivered.links ∙ (ap (λ (x : Server). x.links) sent ∙ (answers.2 ∙ ap (λ (x : Server). x.links) performed));
       moment = delivered.moment
           ∙ (ap (λ (x : State). x.moment) written.other.next ∙ (ap (λ (x : State). x.moment) written.one.2.next ∙ ap (λ (x : State). x.moment) w.one.3.next));
       bodies = delivered.bodies ∙ (ap (λ (x : Server). x.bodies) sent ∙ (answers.1 ∙ ap (λ (x : Server). bodies_after ask.blocks ask.from done.outcome x.bodies) performed));

@@ -19,10 +19,11 @@ use Rattle.servient_outside.specs.declared.net.EventWithBytes.{EventWithBytes}
 use Rattle.servient_core.specs.Trace.{Sighting}
 use Rattle.servient_core.specs.Machine.{Site, State, Move, OnCoap, SendsIfAny, RepliesToWait, AnswersWait, AnswersLateWait, Delivers, DeliversEach, PerformsByHttp, AnswersTaken, TakesNextMessage, HearsDatagram, ClosesIdle, PollsAndDelivers, SendsNotification, NothingIsDue, EndsEvent, Follows, Step, EventAndStep}
 
--- the bodies and the parts are as they were, and so is the moment
+-- the bodies, the parts and the links are as they were, and so is the moment
 pub record SameBlocks (s t : State) : Type 0 where
   pub parts : t.coap.parts ≡ s.coap.parts
   pub bodies : t.coap.bodies ≡ s.coap.bodies
+  pub links : t.coap.links ≡ s.coap.links
   pub moment : t.moment ≡ s.moment
 
 -- a state whose CoAP server and moment are as they were
@@ -30,6 +31,7 @@ pub same_as : (s u t : State) → t ≡ u → u.coap ≡ s.coap → u.moment ≡
 same_as s u t is coap moment = record {
   parts = ap (λ (x : State). x.coap.parts) is ∙ ap (λ (x : Server). x.parts) coap;
   bodies = ap (λ (x : State). x.coap.bodies) is ∙ ap (λ (x : Server). x.bodies) coap;
+  links = ap (λ (x : State). x.coap.links) is ∙ ap (λ (x : Server). x.links) coap;
   moment = ap (λ (x : State). x.moment) is ∙ moment;
 }
 
@@ -37,7 +39,7 @@ pub same_state : (s t : State) → t ≡ s → SameBlocks s t
 same_state s t is = same_as s s t is refl refl
 
 pub then_same : (s m t : State) → SameBlocks s m → SameBlocks m t → SameBlocks s t
-then_same s m t one other = record { parts = other.parts ∙ one.parts; bodies = other.bodies ∙ one.bodies; moment = other.moment ∙ one.moment }
+then_same s m t one other = record { parts = other.parts ∙ one.parts; bodies = other.bodies ∙ one.bodies; links = other.links ∙ one.links; moment = other.moment ∙ one.moment }
 
 until_same : (P : Move) (IsDone : State → Type 0) → ((s t : State) (seen : List Sighting) → P s seen t → SameBlocks s t)
     → (s t : State) (seen : List Sighting) → Until P IsDone s seen t → SameBlocks s t
@@ -57,11 +59,12 @@ http_same s t h is = same_as s (record s { http = h }) t is refl refl
 http_then_same : (s m t : State) (h : Streams) → m ≡ (record s { http = h }) → t ≡ m → SameBlocks s t
 http_then_same s m t h one other = then_same s m t (http_same s m h one) (same_state m t other)
 
--- the CoAP server changes, and keeps its bodies and parts
-coap_same : (s t : State) (c : Server) → t ≡ (record s { coap = c }) → c.parts ≡ s.coap.parts → c.bodies ≡ s.coap.bodies → SameBlocks s t
-coap_same s t c is parts bodies = record {
+-- the CoAP server changes, and keeps its bodies, parts and links
+coap_same : (s t : State) (c : Server) → t ≡ (record s { coap = c }) → c.parts ≡ s.coap.parts → c.bodies ≡ s.coap.bodies → c.links ≡ s.coap.links → SameBlocks s t
+coap_same s t c is parts bodies links = record {
   parts = ap (λ (x : State). x.coap.parts) is ∙ parts;
   bodies = ap (λ (x : State). x.coap.bodies) is ∙ bodies;
+  links = ap (λ (x : State). x.coap.links) is ∙ links;
   moment = ap (λ (x : State). x.moment) is;
 }
 
@@ -78,7 +81,7 @@ delivers_same target s t seen w =
     then_same s w.mid t
     (until_same (AnswersWait target) (λ (x : State). oldest_for target x.http.waits ≡ None)
     (λ x y calls move. wait_reply_same move.0 (last_of target x.thing.last) x y calls move.2) s w.mid w.first w.one)
-    (coap_same w.mid t w.other.0 w.other.2.next (ap (λ (x : Server). x.parts) w.other.1) (ap (λ (x : Server). x.bodies) w.other.1))
+    (coap_same w.mid t w.other.0 w.other.2.next (ap (λ (x : Server). x.parts) w.other.1) (ap (λ (x : Server). x.bodies) w.other.1) (ap (λ (x : Server). x.links) w.other.1))
 
 pub delivers_each_same : (emissions : List Emission) (s t : State) (seen : List Sighting) → DeliversEach emissions s seen t → SameBlocks s t
 delivers_each_same emissions s t seen each = each_same Delivers delivers_same (map (λ e. e.target) emissions) s t seen each
@@ -117,18 +120,18 @@ polls_same : (p : Placed) (s t : State) (seen : List Sighting) → PollsAndDeliv
 polls_same p s t seen (emissions, w) =
     then_same s w.mid t (thing_same s w.mid w.one.0 w.one.3.next) (delivers_each_same emissions w.mid t w.second w.other)
 
-notice_sent : (n : Option Notice) (s : Server) → ((with_notice_sent n s).parts ≡ s.parts) × ((with_notice_sent n s).bodies ≡ s.bodies)
-notice_sent None s = (refl, refl)
+notice_sent : (n : Option Notice) (s : Server) → ((with_notice_sent n s).parts ≡ s.parts) × ((with_notice_sent n s).bodies ≡ s.bodies) × ((with_notice_sent n s).links ≡ s.links)
+notice_sent None s = (refl, refl, refl)
 notice_sent (Some n) s = by n.fresh
   where
-    by : (b : Bool) → ((if b then with_next_id s else s).parts ≡ s.parts) × ((if b then with_next_id s else s).bodies ≡ s.bodies)
-    by true = (refl, refl)
-    by false = (refl, refl)
+    by : (b : Bool) → ((if b then with_next_id s else s).parts ≡ s.parts) × ((if b then with_next_id s else s).bodies ≡ s.bodies) × ((if b then with_next_id s else s).links ≡ s.links)
+    by true = (refl, refl, refl)
+    by false = (refl, refl, refl)
 
 sends_same : (n : Option Notice) (s t : State) (seen : List Sighting) → OnCoap (λ now. SendsNext now n) s seen t → SameBlocks s t
 sends_same n s t seen on =
     let sent = notice_sent n (with_watchers on.1.watchers s.coap) in
-    coap_same s t on.0 on.2.next (ap (λ (x : Server). x.parts) on.1.after ∙ sent.0) (ap (λ (x : Server). x.bodies) on.1.after ∙ sent.1)
+    coap_same s t on.0 on.2.next (ap (λ (x : Server). x.parts) on.1.after ∙ sent.0) (ap (λ (x : Server). x.bodies) on.1.after ∙ sent.1) (ap (λ (x : Server). x.links) on.1.after ∙ sent.2)
 
 notification_same : (s t : State) (seen : List Sighting) → SendsNotification s seen t → SameBlocks s t
 notification_same s t seen (n, w) = then_same s w.mid t (sends_same (Some n) s w.mid w.first w.one) (same_state w.mid t w.other.next)

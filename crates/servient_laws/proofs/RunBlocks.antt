@@ -17,9 +17,10 @@ use Rattle.coap_bind.specs.declared.blocks.BlockUse.{BlockUse}
 use Rattle.coap_bind.specs.declared.blocks.BlockUse.TheVariants as blocks
 use Rattle.coap_bind.specs.declared.blocks.Giving.{Giving}
 use Rattle.coap_bind.specs.Blocks.{block2_of, use_of, bodies_after, body_of, is_kept}
+use Rattle.coap_bind.specs.Links.{bodies_with_links, is_text_kept, links_content, size_asked}
 use Rattle.coap_bind.specs.declared.head.OpenAsk.{OpenAsk}
 use Rattle.coap_bind.specs.declared.server.Server.{Server}
-use Rattle.coap_bind.specs.Server.{Heard, ignored, answered_at_once, asked, is_request, observing_in, block_arrival, opened_ask, joined_ask, with_whole_body}
+use Rattle.coap_bind.specs.Server.{Heard, ignored, answered_at_once, asked, asks_links, is_request, observing_in, block_arrival, opened_ask, joined_ask, with_whole_body}
 use Rattle.thing_ops.specs.declared.outcome.Outcome.{Outcome}
 use Rattle.thing_ops.specs.Outcomes.{payload_of}
 use Rattle.thing_core.specs.State.{State as ThingState}
@@ -29,12 +30,13 @@ use Rattle.servient_outside.specs.Network.{heard}
 use Rattle.std.proofs.lemmas.List.Elements.{filter_map-append}
 use Rattle.thing_handler.specs.Turns.{HandlerCall}
 use Rattle.servient_core.specs.Trace.{Sighting, at_network, call_in, calls_in}
+use Rattle.servient_core.specs.Links.{segments_of, text_of_links}
 use Rattle.servient_core.specs.Machine.{Site, State, start, AnswersDatagram, EndsEvent, EventAndStep, Run}
 use Rattle.servient_core.proofs.MeaningLaws.{ends_quiet}
 use Rattle.servient_laws.specs.Requests.{Brings, moment_of}
-use Rattle.servient_laws.specs.Transfers.{ActsOnce, WasGiven, IsBlockIn, AreBlocksFrom}
+use Rattle.servient_laws.specs.Transfers.{ActsOnce, Gave, by_act, by_links, WasGiven, IsBlockIn, AreBlocksFrom}
 use Rattle.servient_laws.proofs.KeptBlocks.{SameBlocks, same_state, then_same, ends_same, BringsDatagram, event_same}
-use Rattle.servient_laws.proofs.HeardBlocks.{AreBlocksOf, no_block, one_block, HearsBlocks, hears_blocks, AsksFor, asks_nothing, asks_act, asks_whole, hears_asks, Answered, asked_is_answered}
+use Rattle.servient_laws.proofs.HeardBlocks.{AreBlocksOf, no_block, one_block, HearsBodies, same_bodies, links_kept, HearsBlocks, hears_blocks, AsksFor, asks_nothing, asks_act, asks_whole, hears_asks, Answered, asked_is_answered}
 use Rattle.servient_laws.proofs.RequestLaws.{Parts, parts_of}
 
 -- ---- rows of blocks
@@ -123,6 +125,18 @@ all_after P (blocks.Gives g) from o bodies all one = by (is_kept g.szx o)
     by true = all_with P (body_of from g.path g.moment o) bodies all (one g refl)
     by false = all
 
+-- the links are kept, if they are given in more than one block
+all_links : (P : Body → Type 0) (from : Endpoint) (path : List (List ℕ)) (now : ℕ) (szx : Option ℕ) (text : List ℕ) (bodies : List Body) → All P bodies
+    → P (record { from = from; path = path; content = links_content text; moment = now }) → All P (bodies_with_links from path now szx text bodies)
+all_links P from path now szx text bodies all one = by (is_text_kept szx (length text))
+  where
+    it : Body
+    it = record { from = from; path = path; content = links_content text; moment = now }
+
+    by : (kept : Bool) → All P (if kept then with_body it bodies else bodies)
+    by true = all_with P it bodies all one
+    by false = all
+
 -- ---- what is known after a run
 
 pub record Past (site : Site) (exchanges : ℕ) (took : List EventWithBytes) (seen : List Sighting) (s : State) : Type 0 where
@@ -132,6 +146,7 @@ pub record Past (site : Site) (exchanges : ℕ) (took : List EventWithBytes) (se
   pub parts : s.coap.parts ≡ parts_after [] calls
   pub blocks : AreBlocksFrom 0 took (blocks_among calls)
   pub bodies : All (WasGiven site exchanges took seen) s.coap.bodies
+  pub links : s.coap.links ≡ text_of_links (segments_of site)
 
 -- a body that was given in a run was given in a longer one
 given_longer : (site : Site) (exchanges : ℕ) (took es : List EventWithBytes) (seen shown : List Sighting) (b : Body) → WasGiven site exchanges took seen b
@@ -153,9 +168,7 @@ given_longer site exchanges took es seen shown b g = record {
   m = g.m;
   brings = g.brings;
   path = g.path;
-  done = g.done;
-  act = g.act;
-  payload = g.payload;
+  gave = g.gave;
   moment = g.moment;
 }
 
@@ -189,10 +202,32 @@ given_now site exchanges took seen shown from m e s t done b run step brings onc
   m = m;
   brings = subst (λ (f : Endpoint). Brings f m e) (sym (ap (λ (x : Body). x.from) is)) brings;
   path = sym (ap (λ (x : Body). x.path) is);
-  done = done;
-  act = once;
-  payload = ap (λ (x : Body). x.content.bytes) is;
+  gave = by_act done once (ap (λ (x : Body). x.content.bytes) is);
   moment = ap (λ (x : Body). x.moment) is;
+}
+
+-- the links that are given now
+links_now : (site : Site) (exchanges : ℕ) (took : List EventWithBytes) (seen shown : List Sighting) (from : Endpoint) (m : CoapMessage) (e : EventWithBytes) (s t : State)
+    → Past site exchanges took seen s → EventAndStep site e s shown t → Brings from m e → asks_links m ≡ true
+    → WasGiven site exchanges (took ++ e ∷ []) (seen ++ shown) (record { from = from; path = (what_is_asked m).request.path; content = links_content s.coap.links; moment = moment_of s e })
+links_now site exchanges took seen shown from m e s t past step brings of_links = record {
+  earlier = took;
+  e = e;
+  later = [];
+  events = refl;
+  before = seen;
+  during = shown;
+  after = [];
+  trace = ap (λ (x : List Sighting). seen ++ x) (sym (append-nil shown));
+  s = s;
+  t = t;
+  run = past.run;
+  step = step;
+  m = m;
+  brings = brings;
+  path = refl;
+  gave = by_links of_links past.links;
+  moment = refl;
 }
 
 -- ---- an event more
@@ -208,6 +243,7 @@ past_same site exchanges took seen shown e s t past step same = record {
   blocks = row_stays 0 took (blocks_among past.calls) e past.blocks;
   bodies = subst (All (WasGiven site exchanges (took ++ e ∷ []) (seen ++ shown))) (sym same.bodies)
       (All-weaker (WasGiven site exchanges took seen) (WasGiven site exchanges (took ++ e ∷ []) (seen ++ shown)) (given_longer site exchanges took (e ∷ []) seen shown) s.coap.bodies past.bodies);
+  links = same.links ∙ past.links;
 }
 
 -- the blocks of a datagram are those of its event
@@ -232,6 +268,7 @@ row_heard took calls more e now d at row (one_block m b spells request wants is)
 -- The bodies after a datagram was answered: those before, and one that was given now at most.
 record AfterAnswer (site : Site) (exchanges : ℕ) (took : List EventWithBytes) (seen : List Sighting) (server : Server) (middle : State) (now : ℕ) : Type 0 where
   parts : middle.coap.parts ≡ server.parts
+  links : middle.coap.links ≡ server.links
   moment : middle.moment ≡ now
   bodies : All (WasGiven site exchanges took seen) middle.coap.bodies
 
@@ -264,12 +301,22 @@ answered_past site exchanges took seen shown e s t past step d p hears asks =
     Given : Body → Type 0
     Given = WasGiven site exchanges (took ++ e ∷ []) (seen ++ shown)
 
+    old : All Given s.coap.bodies
+    old = All-weaker (WasGiven site exchanges took seen) Given (given_longer site exchanges took (e ∷ []) seen shown) s.coap.bodies past.bodies
+
+    heard_bodies : HearsBodies d.from e.bytes (moment_of s e) s.coap p.server → All Given p.server.bodies
+    heard_bodies (same_bodies is) = subst (All Given) (sym is) old
+    heard_bodies (links_kept m spells request of_links is) =
+        subst (All Given) (sym is)
+        (all_links Given d.from (what_is_asked m).request.path (moment_of s e) (size_asked (observing_in m) (what_is_asked m)) s.coap.links s.coap.bodies old
+        (links_now site exchanges took seen shown d.from m e s t past step
+        (record { size = d.size; datagram = d.datagram; short = d.short; spells = spells; request = request }) of_links))
+
     before : All Given p.server.bodies
-    before = subst (All Given) (sym hears.bodies)
-        (All-weaker (WasGiven site exchanges took seen) Given (given_longer site exchanges took (e ∷ []) seen shown) s.coap.bodies past.bodies)
+    before = heard_bodies hears.bodies
 
     same : SameBlocks u p.middle → AfterAnswer site exchanges (took ++ e ∷ []) (seen ++ shown) p.server p.middle (moment_of s e)
-    same still = record { parts = still.parts; moment = still.moment; bodies = subst (All Given) (sym still.bodies) before }
+    same still = record { parts = still.parts; links = still.links; moment = still.moment; bodies = subst (All Given) (sym still.bodies) before }
 
     answers_as : (h : Heard) → p.what ≡ h → AnswersDatagram site d.from h u p.answer p.middle
     answers_as h is = subst (λ (x : Heard). AnswersDatagram site d.from x u p.answer p.middle) is p.answers
@@ -279,7 +326,7 @@ answered_past site exchanges took seen shown e s t past step d p hears asks =
         → AfterAnswer site exchanges (took ++ e ∷ []) (seen ++ shown) p.server p.middle (moment_of s e)
     after what ask answers given =
         let a = asked_is_answered site d.from what ask u p.middle p.answer answers in
-        record { parts = a.parts; moment = a.moment; bodies = subst (All Given) (sym a.bodies) (given answers.0 a) }
+        record { parts = a.parts; links = a.links; moment = a.moment; bodies = subst (All Given) (sym a.bodies) (given answers.0 a) }
 
     by_heard : (h : Heard) → p.what ≡ h → AsksFor d.from e.bytes (moment_of s e) p.what → AfterAnswer site exchanges (took ++ e ∷ []) (seen ++ shown) p.server p.middle (moment_of s e)
     by_heard ignored is asks = same (same_state u p.middle (answers_as ignored is).next)
@@ -310,6 +357,7 @@ past_heard site exchanges took seen shown e s t past step d =
       parts = ends.parts ∙ (after.parts ∙ (hears.parts ∙ (ap (λ (ps : List Part). parts_after ps hears.calls) past.parts ∙ sym (calls_append [] past.calls hears.calls))));
       blocks = row_heard took past.calls hears.calls e (moment_of s e) d at past.blocks hears.blocks;
       bodies = subst (All (WasGiven site exchanges (took ++ e ∷ []) (seen ++ shown))) (sym ends.bodies) after.bodies;
+      links = ends.links ∙ (after.links ∙ (hears.links ∙ past.links));
     }
 
 past_event : (site : Site) (exchanges : ℕ) (took : List EventWithBytes) (seen shown : List Sighting) (e : EventWithBytes) (s t : State) → Past site exchanges took seen s
@@ -344,4 +392,5 @@ past_of site exchanges took seen t run =
       parts = refl;
       blocks = refl;
       bodies = All-nil (WasGiven site exchanges [] []);
+      links = refl;
     }) run

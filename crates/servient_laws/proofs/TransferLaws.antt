@@ -30,7 +30,7 @@ use Rattle.coap_bind.specs.declared.head.OpenAsk.{OpenAsk}
 use Rattle.coap_bind.specs.declared.server.Server.{Server}
 use Rattle.coap_bind.specs.Blocks.{use_of, portion_at, content_reply, block_reply, later_reply, added_reply}
 use Rattle.coap_bind.specs.Laws.{Did}
-use Rattle.coap_bind.specs.Server.{Heard, answered_at_once, asked, is_request, arrival, IsMet, malformed, no_request, duplicate as settles_duplicate, full, Hears, settled, admitted, observing_in, wanted_in, with_parts, Replies, opened, opened_ask, joined_ask, with_whole_body, block_arrival, Adds, IsAnsweredAtOnce, bad_option, bad_block, for_proxy, no_memory, later_block, joined, Reads, replied, bad_option_ignored, asks, asks_whole}
+use Rattle.coap_bind.specs.Server.{Heard, answered_at_once, asked, is_request, arrival, IsMet, malformed, no_request, duplicate as settles_duplicate, full, Hears, settled, admitted, observing_in, wanted_in, with_parts, Replies, opened, opened_ask, joined_ask, with_whole_body, block_arrival, Adds, IsAnsweredAtOnce, bad_option, bad_block, for_proxy, no_memory, later_block, joined, takes_no_other_verb, takes_no_body, Reads, replied, bad_option_ignored, asks_links, gives_links, asks, asks_whole}
 use Rattle.coap_bind.specs.Writing.{Reply, reply_of, head_of, coap_reply}
 use Rattle.thing_ops.specs.declared.outcome.Outcome.TheVariants as outcome
 use Rattle.thing_core.specs.Thing.{Done, Acts}
@@ -161,11 +161,14 @@ acts_and_says site from s t e seen p what ask is =
 
 -- ---- a request that wants an act
 
+both_paths : (m : CoapMessage) → asks_links m ≡ true → asks_links m ≡ false → ⊥
+both_paths m is isnt = cc
+
 clash : (a b : Wanted) (m : CoapMessage) → wanted_in m ≡ a → wanted_in m ≡ b → a ≡ b
 clash a b m one other = sym one ∙ other
 
 pub requests_act_once : RequestsActOnce
-requests_act_once site exchanges from m s t e seen comes fine wants =
+requests_act_once site exchanges from m s t e seen comes fine wants other_path =
     let a = admits site exchanges from m s t e seen comes in by a.parts a.read.slot a.read.server a.read.met a.read.reads
   where
     by : (p : Parts site from e.bytes e s seen t) (slot : ℕ) (u : Server) → IsMet from e.bytes (moment_of s e) m (Fresh slot) s.coap u → Reads from (moment_of s e) m slot p.what u p.server
@@ -178,10 +181,13 @@ requests_act_once site exchanges from m s t e seen comes fine wants =
         inl (subst (λ (x : Reply). IsRepliedTo x from m s e seen t) is (at_once site from m s t e seen p slot u r parts bytes met.same_id replies h).replied_to)
     by p slot u met (replied r parts bytes (later_block b none wants' is same) replies h) = absurd (let no = clash wanted.Act (wanted.LaterBlock b) m wants wants' in cc)
     by p slot u met (replied r parts bytes (joined b added none wants' adding is) replies h) = absurd (let no = clash wanted.Act (wanted.Joining b) m wants wants' in cc)
+    by p slot u met (replied r parts bytes (takes_no_other_verb none wants' links other is same) replies h) = absurd (both_paths m links other_path)
+    by p slot u met (replied r parts bytes (takes_no_body b place whole none wants' links adding is same) replies h) = absurd (both_paths m links other_path)
     by p slot u met (bad_option_ignored number fault non h same) = absurd (fault_free _ _ fine fault)
-    by p slot u met (asks none wants' h same) =
+    by p slot u met (gives_links bytes none wants' links get replies h) = absurd (both_paths m links other_path)
+    by p slot u met (asks none wants' apart h same) =
         let a = acts_and_says site from s t e seen p (what_is_asked m) (opened_ask from (moment_of s e) m slot) h in inr (a.done, a.once, a.says)
-    by p slot u met (asks_whole b place parts whole none wants' adding there h same) = absurd (let no = clash wanted.Act (wanted.Joining b) m wants wants' in cc)
+    by p slot u met (asks_whole b place parts whole none wants' apart adding there h same) = absurd (let no = clash wanted.Act (wanted.Joining b) m wants wants' in cc)
 
 -- ---- a later block
 
@@ -242,9 +248,12 @@ later_blocks_are_of_one_act site exchanges from m b s t e seen comes fine wants 
           later_is site exchanges comes.took comes.before from (what_is_asked m).request.path (moment_of s e) b s past r kept,
         )
     by p slot u met (replied r parts bytes (joined c added none wants' adding is) replies h) = absurd (let no = clash (wanted.LaterBlock b) (wanted.Joining c) m wants wants' in cc)
+    by p slot u met (replied r parts bytes (takes_no_other_verb none wants' links other is same) replies h) = absurd (let no = clash (wanted.LaterBlock b) wanted.Act m wants wants' in cc)
+    by p slot u met (replied r parts bytes (takes_no_body c place whole none wants' links adding is same) replies h) = absurd (let no = clash (wanted.LaterBlock b) (wanted.Joining c) m wants wants' in cc)
     by p slot u met (bad_option_ignored number fault non h same) = absurd (fault_free _ _ fine fault)
-    by p slot u met (asks none wants' h same) = absurd (let no = clash (wanted.LaterBlock b) wanted.Act m wants wants' in cc)
-    by p slot u met (asks_whole c place parts whole none wants' adding there h same) = absurd (let no = clash (wanted.LaterBlock b) (wanted.Joining c) m wants wants' in cc)
+    by p slot u met (gives_links bytes none wants' links get replies h) = absurd (let no = clash (wanted.LaterBlock b) wanted.Act m wants wants' in cc)
+    by p slot u met (asks none wants' apart h same) = absurd (let no = clash (wanted.LaterBlock b) wanted.Act m wants wants' in cc)
+    by p slot u met (asks_whole c place parts whole none wants' apart adding there h same) = absurd (let no = clash (wanted.LaterBlock b) (wanted.Joining c) m wants wants' in cc)
 
 -- ---- blocks of a request
 
@@ -287,7 +296,7 @@ is_row site exchanges took before s a place parts p past answer_is parts_are the
     }
 
 pub joined_bodies_act_once : JoinedBodiesActOnce
-joined_bodies_act_once site exchanges from m b s t e seen comes fine wants =
+joined_bodies_act_once site exchanges from m b s t e seen comes fine wants other_path =
     let a = admits site exchanges from m s t e seen comes in (
       (after_block (block_arrival from (moment_of s e) m b) (living (moment_of s e) s.coap.parts)).0,
       (after_block (block_arrival from (moment_of s e) m b) (living (moment_of s e) s.coap.parts)).1,
@@ -346,7 +355,10 @@ joined_bodies_act_once site exchanges from m b s t e seen comes fine wants =
         laws.not_joined (subst (λ (x : Reply). IsRepliedTo x from m s e seen t) is done.replied_to) (done.left ∙ (same ∙ met.same_parts))
     by p slot u met (replied r parts bytes (later_block c none wants' is same) replies h) = absurd (let no = clash (wanted.Joining b) (wanted.LaterBlock c) m wants wants' in cc)
     by p slot u met (replied r parts bytes (joined c added none wants' adding is) replies h) = not_whole p slot u r parts bytes c added met.same_id met.same_parts replies h wants' adding is
+    by p slot u met (replied r parts bytes (takes_no_other_verb none wants' links other is same) replies h) = absurd (both_paths m links other_path)
+    by p slot u met (replied r parts bytes (takes_no_body c place body none wants' links adding is same) replies h) = absurd (both_paths m links other_path)
     by p slot u met (bad_option_ignored number fault non h same) = absurd (fault_free _ _ fine fault)
-    by p slot u met (asks none wants' h same) = absurd (let no = clash (wanted.Joining b) wanted.Act m wants wants' in cc)
-    by p slot u met (asks_whole c place parts body none wants' adding there h same) =
+    by p slot u met (gives_links bytes none wants' links get replies h) = absurd (both_paths m links other_path)
+    by p slot u met (asks none wants' apart h same) = absurd (let no = clash (wanted.Joining b) wanted.Act m wants wants' in cc)
+    by p slot u met (asks_whole c place parts body none wants' apart adding there h same) =
         whole p slot u c place parts body met.same_parts wants' adding there h (ap (λ (x : Server). x.parts) same)

@@ -1,6 +1,6 @@
--- What a run does with blocks (RFC 7959, sections 2.3 to 2.5): each block of a response is a part of what one act gave, and
--- the blocks of a request's body lead to one act where the last of them came, and else to none.
-use Rattle.std.specs.Prelude.{◌≡◌, ◌⊎◌, ◌≤◌, ℕ, max, true, IfSome, Some, List, [], ◌∷◌, ◌++◌, length}
+-- What a run does with blocks (RFC 7959, sections 2.3 to 2.5): each block of a response is a part of what one act gave, or of
+-- the links to the Things, and the blocks of a request's body lead to one act where the last of them came, and else to none.
+use Rattle.std.specs.Prelude.{◌≡◌, ◌⊎◌, ◌≤◌, ℕ, max, true, false, IfSome, Some, List, [], ◌∷◌, ◌++◌, length}
 use Rattle.std.specs.List.{remove}
 use Rattle.coap_msg.specs.declared.block.Block.{Block}
 use Rattle.coap_msg.specs.declared.endpoint.Endpoint.{Endpoint}
@@ -16,7 +16,7 @@ use Rattle.coap_blocks.specs.Paths.{lives}
 use Rattle.coap_opts.specs.Reading.{faults_of, asked as what_is_asked}
 use Rattle.coap_bind.specs.declared.blocks.Wanted.TheVariants as wanted
 use Rattle.coap_bind.specs.Blocks.{use_of, portion_at, content_reply, block_reply, added_reply}
-use Rattle.coap_bind.specs.Server.{observing_in, wanted_in, with_whole_body, block_arrival, Adds}
+use Rattle.coap_bind.specs.Server.{asks_links, observing_in, wanted_in, with_whole_body, block_arrival, Adds}
 use Rattle.coap_bind.specs.Writing.{Reply, reply_of, head_of, coap_reply}
 use Rattle.thing_ops.specs.declared.outcome.Outcome.TheVariants as outcome
 use Rattle.thing_ops.specs.Outcomes.{payload_of}
@@ -24,6 +24,7 @@ use Rattle.thing_ops.specs.Requests.{PlainRequest}
 use Rattle.thing_core.specs.Thing.{Done, Acts}
 use Rattle.servient_outside.specs.declared.net.EventWithBytes.{EventWithBytes}
 use Rattle.servient_core.specs.Trace.{Sighting, calls_in}
+use Rattle.servient_core.specs.Links.{segments_of, text_of_links}
 use Rattle.servient_core.specs.Machine.{Site, State, start, EventAndStep, Run}
 use Rattle.servient_laws.specs.Payloads.{SaysByCoap}
 use Rattle.servient_laws.specs.Requests.{Brings, moment_of, ComesTo, ActsOnNothing, sends_back}
@@ -41,8 +42,14 @@ pub record IsRepliedTo (r : Reply) (from : Endpoint) (m : CoapMessage) (s : Stat
 
 -- ---- blocks of a response
 
--- In a run from the start an event brought a request of the body's endpoint for the body's path, on which one act was made,
--- and the body is the payload of its outcome. It is kept since that moment.
+-- A body is what a request gave: one act was made on it, and the body is the payload of its outcome; or it is for the links,
+-- and the body is their text.
+pub data Gave (site : Site) (m : CoapMessage) (bytes : List ℕ) (s : State) (seen : List Sighting) (t : State) : Type 0 where
+  by_act : (done : Done) → ActsOnce site (what_is_asked m).request done s seen t → bytes ≡ payload_of done.outcome → Gave site m bytes s seen t
+  by_links : asks_links m ≡ true → bytes ≡ text_of_links (segments_of site) → Gave site m bytes s seen t
+
+-- In a run from the start an event brought a request of the body's endpoint for the body's path, which gave the body. It is
+-- kept since that moment.
 pub record WasGiven (site : Site) (exchanges : ℕ) (took : List EventWithBytes) (seen : List Sighting) (b : Body) : Type 0 where
   pub earlier : List EventWithBytes
   pub e : EventWithBytes
@@ -59,9 +66,7 @@ pub record WasGiven (site : Site) (exchanges : ℕ) (took : List EventWithBytes)
   pub m : CoapMessage
   pub brings : Brings b.from m e
   pub path : (what_is_asked m).request.path ≡ b.path
-  pub done : Done
-  pub act : ActsOnce site (what_is_asked m).request done s during t
-  pub payload : b.content.bytes ≡ payload_of done.outcome
+  pub gave : Gave site m b.content.bytes s during t
   pub moment : b.moment ≡ moment_of s e
 
 -- The reply to a request for a later block, at a moment: the part of a body, from the block's number times its size on, that
@@ -109,18 +114,18 @@ pub data ComesOfBlock (site : Site) (took : List EventWithBytes) (from : Endpoin
 
 -- ---- the sentences
 
--- A request that is admitted and wants an act makes one, and the part of its outcome's payload that is to be given first is
+-- A request that is admitted, wants an act and isn't for the links makes one, and the part of its outcome's payload that is to be given first is
 -- sent; or it is out of memory, and makes none.
 abbrev pub RequestsActOnce : Type 0
 RequestsActOnce =
     (site : Site) (exchanges : ℕ) (from : Endpoint) (m : CoapMessage) (s t : State) (e : EventWithBytes) (seen : List Sighting)
-    → ComesTo admitted site exchanges from m s e seen t → faults_of m.options ≡ [] → wanted_in m ≡ wanted.Act
+    → ComesTo admitted site exchanges from m s e seen t → faults_of m.options ≡ [] → wanted_in m ≡ wanted.Act → asks_links m ≡ false
     → IsRepliedTo (reply_of outcome.Memory) from m s e seen t
     ⊎ ((done : Done) × ActsOnce site (what_is_asked m).request done s seen t
     × SaysByCoap from (use_of (moment_of s e) m.code (observing_in m) (what_is_asked m)) done.outcome seen)
 
--- Each later block that is sent is a part of what one act gave to its endpoint for its path, and no act is made for it
--- (RFC 7959, section 2.4).
+-- Each later block that is sent is a part of what one act gave to its endpoint for its path, or of the links, and no act is
+-- made for it (RFC 7959, section 2.4).
 abbrev pub LaterBlocksAreOfOneAct : Type 0
 LaterBlocksAreOfOneAct =
     (site : Site) (exchanges : ℕ) (from : Endpoint) (m : CoapMessage) (b : Block) (s t : State) (e : EventWithBytes) (seen : List Sighting)
@@ -128,10 +133,10 @@ LaterBlocksAreOfOneAct =
     → (r : Reply) × IsRepliedTo r from m s e seen t
     × IsLaterBlock site exchanges comes.took comes.before from (what_is_asked m).request.path (moment_of s e) b s r
 
--- The blocks of a request's body lead to one act once the last came, on their payloads joined, and each before it, and each
+-- The blocks of a request's body for another path than that of the links lead to one act once the last came, on their payloads joined, and each before it, and each
 -- that isn't taken, to none (RFC 7959, section 2.5).
 abbrev pub JoinedBodiesActOnce : Type 0
 JoinedBodiesActOnce =
     (site : Site) (exchanges : ℕ) (from : Endpoint) (m : CoapMessage) (b : Block) (s t : State) (e : EventWithBytes) (seen : List Sighting)
-    (comes : ComesTo admitted site exchanges from m s e seen t) → faults_of m.options ≡ [] → wanted_in m ≡ wanted.Joining b
+    (comes : ComesTo admitted site exchanges from m s e seen t) → faults_of m.options ≡ [] → wanted_in m ≡ wanted.Joining b → asks_links m ≡ false
     → (added : Added) × (parts : List Part) × Adds from (moment_of s e) m b s.coap added parts × ComesOfBlock site comes.took from m b added parts s e seen t

@@ -1,3 +1,4 @@
 mod PlanLaws
+mod PlanNames
 mod PlanTexts
 mod PlanLists

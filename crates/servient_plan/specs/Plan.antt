@@ -9,6 +9,7 @@ use Rattle.wot_json.specs.Tree.{Json, integer, string, array, object, Elements, 
 use Rattle.wot_json.specs.Lookup.{member_list, member_named}
 use Rattle.wot_json.specs.Merge.{members_under}
 use Rattle.wot_terms.specs.Affordances.{part}
+use Rattle.tm_derive.specs.Segments.{is_plain_segment}
 use Rattle.tm_derive.specs.Submodels.{is_name_byte}
 use Rattle.servient_outside.specs.declared.place.Place.{Place}
 use Rattle.servient_plan.specs.declared.plan.Plan.{Plan}
@@ -187,9 +188,9 @@ is_object v = false
 abbrev pub plan_of : Json → Result Plan (List ℕ)
 plan_of v = if is_object v then plan_in (members_under v) else Err []
 
--- as many exchanges may live as a server takes
-abbrev pub HasFewExchanges : Plan → Type 0
-HasFewExchanges plan = (16 ≤ plan.exchanges) × (plan.exchanges ≤ 65536)
+-- as many exchanges may live as a server takes, and the segment of the root is plain
+abbrev pub MayBeServed : Plan → Type 0
+MayBeServed plan = (16 ≤ plan.exchanges) × (plan.exchanges ≤ 65536) × (is_plain_segment plan.frame.segment ≡ true)
 
 -- ---- where it listens
 

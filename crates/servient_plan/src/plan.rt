@@ -1,10 +1,11 @@
 //! The plan of a servient: which Things it exposes, where, and with which handlers.
 
-ghost use Rattle.std.specs.Prelude.{◌≡◌, ◌⊎◌, ◌++◌, ◌∷◌, [], codes, IfOk, OnErr, OnOk};
+ghost use Rattle.std.specs.Prelude.{◌≡◌, ◌⊎◌, ◌++◌, ◌∷◌, [], true, codes, IfOk, OnErr, OnOk};
 ghost use Rattle.wot_json.specs.Meaning.{json_of};
 ghost use Rattle.wot_json.specs.Merge.{members_under};
-ghost use Rattle.servient_plan.specs.Plan.{plan_of, place_of, Reads, HasFewExchanges};
+ghost use Rattle.servient_plan.specs.Plan.{plan_of, place_of, Reads, MayBeServed};
 ghost use Rattle.servient_plan.specs.Plan as spec;
+ghost use Rattle.tm_derive.specs.Segments.{is_plain_segment};
 
 use crate::texts::{TextRow, base_point};
 use crate::values::{
@@ -143,7 +144,7 @@ impl Plan {
     #[tactic(auto, using(crate::proofs::PlanLaws::refused_there, crate::proofs::PlanLaws::goes_on_there))]
     pub fn read(alloc: Global, tree: &Tree) -> Result<Plan, PlanFault>
         ensures reads { Reads result (plan_of (json_of tree.now)) }
-        ensures exchanges { IfOk result HasFewExchanges }
+        ensures served { IfOk result MayBeServed }
     {
         if !is_object(tree) {
             return Err(PlanFault::At(Text::copy_of(alloc, "")?));
@@ -189,7 +190,8 @@ impl Plan {
 /// The texts of a plan that its first rows read.
 #[tactic(auto, using(crate::proofs::PlanLaws::refused_there, crate::proofs::PlanLaws::goes_on_there))]
 fn names_in(alloc: Global, tree: &Tree) -> Result<Names, PlanFault>
-    ensures { Reads result (spec.names_in (members_under (json_of tree.now))) }
+    ensures reads { Reads result (spec.names_in (members_under (json_of tree.now))) }
+    ensures segment { IfOk result (λ names. is_plain_segment names.segment ≡ true) }
 {
     let segment = text_row(alloc, tree, TextRow::Name)?;
     let id = text_row(alloc, tree, TextRow::Id)?;

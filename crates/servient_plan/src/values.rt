@@ -1,6 +1,6 @@
 //! The members of a plan, each read as its row of the table says.
 
-ghost use Rattle.std.specs.Prelude.{◌≡◌, ◌≤◌, codes, option_and_then, option_map, Some, IfOk};
+ghost use Rattle.std.specs.Prelude.{◌≡◌, ◌≤◌, true, codes, option_and_then, option_map, Some, IfOk};
 ghost use Rattle.wot_json.specs.Meaning.{json_of};
 ghost use Rattle.wot_json.specs.Tree.{elements_of};
 ghost use Rattle.wot_json.specs.Merge.{members_under};
@@ -59,7 +59,8 @@ fn row<A>(alloc: Global, name: &str, value: Option<A>) -> Result<A, PlanFault>
 
 /// A member that is a text.
 pub(crate) fn text_row(alloc: Global, tree: &Tree, member: TextRow) -> Result<Text, PlanFault>
-    ensures { Reads result (spec.text_row member (members_under (json_of tree.now))) }
+    ensures reads { Reads result (spec.text_row member (members_under (json_of tree.now))) }
+    ensures taken { IfOk result (λ text. spec.takes_text member text ≡ true) }
 {
     let text = taken_text(alloc, member, text_in(tree.member(member.name())))?;
     row(alloc, member.name(), text)

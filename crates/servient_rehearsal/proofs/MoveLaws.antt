@@ -4,9 +4,8 @@ use Rattle.std.specs.Prelude.{Some, Contains, slice_get}
 use Rattle.std.proofs.lemmas.Option.{same_Some, slice_get_within, slice_get-get_or, get_or_from_slice_get}
 use Rattle.coap_client.specs.declared.state.State.{State as ClientState}
 use Rattle.coap_client.specs.Exchange.{IsNew}
-use Rattle.coap_bind.specs.Server.{start as nothing_came}
 use Rattle.thing_handler.specs.Handler.{Seen}
-use Rattle.servient_core.specs.declared.capacity.TheConstants.{MOST_WATCHERS}
+use Rattle.servient_core.specs.Links.{segments_of, text_of_links}
 use Rattle.servient_core.specs.Machine.{Site, start}
 use Rattle.servient_core.specs.Serving.{StandsFor}
 use Rattle.servient_core.specs.declared.layers.Layers.{Layers}
@@ -37,7 +36,7 @@ beginning_of site exchanges client = record {
     world = record {
       moment = 0;
       client = client;
-      server = nothing_came exchanges MOST_WATCHERS;
+      server = (start site exchanges).coap;
       asks = [];
       sent = [];
       acts = [];
@@ -53,7 +52,8 @@ beginning_of site exchanges client = record {
 
 begins : (site : Site) (exchanges : ℕ) (client : ClientState) → IsNew client.next_id client → IsBeginning site client.next_id exchanges (beginning_of site exchanges client).ends
 begins site exchanges client new = record {
-  world = record { client = new; server = refl; asks = refl; sent = refl; acts = refl; emitted = refl; ids = refl; ends = refl; taken = refl };
+  world = record { client = new; links = text_of_links (segments_of site); server = refl; asks = refl; sent = refl; acts = refl; emitted = refl; ids = refl; ends = refl; taken = refl };
+  server = refl;
   servient = refl;
 }
 
@@ -138,8 +138,8 @@ rehearsed servient after exchanges client t moves notes then_notes before shown 
       };
       shown = a.1.shown;
       acts_once = servient_acts_once site client.next_id exchanges (map turn_of moves) from.ends a.0.ends begin all;
-      answers_once = λ k code payload low has.
-          servient_answers_once site client.next_id exchanges (map turn_of moves) from.ends a.0.ends k code payload begin all (few low)
+      answers_once = λ k code payload low apart has.
+          servient_answers_once site client.next_id exchanges (map turn_of moves) from.ends a.0.ends k code payload begin all (few low) apart
           (ended_in_world a.0.ends.world.ends k (end.Answered code payload) (answered code payload) (λ y is. end_answered y code payload is)
           (subst (λ (l : List AskEnd). Contains l (record { ask = k; end = end.Answered code payload })) a.1.shown.ends has));
       observes_once = λ k low has.

@@ -10,7 +10,7 @@ use Rattle.servient_core.specs.Machine.{Site, start}
 use Rattle.servient_core.specs.Serving.{StandsFor}
 use Rattle.servient_core.specs.declared.layers.Layers.{Layers}
 use Rattle.servient_world.specs.World.{Act}
-use Rattle.servient_world.specs.Laws.{AreForDifferentAsks, IsExcuse, IsAnsweredBy, NeverGoBack, HaveASource}
+use Rattle.servient_world.specs.Laws.{AreForDifferentAsks, AsksLinks, IsExcuse, IsAnsweredBy, NeverGoBack, HaveASource}
 use Rattle.servient_ends.specs.Ends.{IsBeginning}
 use Rattle.servient_rehearsal.specs.declared.moves.Move.{Move}
 use Rattle.servient_rehearsal.specs.declared.world.World.{World}
@@ -47,9 +47,10 @@ pub record Rehearses (site : Site) (moves : List Move) (old_servient servient : 
   pub shown : IsShown (noted_of w) run.to
   -- For each ask the servient made at most one act.
   pub acts_once : AreForDifferentAsks run.to.ends.world.acts
-  -- For an ask that ended with a response that is no excuse it made one, and the response says what that came to.
+  -- For an ask for another path than that of the links which ended with a response that is no excuse it made one, and the
+  -- response says what that came to.
   pub answers_once : (k code : ℕ) (payload : List ℕ) → length w.asks.items ≤ 65536
-      → Contains w.ends.items (record { ask = k; end = end.Answered code payload })
+      → ¬ (AsksLinks run.to.ends.world.asks k) → Contains w.ends.items (record { ask = k; end = end.Answered code payload })
       → IsExcuse code payload ⊎ IsAnsweredBy run.to.ends.world.acts k code payload
   -- For an ask that ended with a value of what it observes it made one.
   pub observes_once : (k : ℕ) → length w.asks.items ≤ 65536 → Contains w.ends.items (record { ask = k; end = end.Observed })

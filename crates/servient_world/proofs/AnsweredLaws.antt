@@ -29,7 +29,7 @@ use Rattle.servient_world.specs.World.{client_place, server_place, Purpose, copy
 use Rattle.servient_world.proofs.Places.{all_at}
 use Rattle.servient_world.proofs.Holds.{Holds, IsSentFor}
 use Rattle.servient_world.proofs.WatchLaws.{IsKnown, Watched, none_registered}
-use Rattle.servient_world.proofs.Exact.{Exact, IsReply, IsKept, IsSaid, IsSentBack, IsEnd, all_said_more, all_ends_more}
+use Rattle.servient_world.proofs.Exact.{Exact, IsReply, IsKept, IsSaid, IsSentBack, IsEnd, all_said_more, ends_acts}
 use Rattle.servient_world.proofs.KeptReplies.{nothing_back, kept_acts, right_copy, kept_elsewhere}
 use Rattle.servient_world.proofs.ClientLaws.{not_one, said_sent, exact_asked, exact_copied, exact_client, for_client, exact_taken, exact_noticed}
 use Rattle.servient_world.proofs.NoticeLaws.{purpose_is, not_client_purpose, not_place}
@@ -47,7 +47,7 @@ exact_silent w t more n to p back x none kept =
           (subst (λ (l : List Outstanding). All (λ d. IsSaid l (w.acts ++ more) d d.purpose) w.sent) (append-nil w.asks) (all_said_more w.asks [] w.acts more w.sent x.said))
           (All-same (λ (bytes : List ℕ). IsSaid w.asks (w.acts ++ more) (record { moment = w.moment; from = server_place; to = to; bytes = bytes; purpose = p }) p) back [] none
           (All-nil (λ (bytes : List ℕ). IsSaid w.asks (w.acts ++ more) (record { moment = w.moment; from = server_place; to = to; bytes = bytes; purpose = p }) p)));
-      ended = all_ends_more w.acts more w.ends x.ended;
+      ended = ends_acts w.asks w.acts more w.ends x.ended;
     }
 
 exact_treated : (capacity watchers : ℕ) (d : Datagram) (w : WorldState) (p : Purpose) (act : Option Acted) (back : List (List ℕ)) (t : Server) (n : ℕ) → Holds capacity w → length w.asks ≤ 65536
@@ -73,7 +73,7 @@ exact_treated capacity watchers d w (copy_of k) act back t n h few y x copy is t
       said = said_sent mid server_place d.from (reply_to k) back old_said
           (All-weaker (IsReply w.asks made k) (λ (bytes : List ℕ). IsSentBack w.asks made k (record { moment = w.moment; from = server_place; to = d.from; bytes = bytes; purpose = reply_to k }))
           (λ bytes reply. record { from = refl; to = copy.from; reply = reply }) back right.replies);
-      ended = all_ends_more w.acts (acts_for (copy_of k) act) w.ends x.ended;
+      ended = ends_acts w.asks w.acts (acts_for (copy_of k) act) w.ends x.ended;
     }
 exact_treated capacity watchers d w (reply_to k) act back t n h few y x copy is to once was_treated = absurd (not_one (sym to ∙ is.to))
 exact_treated capacity watchers d w (notice_for k q e) act back t n h few y x copy is to once was_treated = absurd (not_one (sym to ∙ is.to))
@@ -173,7 +173,7 @@ exact_due : (w v : WorldState) → ClientDoesDue w v → Exact w → Exact v
 exact_due w v (retransmits n old new t is_due is) x = subst Exact (sym is) (exact_copied w t (latest w) (take n new) x)
 exact_due w v (gives_up old new t is_due is) x =
     subst Exact (sym is) (exact_client w t (w.ends ++ record { ask = latest w; end = timed_out } ∷ []) w.taken x
-    (All-push (λ (e : AskEnd). IsEnd w.acts e.ask e.end) w.ends (record { ask = latest w; end = timed_out }) x.ended tt))
+    (All-push (λ (e : AskEnd). IsEnd w.asks w.acts e.ask e.end) w.ends (record { ask = latest w; end = timed_out }) x.ended tt))
 exact_due w v (waits old new t is_due is) x = subst Exact (sym is) (exact_client w t w.ends w.taken x x.ended)
 
 exact_take : (capacity : ℕ) (d : Datagram) (w v : WorldState) → ClientTakes d w v → Holds capacity w → length w.asks ≤ 65536 → Exact w → IsSaid w.asks w.acts d d.purpose → d.to ≡ client_place → Exact v
@@ -234,5 +234,5 @@ pub exact_at_start : (first_id exchanges watchers : ℕ) (w : WorldState) → Is
 exact_at_start first_id exchanges watchers w s = record {
   kept = subst (λ (y : Server). All (IsKept w.asks w.acts) y.exchanges.exchanges) (sym s.server) (All-nil (IsKept w.asks w.acts));
   said = subst (All (λ d. IsSaid w.asks w.acts d d.purpose)) (sym s.sent) (All-nil (λ (d : Datagram). IsSaid w.asks w.acts d d.purpose));
-  ended = subst (All (λ e. IsEnd w.acts e.ask e.end)) (sym s.ends) (All-nil (λ (e : AskEnd). IsEnd w.acts e.ask e.end));
+  ended = subst (All (λ e. IsEnd w.asks w.acts e.ask e.end)) (sym s.ends) (All-nil (λ (e : AskEnd). IsEnd w.asks w.acts e.ask e.end));
 }

@@ -20,7 +20,7 @@ use Rattle.coap_client.specs.declared.news.News.{News}
 use Rattle.coap_client.specs.declared.news.News.TheVariants as news
 use Rattle.coap_client.specs.declared.news.Delivered.{Delivered}
 use Rattle.coap_client.specs.Laws.{Did as ClientDid}
-use Rattle.coap_client.specs.Answers.{takes as is_taken, is_for_request, is_for_observation, meaning, notified}
+use Rattle.coap_client.specs.Answers.{sequence_of, takes as is_taken, is_for_request, is_for_observation, meaning, notified}
 use Rattle.coap_client.specs.Exchange.{at_moment, Delivers, of_message, of_fault, IsNews, after, valued}
 use Rattle.coap_client.proofs.RequestLaws.{last_is_outstanding, ids_differ}
 use Rattle.coap_client.proofs.RegistrationLaws.{registration_is_observed}
@@ -29,7 +29,7 @@ use Rattle.coap_bind.specs.Writing.{Reply, reply_options, notification}
 use Rattle.servient_world.specs.World.{client_place, server_place, Purpose, copy_of, reply_to, notice_for, other, Datagram, Act, answered, observed, reset, AskEnd, Value, WorldState, latest, with_sent, end_by, taken_by}
 use Rattle.servient_world.proofs.Places.{at_end}
 use Rattle.servient_world.proofs.Holds.{Holds}
-use Rattle.servient_world.proofs.Exact.{Exact, IsWhy, IsKept, IsSaid, IsSentBack, IsNotice, IsEnd, all_kept_more, all_said_more, same_ask}
+use Rattle.servient_world.proofs.Exact.{Exact, IsWhy, IsKept, IsSaid, IsSentBack, IsNotice, IsEnd, all_kept_more, all_said_more, all_ends_more, same_ask}
 use Rattle.servient_world.proofs.MeaningLaws.{taken_id, answer_taken, value_taken, no_value_unless, no_value_without, notice_number, notice_no_answer, for_request_else, request_token, observation_token, for_both, latest_or_observed, ended_registration}
 
 -- ---- places
@@ -57,7 +57,7 @@ exact_asked w t o bytes x =
       said = said_sent mid client_place server_place (copy_of (length w.asks)) (bytes ∷ [])
           (subst (λ (l : List Act). All (λ d. IsSaid (w.asks ++ o ∷ []) l d d.purpose) w.sent) (append-nil w.acts) (all_said_more w.asks (o ∷ []) w.acts [] w.sent x.said))
           (λ i d within. not_one);
-      ended = x.ended;
+      ended = subst (λ (l : List Act). All (λ e. IsEnd (w.asks ++ o ∷ []) l e.ask e.end) w.ends) (append-nil w.acts) (all_ends_more w.asks (o ∷ []) w.acts [] w.ends x.ended);
     }
 
 pub exact_copied : (w : WorldState) (t : State) (k : ℕ) (bytes : List ℕ) → Exact w → Exact (with_sent (record w { client = t }) client_place server_place (copy_of k) (bytes ∷ []))
@@ -67,7 +67,7 @@ exact_copied w t k bytes x = record {
   ended = x.ended;
 }
 
-pub exact_client : (w : WorldState) (t : State) (ends : List AskEnd) (taken : List Value) → Exact w → All (λ e. IsEnd w.acts e.ask e.end) ends → Exact (record w { client = t; ends = ends; taken = taken })
+pub exact_client : (w : WorldState) (t : State) (ends : List AskEnd) (taken : List Value) → Exact w → All (λ e. IsEnd w.asks w.acts e.ask e.end) ends → Exact (record w { client = t; ends = ends; taken = taken })
 exact_client w t ends taken x ended = record { kept = x.kept; said = x.said; ended = ended }
 
 -- it isn't acknowledged
@@ -78,20 +78,20 @@ silent_to id b kind x old new is replied = none x (subst (λ (k : Type4). IsRepl
     none None h = refl
     none (Some n) h = absurd h
 
-end_right : (acts : List Act) (x y : Option Outstanding) (k : ℕ) (n : News)
-    → ((code : ℕ) (block payload : _) (o : Outstanding) → n ≡ news.Answered code block payload → x ≡ Some o → IsEnd acts k (answered code payload.now))
-    → ((payload : _) (o : Outstanding) → n ≡ news.Value payload → x ≡ Some o → y ≡ None → IsEnd acts k observed)
-    → All (λ e. IsEnd acts e.ask e.end) (end_by x y k n)
-end_right acts (Some o) None k (news.Answered code block payload) each shown =
-    All-push (λ (e : AskEnd). IsEnd acts e.ask e.end) [] (record { ask = k; end = answered code payload.now }) (All-nil (λ (e : AskEnd). IsEnd acts e.ask e.end)) (each code block payload o refl refl)
-end_right acts (Some o) None k (news.Value payload) each shown =
-    All-push (λ (e : AskEnd). IsEnd acts e.ask e.end) [] (record { ask = k; end = observed }) (All-nil (λ (e : AskEnd). IsEnd acts e.ask e.end)) (shown payload o refl refl refl)
-end_right acts (Some o) None k news.Reset each shown =
-    All-push (λ (e : AskEnd). IsEnd acts e.ask e.end) [] (record { ask = k; end = reset }) (All-nil (λ (e : AskEnd). IsEnd acts e.ask e.end)) tt
-end_right acts (Some o) None k news.Old each shown = All-nil (λ (e : AskEnd). IsEnd acts e.ask e.end)
-end_right acts (Some o) None k news.Nothing each shown = All-nil (λ (e : AskEnd). IsEnd acts e.ask e.end)
-end_right acts (Some o) (Some p) k what each shown = All-nil (λ (e : AskEnd). IsEnd acts e.ask e.end)
-end_right acts None after k what each shown = All-nil (λ (e : AskEnd). IsEnd acts e.ask e.end)
+end_right : (asks : List Outstanding) (acts : List Act) (x y : Option Outstanding) (k : ℕ) (n : News)
+    → ((code : ℕ) (block payload : _) (o : Outstanding) → n ≡ news.Answered code block payload → x ≡ Some o → IsEnd asks acts k (answered code payload.now))
+    → ((payload : _) (o : Outstanding) → n ≡ news.Value payload → x ≡ Some o → y ≡ None → IsEnd asks acts k observed)
+    → All (λ e. IsEnd asks acts e.ask e.end) (end_by x y k n)
+end_right asks acts (Some o) None k (news.Answered code block payload) each shown =
+    All-push (λ (e : AskEnd). IsEnd asks acts e.ask e.end) [] (record { ask = k; end = answered code payload.now }) (All-nil (λ (e : AskEnd). IsEnd asks acts e.ask e.end)) (each code block payload o refl refl)
+end_right asks acts (Some o) None k (news.Value payload) each shown =
+    All-push (λ (e : AskEnd). IsEnd asks acts e.ask e.end) [] (record { ask = k; end = observed }) (All-nil (λ (e : AskEnd). IsEnd asks acts e.ask e.end)) (shown payload o refl refl refl)
+end_right asks acts (Some o) None k news.Reset each shown =
+    All-push (λ (e : AskEnd). IsEnd asks acts e.ask e.end) [] (record { ask = k; end = reset }) (All-nil (λ (e : AskEnd). IsEnd asks acts e.ask e.end)) tt
+end_right asks acts (Some o) None k news.Old each shown = All-nil (λ (e : AskEnd). IsEnd asks acts e.ask e.end)
+end_right asks acts (Some o) None k news.Nothing each shown = All-nil (λ (e : AskEnd). IsEnd asks acts e.ask e.end)
+end_right asks acts (Some o) (Some p) k what each shown = All-nil (λ (e : AskEnd). IsEnd asks acts e.ask e.end)
+end_right asks acts None after k what each shown = All-nil (λ (e : AskEnd). IsEnd asks acts e.ask e.end)
 
 -- what comes to the client is a reply to an ask, or a notice
 pub for_client : (w : WorldState) (d : Datagram) (p : Purpose) → IsSaid w.asks w.acts d p → d.to ≡ client_place → (k : ℕ) × (IsSentBack w.asks w.acts k d ⊎ ((q : ℕ) × IsNotice w.asks w.acts k q d))
@@ -100,11 +100,12 @@ for_client w d (reply_to k) is to = (k, inl is)
 for_client w d (notice_for k q e) is to = (k, inr (q, is))
 for_client w d other is to = absurd (is.0 to)
 
--- the act of a reply with options
-act_of_reply : (acts : List Act) (k : ℕ) (r : Reply) → IsWhy acts k r → (reply_options r ≡ [] → ⊥) → (x : Act) × Contains acts x × (x.ask ≡ k)
-act_of_reply acts k r (inl full) some = absurd (some (ap (λ (x : Reply). reply_options x) full))
-act_of_reply acts k r (inr (inl none)) some = absurd (some (ap (λ (x : Reply). reply_options x) none))
-act_of_reply acts k r (inr (inr act)) some = (act.0, act.1, act.2)
+-- the act of a reply with Observe
+act_of_reply : (asks : List Outstanding) (acts : List Act) (k : ℕ) (r : Reply) → IsWhy asks acts k r → (sequence_of (reply_options r) ≡ None → ⊥) → (x : Act) × Contains acts x × (x.ask ≡ k)
+act_of_reply asks acts k r (inl full) some = absurd (some (ap (λ (x : Reply). sequence_of (reply_options x)) full))
+act_of_reply asks acts k r (inr (inl none)) some = absurd (some (ap (λ (x : Reply). sequence_of (reply_options x)) none))
+act_of_reply asks acts k r (inr (inr (inl links))) some = absurd (some links.1)
+act_of_reply asks acts k r (inr (inr (inr act))) some = (act.0, act.1, act.2)
 
 pub exact_taken : (capacity : ℕ) (d : Datagram) (w : WorldState) (told : Delivered) (old new : List ℕ) (t : State) → Holds capacity w → length w.asks ≤ 65536 → Exact w
     → (k : ℕ) → IsSentBack w.asks w.acts k d → Delivers (at_moment w.moment w.client) d.from d.bytes told old new t
@@ -125,21 +126,21 @@ exact_taken capacity d w told old new t h few x k sent (of_message m spells repl
     let ids : right.request.id ≡ last.1.id = sym right.id ∙ (sym (ap (λ (y : CoapMessage). y.id) one) ∙ (id ∙ sym last.3.id)) in
     same_ask w.asks k (latest w) right.request last.1 (ids_differ w.asks w.client h.did few) right.ask (at_end w.asks last.0 last.1 last.2) ids
     in
-    let new_ends : All (λ e. IsEnd w.acts e.ask e.end) (end_by w.client.outstanding t.outstanding (latest w) told.news)
-    = end_right w.acts w.client.outstanding t.outstanding (latest w) told.news (λ code block payload o n_is o_is.
+    let new_ends : All (λ e. IsEnd w.asks w.acts e.ask e.end) (end_by w.client.outstanding t.outstanding (latest w) told.news)
+    = end_right w.asks w.acts w.client.outstanding t.outstanding (latest w) told.news (λ code block payload o n_is o_is.
     let says : IsNews (meaning (at_moment w.moment w.client) d.from m) m (news.Answered code block payload)
     = subst (λ (n : News). IsNews (meaning (at_moment w.moment w.client) d.from m) m n) n_is news_is in (
       right.reply,
-      subst (λ (n : ℕ). IsWhy w.acts n right.reply) (which o (answer_taken (at_moment w.moment w.client) d.from m says.0) o_is) right.why,
+      subst (λ (n : ℕ). IsWhy w.asks w.acts n right.reply) (which o (answer_taken (at_moment w.moment w.client) d.from m says.0) o_is) right.why,
       says.1 ∙ (ap (λ (y : CoapMessage). y.code) one ∙ right.code),
       says.3 ∙ (ap (λ (y : CoapMessage). y.payload) one ∙ right.payload),
     )) (λ payload o n_is o_is t_is.
     let says : IsNews (meaning (at_moment w.moment w.client) d.from m) m (news.Value payload)
     = subst (λ (n : News). IsNews (meaning (at_moment w.moment w.client) d.from m) m n) n_is news_is in
-    let act = act_of_reply w.acts k right.reply right.why (λ no_options.
-    no_value_without (at_moment w.moment w.client) d.from m says.0 (ap (λ (y : CoapMessage). y.options) one ∙ (right.options ∙ no_options)) says.1) in
+    let act = act_of_reply w.asks w.acts k right.reply right.why (λ unseen.
+    no_value_without (at_moment w.moment w.client) d.from m says.0 (ap (λ (y : CoapMessage). sequence_of y.options) one ∙ (ap sequence_of right.options ∙ unseen)) says.1) in
     (act.0, act.1, act.2 ∙ which o (value_taken (at_moment w.moment w.client) d.from m says.0 says.1) o_is)) in
-    let all_ends = All-append (λ (e : AskEnd). IsEnd w.acts e.ask e.end) w.ends ends x.ended new_ends in
+    let all_ends = All-append (λ (e : AskEnd). IsEnd w.asks w.acts e.ask e.end) w.ends ends x.ended new_ends in
     let at = exact_client w t (w.ends ++ ends) (w.taken ++ taken_by d.purpose told.news) x all_ends in
     record {
       kept = at.kept;
@@ -223,8 +224,8 @@ exact_noticed capacity d w told old new t h few x k q n_of (of_message m spells 
     in
     let ends : List AskEnd = end_by w.client.outstanding t.outstanding (latest w) told.news in
     let mid : WorldState = record w { client = t; ends = w.ends ++ ends; taken = w.taken ++ taken_by d.purpose told.news } in
-    let new_ends : All (λ e. IsEnd w.acts e.ask e.end) (end_by w.client.outstanding t.outstanding (latest w) told.news)
-    = end_right w.acts w.client.outstanding t.outstanding (latest w) told.news (λ code block payload o n_is o_is.
+    let new_ends : All (λ e. IsEnd w.asks w.acts e.ask e.end) (end_by w.client.outstanding t.outstanding (latest w) told.news)
+    = end_right w.asks w.acts w.client.outstanding t.outstanding (latest w) told.news (λ code block payload o n_is o_is.
     let says : IsNews (meaning (at_moment w.moment w.client) d.from m) m (news.Answered code block payload)
     = subst (λ (n : News). IsNews (meaning (at_moment w.moment w.client) d.from m) m n) n_is news_is in
     absurd (never_answers w o d.from m k n_of.request q h.did few o_is n_of.ask n_of.registers token number says.0 (is_for_observation w.client.observation d.from m.token) refl)) (λ payload o n_is o_is t_is.
@@ -239,7 +240,7 @@ exact_noticed capacity d w told old new t h few x k q n_of (of_message m spells 
       | inl here ↦ (n_of.act, n_of.made, n_of.for_it ∙ here.0)
       | inr elsewhere_is ↦ absurd (let no_one : o.registers ≡ false = elsewhere_is.1 in cc)
     ]) in
-    let all_ends = All-append (λ (e : AskEnd). IsEnd w.acts e.ask e.end) w.ends ends x.ended new_ends in
+    let all_ends = All-append (λ (e : AskEnd). IsEnd w.asks w.acts e.ask e.end) w.ends ends x.ended new_ends in
     let at = exact_client w t (w.ends ++ ends) (w.taken ++ taken_by d.purpose told.news) x all_ends in
     let small : m.id < 65536 = spells.bounds.id in
     record {

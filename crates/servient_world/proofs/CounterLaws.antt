@@ -6,10 +6,11 @@ use Rattle.coap_msg.specs.declared.message.RequestType.TheVariants.{Confirmable,
 use Rattle.coap_msg.specs.Grammar.{CoapMessage}
 use Rattle.coap_msg.specs.Requests.{request_type}
 use Rattle.coap_observe.specs.declared.notice.Notice.{Notice}
+use Rattle.coap_opts.specs.Reading.{asked as what_is_asked}
 use Rattle.coap_bind.specs.declared.head.OpenRequest.{OpenRequest}
 use Rattle.coap_bind.specs.declared.server.Server.{Server}
 use Rattle.coap_bind.specs.Writing.{Reply}
-use Rattle.coap_bind.specs.Server.{Heard, with_next_id, with_id_used, with_kept, with_watchers, with_notice_sent, Replies, SendsNext, malformed, no_request, duplicate, full, with_parts, replied, bad_option_ignored, asks, asks_whole, opened, Reads, settled, admitted, Hears}
+use Rattle.coap_bind.specs.Server.{Heard, with_next_id, with_id_used, with_kept, with_watchers, with_notice_sent, Replies, SendsNext, malformed, no_request, duplicate, full, with_parts, replied, bad_option_ignored, gives_links, links_given, observing_in, asks, asks_whole, opened, Reads, settled, admitted, Hears}
 use Rattle.coap_bind.specs.Treating.{Acted, Treats, ignores, answers, acts}
 use Rattle.coap_bind.proofs.DuplicateLaws.{ready}
 use Rattle.servient_world.specs.World.{Receives, too_long, treated}
@@ -35,8 +36,10 @@ counter_replies r request bytes s t replies h =
 counter_reads : (from : Endpoint) (now : ℕ) (m : CoapMessage) (slot : ℕ) (heard : Heard) (s t : Server) → Reads from now m slot heard s t → IsCounter s → IsCounter t
 counter_reads from now m slot heard s t (replied r parts bytes why replies e) h = counter_replies r (opened m slot) bytes (with_parts parts s) t replies h
 counter_reads from now m slot heard s t (bad_option_ignored number fault non e same) h = subst IsCounter (sym same) h
-counter_reads from now m slot heard s t (asks none act e same) h = subst IsCounter (sym same) h
-counter_reads from now m slot heard s t (asks_whole b place parts whole none joining adds there e same) h = subst IsCounter (sym same) h
+counter_reads from now m slot heard s t (gives_links bytes none act links get replies e) h =
+    counter_replies _ (opened m slot) bytes (links_given from now m.token (observing_in m) (what_is_asked m) s) t replies h
+counter_reads from now m slot heard s t (asks none act apart e same) h = subst IsCounter (sym same) h
+counter_reads from now m slot heard s t (asks_whole b place parts whole none joining apart adds there e same) h = subst IsCounter (sym same) h
 
 counter_hears : (from : Endpoint) (bytes : List ℕ) (now : ℕ) (heard : Heard) (s t : Server) → Hears from bytes now heard s t → IsCounter s → IsCounter t
 counter_hears from bytes now heard s t (settled (malformed f fault e same)) h = subst IsCounter (sym same) h

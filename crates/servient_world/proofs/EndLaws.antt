@@ -112,16 +112,17 @@ stands_after_all exchanges watchers (m ∷ moves) w v plays few s =
 pub observed_once : ObservedOnce
 observed_once first_id exchanges watchers moves w v k start plays few has =
     let s = stands_after_all exchanges watchers moves w v plays few (stands_at_start first_id exchanges watchers w start) in
-    All-contains (λ (e : AskEnd). IsEnd v.acts e.ask e.end) v.ends (record { ask = k; end = observed }) s.exact.ended has
+    All-contains (λ (e : AskEnd). IsEnd v.asks v.acts e.ask e.end) v.ends (record { ask = k; end = observed }) s.exact.ended has
 
 pub answered_once : AnsweredOnce
-answered_once first_id exchanges watchers moves w v k code payload start plays few has =
+answered_once first_id exchanges watchers moves w v k code payload start plays few apart has =
     let s = stands_after_all exchanges watchers moves w v plays few (stands_at_start first_id exchanges watchers w start) in
-    let is = All-contains (λ (e : AskEnd). IsEnd v.acts e.ask e.end) v.ends (record { ask = k; end = answered code payload }) s.exact.ended has in
+    let is = All-contains (λ (e : AskEnd). IsEnd v.asks v.acts e.ask e.end) v.ends (record { ask = k; end = answered code payload }) s.exact.ended has in
     elim is.1 [
       | inl full ↦ inl (is.2 ∙ ap (λ (r : Reply). r.code) full, inl (is.3 ∙ ap (λ (r : Reply). r.payload) full))
       | inr (inl none) ↦ inl (is.2 ∙ ap (λ (r : Reply). r.code) none, inr (is.3 ∙ ap (λ (r : Reply). r.payload) none))
-      | inr (inr act) ↦ inr (record {
+      | inr (inr (inl links)) ↦ absurd (apart links.0)
+      | inr (inr (inr act)) ↦ inr (record {
         act = act.0;
         made = act.1;
         for_it = act.2;

@@ -1,8 +1,9 @@
 -- What else holds of the world where no two asks have one id (`Exact`): each reply that is kept or was sent is the server's reply to
 -- its ask, each notification is of an ask that registered, and each response that ended an ask is such a reply.
-use Rattle.std.proofs.Common.{◌≡◌, ◌≢◌, ◌⊎◌, ℕ, ◌<◌, ◌^◌, ◌∙◌, true, false, Option, Some, List, ◌++◌, get_or, inl, inr, sym, ap, arith}
-use Rattle.std.specs.Prelude.{All, AllPairs, Contains, slice_get}
+use Rattle.std.proofs.Common.{◌≡◌, ◌≢◌, ◌⊎◌, ℕ, ◌<◌, ◌^◌, ◌∙◌, true, false, Option, Some, List, [], ◌++◌, get_or, inl, inr, sym, ap, subst, arith}
+use Rattle.std.specs.Prelude.{None, All, AllPairs, Contains, slice_get}
 use Rattle.std.proofs.lemmas.Bool.{cases_lt}
+use Rattle.std.proofs.lemmas.List.{append-nil}
 use Rattle.std.proofs.lemmas.List.Elements.{All-weaker, Contains-append_left}
 use Rattle.std.proofs.lemmas.Option.{slice_get_within, get_or_from_slice_get}
 use Rattle.coap_msg.specs.declared.message.Type4.TheVariants.{Ack, Rst}
@@ -16,14 +17,20 @@ use Rattle.coap_observe.specs.Accounts.{token_of}
 use Rattle.coap_bind.specs.Writing.{Reply, full_reply, reply_of, reply_options, observed as observed_reply, notification}
 use Rattle.coap_bind.specs.Server.{is_request}
 use Rattle.servient_world.specs.World.{client_place, server_place, Purpose, copy_of, reply_to, notice_for, other, Datagram, Act, End, answered, observed, reset, timed_out, AskEnd, WorldState}
-use Rattle.servient_world.specs.Laws.{said_of}
+use Rattle.servient_world.specs.Laws.{AsksLinks, said_of}
 use Rattle.servient_world.proofs.Places.{at_more}
 
 -- ---- the invariant
 
--- why the server replies so to an ask: the table is full, memory is out, or that is what its act came to
-abbrev pub IsWhy : List Act → ℕ → Reply → Type 0
-IsWhy acts k r = (r ≡ full_reply) ⊎ ((r ≡ reply_of Memory) ⊎ ((x : Act) × Contains acts x × (x.ask ≡ k) × (seen : Option ℕ) × (r ≡ observed_reply seen (said_of x.acted))))
+-- it asks for the links, and isn't notified of anything
+abbrev pub IsForLinks : List Outstanding → ℕ → Reply → Type 0
+IsForLinks asks k r = AsksLinks asks k × (sequence_of (reply_options r) ≡ None)
+
+-- why the server replies so to an ask: the table is full, memory is out, it is for the links, or that is what its act came to
+abbrev pub IsWhy : List Outstanding → List Act → ℕ → Reply → Type 0
+IsWhy asks acts k r =
+    (r ≡ full_reply)
+    ⊎ ((r ≡ reply_of Memory) ⊎ (IsForLinks asks k r ⊎ ((x : Act) × Contains acts x × (x.ask ≡ k) × (seen : Option ℕ) × (r ≡ observed_reply seen (said_of x.acted)))))
 
 -- these bytes are a reply to an ask
 pub record IsReply (asks : List Outstanding) (acts : List Act) (k : ℕ) (bytes : List ℕ) : Type 0 where
@@ -40,7 +47,7 @@ pub record IsReply (asks : List Outstanding) (acts : List Act) (k : ℕ) (bytes 
   pub options : answer.options ≡ reply_options reply
   -- Observe is only in the reply to a registration, with the number 0
   pub shows : (q : ℕ) → sequence_of answer.options ≡ Some q → (q ≡ 0) × (request.registers ≡ true)
-  pub why : IsWhy acts k reply
+  pub why : IsWhy asks acts k reply
 
 -- an exchange of the client's is that of an ask, and what is kept is a reply to that
 pub record IsOfAsk (asks : List Outstanding) (acts : List Act) (e : Exchange) : Type 0 where
@@ -91,23 +98,33 @@ IsSaid asks acts d (notice_for k q e) = IsNotice asks acts k q d
 IsSaid asks acts d other = ((d.to ≡ client_place) → ⊥) × (((d.to ≡ server_place) → ⊥) ⊎ IsEmpty d)
 
 -- the answer that ended an ask is a reply to it
-abbrev pub IsEnd : List Act → ℕ → End → Type 0
-IsEnd acts k (answered code payload) = (r : Reply) × IsWhy acts k r × (code ≡ r.code) × (payload ≡ r.payload)
-IsEnd acts k observed = (x : Act) × Contains acts x × (x.ask ≡ k)
-IsEnd acts k reset = Unit {0}
-IsEnd acts k timed_out = Unit {0}
+abbrev pub IsEnd : List Outstanding → List Act → ℕ → End → Type 0
+IsEnd asks acts k (answered code payload) = (r : Reply) × IsWhy asks acts k r × (code ≡ r.code) × (payload ≡ r.payload)
+IsEnd asks acts k observed = (x : Act) × Contains acts x × (x.ask ≡ k)
+IsEnd asks acts k reset = Unit {0}
+IsEnd asks acts k timed_out = Unit {0}
 
 pub record Exact (w : WorldState) : Type 0 where
   pub kept : All (IsKept w.asks w.acts) w.server.exchanges.exchanges
   pub said : All (λ d. IsSaid w.asks w.acts d d.purpose) w.sent
-  pub ended : All (λ e. IsEnd w.acts e.ask e.end) w.ends
+  pub ended : All (λ e. IsEnd w.asks w.acts e.ask e.end) w.ends
 
 -- ---- more asks and more acts
 
-why_more : (acts more : List Act) (k : ℕ) (r : Reply) → IsWhy acts k r → IsWhy (acts ++ more) k r
-why_more acts more k r (inl full) = inl full
-why_more acts more k r (inr (inl none)) = inr (inl none)
-why_more acts more k r (inr (inr act)) = inr (inr (act.0, Contains-append_left acts more act.0 act.1, act.2, act.3, act.4))
+links_more : (asks other_asks : List Outstanding) (k : ℕ) → AsksLinks asks k → AsksLinks (asks ++ other_asks) k
+links_more asks other_asks k l = record {
+  request = l.request;
+  ask = at_more asks other_asks k l.request l.ask;
+  message = l.message;
+  spells = l.spells;
+  path = l.path;
+}
+
+why_more : (asks other_asks : List Outstanding) (acts more : List Act) (k : ℕ) (r : Reply) → IsWhy asks acts k r → IsWhy (asks ++ other_asks) (acts ++ more) k r
+why_more asks other_asks acts more k r (inl full) = inl full
+why_more asks other_asks acts more k r (inr (inl none)) = inr (inl none)
+why_more asks other_asks acts more k r (inr (inr (inl links))) = inr (inr (inl (links_more asks other_asks k links.0, links.1)))
+why_more asks other_asks acts more k r (inr (inr (inr act))) = inr (inr (inr (act.0, Contains-append_left acts more act.0 act.1, act.2, act.3, act.4)))
 
 pub reply_more : (asks other_asks : List Outstanding) (acts more : List Act) (k : ℕ) (bytes : List ℕ) → IsReply asks acts k bytes → IsReply (asks ++ other_asks) (acts ++ more) k bytes
 reply_more asks other_asks acts more k bytes r = record {
@@ -123,7 +140,7 @@ reply_more asks other_asks acts more k bytes r = record {
   payload = r.payload;
   options = r.options;
   shows = r.shows;
-  why = why_more acts more k r.reply r.why;
+  why = why_more asks other_asks acts more k r.reply r.why;
 }
 
 kept_more : (asks other_asks : List Outstanding) (acts more : List Act) (e : Exchange) → IsKept asks acts e → IsKept (asks ++ other_asks) (acts ++ more) e
@@ -159,11 +176,11 @@ said_more asks other_asks acts more d (notice_for k q e) is = record {
 }
 said_more asks other_asks acts more d other is = is
 
-end_more : (acts more : List Act) (k : ℕ) (e : End) → IsEnd acts k e → IsEnd (acts ++ more) k e
-end_more acts more k (answered code payload) is = (is.0, why_more acts more k is.0 is.1, is.2, is.3)
-end_more acts more k observed is = (is.0, Contains-append_left acts more is.0 is.1, is.2)
-end_more acts more k reset is = tt
-end_more acts more k timed_out is = tt
+end_more : (asks other_asks : List Outstanding) (acts more : List Act) (k : ℕ) (e : End) → IsEnd asks acts k e → IsEnd (asks ++ other_asks) (acts ++ more) k e
+end_more asks other_asks acts more k (answered code payload) is = (is.0, why_more asks other_asks acts more k is.0 is.1, is.2, is.3)
+end_more asks other_asks acts more k observed is = (is.0, Contains-append_left acts more is.0 is.1, is.2)
+end_more asks other_asks acts more k reset is = tt
+end_more asks other_asks acts more k timed_out is = tt
 
 pub all_kept_more : (asks other_asks : List Outstanding) (acts more : List Act) (es : List Exchange) → All (IsKept asks acts) es → All (IsKept (asks ++ other_asks) (acts ++ more)) es
 all_kept_more asks other_asks acts more es all = All-weaker (IsKept asks acts) (IsKept (asks ++ other_asks) (acts ++ more)) (λ e is. kept_more asks other_asks acts more e is) es all
@@ -174,9 +191,16 @@ all_said_more asks other_asks acts more ds all =
     All-weaker (λ (d : Datagram). IsSaid asks acts d d.purpose) (λ (d : Datagram). IsSaid (asks ++ other_asks) (acts ++ more) d d.purpose)
     (λ d is. said_more asks other_asks acts more d d.purpose is) ds all
 
-pub all_ends_more : (acts more : List Act) (es : List AskEnd) → All (λ e. IsEnd acts e.ask e.end) es → All (λ e. IsEnd (acts ++ more) e.ask e.end) es
-all_ends_more acts more es all =
-    All-weaker (λ (e : AskEnd). IsEnd acts e.ask e.end) (λ (e : AskEnd). IsEnd (acts ++ more) e.ask e.end) (λ e is. end_more acts more e.ask e.end is) es all
+pub all_ends_more : (asks other_asks : List Outstanding) (acts more : List Act) (es : List AskEnd) → All (λ e. IsEnd asks acts e.ask e.end) es
+    → All (λ e. IsEnd (asks ++ other_asks) (acts ++ more) e.ask e.end) es
+all_ends_more asks other_asks acts more es all =
+    All-weaker (λ (e : AskEnd). IsEnd asks acts e.ask e.end) (λ (e : AskEnd). IsEnd (asks ++ other_asks) (acts ++ more) e.ask e.end)
+    (λ e is. end_more asks other_asks acts more e.ask e.end is) es all
+
+-- the same with more acts alone
+pub ends_acts : (asks : List Outstanding) (acts more : List Act) (es : List AskEnd) → All (λ e. IsEnd asks acts e.ask e.end) es → All (λ e. IsEnd asks (acts ++ more) e.ask e.end) es
+ends_acts asks acts more es all =
+    subst (λ (l : List Outstanding). All (λ e. IsEnd l (acts ++ more) e.ask e.end) es) (append-nil asks) (all_ends_more asks [] acts more es all)
 
 -- ---- ids
 

@@ -94,7 +94,7 @@ is_fresh s new = λ i. record {
 }
 
 starts : (s : State) → IsNew 0 s → IsStart 0 16 16 (world_of s)
-starts s new = record { client = new; server = refl; asks = refl; sent = refl; acts = refl; emitted = refl; ids = refl; ends = refl; taken = refl }
+starts s new = record { client = new; links = []; server = refl; asks = refl; sent = refl; acts = refl; emitted = refl; ids = refl; ends = refl; taken = refl }
 
 abbrev asked_state : List (Option ℕ) → State
 asked_state uses = with_request (fresh uses) server_place observe_root 0
@@ -129,7 +129,7 @@ abbrev first_table : Table
 first_table = later 0 (nothing_came 16 16).exchanges
 
 abbrev admitting : Server
-admitting = record { exchanges = with_exchange (arrival client_place 0 question) 0 first_table; watchers = (nothing_came 16 16).watchers; next_id = 0; bodies = []; parts = [] }
+admitting = record { exchanges = with_exchange (arrival client_place 0 question) 0 first_table; watchers = (nothing_came 16 16).watchers; next_id = 0; bodies = []; parts = []; links = [] }
 
 abbrev watching : Watching
 watching = record { capacity = 16; list = newcomer client_place first_token 0 ∷ [] }
@@ -151,7 +151,8 @@ hears_it = admitted question 0 admitting (record {
   same_id = refl;
   same_bodies = refl;
   same_parts = refl;
-}) (asks refl refl refl refl)
+  same_links = refl;
+}) (asks refl refl refl refl refl)
 
 answers_it : Answers (opened_ask client_place 0 question 0) outcome.Empty (Some 0) answer_bytes admitting answered_server
 answers_it = record {

@@ -34,18 +34,19 @@ use Rattle.coap_bind.specs.declared.server.Server.{Server}
 use Rattle.coap_bind.specs.declared.blocks.BlockUse.{BlockUse}
 use Rattle.coap_bind.specs.declared.blocks.BlockUse.TheVariants.{Whole}
 use Rattle.coap_bind.specs.Blocks.{use_of, answer_reply}
+use Rattle.coap_bind.specs.Links.{size_asked, links_reply, method_reply}
 use Rattle.coap_bind.specs.Writing.{Reply, full_reply, reply_options, observed as observed_reply, head_of, coap_reply}
-use Rattle.coap_bind.specs.Server.{is_request, duplicate_reply, arrival, observing_in}
+use Rattle.coap_bind.specs.Server.{is_request, duplicate_reply, arrival, asks_links, observing_in}
 use Rattle.coap_bind.specs.Transfers.{NamesNoBlock}
-use Rattle.coap_bind.specs.Treating.{Acted, IsReplied, faulty, memory, of_blocks, acted, acted_on_whole, kept_for, sent_back, IsTreated, no_request, is_duplicate, finds_full, is_answered, is_ignored}
-use Rattle.coap_bind.proofs.MessageLaws.{replies_are_messages}
+use Rattle.coap_bind.specs.Treating.{Acted, IsReplied, faulty, memory, of_blocks, of_links, no_method, acted, acted_on_whole, kept_for, sent_back, IsTreated, no_request, is_duplicate, finds_full, is_answered, is_ignored}
+use Rattle.coap_bind.proofs.MessageLaws.{replies_are_messages, links_are_messages}
 use Rattle.coap_bind.proofs.SpendLaws.{no_block_wants}
-use Rattle.servient_world.specs.Laws.{blocks_for, said_of}
+use Rattle.servient_world.specs.Laws.{AsksLinks, blocks_for, said_of}
 use Rattle.servient_world.specs.World.{client_place, copy_of, Datagram, Act, WorldState, acts_for}
 use Rattle.servient_world.proofs.Places.{all_at}
 use Rattle.servient_world.proofs.AskLaws.{IsAskOf, HasMessage}
 use Rattle.servient_world.proofs.Holds.{IsCopy}
-use Rattle.servient_world.proofs.ReplyLaws.{full_is_message, unnumbered, answer_unnumbered, said_by_verb, observed_says}
+use Rattle.servient_world.proofs.ReplyLaws.{full_is_message, links_unnumbered, unnumbered, answer_unnumbered, said_by_verb, observed_says}
 use Rattle.servient_world.proofs.WatchLaws.{effect_says, observing_says}
 use Rattle.servient_world.proofs.Exact.{IsWhy, IsReply, IsKept, IsEmpty, reply_more, all_kept_more, same_ask}
 
@@ -93,7 +94,7 @@ again_right P NonConfirmable kept each = All-nil P
 
 -- a reply to the message of an ask, which is a message
 made_reply : (asks : List Outstanding) (acts : List Act) (k : ℕ) (request : Outstanding) (m : CoapMessage) (r : Reply) (next : ℕ) (bytes : List ℕ)
-    → slice_get asks k ≡ Some request → IsAskOf request m → IsWellFormed (coap_reply r (head_of m) next) → bytes ≡ spelling (coap_reply r (head_of m) next) → IsWhy acts k r
+    → slice_get asks k ≡ Some request → IsAskOf request m → IsWellFormed (coap_reply r (head_of m) next) → bytes ≡ spelling (coap_reply r (head_of m) next) → IsWhy asks acts k r
     → ((q : ℕ) → sequence_of (reply_options r) ≡ Some q → (q ≡ 0) × (request.registers ≡ true)) → IsReply asks acts k bytes
 made_reply asks acts k request m r next bytes ask is bounds spelt why shows =
     let head : coap_reply r (head_of m) next ≡ record { kind = Ack; code = r.code; id = m.id; token = m.token; options = reply_options r; payload = r.payload }
@@ -126,25 +127,34 @@ message_by_reason from now m act r old new next none names bounds small (faulty 
 message_by_reason from now m act r old new next none names bounds small (memory is e same) =
     subst (λ (x : Reply). IsWellFormed (coap_reply x (head_of m) next)) (sym is) (replies_are_messages Memory None Whole (head_of m) next refl tt bounds.id bounds.token small)
 message_by_reason from now m act r old new next none names bounds small (of_blocks wants e same) = absurd (wants (no_block_wants m names))
+message_by_reason from now m act r old new next none names bounds small (of_links text links e same is) =
+    subst (λ (x : Reply). IsWellFormed (coap_reply x (head_of m) next)) (sym is)
+    (links_are_messages (size_asked (observing_in m) (what_is_asked m)) text (head_of m) next bounds.id bounds.token small).0
+message_by_reason from now m act r old new next none names bounds small (no_method links e same is) =
+    subst (λ (x : Reply). IsWellFormed (coap_reply x (head_of m) next)) (sym is) (links_are_messages None [] (head_of m) next bounds.id bounds.token small).1
 message_by_reason from now m act r old new next none names bounds small (acted a said e wants what code place watches is) =
     subst (λ (x : Reply). IsWellFormed (coap_reply x (head_of m) next)) (sym is)
     (replies_are_messages a.outcome said (use_of now m.code (observing_in m) (what_is_asked m)) (head_of m) next code place bounds.id bounds.token small)
 message_by_reason from now m act r old new next none names bounds small (acted_on_whole a said b body e wants what code place watches is) =
     absurd (let acts_alone = no_block_wants m names in cc)
 
-why_by_reason : (acts : List Act) (k : ℕ) (from : Endpoint) (now : ℕ) (m : CoapMessage) (act : Option Acted) (r : Reply) (old new : Watching) → faults_of m.options ≡ [] → NamesNoBlock m
-    → IsReplied from now m act r old new → IsWhy (acts ++ acts_for (copy_of k) act) k r
-why_by_reason acts k from now m act r old new none names (faulty some e same) = absurd (some none)
-why_by_reason acts k from now m act r old new none names (memory is e same) = inr (inl is)
-why_by_reason acts k from now m act r old new none names (of_blocks wants e same) = absurd (wants (no_block_wants m names))
-why_by_reason acts k from now m act r old new none names (acted a said e wants what code place watches is) =
+why_by_reason : (asks : List Outstanding) (acts : List Act) (k : ℕ) (from : Endpoint) (now : ℕ) (m : CoapMessage) (act : Option Acted) (r : Reply) (old new : Watching) → faults_of m.options ≡ [] → NamesNoBlock m
+    → (asks_links m ≡ true → AsksLinks asks k) → IsReplied from now m act r old new → IsWhy asks (acts ++ acts_for (copy_of k) act) k r
+why_by_reason asks acts k from now m act r old new none names path (faulty some e same) = absurd (some none)
+why_by_reason asks acts k from now m act r old new none names path (memory is e same) = inr (inl is)
+why_by_reason asks acts k from now m act r old new none names path (of_blocks wants e same) = absurd (wants (no_block_wants m names))
+why_by_reason asks acts k from now m act r old new none names path (of_links text links e same is) =
+    inr (inr (inl (path links, ap (λ (x : Reply). sequence_of (reply_options x)) is ∙ links_unnumbered (size_asked (observing_in m) (what_is_asked m)) text)))
+why_by_reason asks acts k from now m act r old new none names path (no_method links e same is) =
+    inr (inr (inl (path links, ap (λ (x : Reply). sequence_of (reply_options x)) is)))
+why_by_reason asks acts k from now m act r old new none names path (acted a said e wants what code place watches is) =
     let made : Act = record { ask = k; acted = a } in
     let list : acts ++ acts_for (copy_of k) act ≡ acts ++ made ∷ [] = ap (λ (x : Option Acted). acts ++ acts_for (copy_of k) x) e in
     let asked_verb : a.what.request.verb ≡ verb_of m.code = ap (λ (x : PlainAsk). x.request.verb) what in
     let says : answer_reply (use_of now m.code (observing_in m) (what_is_asked m)) a.outcome ≡ said_of a
     = said_by_verb now m a.outcome names ∙ ap (λ (v : Verb). answer_reply (blocks_for v) a.outcome) (sym asked_verb) in
-    inr (inr (made, subst (λ (l : List Act). Contains l made) (sym list) (Contains-push acts made), refl, said, is ∙ ap (observed_reply said) says))
-why_by_reason acts k from now m act r old new none names (acted_on_whole a said b body e wants what code place watches is) =
+    inr (inr (inr (made, subst (λ (l : List Act). Contains l made) (sym list) (Contains-push acts made), refl, said, is ∙ ap (observed_reply said) says)))
+why_by_reason asks acts k from now m act r old new none names path (acted_on_whole a said b body e wants what code place watches is) =
     absurd (let acts_alone = no_block_wants m names in cc)
 
 -- what a reply says of Observe: 0, where the request registers
@@ -181,6 +191,11 @@ shows_by_reason : (request : Outstanding) (from : Endpoint) (now : ℕ) (m : Coa
     → IsReplied from now m act r old new → ((a : Acted) (w : Watcher) → act ≡ Some a → find (is_pair from m.token) old.list ≡ Some w → request.registers ≡ true → ⊥) → ShowsFirst request r
 shows_by_reason request from now m act r old new is (faulty some none same) absent q e = absurd (some is.options)
 shows_by_reason request from now m act r old new is (of_blocks wants none same) absent q e = absurd (wants (no_block_wants m is.names))
+shows_by_reason request from now m act r old new is (of_links text links none same reply) absent q e =
+    let none_said = links_unnumbered (size_asked (observing_in m) (what_is_asked m)) text in
+    absurd (let wrong : None ≡ Some q = sym none_said ∙ subst (λ (x : Reply). sequence_of (reply_options x) ≡ Some q) reply e in cc)
+shows_by_reason request from now m act r old new is (no_method links none same reply) absent q e =
+    absurd (let wrong : None ≡ Some q = subst (λ (x : Reply). sequence_of (reply_options x) ≡ Some q) reply e in cc)
 shows_by_reason request from now m act r old new is (acted_on_whole a said b body made wants what code place watches same) absent q e =
     absurd (let acts_alone = no_block_wants m is.names in cc)
 shows_by_reason request from now m act r old new is (memory same none stays) absent q e =
@@ -250,7 +265,8 @@ right_copy w d k act said t copy messages differ small absent kept (is_answered 
     let right : IsReply w.asks (w.acts ++ acts_for (copy_of k) act) k reply
     = made_reply w.asks (w.acts ++ acts_for (copy_of k) act) k copy.request m r w.server.next_id reply copy.ask mine
     (message_by_reason d.from w.moment m act r w.server.watchers t.watchers w.server.next_id mine.options mine.names spells.bounds small reason) spelt
-    (why_by_reason w.acts k d.from w.moment m act r w.server.watchers t.watchers mine.options mine.names reason)
+    (why_by_reason w.asks w.acts k d.from w.moment m act r w.server.watchers t.watchers mine.options mine.names
+    (λ links. record { request = copy.request; ask = copy.ask; message = m; spells = subst (Spells m) copy.bytes spells; path = links }) reason)
     (shows_by_reason copy.request d.from w.moment m act r w.server.watchers t.watchers mine reason absent_here) in
     let fresh : Exchange = record { arrival = arrival d.from w.moment m; slot = slot; reply = kept_for (request_type m.kind) reply } in
     record {

@@ -94,10 +94,10 @@ no_value_unless s from m q none e =
     let wrong : meant.Value q ≡ meant.Response = sym e ∙ is in
     cc
 
--- a message without options is none
-pub no_value_without : (s : State) (from : Endpoint) (m : CoapMessage) (q : ℕ) → m.options ≡ [] → meaning s from m ≡ meant.Value q → ⊥
+-- a message without Observe is none
+pub no_value_without : (s : State) (from : Endpoint) (m : CoapMessage) (q : ℕ) → sequence_of m.options ≡ None → meaning s from m ≡ meant.Value q → ⊥
 no_value_without s from m q none e =
-    no_value_unless s from m q (none_if (m.code / 32 == 2 && is_for_observation s.observation from m.token) (sequence_of m.options) (ap sequence_of none)) e
+    no_value_unless s from m q (none_if (m.code / 32 == 2 && is_for_observation s.observation from m.token) (sequence_of m.options) none) e
 
 -- ---- what a notice means
 

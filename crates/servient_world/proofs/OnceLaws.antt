@@ -18,8 +18,8 @@ use Rattle.coap_client.proofs.RequestLaws.{last_is_retransmitted}
 use Rattle.coap_observe.specs.declared.notice.Notice.{Notice}
 use Rattle.coap_observe.specs.Accounts.{last_place, token_of}
 use Rattle.coap_bind.specs.declared.server.Server.{Server}
-use Rattle.coap_bind.specs.Server.{with_emitted, with_watchers}
-use Rattle.coap_bind.specs.Laws.{Did as ServerDid, nothing as server_did_nothing, emitted as server_emitted, sent as server_sent}
+use Rattle.coap_bind.specs.Server.{start as nothing_came, with_emitted, with_links, with_watchers}
+use Rattle.coap_bind.specs.Laws.{Did as ServerDid, nothing as server_did_nothing, emitted as server_emitted, sent as server_sent, linked as server_linked}
 use Rattle.coap_bind.specs.Treating.{Acted}
 use Rattle.coap_bind.proofs.HistoryLaws.{sent_stays}
 use Rattle.servient_world.specs.declared.network.TheConstants.{MAX_LATENCY}
@@ -294,7 +294,7 @@ holds_at_start first_id capacity watchers w s = record {
   did = subst (λ (l : List Outstanding). ClientDid l w.client) (sym s.asks) (client_did_nothing first_id w.client s.client);
   client_moment = let at = s.client.moment in omega arith;
   history = [];
-  served = subst (ServerDid capacity []) (sym s.server) (watchers, server_did_nothing);
+  served = subst (ServerDid capacity []) (sym s.server) (watchers, server_linked [] (nothing_came capacity watchers) (with_links s.links (nothing_came capacity watchers)) s.links server_did_nothing refl);
   server_moment = let at = ap (λ (x : Server). x.exchanges.moment) s.server in omega arith;
   messages = subst (All HasMessage) (sym s.asks) (All-nil HasMessage);
   past = subst (All (λ d. d.moment ≤ w.moment)) (sym s.sent) (All-nil (λ (d : Datagram). d.moment ≤ w.moment));

@@ -24,7 +24,9 @@ use Rattle.coap_bind.specs.declared.blocks.BlockUse.{BlockUse}
 use Rattle.coap_bind.specs.declared.blocks.BlockUse.TheVariants as blocks
 use Rattle.coap_bind.specs.declared.observing.Observing.{Observing}
 use Rattle.coap_bind.specs.declared.observing.Observing.TheVariants as observing
-use Rattle.coap_bind.specs.Blocks.{block2_of, use_of, with_block, option_of, portion_of, most_bytes, reply_with, answer_reply}
+use Rattle.coap_blocks.specs.Bodies.{longest_body}
+use Rattle.coap_bind.specs.Links.{links_content, links_reply}
+use Rattle.coap_bind.specs.Blocks.{content_format, content_reply, given_portion, block2_of, use_of, with_block, option_of, portion_of, most_bytes, reply_with, answer_reply}
 use Rattle.coap_bind.specs.Server.{observing_in}
 use Rattle.coap_bind.specs.Transfers.{NamesNoBlock}
 use Rattle.coap_bind.specs.Writing.{Reply, full_reply, long_reply, whole_reply, reply_of, place_of, text_format, format_options, etag_options, reply_options, observed, reply_id, coap_reply, notification}
@@ -94,6 +96,22 @@ pub answer_unnumbered : (u : BlockUse) (o : Outcome) → sequence_of (reply_opti
 answer_unnumbered u o =
     tag_unnumbered (answer_reply u o).version (answer_reply u o).options
     ∙ unnumbered_at (nat_lt (most_bytes u o) (length (payload_of o))) (reply_with (portion_of u o) o) (part_unnumbered o (portion_of u o).block)
+
+-- ---- the links
+
+block_unnumbered : (format : ℕ) (b : Option BlockOption) → sequence_of (with_block b (content_format (Some format))) ≡ None
+block_unnumbered format None = refl
+block_unnumbered format (Some (option.Block1 b)) = refl
+block_unnumbered format (Some (option.Block2 b)) = refl
+
+links_unnumbered_at : (long : Bool) (szx : Option ℕ) (text : List ℕ)
+    → sequence_of (reply_options (cond long long_reply (content_reply (given_portion szx text) (links_content text)))) ≡ None
+links_unnumbered_at true szx text = refl
+links_unnumbered_at false szx text = block_unnumbered 40 (given_portion szx text).block
+
+-- a reply with the links has no Observe
+pub links_unnumbered : (szx : Option ℕ) (text : List ℕ) → sequence_of (reply_options (links_reply szx text)) ≡ None
+links_unnumbered szx text = links_unnumbered_at (nat_lt longest_body (length text)) szx text
 
 -- ---- what names no block
 

@@ -167,14 +167,15 @@ plain_back other acts emitted d = tt
 
 -- ---- what is taken
 
-read_of : (acts : List Act) (k : ℕ) (r : Reply) (payload : List ℕ) → IsWhy acts k r → (reply_options r ≡ [] → ⊥) → payload ≡ r.payload → WasRead acts (record { ask = k; place = 0; payload = payload })
-read_of acts k r payload (inl full) some is = absurd (some (ap (λ (x : Reply). reply_options x) full))
-read_of acts k r payload (inr (inl none)) some is = absurd (some (ap (λ (x : Reply). reply_options x) none))
-read_of acts k r payload (inr (inr act)) some is =
+read_of : (asks : List Outstanding) (acts : List Act) (k : ℕ) (r : Reply) (payload : List ℕ) → IsWhy asks acts k r → (sequence_of (reply_options r) ≡ None → ⊥) → payload ≡ r.payload → WasRead acts (record { ask = k; place = 0; payload = payload })
+read_of asks acts k r payload (inl full) some is = absurd (some (ap (λ (x : Reply). sequence_of (reply_options x)) full))
+read_of asks acts k r payload (inr (inl none)) some is = absurd (some (ap (λ (x : Reply). sequence_of (reply_options x)) none))
+read_of asks acts k r payload (inr (inr (inl links))) some is = absurd (some links.1)
+read_of asks acts k r payload (inr (inr (inr act))) some is =
     record { act = act.0; made = act.1; for_it = act.2; first = refl; payload = is ∙ ap (λ (x : Reply). x.payload) act.4 }
 
-no_options : (os : _) (q : ℕ) → sequence_of os ≡ Some q → os ≡ [] → ⊥
-no_options os q e none = let wrong : None ≡ Some q = sym (ap sequence_of none) ∙ e in cc
+no_number : (os : _) (q : ℕ) → sequence_of os ≡ Some q → sequence_of os ≡ None → ⊥
+no_number os q e none = let wrong : None ≡ Some q = sym none ∙ e in cc
 
 source_of : (w : WorldState) (i : ℕ) (d : Datagram) (p : Purpose) (m : CoapMessage) (q : ℕ) (payload : List ℕ) → Sourced w → IsFor w i d p → SaysIt w.acts w.emitted d p → Spells m d.bytes
     → meaning (at_moment w.moment w.client) d.from m ≡ meant.Value q → payload ≡ m.payload → All (IsSource w.acts w.emitted) (value_by p payload)
@@ -183,7 +184,7 @@ source_of w i d p m q payload y (back_on k is sent) says spells e same =
     let one : m ≡ right.answer = at_most_one_message m right.answer d.bytes spells right.spells in
     let shown = notified_says (at_moment w.moment w.client) d.from m q (value_says (at_moment w.moment w.client) d.from m q e).0 in
     let options : m.options ≡ reply_options right.reply = ap (λ (y : CoapMessage). y.options) one ∙ right.options in
-    let read = read_of w.acts k right.reply payload right.why (λ none. no_options m.options q shown.1 (options ∙ none)) (same ∙ (ap (λ (y : CoapMessage). y.payload) one ∙ right.payload)) in
+    let read = read_of w.asks w.acts k right.reply payload right.why (λ unseen. no_number m.options q shown.1 (ap sequence_of options ∙ unseen)) (same ∙ (ap (λ (y : CoapMessage). y.payload) one ∙ right.payload)) in
     subst (λ (x : Purpose). All (IsSource w.acts w.emitted) (value_by x payload)) (sym is)
     (All-push (IsSource w.acts w.emitted) [] (record { ask = k; place = 0; payload = payload }) (All-nil (IsSource w.acts w.emitted)) (inl read))
 source_of w i d p m q payload y (notice_of k q0 place is n_of) says spells e same =

@@ -31,8 +31,9 @@ use Rattle.coap_bind.specs.declared.observing.Effect.TheVariants as effect
 use Rattle.coap_bind.specs.declared.server.Server.{Server}
 use Rattle.coap_bind.specs.Observing.{observing_at, observing_of, may_notify, is_memory, registering, effect_of, Watches, leaves, cancels, registers}
 use Rattle.coap_bind.specs.Writing.{Reply}
-use Rattle.coap_bind.specs.Server.{told_by_empty}
-use Rattle.coap_bind.specs.Treating.{Acted, IsReplied, faulty, memory, of_blocks, acted, acted_on_whole, IsTold, IsTreated, no_request, is_duplicate, finds_full, is_answered, is_ignored}
+use Rattle.coap_bind.specs.Server.{observing_in, told_by_empty}
+use Rattle.coap_bind.specs.Links.{watchers_with_links}
+use Rattle.coap_bind.specs.Treating.{Acted, IsReplied, faulty, memory, of_blocks, of_links, no_method, acted, acted_on_whole, IsTold, IsTreated, no_request, is_duplicate, finds_full, is_answered, is_ignored}
 use Rattle.servient_world.specs.World.{client_place, server_place, Purpose, copy_of, reply_to, notice_for, other, Datagram, Act, WorldState, targets_of}
 use Rattle.servient_world.proofs.Places.{at_more}
 use Rattle.servient_world.proofs.Tokens.{same_token}
@@ -339,11 +340,20 @@ account_watched watchers from bytes act a s t m made observe_said spells is (reg
       observes = observing_says m.code (what_is_asked m).observe says.0;
     }) did
 
+-- the links were given
+account_links : (watchers : ℕ) (from : Endpoint) (bytes : List ℕ) (act : Option Acted) (a : Account) (s t : Watching) (token : List ℕ) (wants : Observing) → t ≡ watchers_with_links wants from token s
+    → AccountDid watchers a s → GoesOn watchers from bytes act a t
+account_links watchers from bytes act a s t token observing.Unchanged same did = kept_account watchers from bytes act a s t same did
+account_links watchers from bytes act a s t token observing.Registers same did = kept_account watchers from bytes act a s t same did
+account_links watchers from bytes act a s t token observing.Deregisters same did = same_account watchers from bytes act a t (was_cancelled a s t from token did same)
+
 account_replied : (watchers : ℕ) (from : Endpoint) (bytes : List ℕ) (now : ℕ) (act : Option Acted) (a : Account) (s t : Watching) (m : CoapMessage) (r : Reply)
     → Spells m bytes → IsReplied from now m act r s t → AccountDid watchers a s → GoesOn watchers from bytes act a t
 account_replied watchers from bytes now act a s t m r spells (faulty faults none same) did = kept_account watchers from bytes act a s t same did
 account_replied watchers from bytes now act a s t m r spells (memory is none same) did = kept_account watchers from bytes act a s t same did
 account_replied watchers from bytes now act a s t m r spells (of_blocks wants none same) did = kept_account watchers from bytes act a s t same did
+account_replied watchers from bytes now act a s t m r spells (of_links text links none same is) did = account_links watchers from bytes act a s t m.token (observing_in m) same did
+account_replied watchers from bytes now act a s t m r spells (no_method links none same is) did = kept_account watchers from bytes act a s t same did
 account_replied watchers from bytes now act a s t m r spells (acted made observe_said is wants what code place watches reply) did =
     account_watched watchers from bytes act a s t m made observe_said spells is watches did
 account_replied watchers from bytes now act a s t m r spells (acted_on_whole made observe_said b body is wants what code place watches reply) did =

@@ -1,11 +1,14 @@
 -- What holds of the world over every schedule.
-use Rattle.std.specs.Prelude.{◌≡◌, ◌≢◌, ◌<◌, ◌≤◌, ◌-◌, ◌⊎◌, ℕ, List, [], length, codes, All, AllPairs, Contains, Some, None, slice_get}
+use Rattle.std.specs.Prelude.{◌≡◌, ◌≢◌, ◌<◌, ◌≤◌, ◌-◌, ◌⊎◌, ℕ, true, List, [], length, codes, All, AllPairs, Contains, Some, None, slice_get}
+use Rattle.coap_msg.specs.Grammar.{CoapMessage, Spells}
+use Rattle.coap_client.specs.declared.outstanding.Outstanding.{Outstanding}
 use Rattle.thing_ops.specs.declared.verb.Verb.{Verb}
 use Rattle.thing_ops.specs.declared.verb.Verb.TheVariants as verb
 use Rattle.thing_ops.specs.Outcomes.{coap}
 use Rattle.coap_bind.specs.declared.blocks.BlockUse.{BlockUse}
 use Rattle.coap_bind.specs.declared.blocks.BlockUse.TheVariants as blocks
 use Rattle.coap_bind.specs.Blocks.{answer_reply}
+use Rattle.coap_bind.specs.Server.{asks_links}
 use Rattle.coap_bind.specs.Treating.{Acted}
 use Rattle.coap_bind.specs.Writing.{Reply}
 use Rattle.servient_world.specs.World.{Emission, WorldState, WorldMove, Act, Value, answered, observed, IsStart, PlaysAll}
@@ -47,13 +50,21 @@ pub record IsAnsweredBy (acts : List Act) (k code : ℕ) (payload : List ℕ) : 
   pub says_code : code ≡ (said_of act.acted).code
   pub says_payload : payload ≡ (said_of act.acted).payload
 
--- For an ask that ended with any other response the server made an act (and only one, by the law before), and the response says
--- what that came to.
+-- an ask for the path of the links, which is answered without an act
+pub record AsksLinks (asks : List Outstanding) (k : ℕ) : Type 0 where
+  pub request : Outstanding
+  pub ask : slice_get asks k ≡ Some request
+  pub message : CoapMessage
+  pub spells : Spells message request.sent
+  pub path : asks_links message ≡ true
+
+-- For an ask for any other path that ended with any other response the server made an act (and only one, by the law before), and
+-- the response says what that came to.
 abbrev pub AnsweredOnce : Type 0
 AnsweredOnce =
     (first_id exchanges watchers : ℕ) (moves : List WorldMove) (w v : WorldState) (k code : ℕ) (payload : List ℕ)
     → IsStart first_id exchanges watchers w → PlaysAll moves w v → length v.asks ≤ 65536
-    → Contains v.ends (record { ask = k; end = answered code payload })
+    → ¬ (AsksLinks v.asks k) → Contains v.ends (record { ask = k; end = answered code payload })
     → IsExcuse code payload ⊎ IsAnsweredBy v.acts k code payload
 
 -- For an ask that ended with a value of what it observes the server made an act.

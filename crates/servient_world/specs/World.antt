@@ -23,7 +23,7 @@ use Rattle.coap_client.specs.Exchange.{IsNew, at_moment, Asks, IsRefused, reques
 use Rattle.coap_observe.specs.declared.notice.Notice.{Notice}
 use Rattle.coap_observe.specs.Accounts.{last_place, token_of, one_if}
 use Rattle.coap_bind.specs.declared.server.Server.{Server}
-use Rattle.coap_bind.specs.Server.{start as nothing_came, with_emitted, SendsNext}
+use Rattle.coap_bind.specs.Server.{start as nothing_came, with_emitted, with_links, SendsNext}
 use Rattle.coap_bind.specs.Treating.{Acted, Treats}
 use Rattle.coap_bind.specs.Writing.{notification}
 use Rattle.servient_world.specs.declared.network.TheConstants.{MAX_LATENCY}
@@ -97,10 +97,12 @@ pub record WorldState : Type 0 where
   pub ends : List AskEnd
   pub taken : List Value
 
--- Nothing happened yet: a new client, and a server in which so many exchanges may live and so many watchers may be.
+-- Nothing happened yet: a new client, and a server in which so many exchanges may live and so many watchers may be, with some
+-- text of its links.
 pub record IsStart (first_id exchanges watchers : ℕ) (w : WorldState) : Type 0 where
   pub client : IsNew first_id w.client
-  pub server : w.server ≡ nothing_came exchanges watchers
+  pub links : List ℕ
+  pub server : w.server ≡ with_links links (nothing_came exchanges watchers)
   pub asks : w.asks ≡ []
   pub sent : w.sent ≡ []
   pub acts : w.acts ≡ []

@@ -8,7 +8,8 @@ pub fn acted_once()
     ensures { ActedOnce }
 {}
 
-/// For each ask that was answered, but by excuses, the server made an act, and the response says what that came to.
+/// For each ask that was answered, but by excuses and but for the links, the server made an act, and the response says what
+/// that came to.
 pub fn answered_once()
     ensures { AnsweredOnce }
 {}

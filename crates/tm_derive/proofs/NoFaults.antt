@@ -1,7 +1,7 @@
--- Things of a derivation without a fault: the root is the first, no two have the same segment, and
--- each description is valid.
+-- Things of a derivation without a fault: the root is the first, no two have the same segment, each segment has only plain
+-- bytes where that of the root has, and each description is valid.
 use Rattle.std.proofs.Common.{◌≡◌, ◌≢◌, ℕ, ◌+◌, ◌<◌, List, [], ◌∷◌, ◌++◌, map, take, refl, sym, ap, subst, ◌∙◌, append_assoc, arith}
-use Rattle.std.specs.Prelude.{⊤, nat_lt, nat_le, length, Bool, true, false, ◌&&◌, ◌||◌, Option, Some, None, Result, Ok, Err, IfOk, zero, suc, AllPairs, if◌then◌else◌}
+use Rattle.std.specs.Prelude.{⊤, nat_lt, nat_le, length, Bool, true, false, ◌&&◌, ◌||◌, ◌==◌, Option, Some, None, Result, Ok, Err, IfOk, zero, suc, AllPairs, if◌then◌else◌}
 use Rattle.std.specs.List.{AllByRecursion, flat_map, list_all, list_any}
 use Rattle.std.specs.Str.{bytes_eq}
 use Rattle.std.proofs.lemmas.List.{append-nil, append_cancel_left, map-append}
@@ -22,6 +22,7 @@ use Rattle.wot_terms.specs.Faults.{faults_of, IsValid}
 use Rattle.tm_derive.specs.Given.{Choice, Given, most_below}
 use Rattle.tm_derive.specs.Optional.{is_among}
 use Rattle.tm_derive.specs.Submodels.{allowed_name, below, child_name, children_from, instance_name, is_name_byte, link_child, link_faults, link_kind, may_name, name_faults, named_child, segments_of, submodel_faults, target_faults}
+use Rattle.tm_derive.specs.Segments.{is_plain_segment, is_segment_byte}
 use Rattle.tm_derive.specs.Derivation.{Outcome, Things, all_faults, children, choosing_faults, derived, invalid_fault, outcome, outcomes, outcomes_within, root_place, submodels, thing_faults, thing_of, thing_tree, things_or_fault, tree_faults, tree_of, unbound_faults, unless_faulty}
 use Rattle.tm_derive.specs.declared.frame.Frame.{Frame}
 use Rattle.tm_derive.specs.declared.place.Place.{Place}
@@ -63,10 +64,13 @@ differ_in_both (x ∷ xs) ys first next apart = (each_of_both (λ y. x ≢ y) xs
 
 -- ---- segments
 
+and_both : (a b : Bool) → a ≡ true → b ≡ true → (a && b) ≡ true
+and_both a b one other = ap (λ (x : Bool). x && b) one ∙ other
+
 -- what comes after the segment of a Thing in those of the Things below it
 abbrev pub IsTail : List ℕ → Type 0
 IsTail [] = ⊤
-IsTail (b ∷ bs) = b ≡ 126
+IsTail (b ∷ bs) = (b ≡ 126) × (is_plain_segment bs ≡ true)
 
 -- the segment of a Thing, or of one below it
 abbrev pub IsAtOrBelow : List ℕ → List ℕ → Type 0
@@ -94,13 +98,40 @@ tail_of (b ∷ bs) = bs
 same_name : (xs ys r s : List ℕ) → list_all is_name_byte xs ≡ true → list_all is_name_byte ys ≡ true → IsTail r → IsTail s → xs ++ r ≡ ys ++ s → xs ≡ ys
 same_name [] [] r s one other rt st is = refl
 same_name [] (y ∷ ys) [] s one other rt st is = absurd (cc)
-same_name [] (y ∷ ys) (b ∷ r) s one other rt st is = absurd (no_tilde y ys (sym (ap head_of is) ∙ rt) other)
+same_name [] (y ∷ ys) (b ∷ r) s one other rt st is = absurd (no_tilde y ys (sym (ap head_of is) ∙ rt.0) other)
 same_name (x ∷ xs) [] r [] one other rt st is = absurd (cc)
-same_name (x ∷ xs) [] r (b ∷ s) one other rt st is = absurd (no_tilde x xs (ap head_of is ∙ st) one)
+same_name (x ∷ xs) [] r (b ∷ s) one other rt st is = absurd (no_tilde x xs (ap head_of is ∙ st.0) one)
 same_name (x ∷ xs) (y ∷ ys) r s one other rt st is =
     let rest : xs ≡ ys = same_name xs ys r s (and_parts (is_name_byte x) (list_all is_name_byte xs) one).1 (and_parts (is_name_byte y) (list_all is_name_byte ys) other).1 rt st (ap tail_of is) in
     let first : x ≡ y = ap head_of is in
     ap (λ (b : ℕ). b ∷ xs) first ∙ ap (λ (bs : List ℕ). y ∷ bs) rest
+
+-- ---- plain bytes
+
+plain_byte : (b : ℕ) → is_name_byte b ≡ true → is_segment_byte b ≡ true
+plain_byte b is = ap (λ (x : Bool). x || b == 126) is
+
+-- a name is plain
+plain_name : (name : List ℕ) → list_all is_name_byte name ≡ true → is_plain_segment name ≡ true
+plain_name [] is = refl
+plain_name (b ∷ bs) is =
+    let both = and_parts (is_name_byte b) (list_all is_name_byte bs) is in
+    and_both (is_segment_byte b) (is_plain_segment bs) (plain_byte b both.0) (plain_name bs both.1)
+
+-- and so are two plain texts together
+plain_both : (xs ys : List ℕ) → is_plain_segment xs ≡ true → is_plain_segment ys ≡ true → is_plain_segment (xs ++ ys) ≡ true
+plain_both [] ys one other = other
+plain_both (x ∷ xs) ys one other =
+    let both = and_parts (is_segment_byte x) (is_plain_segment xs) one in
+    and_both (is_segment_byte x) (is_plain_segment (xs ++ ys)) both.0 (plain_both xs ys both.1 other)
+
+plain_tail : (tail : List ℕ) → IsTail tail → is_plain_segment tail ≡ true
+plain_tail [] is = refl
+plain_tail (b ∷ bs) is = and_both (is_segment_byte b) (is_plain_segment bs) (ap is_segment_byte is.0) is.1
+
+-- what is at or below a plain segment is plain
+plain_below : (segment : List ℕ) → is_plain_segment segment ≡ true → (s : List ℕ) → IsAtOrBelow segment s → is_plain_segment s ≡ true
+plain_below segment plain s at = ap is_plain_segment at.1 ∙ plain_both segment at.0 plain (plain_tail at.0 at.2)
 
 -- a segment at or below a child is below the parent
 after_parent : (segment child : List ℕ) (is : IsChild segment child) (s : List ℕ) (at : IsAtOrBelow child s) → s ≡ segment ++ (126 ∷ (is.0 ++ at.0))
@@ -110,7 +141,7 @@ after_parent segment child is s at =
     ∙ append_assoc segment (126 ∷ is.0) at.0
 
 below_child : (segment child : List ℕ) → IsChild segment child → (s : List ℕ) → IsAtOrBelow child s → IsAtOrBelow segment s
-below_child segment child is s at = (126 ∷ (is.0 ++ at.0), after_parent segment child is s at, refl)
+below_child segment child is s at = (126 ∷ (is.0 ++ at.0), after_parent segment child is s at, (refl, plain_both is.0 at.0 (plain_name is.0 is.2) (plain_tail at.0 at.2)))
 
 -- and not that of the parent
 not_parent : (segment child : List ℕ) → IsChild segment child → (s : List ℕ) → IsAtOrBelow child s → segment ≢ s
@@ -323,6 +354,7 @@ pub record AreGood (segment : List ℕ) (things : Things) : Type 0 where
   pub valid : AllByRecursion (λ t. IsValid t.1) things
   pub distinct : AllPairs (λ a b. a.0 ≢ b.0) things
   pub root : take 1 (map (λ (thing : List ℕ × Json). thing.0) things) ≡ segment ∷ []
+  pub plain : is_plain_segment segment ≡ true → AllByRecursion (λ t. is_plain_segment t.0 ≡ true) things
 
 -- the Things of sound outcomes
 pub record AreTold (os : List Outcome) : Type 0 where
@@ -350,6 +382,12 @@ pairs_differ (t ∷ ts) differ =
     at [] all = tt
     at (b ∷ rest) all = (all.0, at rest all.1)
 
+-- what holds of the segments holds of the Things
+plain_things : (things : Things) → AllByRecursion (λ s. is_plain_segment s ≡ true) (map (λ (thing : List ℕ × Json). thing.0) things)
+    → AllByRecursion (λ (t : List ℕ × Json). is_plain_segment t.0 ≡ true) things
+plain_things [] all = tt
+plain_things (t ∷ ts) all = (all.0, plain_things ts all.1)
+
 faultless : (choices : List Choice) (os : List Outcome) (things : Things) (faults : List DeriveFault)
     → elim (first_of faults) as (λ _. Result Things DeriveFault) [ None ↦ Ok (flat_map thing_of os) | Some e ↦ Err e ] ≡ Ok things → (faults ≡ []) × (flat_map thing_of os ≡ things)
 faultless choices os things [] is = (refl, cc)
@@ -370,6 +408,8 @@ good given root things is =
       valid = subst (λ (ts : Things). AllByRecursion (λ t. IsValid t.1) ts) both.1 is_told.valid;
       distinct = pairs_differ things (subst Differ (sym segments) are.apart);
       root = ap (take 1) segments ∙ root_first given root;
+      plain = λ of_root. plain_things things (subst (AllByRecursion (λ s. is_plain_segment s ≡ true)) (sym segments)
+          (each (IsAtOrBelow given.frame.segment) (λ s. is_plain_segment s ≡ true) (plain_below given.frame.segment of_root) (segments_in os) are.within));
     }
 
 -- what is derived is good
@@ -390,3 +430,8 @@ if_distinct segment (Err e) are = tt
 pub if_valid : (segment : List ℕ) (r : Result Things DeriveFault) → IfOk r (AreGood segment) → IfOk r (AllByRecursion (λ t. IsValid t.1))
 if_valid segment (Ok things) are = are.valid
 if_valid segment (Err e) are = tt
+
+pub if_plain : (segment : List ℕ) (r : Result Things DeriveFault) → IfOk r (AreGood segment)
+    → IfOk r (λ things. is_plain_segment segment ≡ true → AllByRecursion (λ t. is_plain_segment t.0 ≡ true) things)
+if_plain segment (Ok things) are = are.plain
+if_plain segment (Err e) are = tt

@@ -1,12 +1,13 @@
 //! All Things of a derivation, one after another.
 
-ghost use Rattle.std.specs.Prelude.{◌≡◌, ◌≢◌, ◌⊎◌, ◌++◌, [], ◌∷◌, take, map, AllPairs, Ok, Err, IfOk, IfErr};
+ghost use Rattle.std.specs.Prelude.{◌≡◌, ◌≢◌, ◌⊎◌, ◌++◌, [], ◌∷◌, true, take, map, AllPairs, Ok, Err, IfOk, IfErr};
 ghost use Rattle.std.specs.List.{AllByRecursion, flat_map};
 ghost use Rattle.tm_derive.specs.Derivation.{outcomes_within, outcomes, things_or_fault, derived, root_place as place_of_root};
 ghost use Rattle.tm_derive.specs.Kept.{given_of};
 ghost use Rattle.tm_derive.specs.Making.{Derives, PutsThings};
 ghost use Rattle.tm_derive.specs.Optional.{is_among, choices_elsewhere};
 ghost use Rattle.tm_derive.specs.Refusals.{Finds};
+ghost use Rattle.tm_derive.specs.Segments.{is_plain_segment};
 ghost use Rattle.wot_terms.specs.Faults.{IsValid};
 ghost use Rattle.wot_terms.specs.ThingLists.{segments_in};
 
@@ -51,6 +52,7 @@ pub fn derive(
     ensures root { IfOk result (λ things. take 1 (map (λ t. t.0) things) ≡ frame.now.segment ∷ []) }
     ensures distinct { IfOk result (AllPairs (λ a b. a.0 ≢ b.0)) }
     ensures valid { IfOk result (AllByRecursion (λ t. IsValid t.1)) }
+    ensures plain { IfOk result (λ things. is_plain_segment frame.now.segment ≡ true → AllByRecursion (λ t. is_plain_segment t.0 ≡ true) things) }
 {
     let resolver = Resolver::new(alloc, library, bindings)?;
     let common = Common {

@@ -17,3 +17,6 @@ returns-clause-stage g c = λ a.
     let p = c.args.planned.now in
     let kinds = kinds_of (g.R.Handlers.slots c.args.rack.now) in
     then_performs (Derives p) (Exposes c.args.name.now kinds p.plan.slots) a a a c.in_ok-things.things (site_in c.expose.result) (c.in_ok-things.ensures.stage a) (c.expose.ensures.stage a)
+
+pub expose-requires-clause-plain : goal.expose-requires-clause-plain
+expose-requires-clause-plain g c = c.in_ok-things.ensures.plain c.requires.served.2

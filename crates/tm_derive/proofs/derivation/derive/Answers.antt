@@ -1,7 +1,7 @@
 use Rattle.tm_resolve.specs.Resolver.{resolver_models}
 use Rattle.tm_derive.specs.Derivation.{derived}
 use Rattle.tm_derive.proofs.WholeDerivation.{derived_by, ok_of, fault_of}
-use Rattle.tm_derive.proofs.NoFaults.{derived_good, if_root, if_distinct, if_valid}
+use Rattle.tm_derive.proofs.NoFaults.{derived_good, if_root, if_distinct, if_valid, if_plain}
 use Rattle.tm_derive.proofs.derivation.derive.Goals as goal
 
 pub returns-clause-ok : goal.returns-clause-ok
@@ -25,3 +25,7 @@ returns-clause-distinct c =
 pub returns-clause-valid : goal.returns-clause-valid
 returns-clause-valid c =
     if_valid c.args.frame.now.segment c.derive_with.result (derived_good c.args.library.now c.args.bindings.now c.args.choices.now c.args.frame.now c.args.root.now c.derive_with.result (returns-clause-ok c))
+
+pub returns-clause-plain : goal.returns-clause-plain
+returns-clause-plain c =
+    if_plain c.args.frame.now.segment c.derive_with.result (derived_good c.args.library.now c.args.bindings.now c.args.choices.now c.args.frame.now c.args.root.now c.derive_with.result (returns-clause-ok c))

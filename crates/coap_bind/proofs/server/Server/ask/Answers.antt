@@ -21,7 +21,7 @@ returns-in-Ok-clause-ok c =
       observing = seen i;
       blocks = (c.in-Ok.ensures ∙ ap (λ (o : Observing). use_of a.now a.code o what) seen) i;
     } in x) in
-    λ m r act. (treat_asks a c.args.request what c.of.result m c.args.self.now r act ticket, refl)
+    λ m r act. (treat_asks a c.args.request what c.of.result m c.args.self.now r act c.requires.apart ticket, refl)
 
 pub returns-in-Ok-clause-open : goal.returns-in-Ok-clause-open
 returns-in-Ok-clause-open c =

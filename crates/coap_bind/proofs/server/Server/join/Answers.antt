@@ -1,12 +1,12 @@
 -- Each answer to the block is a rule, for the request that was read.
-use Rattle.std.proofs.Common.{◌∙◌, ap, refl}
+use Rattle.std.proofs.Common.{◌∙◌, ap, refl, sym}
 use Rattle.coap_opts.specs.PlainAsk.{plain_ask}
 use Rattle.coap_blocks.specs.Parts.{living}
 use Rattle.coap_blocks.specs.declared.added.Added.TheVariants as answer
 use Rattle.coap_bind.specs.declared.blocks.BlockUse.TheVariants.{Joined}
 use Rattle.coap_bind.specs.declared.head.OpenAsk.{OpenAsk}
 use Rattle.coap_bind.specs.declared.observing.Observing.{Observing}
-use Rattle.coap_bind.proofs.TreatLaws.{block_of, open_ticket, treat_added, treat_whole}
+use Rattle.coap_bind.proofs.TreatLaws.{block_of, open_ticket, treat_added, treat_no_body, treat_whole}
 use Rattle.coap_bind.proofs.WholeLaws.{whole_is_short}
 use Rattle.coap_bind.proofs.server.Server.join.Goals as goal
 
@@ -35,6 +35,11 @@ returns-clause-ok c =
     λ m r joining. treat_added c.args.arrived c.args.request (plain_ask c.args.ask) m c.args.block answer.Full _ c.add.new.self c.refuse-in-Full.result _ _ c.args.self.now _ refl
     c.in-Full.ensures.joined c.refuse-in-Full.ensures r joining
 
+pub returns-then-is_links_path-clause-ok : goal.returns-then-is_links_path-clause-ok
+returns-then-is_links_path-clause-ok c =
+    λ m r joining. treat_no_body c.args.arrived c.args.request (plain_ask c.args.ask) m c.args.block c.in-Complete.place c.add.new.self c.refuse_whole.result _ _ c.args.self.now _
+    c.in-Complete.ensures.joined (sym c.is_links_path.ensures ∙ c.if-is_links_path.true) c.refuse_whole.ensures r joining
+
 pub returns-in-Complete-clause-ok : goal.returns-in-Complete-clause-ok
 returns-in-Complete-clause-ok c =
     let what = plain_ask c.args.ask in
@@ -43,7 +48,7 @@ returns-in-Complete-clause-ok c =
     let ticket = c.of.ensures ∙ ap (λ (o : Observing). let x : OpenAsk = record { request = c.args.request; from = a.from; observing = o; blocks = Joined c.args.block } in x) c.observing_of.ensures in
     λ m r joining. (
       treat_whole a c.args.request what c.of.result m c.args.block c.in-Complete.place c.add.new.self c.args.self.now c.in-Complete.ensures.joined
-          (c.in-Complete.ensures.place c.in-Complete.place refl) short ticket r joining,
+          (c.in-Complete.ensures.place c.in-Complete.place refl) short (sym c.is_links_path.ensures ∙ c.if-is_links_path.false) ticket r joining,
       refl,
     )
 

@@ -32,19 +32,19 @@ returns-in-Repeat c =
     let R : RequestType → Type 0 = λ kind. TellsDone (duplicate_reply kind met.0.0.reply) c.answer_duplicate.result c.args.out.now c.answer_duplicate.new.out in (
       duplicate_reply (request_type c.in-Ok.message.kind) met.0.0.reply,
       duplicate (message_of c.in-Ok.message) c.in-Repeat.kept met.0.0
-          (record { spells = c.in-Ok.ensures.ok; request = sym c.is_request.ensures ∙ c.if-not-is_request.false; meets = met; same_watchers = refl; same_id = refl; same_bodies = refl; same_parts = refl })
+          (record { spells = c.in-Ok.ensures.ok; request = sym c.is_request.ensures ∙ c.if-not-is_request.false; meets = met; same_watchers = refl; same_id = refl; same_bodies = refl; same_parts = refl; same_links = refl })
           met.0.1 refl,
       subst R c.of-kind.ensures (c.answer_duplicate.ensures met.0.0 there met.0.3),
     )
 
 pub returns-in-Full : goal.returns-in-Full
 returns-in-Full c =
-    let u : Server = record { exchanges = c.meet.new.self; watchers = c.args.self.now.watchers; next_id = c.args.self.now.next_id; bodies = c.args.self.now.bodies; parts = c.args.self.now.parts } in
+    let u : Server = record { exchanges = c.meet.new.self; watchers = c.args.self.now.watchers; next_id = c.args.self.now.next_id; bodies = c.args.self.now.bodies; parts = c.args.self.now.parts; links = c.args.self.now.links } in
     let P : RequestHead → Type 0 = λ h. IsWritten (spelling (coap_reply full_reply h c.args.self.now.next_id)) c.send.result c.args.out.now c.send.new.out in
     let Q : RequestHead → Type 0 = λ h. c.send.new.self ≡ with_id_used h.kind u in (
       _,
       full (message_of c.in-Ok.message) u
-          (record { spells = c.in-Ok.ensures.ok; request = sym c.is_request.ensures ∙ c.if-not-is_request.false; meets = c.in-Full.ensures.met; same_watchers = refl; same_id = refl; same_bodies = refl; same_parts = refl })
+          (record { spells = c.in-Ok.ensures.ok; request = sym c.is_request.ensures ∙ c.if-not-is_request.false; meets = c.in-Full.ensures.met; same_watchers = refl; same_id = refl; same_bodies = refl; same_parts = refl; same_links = refl })
           refl (subst Q c.of-head.ensures c.send.ensures.after),
       subst P c.of-head.ensures c.send.ensures.bytes,
     )

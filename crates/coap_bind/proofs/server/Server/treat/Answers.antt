@@ -12,7 +12,7 @@ returns-in-Act-clause-ok c =
     let what = plain_ask c.args.ask in
     let a = c.args.arrived in
     let act = ap (λ (o : Observing). wanted_of a.code o what) (sym c.observing_of-observing.ensures) ∙ sym c.in-Act.ensures in
-    λ m r. c.ask.ensures.ok m r (wanted_is a c.args.request what m Act r act)
+    λ m r. c.take_up.ensures.ok m r (wanted_is a c.args.request what m Act r act)
 
 pub give_later-requires-clause-block : goal.give_later-requires-clause-block
 give_later-requires-clause-block c =

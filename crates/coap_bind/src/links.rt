@@ -1,0 +1,235 @@
+//! The path of the links, and what a request for it is answered (RFC 6690, section 4; RFC 7252, section 7.2).
+
+use crate::blocks::size_asked;
+use crate::head::{Arrived, OpenRequest, RequestHead};
+use crate::observing::{Observing, observing_of};
+use crate::portion::{LONGEST_BODY, first_block, given_portion};
+use crate::server::Server;
+use crate::writing::{CONTENT, Told, put_told, put_word};
+use coap_blocks::{Bodies, Whole};
+use coap_msg::{Endpoint, GET, INTERNAL_SERVER_ERROR, LONGEST_MESSAGE};
+use coap_opts::CoapAsk;
+use thing_ops::Segments;
+
+/// The content format of links (RFC 6690, section 7.3).
+const LINK_FORMAT: u16 = 40;
+
+/// 4.05.
+const METHOD_NOT_ALLOWED: u8 = 32 * 4 + 5;
+
+impl Server {
+    ghost use Rattle.std.specs.Prelude.{◌≡◌, ◌<◌, ◌≤◌, length, IfSome};
+    ghost use Rattle.std.specs.List.{remove};
+    ghost use Rattle.coap_exchange.specs.Table.{IsAwaited};
+    ghost use Rattle.coap_blocks.specs.Paths.{largest_path, path_size};
+    ghost use Rattle.coap_opts.specs.PlainAsk.{plain_ask};
+    ghost use Rattle.coap_opts.specs.Reading.{HasBlocks};
+    ghost use Rattle.coap_bind.specs.Links.{bodies_with_links, links_reply, method_reply, size_asked, watchers_with_links};
+    ghost use Rattle.coap_bind.specs.Observing.{observing_of};
+    ghost use Rattle.coap_bind.specs.Server.{links_given, with_bodies, with_parts, with_watchers};
+    ghost use Rattle.coap_bind.specs.Settling.{AnswersLinks};
+    ghost use Rattle.coap_bind.specs.Telling.{RepliesAs};
+
+    /// Answers a request for the path of the links: a GET with their text, and any other verb that it can't be.
+    pub fn answer_links(
+        &mut self,
+        arrived: Arrived,
+        request: &OpenRequest,
+        ask: &CoapAsk<'_>,
+        out: &mut [u8; LONGEST_MESSAGE],
+    ) -> usize
+        requires token { length request.now.head.token ≤ 8 }
+        requires blocks { HasBlocks (plain_ask ask.now) }
+        requires path { path_size ask.now.request.path ≤ largest_path }
+        requires slot { IsAwaited request.now.slot self.old.exchanges }
+        ensures { AnswersLinks arrived request.now (plain_ask ask.now) result out.old out.new self.old self.new }
+    {
+        if arrived.code == GET {
+            self.give_links(arrived, request, ask, out)
+        } else {
+            self.refuse(request, METHOD_NOT_ALLOWED, b"method", out)
+        }
+    }
+
+    /// Answers the last block of a request to the path of the links, which has made the body at this place whole.
+    pub fn refuse_whole(
+        &mut self,
+        request: &OpenRequest,
+        place: u32,
+        out: &mut [u8; LONGEST_MESSAGE],
+    ) -> usize
+        requires place { place < length self.old.parts }
+        requires token { length request.now.head.token ≤ 8 }
+        requires slot { IsAwaited request.now.slot self.old.exchanges }
+        ensures { RepliesAs method_reply request.now result out.old out.new (with_parts (remove self.old.parts place) self.old) self.new }
+    {
+        self.parts.clear(place);
+        self.refuse(request, METHOD_NOT_ALLOWED, b"method", out)
+    }
+
+    /// Gives the links to a GET.
+    fn give_links(
+        &mut self,
+        arrived: Arrived,
+        request: &OpenRequest,
+        ask: &CoapAsk<'_>,
+        out: &mut [u8; LONGEST_MESSAGE],
+    ) -> usize
+        requires token { length request.now.head.token ≤ 8 }
+        requires blocks { HasBlocks (plain_ask ask.now) }
+        requires path { path_size ask.now.request.path ≤ largest_path }
+        requires slot { IsAwaited request.now.slot self.old.exchanges }
+        ensures { RepliesAs (links_reply (size_asked (observing_of arrived.code (plain_ask ask.now).observe) (plain_ask ask.now)) self.old.links) request.now
+            result out.old out.new (links_given arrived.from arrived.now request.now.head.token (observing_of arrived.code (plain_ask ask.now).observe) (plain_ask ask.now) self.old) self.new }
+    {
+        let observing = observing_of(arrived.code, ask.observe);
+        self.note_links(arrived, request, observing, ask);
+        self.reply_links(request, size_asked(observing, ask), out)
+    }
+
+    /// Does to the watchers and to the bodies that are kept what a GET for the links does.
+    fn note_links(
+        &mut self,
+        arrived: Arrived,
+        request: &OpenRequest,
+        observing: Observing,
+        ask: &CoapAsk<'_>,
+    )
+        requires blocks { HasBlocks (plain_ask ask.now) }
+        requires path { path_size ask.now.request.path ≤ largest_path }
+        ensures { self.new ≡ links_given arrived.from arrived.now request.now.head.token observing (plain_ask ask.now) self.old }
+    {
+        self.end_observation(observing, arrived.from, request.head.token.as_bytes());
+        let path = &ask.request.path;
+        self.keep_links(arrived, path, size_asked(observing, ask));
+    }
+
+    /// Ends the observation of an endpoint with this token, where its request wants that.
+    fn end_observation(&mut self, observing: Observing, from: Endpoint, token: &[u8])
+        ensures { self.new ≡ with_watchers (watchers_with_links observing from token.now self.old.watchers) self.old }
+    {
+        match observing {
+            Observing::Unchanged => {}
+            Observing::Registers => {}
+            Observing::Deregisters => {
+                let _found = self.watchers.cancel(from, token);
+            }
+        }
+    }
+
+    /// Keeps the text of the links for the requests for its later blocks, where it has any.
+    fn keep_links(&mut self, arrived: Arrived, path: &Segments, szx: Option<u8>)
+        requires path { path_size path.now ≤ largest_path }
+        requires size { IfSome szx (λ z. z ≤ 6) }
+        ensures { self.new ≡ with_bodies (bodies_with_links arrived.from path.now arrived.now szx self.old.links self.old.bodies) self.old }
+    {
+        let text = self.links.as_slice();
+        if is_text_kept(szx, text.len()) {
+            put_text(&mut self.bodies, arrived, path, text);
+        }
+    }
+
+    /// Replies with the text of the links, or with its first block.
+    fn reply_links(
+        &mut self,
+        request: &OpenRequest,
+        szx: Option<u8>,
+        out: &mut [u8; LONGEST_MESSAGE],
+    ) -> usize
+        requires token { length request.now.head.token ≤ 8 }
+        requires size { IfSome szx (λ z. z ≤ 6) }
+        requires slot { IsAwaited request.now.slot self.old.exchanges }
+        ensures { RepliesAs (links_reply szx self.old.links) request.now result out.old out.new self.old self.new }
+    {
+        let text = self.links.as_slice();
+        let size = put_links(text, szx, &request.head, self.next_id, out);
+        self.use_id(request.head.kind);
+        self.keep(request, &out[..size]);
+        size
+    }
+}
+
+ghost use Rattle.std.specs.Prelude.{◌≡◌, ◌≤◌, ◌&&◌, length, codes, IfSome};
+ghost use Rattle.std.specs.Str.{bytes_eq};
+ghost use Rattle.coap_msg.specs.Grammar.{spelling};
+ghost use Rattle.coap_msg.specs.Written.{IsWritten};
+ghost use Rattle.coap_blocks.specs.Bodies.{longest_body, with_body};
+ghost use Rattle.coap_blocks.specs.Paths.{largest_path, path_size};
+ghost use Rattle.coap_bind.specs.Links.{is_links_path, is_text_kept, links_content, links_reply};
+ghost use Rattle.coap_bind.specs.Writing.{coap_reply};
+
+/// Whether a path is that of the links.
+pub fn is_links_path(path: &Segments) -> bool
+    ensures { result ≡ is_links_path path.now }
+{
+    if path.len() != 2 {
+        return false;
+    }
+    match path.get(0) {
+        Some(first) => match path.get(1) {
+            Some(second) => are_well_known_core(first, second),
+            None => false,
+        },
+        None => false,
+    }
+}
+
+/// Whether two segments are `.well-known` and `core`.
+fn are_well_known_core(first: &[u8], second: &[u8]) -> bool
+    ensures { result ≡ (bytes_eq second.now (codes "core") && bytes_eq first.now (codes ".well-known")) }
+{
+    is(second, b"core") && is(first, b".well-known")
+}
+
+/// The segment is this word.
+fn is(segment: &[u8], word: &[u8]) -> bool
+    ensures { result ≡ bytes_eq segment.now word.now }
+{
+    segment == word
+}
+
+/// Whether a text of this length is kept, where a block of this size was asked for, or none.
+fn is_text_kept(szx: Option<u8>, length: usize) -> bool
+    requires { IfSome szx (λ z. z ≤ 6) }
+    ensures { result ≡ is_text_kept szx length }
+{
+    first_block(szx).size() < length && length <= LONGEST_BODY
+}
+
+/// Keeps the text of links for an endpoint and a path.
+fn put_text(bodies: &mut Bodies, arrived: Arrived, path: &Segments, text: &[u8])
+    requires text { length text.now ≤ longest_body }
+    requires path { path_size path.now ≤ largest_path }
+    ensures { bodies.new ≡ with_body (record { from = arrived.from; path = path.now; content = links_content text.now; moment = arrived.now }) bodies.old }
+{
+    let body = Whole {
+        code: CONTENT,
+        format: Some(LINK_FORMAT),
+        tag: None,
+        bytes: text,
+    };
+    bodies.put(arrived.from, path, &body, arrived.now);
+}
+
+/// Writes the reply to a GET for the links of this text, and returns how many bytes it has.
+fn put_links(
+    text: &[u8],
+    szx: Option<u8>,
+    head: &RequestHead,
+    next_id: u16,
+    out: &mut [u8; LONGEST_MESSAGE],
+) -> usize
+    requires { IfSome szx (λ z. z ≤ 6) }
+    ensures { IsWritten (spelling (coap_reply (links_reply szx text.now) head.now next_id)) result out.old out.new }
+{
+    if text.len() > LONGEST_BODY {
+        return put_word(INTERNAL_SERVER_ERROR, b"long", head, next_id, out);
+    }
+    let told = Told {
+        code: CONTENT,
+        version: None,
+        format: Some(LINK_FORMAT),
+        portion: given_portion(szx, text),
+    };
+    put_told(told, head, next_id, out)
+}

@@ -1,5 +1,5 @@
--- What else holds of the world where no two asks have one id (`Exact`): each reply that is kept or was sent is the server's reply to
--- its ask, each notification is of an ask that registered, and each response that ended an ask is such a reply.
+-- What else holds of the world where no two asks have one id (`Exact`): what the copies of asks led to, of which each reply that is
+-- kept or was sent is one, and so is each response that ended an ask; and each notification is of an ask that registered.
 use Rattle.std.proofs.Common.{◌≡◌, ◌≢◌, ◌⊎◌, ℕ, ◌<◌, ◌^◌, ◌∙◌, true, false, Option, Some, List, [], ◌++◌, get_or, inl, inr, sym, ap, subst, arith}
 use Rattle.std.specs.Prelude.{None, All, AllPairs, Contains, slice_get}
 use Rattle.std.proofs.lemmas.Bool.{cases_lt}
@@ -9,31 +9,27 @@ use Rattle.std.proofs.lemmas.Option.{slice_get_within, get_or_from_slice_get}
 use Rattle.coap_msg.specs.declared.message.Type4.TheVariants.{Ack, Rst}
 use Rattle.coap_msg.specs.Grammar.{CoapMessage, Spells}
 use Rattle.coap_exchange.specs.Table.{Exchange}
-use Rattle.thing_ops.specs.declared.outcome.Outcome.TheVariants.{Memory}
+use Rattle.coap_msg.specs.declared.block.Block.{Block}
 use Rattle.coap_client.specs.declared.outstanding.Outstanding.{Outstanding}
-use Rattle.coap_client.specs.Answers.{sequence_of}
+use Rattle.coap_client.specs.Answers.{sequence_of, block2_of}
 use Rattle.coap_observe.specs.declared.notice.Notice.{Notice}
 use Rattle.coap_observe.specs.Accounts.{token_of}
-use Rattle.coap_bind.specs.Writing.{Reply, full_reply, reply_of, reply_options, observed as observed_reply, notification}
+use Rattle.coap_bind.specs.Writing.{Reply, full_reply, reply_options, notification}
 use Rattle.coap_bind.specs.Server.{is_request}
 use Rattle.servient_world.specs.World.{client_place, server_place, Purpose, copy_of, reply_to, notice_for, other, Datagram, Act, End, answered, observed, reset, timed_out, AskEnd, WorldState}
-use Rattle.servient_world.specs.Laws.{AsksLinks, said_of}
 use Rattle.servient_world.proofs.Places.{at_more}
+use Rattle.servient_world.proofs.Ledger.{Entry, ComesFirst, AreFed, Ledger}
+use Rattle.servient_world.proofs.Given.{Given}
+use Rattle.servient_world.proofs.Joins.{Joins}
 
 -- ---- the invariant
 
--- it asks for the links, and isn't notified of anything
-abbrev pub IsForLinks : List Outstanding → ℕ → Reply → Type 0
-IsForLinks asks k r = AsksLinks asks k × (sequence_of (reply_options r) ≡ None)
-
--- why the server replies so to an ask: the table is full, memory is out, it is for the links, or that is what its act came to
-abbrev pub IsWhy : List Outstanding → List Act → ℕ → Reply → Type 0
-IsWhy asks acts k r =
-    (r ≡ full_reply)
-    ⊎ ((r ≡ reply_of Memory) ⊎ (IsForLinks asks k r ⊎ ((x : Act) × Contains acts x × (x.ask ≡ k) × (seen : Option ℕ) × (r ≡ observed_reply seen (said_of x.acted)))))
+-- why the server replies so to an ask: the table is full, or that is what the ask led to once it was admitted
+abbrev pub IsWhy : List Entry → ℕ → Reply → Type 0
+IsWhy led k r = (r ≡ full_reply) ⊎ ((x : Entry) × Contains led x × (x.ask ≡ k) × (r ≡ x.reply))
 
 -- these bytes are a reply to an ask
-pub record IsReply (asks : List Outstanding) (acts : List Act) (k : ℕ) (bytes : List ℕ) : Type 0 where
+pub record IsReply (asks : List Outstanding) (led : List Entry) (k : ℕ) (bytes : List ℕ) : Type 0 where
   pub request : Outstanding
   pub ask : slice_get asks k ≡ Some request
   pub answer : CoapMessage
@@ -47,24 +43,24 @@ pub record IsReply (asks : List Outstanding) (acts : List Act) (k : ℕ) (bytes 
   pub options : answer.options ≡ reply_options reply
   -- Observe is only in the reply to a registration, with the number 0
   pub shows : (q : ℕ) → sequence_of answer.options ≡ Some q → (q ≡ 0) × (request.registers ≡ true)
-  pub why : IsWhy asks acts k reply
+  pub why : IsWhy led k reply
 
 -- an exchange of the client's is that of an ask, and what is kept is a reply to that
-pub record IsOfAsk (asks : List Outstanding) (acts : List Act) (e : Exchange) : Type 0 where
+pub record IsOfAsk (asks : List Outstanding) (led : List Entry) (e : Exchange) : Type 0 where
   pub place : ℕ
   pub request : Outstanding
   pub ask : slice_get asks place ≡ Some request
   pub id : e.arrival.id ≡ request.id
-  pub kept : (bytes : List ℕ) → e.reply ≡ Some bytes → IsReply asks acts place bytes
+  pub kept : (bytes : List ℕ) → e.reply ≡ Some bytes → IsReply asks led place bytes
 
-abbrev pub IsKept : List Outstanding → List Act → Exchange → Type 0
-IsKept asks acts e = e.arrival.from ≡ client_place → IsOfAsk asks acts e
+abbrev pub IsKept : List Outstanding → List Entry → Exchange → Type 0
+IsKept asks led e = e.arrival.from ≡ client_place → IsOfAsk asks led e
 
 -- what was sent back on a copy of an ask is a reply to it; what was sent for anything else goes to neither end
-pub record IsSentBack (asks : List Outstanding) (acts : List Act) (k : ℕ) (d : Datagram) : Type 0 where
+pub record IsSentBack (asks : List Outstanding) (led : List Entry) (k : ℕ) (d : Datagram) : Type 0 where
   pub from : d.from ≡ server_place
   pub to : d.to ≡ client_place
-  pub reply : IsReply asks acts k d.bytes
+  pub reply : IsReply asks led k d.bytes
 
 -- a notification of what an ask registered for, for which an act was made
 pub record IsNotice (asks : List Outstanding) (acts : List Act) (k sequence : ℕ) (d : Datagram) : Type 0 where
@@ -91,43 +87,38 @@ pub record IsEmpty (d : Datagram) : Type 0 where
   pub kind : (message.kind ≡ Ack) ⊎ (message.kind ≡ Rst)
   pub no_request : is_request message ≡ false
 
-abbrev pub IsSaid : List Outstanding → List Act → Datagram → Purpose → Type 0
-IsSaid asks acts d (copy_of k) = (d.to ≡ client_place) → ⊥
-IsSaid asks acts d (reply_to k) = IsSentBack asks acts k d
-IsSaid asks acts d (notice_for k q e) = IsNotice asks acts k q d
-IsSaid asks acts d other = ((d.to ≡ client_place) → ⊥) × (((d.to ≡ server_place) → ⊥) ⊎ IsEmpty d)
+abbrev pub IsSaid : List Outstanding → List Act → List Entry → Datagram → Purpose → Type 0
+IsSaid asks acts led d (copy_of k) = (d.to ≡ client_place) → ⊥
+IsSaid asks acts led d (reply_to k) = IsSentBack asks led k d
+IsSaid asks acts led d (notice_for k q e) = IsNotice asks acts k q d
+IsSaid asks acts led d other = ((d.to ≡ client_place) → ⊥) × (((d.to ≡ server_place) → ⊥) ⊎ IsEmpty d)
 
 -- the answer that ended an ask is a reply to it
-abbrev pub IsEnd : List Outstanding → List Act → ℕ → End → Type 0
-IsEnd asks acts k (answered code payload) = (r : Reply) × IsWhy asks acts k r × (code ≡ r.code) × (payload ≡ r.payload)
-IsEnd asks acts k observed = (x : Act) × Contains acts x × (x.ask ≡ k)
-IsEnd asks acts k reset = Unit {0}
-IsEnd asks acts k timed_out = Unit {0}
+abbrev pub IsEnd : List Act → List Entry → ℕ → End → Type 0
+IsEnd acts led k (answered code block payload) = (r : Reply) × IsWhy led k r × (code ≡ r.code) × (block ≡ block2_of (reply_options r)) × (payload ≡ r.payload)
+IsEnd acts led k observed = (x : Act) × Contains acts x × (x.ask ≡ k)
+IsEnd acts led k reset = Unit {0}
+IsEnd acts led k timed_out = Unit {0}
 
 pub record Exact (w : WorldState) : Type 0 where
-  pub kept : All (IsKept w.asks w.acts) w.server.exchanges.exchanges
-  pub said : All (λ d. IsSaid w.asks w.acts d d.purpose) w.sent
-  pub ended : All (λ e. IsEnd w.asks w.acts e.ask e.end) w.ends
+  pub led : List Entry
+  pub ledger : Ledger led w.asks w.acts w.server w.moment
+  pub given : Given led w.server
+  pub joins : Joins led w.server
+  pub fed : AreFed w.server.links led
+  pub first : AllPairs (ComesFirst w.ends) led
+  pub kept : All (IsKept w.asks led) w.server.exchanges.exchanges
+  pub said : All (λ d. IsSaid w.asks w.acts led d d.purpose) w.sent
+  pub ended : All (λ e. IsEnd w.acts led e.ask e.end) w.ends
 
--- ---- more asks and more acts
+-- ---- more asks, acts and entries
 
-links_more : (asks other_asks : List Outstanding) (k : ℕ) → AsksLinks asks k → AsksLinks (asks ++ other_asks) k
-links_more asks other_asks k l = record {
-  request = l.request;
-  ask = at_more asks other_asks k l.request l.ask;
-  message = l.message;
-  spells = l.spells;
-  path = l.path;
-}
+why_more : (led later : List Entry) (k : ℕ) (r : Reply) → IsWhy led k r → IsWhy (led ++ later) k r
+why_more led later k r (inl full) = inl full
+why_more led later k r (inr x) = inr (x.0, Contains-append_left led later x.0 x.1, x.2, x.3)
 
-why_more : (asks other_asks : List Outstanding) (acts more : List Act) (k : ℕ) (r : Reply) → IsWhy asks acts k r → IsWhy (asks ++ other_asks) (acts ++ more) k r
-why_more asks other_asks acts more k r (inl full) = inl full
-why_more asks other_asks acts more k r (inr (inl none)) = inr (inl none)
-why_more asks other_asks acts more k r (inr (inr (inl links))) = inr (inr (inl (links_more asks other_asks k links.0, links.1)))
-why_more asks other_asks acts more k r (inr (inr (inr act))) = inr (inr (inr (act.0, Contains-append_left acts more act.0 act.1, act.2, act.3, act.4)))
-
-pub reply_more : (asks other_asks : List Outstanding) (acts more : List Act) (k : ℕ) (bytes : List ℕ) → IsReply asks acts k bytes → IsReply (asks ++ other_asks) (acts ++ more) k bytes
-reply_more asks other_asks acts more k bytes r = record {
+pub reply_more : (asks other_asks : List Outstanding) (led later : List Entry) (k : ℕ) (bytes : List ℕ) → IsReply asks led k bytes → IsReply (asks ++ other_asks) (led ++ later) k bytes
+reply_more asks other_asks led later k bytes r = record {
   request = r.request;
   ask = at_more asks other_asks k r.request r.ask;
   answer = r.answer;
@@ -140,24 +131,25 @@ reply_more asks other_asks acts more k bytes r = record {
   payload = r.payload;
   options = r.options;
   shows = r.shows;
-  why = why_more asks other_asks acts more k r.reply r.why;
+  why = why_more led later k r.reply r.why;
 }
 
-kept_more : (asks other_asks : List Outstanding) (acts more : List Act) (e : Exchange) → IsKept asks acts e → IsKept (asks ++ other_asks) (acts ++ more) e
-kept_more asks other_asks acts more e of from =
+kept_more : (asks other_asks : List Outstanding) (led later : List Entry) (e : Exchange) → IsKept asks led e → IsKept (asks ++ other_asks) (led ++ later) e
+kept_more asks other_asks led later e of from =
     let x = of from in
     record {
       place = x.place;
       request = x.request;
       ask = at_more asks other_asks x.place x.request x.ask;
       id = x.id;
-      kept = λ bytes is. reply_more asks other_asks acts more x.place bytes (x.kept bytes is);
+      kept = λ bytes is. reply_more asks other_asks led later x.place bytes (x.kept bytes is);
     }
 
-said_more : (asks other_asks : List Outstanding) (acts more : List Act) (d : Datagram) (p : Purpose) → IsSaid asks acts d p → IsSaid (asks ++ other_asks) (acts ++ more) d p
-said_more asks other_asks acts more d (copy_of k) is = is
-said_more asks other_asks acts more d (reply_to k) is = record { from = is.from; to = is.to; reply = reply_more asks other_asks acts more k d.bytes is.reply }
-said_more asks other_asks acts more d (notice_for k q e) is = record {
+said_more : (asks other_asks : List Outstanding) (acts more : List Act) (led later : List Entry) (d : Datagram) (p : Purpose) → IsSaid asks acts led d p
+    → IsSaid (asks ++ other_asks) (acts ++ more) (led ++ later) d p
+said_more asks other_asks acts more led later d (copy_of k) is = is
+said_more asks other_asks acts more led later d (reply_to k) is = record { from = is.from; to = is.to; reply = reply_more asks other_asks led later k d.bytes is.reply }
+said_more asks other_asks acts more led later d (notice_for k q e) is = record {
   from = is.from;
   to = is.to;
   request = is.request;
@@ -174,33 +166,48 @@ said_more asks other_asks acts more d (notice_for k q e) is = record {
   low = is.low;
   spells = is.spells;
 }
-said_more asks other_asks acts more d other is = is
+said_more asks other_asks acts more led later d other is = is
 
-end_more : (asks other_asks : List Outstanding) (acts more : List Act) (k : ℕ) (e : End) → IsEnd asks acts k e → IsEnd (asks ++ other_asks) (acts ++ more) k e
-end_more asks other_asks acts more k (answered code payload) is = (is.0, why_more asks other_asks acts more k is.0 is.1, is.2, is.3)
-end_more asks other_asks acts more k observed is = (is.0, Contains-append_left acts more is.0 is.1, is.2)
-end_more asks other_asks acts more k reset is = tt
-end_more asks other_asks acts more k timed_out is = tt
+end_more : (acts more : List Act) (led later : List Entry) (k : ℕ) (e : End) → IsEnd acts led k e → IsEnd (acts ++ more) (led ++ later) k e
+end_more acts more led later k (answered code block payload) is = (is.0, why_more led later k is.0 is.1, is.2, is.3, is.4)
+end_more acts more led later k observed is = (is.0, Contains-append_left acts more is.0 is.1, is.2)
+end_more acts more led later k reset is = tt
+end_more acts more led later k timed_out is = tt
 
-pub all_kept_more : (asks other_asks : List Outstanding) (acts more : List Act) (es : List Exchange) → All (IsKept asks acts) es → All (IsKept (asks ++ other_asks) (acts ++ more)) es
-all_kept_more asks other_asks acts more es all = All-weaker (IsKept asks acts) (IsKept (asks ++ other_asks) (acts ++ more)) (λ e is. kept_more asks other_asks acts more e is) es all
+pub all_kept_more : (asks other_asks : List Outstanding) (led later : List Entry) (es : List Exchange) → All (IsKept asks led) es → All (IsKept (asks ++ other_asks) (led ++ later)) es
+all_kept_more asks other_asks led later es all = All-weaker (IsKept asks led) (IsKept (asks ++ other_asks) (led ++ later)) (λ e is. kept_more asks other_asks led later e is) es all
 
-pub all_said_more : (asks other_asks : List Outstanding) (acts more : List Act) (ds : List Datagram) → All (λ d. IsSaid asks acts d d.purpose) ds
-    → All (λ d. IsSaid (asks ++ other_asks) (acts ++ more) d d.purpose) ds
-all_said_more asks other_asks acts more ds all =
-    All-weaker (λ (d : Datagram). IsSaid asks acts d d.purpose) (λ (d : Datagram). IsSaid (asks ++ other_asks) (acts ++ more) d d.purpose)
-    (λ d is. said_more asks other_asks acts more d d.purpose is) ds all
+pub all_said_more : (asks other_asks : List Outstanding) (acts more : List Act) (led later : List Entry) (ds : List Datagram) → All (λ d. IsSaid asks acts led d d.purpose) ds
+    → All (λ d. IsSaid (asks ++ other_asks) (acts ++ more) (led ++ later) d d.purpose) ds
+all_said_more asks other_asks acts more led later ds all =
+    All-weaker (λ (d : Datagram). IsSaid asks acts led d d.purpose) (λ (d : Datagram). IsSaid (asks ++ other_asks) (acts ++ more) (led ++ later) d d.purpose)
+    (λ d is. said_more asks other_asks acts more led later d d.purpose is) ds all
 
-pub all_ends_more : (asks other_asks : List Outstanding) (acts more : List Act) (es : List AskEnd) → All (λ e. IsEnd asks acts e.ask e.end) es
-    → All (λ e. IsEnd (asks ++ other_asks) (acts ++ more) e.ask e.end) es
-all_ends_more asks other_asks acts more es all =
-    All-weaker (λ (e : AskEnd). IsEnd asks acts e.ask e.end) (λ (e : AskEnd). IsEnd (asks ++ other_asks) (acts ++ more) e.ask e.end)
-    (λ e is. end_more asks other_asks acts more e.ask e.end is) es all
+pub all_ends_more : (acts more : List Act) (led later : List Entry) (es : List AskEnd) → All (λ e. IsEnd acts led e.ask e.end) es → All (λ e. IsEnd (acts ++ more) (led ++ later) e.ask e.end) es
+all_ends_more acts more led later es all =
+    All-weaker (λ (e : AskEnd). IsEnd acts led e.ask e.end) (λ (e : AskEnd). IsEnd (acts ++ more) (led ++ later) e.ask e.end)
+    (λ e is. end_more acts more led later e.ask e.end is) es all
 
--- the same with more acts alone
-pub ends_acts : (asks : List Outstanding) (acts more : List Act) (es : List AskEnd) → All (λ e. IsEnd asks acts e.ask e.end) es → All (λ e. IsEnd asks (acts ++ more) e.ask e.end) es
-ends_acts asks acts more es all =
-    subst (λ (l : List Outstanding). All (λ e. IsEnd l (acts ++ more) e.ask e.end) es) (append-nil asks) (all_ends_more asks [] acts more es all)
+-- the same with as many asks, or as many acts and entries
+pub kept_later : (asks : List Outstanding) (led later : List Entry) (es : List Exchange) → All (IsKept asks led) es → All (IsKept asks (led ++ later)) es
+kept_later asks led later es all = subst (λ (l : List Outstanding). All (IsKept l (led ++ later)) es) (append-nil asks) (all_kept_more asks [] led later es all)
+
+pub kept_asked : (asks other_asks : List Outstanding) (led : List Entry) (es : List Exchange) → All (IsKept asks led) es → All (IsKept (asks ++ other_asks) led) es
+kept_asked asks other_asks led es all = subst (λ (l : List Entry). All (IsKept (asks ++ other_asks) l) es) (append-nil led) (all_kept_more asks other_asks led [] es all)
+
+pub said_later : (asks : List Outstanding) (acts more : List Act) (led later : List Entry) (ds : List Datagram) → All (λ d. IsSaid asks acts led d d.purpose) ds
+    → All (λ d. IsSaid asks (acts ++ more) (led ++ later) d d.purpose) ds
+said_later asks acts more led later ds all =
+    subst (λ (l : List Outstanding). All (λ d. IsSaid l (acts ++ more) (led ++ later) d d.purpose) ds) (append-nil asks) (all_said_more asks [] acts more led later ds all)
+
+pub said_asked : (asks other_asks : List Outstanding) (acts : List Act) (led : List Entry) (ds : List Datagram) → All (λ d. IsSaid asks acts led d d.purpose) ds
+    → All (λ d. IsSaid (asks ++ other_asks) acts led d d.purpose) ds
+said_asked asks other_asks acts led ds all =
+    subst (λ (l : List Entry). All (λ d. IsSaid (asks ++ other_asks) acts l d d.purpose) ds) (append-nil led)
+    (subst (λ (l : List Act). All (λ d. IsSaid (asks ++ other_asks) l (led ++ []) d d.purpose) ds) (append-nil acts) (all_said_more asks other_asks acts [] led [] ds all))
+
+pub reply_later : (asks : List Outstanding) (led later : List Entry) (k : ℕ) (bytes : List ℕ) → IsReply asks led k bytes → IsReply asks (led ++ later) k bytes
+reply_later asks led later k bytes r = subst (λ (l : List Outstanding). IsReply l (led ++ later) k bytes) (append-nil asks) (reply_more asks [] led later k bytes r)
 
 -- ---- ids
 

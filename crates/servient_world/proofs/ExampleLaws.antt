@@ -14,7 +14,7 @@ use Rattle.coap_opts.specs.Reading.{asked as what_is_asked}
 use Rattle.coap_client.specs.declared.state.State.{State}
 use Rattle.coap_client.specs.declared.news.News.TheVariants as news
 use Rattle.coap_client.specs.declared.news.Delivered.{Delivered}
-use Rattle.coap_client.specs.Asking.{message_for}
+use Rattle.coap_client.specs.Asking.{message_for, MayAsk}
 use Rattle.coap_client.specs.Names.{is_recent}
 use Rattle.coap_client.specs.Exchange.{IsNew, at_moment, Asks, request_for, with_request, valued, Delivers, of_message}
 use Rattle.coap_bind.specs.declared.server.Server.{Server}
@@ -22,7 +22,7 @@ use Rattle.coap_bind.specs.Observing.{registers}
 use Rattle.coap_bind.specs.Writing.{Reply, reply_of, observed as observed_reply, coap_reply}
 use Rattle.coap_bind.specs.Server.{start as nothing_came, arrival, asked, asks, opened_ask, Hears, admitted, with_kept, with_id_used, with_watchers, Answers}
 use Rattle.coap_bind.specs.Treating.{Acted, Treats, acts}
-use Rattle.servient_world.specs.World.{client_place, server_place, copy_of, reply_to, other, WorldState, IsStart, latest, end_by, taken_by, with_sent, MayAskWhole, ClientAsks, sends_ask, treated, Comes, to_client, to_server, PlaysAll}
+use Rattle.servient_world.specs.World.{client_place, server_place, copy_of, reply_to, other, WorldState, IsStart, latest, end_by, taken_by, with_sent, ClientAsks, sends_ask, treated, Comes, to_client, to_server, PlaysAll}
 use Rattle.servient_world.specs.Examples.{world_of, observe_root, ask_that_comes, ask_and_reply, SomeoneActs, SomeoneTakesAValue}
 
 -- ---- what is sent
@@ -104,8 +104,8 @@ asked_world uses =
     with_sent (record (world_of (fresh uses)) { client = asked_state uses; asks = request_for (fresh uses) server_place observe_root 0 ∷ [] })
     client_place server_place (copy_of 0) (take (length question_bytes) question_bytes ∷ [])
 
-may_ask_it : MayAskWhole observe_root
-may_ask_it = record { may = record { code = λ e. omega arith; class = omega arith; segments = All-nil (λ (segment : List ℕ). length segment ≤ 255); block1 = tt; block2 = tt }; block1 = refl; block2 = refl }
+may_ask_it : MayAsk observe_root
+may_ask_it = record { code = λ e. omega arith; class = omega arith; segments = All-nil (λ (segment : List ℕ). length segment ≤ 255); block1 = tt; block2 = tt }
 
 asks_it : (uses : List (Option ℕ)) → slice_index_or uses 0 None ≡ None → Asks (fresh uses) server_place observe_root (length question_bytes) question_bytes question_bytes (asked_state uses)
 asks_it uses unused = record {

@@ -47,16 +47,20 @@ IsSentFor asks d (reply_to k) = Unit {0}
 IsSentFor asks d (notice_for k q e) = Unit {0}
 IsSentFor asks d other = Unit {0}
 
--- an act was made for an ask: a copy of that was admitted, not before it was first sent
-pub record IsActed (capacity : ℕ) (history : List Arrival) (asks : List Outstanding) (x : Act) : Type 0 where
+-- a copy of an ask was admitted, not before it was first sent
+pub record IsAdmitted (capacity : ℕ) (history : List Arrival) (asks : List Outstanding) (k : ℕ) : Type 0 where
   pub request : Outstanding
-  pub ask : slice_get asks x.ask ≡ Some request
+  pub ask : slice_get asks k ≡ Some request
   pub arrival : Arrival
   pub admitted : Contains (admitted_among capacity history) arrival
   pub from : arrival.from ≡ client_place
   pub id : arrival.id ≡ request.id
   pub kind : arrival.kind ≡ Confirmable
   pub first : request.first ≤ arrival.moment
+
+-- an act was made for one
+abbrev pub IsActed : ℕ → List Arrival → List Outstanding → Act → Type 0
+IsActed capacity history asks x = IsAdmitted capacity history asks x.ask
 
 pub record Holds (capacity : ℕ) (w : WorldState) : Type 0 where
   -- both ends did what their crates say of all that they do
@@ -112,10 +116,10 @@ sent_for_more asks more d (reply_to k) is = tt
 sent_for_more asks more d (notice_for k q e) is = tt
 sent_for_more asks more d other is = tt
 
-pub acted_more : (capacity : ℕ) (history : List Arrival) (asks more : List Outstanding) (x : Act) → IsActed capacity history asks x → IsActed capacity history (asks ++ more) x
-acted_more capacity history asks more x c = record {
+pub admitted_more : (capacity : ℕ) (history : List Arrival) (asks more : List Outstanding) (k : ℕ) → IsAdmitted capacity history asks k → IsAdmitted capacity history (asks ++ more) k
+admitted_more capacity history asks more k c = record {
   request = c.request;
-  ask = at_more asks more x.ask c.request c.ask;
+  ask = at_more asks more k c.request c.ask;
   arrival = c.arrival;
   admitted = c.admitted;
   from = c.from;
@@ -125,8 +129,8 @@ acted_more capacity history asks more x c = record {
 }
 
 -- and as more is heard
-pub acted_later : (capacity : ℕ) (history more : List Arrival) (asks : List Outstanding) (x : Act) → IsActed capacity history asks x → IsActed capacity (history ++ more) asks x
-acted_later capacity history more asks x c = record {
+pub admitted_later : (capacity : ℕ) (history more : List Arrival) (asks : List Outstanding) (k : ℕ) → IsAdmitted capacity history asks k → IsAdmitted capacity (history ++ more) asks k
+admitted_later capacity history more asks k c = record {
   request = c.request;
   ask = c.ask;
   arrival = c.arrival;
@@ -164,7 +168,7 @@ without_act capacity w p act t more h did moment none =
       did = did;
       moment = moment;
       acted = All-same (IsActed capacity (h.history ++ more) w.asks) (w.acts ++ acts_for p act) w.acts same
-          (All-weaker (IsActed capacity h.history w.asks) (IsActed capacity (h.history ++ more) w.asks) (λ x is. acted_later capacity h.history more w.asks x is) w.acts h.acted);
+          (All-weaker (IsActed capacity h.history w.asks) (IsActed capacity (h.history ++ more) w.asks) (λ x is. admitted_later capacity h.history more w.asks x.ask is) w.acts h.acted);
       once = subst (λ (l : List Act). AllPairs (λ x y. x.ask ≢ y.ask) l) (sym same) h.once;
     }
 
@@ -179,12 +183,12 @@ same_table capacity history s t e did =
     subst (λ (x : Server). ServerDid capacity (history ++ []) x) (sym e) (subst (λ (l : List Arrival). ServerDid capacity l s) (sym (append-nil history)) did)
 
 -- what was asked and is answered now
-answered_did : (capacity : ℕ) (history : List Arrival) (s u t : Server) (from : Endpoint) (bytes : List ℕ) (now : ℕ) (a : Acted) (ask : OpenAsk) (reply : List ℕ)
+pub answered_did : (capacity : ℕ) (history : List Arrival) (s u t : Server) (from : Endpoint) (bytes : List ℕ) (now : ℕ) (a : Acted) (ask : OpenAsk) (reply : List ℕ)
     → Hears from bytes now (asked a.what ask) s u → ServerDid capacity history u → Answers ask a.outcome a.target reply u t → ServerDid capacity history t
 answered_did capacity history s u t from bytes now a ask reply hears did answer =
     (did.0, server_answered history u t ask a.outcome a.target reply did.1 (asks_are_open from bytes now a.what ask s u hears) answer)
 
-answered_moment : (ask : OpenAsk) (a : Acted) (reply : List ℕ) (u t : Server) → Answers ask a.outcome a.target reply u t → t.exchanges.moment ≡ u.exchanges.moment
+pub answered_moment : (ask : OpenAsk) (a : Acted) (reply : List ℕ) (u t : Server) → Answers ask a.outcome a.target reply u t → t.exchanges.moment ≡ u.exchanges.moment
 answered_moment ask a reply u t answer = replies_moment _ ask.request reply (ready ask a.outcome answer.watchers u) t answer.replies
 
 -- tests
@@ -198,7 +202,7 @@ pub both_true : (b c : Bool) → b ≡ true → c ≡ true → (b && c) ≡ true
 both_true b c e f = rw e f
 
 -- an arrival of the client's with this id, less than 247 seconds ago, is repeated
-repeats : (now : ℕ) (from : Endpoint) (m : CoapMessage) (e : Arrival) → from ≡ e.from → m.id ≡ e.id → e.kind ≡ Confirmable → now - e.moment < 247000
+pub repeats : (now : ℕ) (from : Endpoint) (m : CoapMessage) (e : Arrival) → from ≡ e.from → m.id ≡ e.id → e.kind ≡ Confirmable → now - e.moment < 247000
     → is_duplicate_of (arrival from now m) e ≡ true
 repeats now from m e place id kind soon =
     let life : lifetime e.kind ≡ 247000 = ap lifetime kind in
@@ -246,7 +250,7 @@ with_act capacity w d k act t u a ask reply h copy past soon hears answer is =
       acted = All-same (IsActed capacity (h.history ++ arrival d.from w.moment new.0 ∷ []) w.asks) (w.acts ++ acts_for (copy_of k) act) (w.acts ++ made ∷ []) more
           (All-push (IsActed capacity (h.history ++ arrival d.from w.moment new.0 ∷ []) w.asks) w.acts made
           (All-weaker (IsActed capacity h.history w.asks) (IsActed capacity (h.history ++ arrival d.from w.moment new.0 ∷ []) w.asks)
-          (λ x is. acted_later capacity h.history (arrival d.from w.moment new.0 ∷ []) w.asks x is) w.acts h.acted) acted_now);
+          (λ x is. admitted_later capacity h.history (arrival d.from w.moment new.0 ∷ []) w.asks x.ask is) w.acts h.acted) acted_now);
       once = subst (λ (l : List Act). AllPairs (λ x y. x.ask ≢ y.ask) l) (sym more)
           (all_pairs_push (λ (x y : Act). x.ask ≢ y.ask) w.acts made h.once (λ i x within same_ask.
           let was : IsActed capacity h.history w.asks (get_or w.acts i x) = h.acted i x within in

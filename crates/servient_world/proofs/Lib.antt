@@ -1,9 +1,14 @@
 pub mod Places
 pub mod Tokens
+pub mod LedLaws
 pub mod AskLaws
 pub mod Holds
 pub mod OnceLaws
+pub mod Ledger
+pub mod Given
+pub mod Joins
 pub mod ReplyLaws
+pub mod BlockReplies
 pub mod WatchLaws
 pub mod Exact
 pub mod KeptReplies

@@ -9,7 +9,7 @@ use Rattle.coap_exchange.specs.Table.{Table}
 use Rattle.coap_client.specs.declared.outstanding.Outstanding.{Outstanding}
 use Rattle.coap_client.specs.declared.state.State.{State}
 use Rattle.coap_client.specs.declared.due.Due.TheVariants as what
-use Rattle.coap_client.specs.Asking.{Asking}
+use Rattle.coap_client.specs.Asking.{Asking, MayAsk}
 use Rattle.coap_client.specs.Exchange.{at_moment, request_for, Asks, ComesDue}
 use Rattle.coap_client.specs.Laws.{Did as ClientDid, nothing as client_did_nothing, asked as client_asked, refused as client_refused, took as client_took, retransmitted as client_retransmitted}
 use Rattle.coap_client.proofs.HistoryLaws.{follows, keeps_delivered}
@@ -23,11 +23,11 @@ use Rattle.coap_bind.specs.Laws.{Did as ServerDid, nothing as server_did_nothing
 use Rattle.coap_bind.specs.Treating.{Acted}
 use Rattle.coap_bind.proofs.HistoryLaws.{sent_stays}
 use Rattle.servient_world.specs.declared.network.TheConstants.{MAX_LATENCY}
-use Rattle.servient_world.specs.World.{Emission, client_place, server_place, Purpose, copy_of, other, Datagram, Act, AskEnd, Value, WorldState, IsStart, WorldMove, ask, due, deliver, pass, elsewhere, emit, notify, latest, with_sent, MayAskWhole, ClientAsks, sends_ask, refuses_ask, skips_ask, ClientDoesDue, retransmits, gives_up, waits, ClientTakes, end_by, taken_by, acts_for, id_used, purpose_back, ServerTakes, with_new_value, targets_of, registration_from, purpose_at, purpose_of, notice_sent, with_notice, ServerNotifies, Comes, too_late, to_client, to_server, ComesIfSent, from_elsewhere, ComesElsewhere, comes_elsewhere, skips_end, Plays, PlaysAll}
+use Rattle.servient_world.specs.World.{Emission, client_place, server_place, Purpose, copy_of, other, Datagram, Act, AskEnd, Value, WorldState, IsStart, WorldMove, ask, due, deliver, pass, elsewhere, emit, notify, latest, with_sent, ClientAsks, sends_ask, refuses_ask, skips_ask, ClientDoesDue, retransmits, gives_up, waits, ClientTakes, end_by, taken_by, acts_for, id_used, purpose_back, ServerTakes, with_new_value, targets_of, registration_from, purpose_at, purpose_of, notice_sent, with_notice, ServerNotifies, Comes, too_late, to_client, to_server, ComesIfSent, from_elsewhere, ComesElsewhere, comes_elsewhere, skips_end, Plays, PlaysAll}
 use Rattle.servient_world.specs.Laws.{ActedOnce}
 use Rattle.servient_world.proofs.Places.{all_at, at_last, at_end}
 use Rattle.servient_world.proofs.AskLaws.{HasMessage, asks_are_asks}
-use Rattle.servient_world.proofs.Holds.{Holds, IsSentFor, IsActed, sent_for_more, acted_more, back, Served, serves, came_soon}
+use Rattle.servient_world.proofs.Holds.{Holds, IsSentFor, IsActed, sent_for_more, admitted_more, back, Served, serves, came_soon}
 
 -- ---- what is sent
 
@@ -49,7 +49,7 @@ purposes_sent w from to p said all each =
 
 -- ---- the client
 
-holds_asked : (capacity : ℕ) (w : WorldState) (a : Asking) (n : ℕ) (old new : List ℕ) (t : State) → Holds capacity w → MayAskWhole a
+holds_asked : (capacity : ℕ) (w : WorldState) (a : Asking) (n : ℕ) (old new : List ℕ) (t : State) → Holds capacity w → MayAsk a
     → (asks : Asks (at_moment w.moment w.client) server_place a n old new t)
     → Holds capacity (with_sent (record w { client = t; asks = w.asks ++ request_for (at_moment w.moment w.client) server_place a asks.id ∷ [] })
     client_place server_place (copy_of (length w.asks)) (take n new ∷ []))
@@ -78,7 +78,7 @@ holds_asked capacity w a n old new t h may asks =
             to = refl;
           });
       acted = All-weaker (IsActed capacity h.history w.asks) (IsActed capacity h.history (w.asks ++ o ∷ []))
-          (λ x is. acted_more capacity h.history w.asks (o ∷ []) x is) w.acts h.acted;
+          (λ x is. admitted_more capacity h.history w.asks (o ∷ []) x.ask is) w.acts h.acted;
       once = h.once;
     }
 

@@ -1,9 +1,9 @@
--- What replies and notifications say of Observe (RFC 7641, section 2), and replies to what names no block.
+-- What replies and notifications say of Observe (RFC 7641, section 2).
 use Rattle.std.proofs.Common.{◌≡◌, ℕ, ◌<◌, ◌≤◌, ◌^◌, ◌∙◌, Bool, true, false, cond, Option, Some, None, List, [], ◌∷◌, ◌++◌, length, option_map, inr, refl, sym, ap, arith}
 use Rattle.std.specs.Prelude.{◌==◌, nat_lt, nat_le, if◌then◌else◌}
 use Rattle.std.specs.Option.{option_map_or}
 use Rattle.std.proofs.lemmas.Bool.Decides.{nat_tests}
-use Rattle.coap_msg.specs.declared.constants.TheConstants.{GET, POST, PUT, DELETE, OBSERVE, LOCATION_PATH, CONTENT_FORMAT, JSON, LONGEST_PAYLOAD}
+use Rattle.coap_msg.specs.declared.constants.TheConstants.{OBSERVE, LOCATION_PATH, CONTENT_FORMAT, JSON, LONGEST_PAYLOAD}
 use Rattle.coap_msg.specs.declared.message.RequestType.{RequestType}
 use Rattle.coap_msg.specs.declared.message.RequestType.TheVariants.{Confirmable, NonConfirmable}
 use Rattle.coap_msg.specs.Grammar.{CoapMessage, CoapOption, IsWellFormed}
@@ -11,26 +11,17 @@ use Rattle.coap_msg.specs.Numbers.{number_of, number_bytes}
 use Rattle.coap_msg.proofs.NumberValues.{number_is_read, short_length}
 use Rattle.coap_msg.specs.Opts.{segment_options}
 use Rattle.thing_ops.specs.declared.outcome.Outcome.{Outcome}
-use Rattle.thing_ops.specs.declared.verb.Verb.{Verb}
-use Rattle.thing_ops.specs.declared.verb.Verb.TheVariants as verb
 use Rattle.thing_ops.specs.Outcomes.{payload_of, text_of}
 use Rattle.coap_client.specs.Answers.{number_within, sequence_of}
 use Rattle.coap_observe.specs.declared.notice.Notice.{Notice}
-use Rattle.coap_opts.specs.Reading.{PlainAsk, verb_of, asked as what_is_asked}
 use Rattle.coap_bind.specs.declared.head.RequestHead.{RequestHead}
 use Rattle.coap_bind.specs.declared.blocks.BlockOption.{BlockOption}
 use Rattle.coap_bind.specs.declared.blocks.BlockOption.TheVariants as option
 use Rattle.coap_bind.specs.declared.blocks.BlockUse.{BlockUse}
-use Rattle.coap_bind.specs.declared.blocks.BlockUse.TheVariants as blocks
-use Rattle.coap_bind.specs.declared.observing.Observing.{Observing}
-use Rattle.coap_bind.specs.declared.observing.Observing.TheVariants as observing
 use Rattle.coap_blocks.specs.Bodies.{longest_body}
 use Rattle.coap_bind.specs.Links.{links_content, links_reply}
-use Rattle.coap_bind.specs.Blocks.{content_format, content_reply, given_portion, block2_of, use_of, with_block, option_of, portion_of, most_bytes, reply_with, answer_reply}
-use Rattle.coap_bind.specs.Server.{observing_in}
-use Rattle.coap_bind.specs.Transfers.{NamesNoBlock}
+use Rattle.coap_bind.specs.Blocks.{content_format, content_reply, given_portion, with_block, option_of, portion_of, most_bytes, reply_with, answer_reply}
 use Rattle.coap_bind.specs.Writing.{Reply, full_reply, long_reply, whole_reply, reply_of, place_of, text_format, format_options, etag_options, reply_options, observed, reply_id, coap_reply, notification}
-use Rattle.servient_world.specs.Laws.{blocks_for}
 
 -- ---- numbers
 
@@ -113,34 +104,8 @@ links_unnumbered_at false szx text = block_unnumbered 40 (given_portion szx text
 pub links_unnumbered : (szx : Option ℕ) (text : List ℕ) → sequence_of (reply_options (links_reply szx text)) ≡ None
 links_unnumbered szx text = links_unnumbered_at (nat_lt longest_body (length text)) szx text
 
--- ---- what names no block
-
-no_block2 : (x : Observing) (a : PlainAsk) → a.block2 ≡ None → block2_of x a ≡ None
-no_block2 observing.Registers a none = refl
-no_block2 observing.Unchanged a none = none
-no_block2 observing.Deregisters a none = none
-
-given_by : (get : Bool) (now : ℕ) (x : Observing) (a : PlainAsk) (rest : Verb) (o : Outcome) → a.block2 ≡ None → blocks_for rest ≡ blocks.Whole
-    → answer_reply (if get then blocks.Gives (record { path = a.request.path; szx = option_map (λ b. b.szx) (block2_of x a); moment = now }) else blocks.Whole) o
-    ≡ answer_reply (blocks_for (if get then verb.Get else rest)) o
-given_by true now x a rest o none whole =
-    ap (λ b. answer_reply (blocks.Gives (record { path = a.request.path; szx = option_map (λ b. b.szx) b; moment = now })) o) (no_block2 x a none)
-given_by false now x a rest o none whole = ap (λ u. answer_reply u o) (sym whole)
-
-others_whole : (post put delete : Bool) → blocks_for (if post then verb.Post else if put then verb.Put else if delete then verb.Delete else verb.Other) ≡ blocks.Whole
-others_whole true put delete = refl
-others_whole false true delete = refl
-others_whole false false true = refl
-others_whole false false false = refl
-
--- what is said to a request that names no block is by its verb
-pub said_by_verb : (now : ℕ) (m : CoapMessage) (o : Outcome) → NamesNoBlock m
-    → answer_reply (use_of now m.code (observing_in m) (what_is_asked m)) o ≡ answer_reply (blocks_for (verb_of m.code)) o
-said_by_verb now m o names =
-    given_by (m.code == GET) now (observing_in m) (what_is_asked m) _ o names.block2 (others_whole (m.code == POST) (m.code == PUT) (m.code == DELETE))
-
 -- that the table is full is a message
-id_at : (kind : RequestType) (id next : ℕ) → id < 2 ^ 16 → next < 2 ^ 16 → reply_id kind id next < 2 ^ 16
+pub id_at : (kind : RequestType) (id next : ℕ) → id < 2 ^ 16 → next < 2 ^ 16 → reply_id kind id next < 2 ^ 16
 id_at Confirmable id next mine its = mine
 id_at NonConfirmable id next mine its = its
 

@@ -1,16 +1,21 @@
 -- What holds of the world over every schedule.
-use Rattle.std.specs.Prelude.{◌≡◌, ◌≢◌, ◌<◌, ◌≤◌, ◌-◌, ◌⊎◌, ℕ, true, List, [], length, codes, All, AllPairs, Contains, Some, None, slice_get}
+use Rattle.std.specs.Prelude.{◌≡◌, ◌≢◌, ◌<◌, ◌≤◌, ◌-◌, ◌⊎◌, ℕ, true, List, [], length, codes, All, AllPairs, Contains, Option, Some, None, IsSome, slice_get}
+use Rattle.coap_msg.specs.declared.block.Block.{Block}
 use Rattle.coap_msg.specs.Grammar.{CoapMessage, Spells}
 use Rattle.coap_client.specs.declared.outstanding.Outstanding.{Outstanding}
+use Rattle.coap_client.specs.Answers.{block2_of}
+use Rattle.coap_opts.specs.Reading.{PlainAsk, asked as what_is_asked}
 use Rattle.thing_ops.specs.declared.verb.Verb.{Verb}
 use Rattle.thing_ops.specs.declared.verb.Verb.TheVariants as verb
 use Rattle.thing_ops.specs.Outcomes.{coap}
 use Rattle.coap_bind.specs.declared.blocks.BlockUse.{BlockUse}
 use Rattle.coap_bind.specs.declared.blocks.BlockUse.TheVariants as blocks
 use Rattle.coap_bind.specs.Blocks.{answer_reply}
+use Rattle.coap_bind.specs.Links.{size_asked}
+use Rattle.coap_bind.specs.Observing.{observing_at}
 use Rattle.coap_bind.specs.Server.{asks_links}
 use Rattle.coap_bind.specs.Treating.{Acted}
-use Rattle.coap_bind.specs.Writing.{Reply}
+use Rattle.coap_bind.specs.Writing.{Reply, reply_options}
 use Rattle.servient_world.specs.World.{Emission, WorldState, WorldMove, Act, Value, answered, observed, IsStart, PlaysAll}
 
 -- no two acts are for one ask
@@ -27,45 +32,67 @@ ActedOnce =
 abbrev pub IsExcuse : ℕ → List ℕ → Type 0
 IsExcuse code payload = (code ≡ coap 5 03) × ((payload ≡ codes "full") ⊎ (payload ≡ codes "memory"))
 
--- What blocks are to the reply to an ask of the client, which names none: what a GET reads is given in blocks of 1,024 bytes
--- (RFC 7959, section 2.4). For whom and when they are kept isn't said in the reply.
-abbrev pub blocks_for : Verb → BlockUse
-blocks_for verb.Get = blocks.Gives (record { path = []; szx = None; moment = 0 })
-blocks_for verb.Head = blocks.Whole
-blocks_for verb.Put = blocks.Whole
-blocks_for verb.Post = blocks.Whole
-blocks_for verb.Patch = blocks.Whole
-blocks_for verb.Delete = blocks.Whole
-blocks_for verb.Other = blocks.Whole
+-- What blocks are to the reply to an act (RFC 7959, sections 2.3 and 2.4): what a GET reads is given in blocks, of the size that
+-- it asks for and else of 1,024 bytes; and the reply to a request that came in blocks says which was the last. For whom and when
+-- a body is kept isn't said in the reply.
+abbrev pub blocks_joined : Option Block → BlockUse
+blocks_joined None = blocks.Whole
+blocks_joined (Some b) = blocks.Joined b
+
+abbrev pub blocks_by : Verb → PlainAsk → BlockUse
+blocks_by verb.Get a = blocks.Gives (record { path = a.request.path; szx = size_asked (observing_at a.observe) a; moment = 0 })
+blocks_by verb.Head a = blocks.Whole
+blocks_by verb.Put a = blocks_joined a.block1
+blocks_by verb.Post a = blocks_joined a.block1
+blocks_by verb.Patch a = blocks.Whole
+blocks_by verb.Delete a = blocks.Whole
+blocks_by verb.Other a = blocks.Whole
+
+abbrev pub blocks_for : PlainAsk → BlockUse
+blocks_for a = blocks_by a.request.verb a
 
 -- what the server says of an act for an ask
 abbrev pub said_of : Acted → Reply
-said_of a = answer_reply (blocks_for a.what.request.verb) a.outcome
+said_of a = answer_reply (blocks_for a.what) a.outcome
 
 -- an act for an ask, and its outcome as the server writes it
-pub record IsAnsweredBy (acts : List Act) (k code : ℕ) (payload : List ℕ) : Type 0 where
+pub record IsAnsweredBy (acts : List Act) (k code : ℕ) (block : Option Block) (payload : List ℕ) : Type 0 where
   pub act : Act
   pub made : Contains acts act
   pub for_it : act.ask ≡ k
   pub says_code : code ≡ (said_of act.acted).code
+  pub says_block : block ≡ block2_of (reply_options (said_of act.acted))
   pub says_payload : payload ≡ (said_of act.acted).payload
 
--- an ask for the path of the links, which is answered without an act
-pub record AsksLinks (asks : List Outstanding) (k : ℕ) : Type 0 where
+-- an ask, and the message that it is
+pub record Asked (asks : List Outstanding) (k : ℕ) : Type 0 where
   pub request : Outstanding
   pub ask : slice_get asks k ≡ Some request
   pub message : CoapMessage
   pub spells : Spells message request.sent
-  pub path : asks_links message ≡ true
 
--- For an ask for any other path that ended with any other response the server made an act (and only one, by the law before), and
--- the response says what that came to.
+-- it is for the path of the links, and is answered without an act
+abbrev pub AsksLinks : List Outstanding → ℕ → Type 0
+AsksLinks asks k = (x : Asked asks k) × (asks_links x.message ≡ true)
+
+-- a block after the first
+abbrev pub IsLater : Block → Type 0
+IsLater b = b.number ≢ 0
+
+-- It has a block of its body, or asks for a block after the first: such an ask need not be acted on.
+abbrev pub AsksOfBlocks : List Outstanding → ℕ → Type 0
+AsksOfBlocks asks k =
+    (x : Asked asks k)
+    × (IsSome (what_is_asked x.message).block1 ⊎ ((b : Block) × ((what_is_asked x.message).block2 ≡ Some b) × IsLater b))
+
+-- For an ask for any other path and without such blocks that ended with any other response the server made an act (and only one,
+-- by the law before), and the response says what that came to.
 abbrev pub AnsweredOnce : Type 0
 AnsweredOnce =
-    (first_id exchanges watchers : ℕ) (moves : List WorldMove) (w v : WorldState) (k code : ℕ) (payload : List ℕ)
+    (first_id exchanges watchers : ℕ) (moves : List WorldMove) (w v : WorldState) (k code : ℕ) (block : Option Block) (payload : List ℕ)
     → IsStart first_id exchanges watchers w → PlaysAll moves w v → length v.asks ≤ 65536
-    → ¬ (AsksLinks v.asks k) → Contains v.ends (record { ask = k; end = answered code payload })
-    → IsExcuse code payload ⊎ IsAnsweredBy v.acts k code payload
+    → ¬ (AsksLinks v.asks k) → ¬ (AsksOfBlocks v.asks k) → Contains v.ends (record { ask = k; end = answered code block payload })
+    → IsExcuse code payload ⊎ IsAnsweredBy v.acts k code block payload
 
 -- For an ask that ended with a value of what it observes the server made an act.
 abbrev pub ObservedOnce : Type 0

@@ -1,3 +1,5 @@
 pub mod World
+pub mod Led
 pub mod Laws
+pub mod Rows
 pub mod Examples

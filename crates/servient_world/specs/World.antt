@@ -7,6 +7,7 @@
 -- what each datagram was sent for, and no end looks at that. No definition here looks into bytes.
 use Rattle.std.specs.Prelude.{◌≡◌, ◌<◌, ◌≤◌, ◌+◌, ◌-◌, ◌==◌, ◌&&◌, ◌||◌, ℕ, nat_le, Bool, true, false, List, [], ◌∷◌, ◌++◌, length, map, take, Option, Some, None, option_map, option_to_list, slice_get, if◌then◌else◌}
 use Rattle.std.specs.Str.{bytes_eq}
+use Rattle.coap_msg.specs.declared.block.Block.{Block}
 use Rattle.coap_msg.specs.declared.constants.TheConstants.{LONGEST_DATAGRAM}
 use Rattle.coap_msg.specs.declared.endpoint.Endpoint.{Endpoint}
 use Rattle.coap_msg.specs.Endpoints.{is_same_endpoint}
@@ -60,9 +61,10 @@ pub record Act : Type 0 where
   pub ask : ℕ
   pub acted : Acted
 
--- how an ask ended: by a response, by a value of what it registered for, by a Reset, or by time
+-- how an ask ended: by a response, of which the block is that of its body which it says; by a value of what it registered for;
+-- by a Reset; or by time
 pub data End : Type 0 where
-  answered : ℕ → List ℕ → End
+  answered : ℕ → Option Block → List ℕ → End
   observed : End
   reset : End
   timed_out : End
@@ -138,21 +140,15 @@ with_sent w from to purpose said = record w { sent = w.sent ++ sent_now w.moment
 
 -- ---- the client
 
--- What it may ask here: its body goes whole, and it asks for no further block of a response. Blocks aren't of this world.
-pub record MayAskWhole (a : Asking) : Type 0 where
-  pub may : MayAsk a
-  pub block1 : a.block1 ≡ None
-  pub block2 : a.block2 ≡ None
-
 -- it asks
 pub data ClientAsks (a : Asking) (w v : WorldState) : Type 0 where
-  sends_ask : (n : ℕ) (old new : List ℕ) (t : State) → MayAskWhole a → (asks : Asks (at_moment w.moment w.client) server_place a n old new t)
+  sends_ask : (n : ℕ) (old new : List ℕ) (t : State) → MayAsk a → (asks : Asks (at_moment w.moment w.client) server_place a n old new t)
       → v ≡ with_sent (record w { client = t; asks = w.asks ++ request_for (at_moment w.moment w.client) server_place a asks.id ∷ [] })
       client_place server_place (copy_of (length w.asks)) (take n new ∷ [])
       → ClientAsks a w v
   refuses_ask : (f : ClientFault) → IsRefused (at_moment w.moment w.client) server_place a f
       → v ≡ record w { client = at_moment w.moment w.client } → ClientAsks a w v
-  skips_ask : ¬ (MayAskWhole a) → v ≡ w → ClientAsks a w v
+  skips_ask : ¬ (MayAsk a) → v ≡ w → ClientAsks a w v
 
 -- it does what is due
 pub data ClientDoesDue (w v : WorldState) : Type 0 where
@@ -167,7 +163,7 @@ pub data ClientDoesDue (w v : WorldState) : Type 0 where
 
 -- the ask that was outstanding before this news and isn't afterwards ended so
 abbrev pub end_by : Option Outstanding → Option Outstanding → ℕ → News → List AskEnd
-end_by (Some o) None k (news.Answered code block payload) = record { ask = k; end = answered code payload.now } ∷ []
+end_by (Some o) None k (news.Answered code block payload) = record { ask = k; end = answered code block payload.now } ∷ []
 end_by (Some o) None k (news.Value payload) = record { ask = k; end = observed } ∷ []
 end_by (Some o) None k news.Reset = record { ask = k; end = reset } ∷ []
 end_by (Some o) None k news.Old = []

@@ -1,6 +1,8 @@
 //! Laws of the world of both ends, as contracts of functions that do nothing.
 
 ghost use Rattle.servient_world.specs.Examples.{SomeoneActs, SomeoneTakesAValue};
+ghost use Rattle.servient_world.specs.Led.{AllAreLed};
+ghost use Rattle.servient_world.specs.Rows.{ReadsAreOfOneAct, WritesAreOneAct};
 ghost use Rattle.servient_world.specs.Laws.{ActedOnce, AnsweredOnce, ObservedOnce, ValuesNeverGoBack, ValuesHaveASource};
 
 /// For each ask the server makes at most one act, whatever is lost, repeated or reordered.
@@ -8,8 +10,8 @@ pub fn acted_once()
     ensures { ActedOnce }
 {}
 
-/// For each ask that was answered, but by excuses and but for the links, the server made an act, and the response says what
-/// that came to.
+/// For each ask that was answered, but by excuses, for the links, and with blocks that need no act of their own, the server made
+/// an act, and the response says what that came to.
 pub fn answered_once()
     ensures { AnsweredOnce }
 {}
@@ -27,6 +29,22 @@ pub fn values_never_go_back()
 /// Each value that is taken was read by the act for its ask, or emitted for the target of that act.
 pub fn values_have_a_source()
     ensures { ValuesHaveASource }
+{}
+
+/// Each datagram that the server takes is passed over, or leads to one thing: an act, an answer to a block alone, a block of a
+/// kept body, the links, a refusal of options, or being out of memory.
+pub fn all_are_led()
+    ensures { AllAreLed }
+{}
+
+/// What a row of asks for the blocks of one body reads is of one act, or of the links.
+pub fn reads_are_of_one_act()
+    ensures { ReadsAreOfOneAct }
+{}
+
+/// What a row of asks with the blocks of one body writes is acted on once, whole.
+pub fn writes_are_one_act()
+    ensures { WritesAreOneAct }
 {}
 
 /// Something happens in the world: there is a run in which the server makes an act.

@@ -1,0 +1,505 @@
+-- The parts of bodies that the server keeps (RFC 7959, section 2.5): no two are of one origin, and that of an origin of the client's
+-- has the bytes that the ledger says.
+use Rattle.std.proofs.Common.{◌≡◌, ◌≢◌, ◌⊎◌, ℕ, zero, suc, ◌+◌, ◌<◌, ◌≤◌, ◌∙◌, ◌&&◌, Bool, true, false, cond, not, Option, Some, None, List, [], ◌∷◌, ◌++◌, take, drop, set, remove, length, get_or, inl, inr, refl, sym, ap, subst, append-nil, arith}
+use Rattle.std.specs.Prelude.{◌==◌, nat_lt, slice_get, unwrap_or, if◌then◌else◌}
+use Rattle.std.specs.List.{position, filter}
+use Rattle.std.proofs.lemmas.Bool.Decides.{nat_tests}
+use Rattle.std.proofs.lemmas.List.Quantifiers.{position-Some}
+use Rattle.std.proofs.lemmas.Option.{same_Some}
+use Rattle.coap_msg.specs.declared.block.Block.{Block}
+use Rattle.coap_msg.specs.declared.endpoint.Endpoint.{Endpoint}
+use Rattle.coap_msg.specs.Blocks.{block_start}
+use Rattle.coap_msg.specs.Endpoints.{is_same_endpoint}
+use Rattle.coap_msg.specs.Grammar.{CoapMessage}
+use Rattle.coap_msg.proofs.SameEndpoints.{itself}
+use Rattle.coap_blocks.specs.Bodies.{without_place}
+use Rattle.coap_blocks.specs.Paths.{is_same_path, lives}
+use Rattle.coap_blocks.specs.Parts.{Origin, Arrival as BlockArrival, Part, most_parts, longest_request, is_part_of, place_of, living, is_bad, answer_at, extended, joined_to, new_part, part_at, joined_at, joined, begun, other_parts, after_block, Gives}
+use Rattle.coap_blocks.specs.declared.added.Added.{Added}
+use Rattle.coap_blocks.specs.declared.added.Added.TheVariants as answer
+use Rattle.coap_blocks.proofs.Lists.{rest_of, place_removed}
+use Rattle.coap_blocks.proofs.PartLaws.{own_origin}
+use Rattle.coap_blocks.proofs.Paths.{path_itself}
+use Rattle.coap_bind.specs.declared.server.Server.{Server}
+use Rattle.coap_bind.specs.Blocks.{added_reply}
+use Rattle.coap_bind.specs.Server.{block_arrival}
+use Rattle.coap_bind.specs.Writing.{Reply}
+use Rattle.servient_world.specs.World.{client_place}
+use Rattle.servient_world.specs.Led.{Led, to_refusal, to_no_memory, to_links, to_later_block, to_parts, to_act, to_act_on_whole, LeadsTo, is_refused, finds_no_memory, gets_links, gets_no_links, gets_block, is_joined, is_acted_on, is_acted_on_whole, BlockComes, BodyCompletes, leaves_text, leaves_nothing, drops_body, Leaves}
+use Rattle.servient_world.proofs.Ledger.{Entry, bytes_with, is_of, part_by, part_of, part_push}
+
+-- ---- parts, each and apart
+
+abbrev pub Each : (Part → Type 0) → List Part → Type 0
+Each P [] = Unit {0}
+Each P (p ∷ ps) = P p × Each P ps
+
+-- none of them is of this origin
+abbrev pub NoneOf : Origin → List Part → Type 0
+NoneOf o ps = Each (λ p. p.origin ≢ o) ps
+
+abbrev pub AreApart : List Part → Type 0
+AreApart [] = Unit {0}
+AreApart (p ∷ ps) = NoneOf p.origin ps × AreApart ps
+
+each_weaker : (P Q : Part → Type 0) (ps : List Part) → ((p : Part) → P p → Q p) → Each P ps → Each Q ps
+each_weaker P Q [] step h = tt
+each_weaker P Q (p ∷ ps) step h = (step p h.0, each_weaker P Q ps step h.1)
+
+each_both : (P Q R : Part → Type 0) (ps : List Part) → ((p : Part) → P p → Q p → R p) → Each P ps → Each Q ps → Each R ps
+each_both P Q R [] step h k = tt
+each_both P Q R (p ∷ ps) step h k = (step p h.0 k.0, each_both P Q R ps step h.1 k.1)
+
+each_push : (P : Part → Type 0) (ps : List Part) (p : Part) → Each P ps → P p → Each P (ps ++ p ∷ [])
+each_push P [] p h new = (new, tt)
+each_push P (q ∷ ps) p h new = (h.0, each_push P ps p h.1 new)
+
+apart_push : (ps : List Part) (p : Part) → AreApart ps → NoneOf p.origin ps → AreApart (ps ++ p ∷ [])
+apart_push [] p h none = (tt, tt)
+apart_push (q ∷ ps) p h none = (each_push (λ (x : Part). x.origin ≢ q.origin) ps p h.0 (λ e. none.0 (sym e)), apart_push ps p h.1 none.1)
+
+each_filter : (P : Part → Type 0) (test : Part → Bool) (ps : List Part) → Each P ps → Each P (filter test ps)
+each_filter P test [] h = tt
+each_filter P test (p ∷ ps) h = by_test (test p) (each_filter P test ps h.1)
+  where
+    by_test : (b : Bool) → Each P (filter test ps) → Each P (cond b (p ∷ filter test ps) (filter test ps))
+    by_test true rest = (h.0, rest)
+    by_test false rest = rest
+
+apart_filter : (test : Part → Bool) (ps : List Part) → AreApart ps → AreApart (filter test ps)
+apart_filter test [] h = tt
+apart_filter test (p ∷ ps) h = by_test (test p) (apart_filter test ps h.1)
+  where
+    by_test : (b : Bool) → AreApart (filter test ps) → AreApart (cond b (p ∷ filter test ps) (filter test ps))
+    by_test true rest = (each_filter (λ (x : Part). x.origin ≢ p.origin) test ps h.0, rest)
+    by_test false rest = rest
+
+-- ---- the part of an origin
+
+three_true : (b c d : Bool) → b ≡ true → c ≡ true → d ≡ true → (b && c && d) ≡ true
+three_true true true d e f g = g
+three_true true false d e f g = absurd cc
+three_true false c d e f g = absurd cc
+
+pub is_itself : (o : Origin) (p : Part) → p.origin ≡ o → is_part_of o p ≡ true
+is_itself o p e =
+    let same : is_part_of p.origin p ≡ true =
+    three_true (is_same_endpoint p.origin.from p.origin.from) (p.origin.code == p.origin.code) (is_same_path p.origin.path p.origin.path) (itself p.origin.from) (grind (arith, nat_tests)) (path_itself p.origin.path) in
+    subst (λ (x : Origin). is_part_of x p ≡ true) e same
+
+not_itself : (o : Origin) (p : Part) → is_part_of o p ≡ false → p.origin ≢ o
+not_itself o p isnt e = let wrong = is_itself o p e in cc
+
+-- where the first of an origin is gone, none is left
+rest_none : (o : Origin) (ps : List Part) → AreApart ps → NoneOf o (rest_of (is_part_of o) ps)
+rest_none o [] h = tt
+rest_none o (p ∷ ps) h = by_test (is_part_of o p) refl (rest_none o ps h.1)
+  where
+    by_test : (b : Bool) → is_part_of o p ≡ b → NoneOf o (rest_of (is_part_of o) ps) → NoneOf o (cond b ps (p ∷ rest_of (is_part_of o) ps))
+    by_test true is rest = each_weaker (λ (x : Part). x.origin ≢ p.origin) (λ (x : Part). x.origin ≢ o) ps (λ x not_p e. not_p (e ∙ sym (own_origin o p is))) h.0
+    by_test false isnt rest = (not_itself o p isnt, rest)
+
+rest_each : (P : Part → Type 0) (test : Part → Bool) (ps : List Part) → Each P ps → Each P (rest_of test ps)
+rest_each P test [] h = tt
+rest_each P test (p ∷ ps) h = by_test (test p) (rest_each P test ps h.1)
+  where
+    by_test : (b : Bool) → Each P (rest_of test ps) → Each P (cond b ps (p ∷ rest_of test ps))
+    by_test true rest = h.1
+    by_test false rest = (h.0, rest)
+
+rest_apart : (test : Part → Bool) (ps : List Part) → AreApart ps → AreApart (rest_of test ps)
+rest_apart test [] h = tt
+rest_apart test (p ∷ ps) h = by_test (test p) (rest_apart test ps h.1)
+  where
+    by_test : (b : Bool) → AreApart (rest_of test ps) → AreApart (cond b ps (p ∷ rest_of test ps))
+    by_test true rest = h.1
+    by_test false rest = (rest_each (λ (x : Part). x.origin ≢ p.origin) test ps h.0, rest)
+
+-- where none is found, none is there
+none_there : (o : Origin) (ps : List Part) → AreApart ps → place_of o ps ≡ None → NoneOf o ps
+none_there o ps apart none = subst (NoneOf o) (sym (place_removed (is_part_of o) ps None none)) (rest_none o ps apart)
+
+-- ---- at a place
+
+each_at : (P : Part → Type 0) (ps : List Part) (i : ℕ) (d : Part) → i < length ps → Each P ps → P (get_or ps i d)
+each_at P [] i d within h = absurd (omega arith)
+each_at P (p ∷ ps) zero d within h = h.0
+each_at P (p ∷ ps) (suc i) d within h = each_at P ps i d (omega arith) h.1
+
+each_set : (P : Part → Type 0) (ps : List Part) (i : ℕ) (y : Part) → i < length ps → Each P ps → P y → Each P (set ps i y)
+each_set P [] i y within h new = absurd (omega arith)
+each_set P (p ∷ ps) zero y within h new = (new, h.1)
+each_set P (p ∷ ps) (suc i) y within h new = (h.0, each_set P ps i y (omega arith) h.1 new)
+
+-- the part of an origin at a place, and all others
+others_set : (P Q : Part → Type 0) (o : Origin) (ps : List Part) (i : ℕ) (d y : Part) → i < length ps → (get_or ps i d).origin ≡ o → AreApart ps → Each P ps
+    → ((p : Part) → p.origin ≢ o → P p → Q p) → Q y → Each Q (set ps i y)
+others_set P Q o [] i d y within own apart h step new = absurd (omega arith)
+others_set P Q o (p ∷ ps) zero d y within own apart h step new =
+    (new, each_both (λ (x : Part). x.origin ≢ p.origin) P Q ps (λ x not_p is. step x (λ e. not_p (e ∙ sym own)) is) apart.0 h.1)
+others_set P Q o (p ∷ ps) (suc i) d y within own apart h step new =
+    let not_p : (get_or ps i d).origin ≢ p.origin = each_at (λ (x : Part). x.origin ≢ p.origin) ps i d (omega arith) apart.0 in
+    (step p (λ e. not_p (own ∙ sym e)) h.0, others_set P Q o ps i d y (omega arith) own apart.1 h.1 step new)
+
+apart_set : (o : Origin) (ps : List Part) (i : ℕ) (d y : Part) → i < length ps → (get_or ps i d).origin ≡ o → y.origin ≡ o → AreApart ps → AreApart (set ps i y)
+apart_set o [] i d y within own same apart = absurd (omega arith)
+apart_set o (p ∷ ps) zero d y within own same apart =
+    (each_weaker (λ (x : Part). x.origin ≢ p.origin) (λ (x : Part). x.origin ≢ y.origin) ps (λ x not_p e. not_p (e ∙ (same ∙ sym own))) apart.0, apart.1)
+apart_set o (p ∷ ps) (suc i) d y within own same apart =
+    let not_p : (get_or ps i d).origin ≢ p.origin = each_at (λ (x : Part). x.origin ≢ p.origin) ps i d (omega arith) apart.0 in
+    (each_set (λ (x : Part). x.origin ≢ p.origin) ps i y (omega arith) apart.0 (λ e. not_p (own ∙ (sym same ∙ e))), apart_set o ps i d y (omega arith) own same apart.1)
+
+each_removed : (P : Part → Type 0) (ps : List Part) (i : ℕ) → i < length ps → Each P ps → Each P (remove ps i)
+each_removed P [] i within h = absurd (omega arith)
+each_removed P (p ∷ ps) zero within h = h.1
+each_removed P (p ∷ ps) (suc i) within h = (h.0, each_removed P ps i (omega arith) h.1)
+
+apart_removed : (ps : List Part) (i : ℕ) → i < length ps → AreApart ps → AreApart (remove ps i)
+apart_removed [] i within h = absurd (omega arith)
+apart_removed (p ∷ ps) zero within h = h.1
+apart_removed (p ∷ ps) (suc i) within h = (each_removed (λ (x : Part). x.origin ≢ p.origin) ps i (omega arith) h.0, apart_removed ps i (omega arith) h.1)
+
+none_removed : (o : Origin) (ps : List Part) (i : ℕ) (d : Part) → i < length ps → (get_or ps i d).origin ≡ o → AreApart ps → NoneOf o (remove ps i)
+none_removed o [] i d within own apart = absurd (omega arith)
+none_removed o (p ∷ ps) zero d within own apart = each_weaker (λ (x : Part). x.origin ≢ p.origin) (λ (x : Part). x.origin ≢ o) ps (λ x not_p e. not_p (e ∙ sym own)) apart.0
+none_removed o (p ∷ ps) (suc i) d within own apart =
+    let not_p : (get_or ps i d).origin ≢ p.origin = each_at (λ (x : Part). x.origin ≢ p.origin) ps i d (omega arith) apart.0 in
+    ((λ e. not_p (own ∙ sym e)), none_removed o ps i d (omega arith) own apart.1)
+
+removed_set : (ps : List Part) (i : ℕ) (y : Part) → i < length ps → remove (set ps i y) i ≡ remove ps i
+removed_set [] i y within = absurd (omega arith)
+removed_set (p ∷ ps) zero y within = refl
+removed_set (p ∷ ps) (suc i) y within = ap (λ (l : List Part). p ∷ l) (removed_set ps i y (omega arith))
+
+there_set : (ps : List Part) (i : ℕ) (y : Part) → i < length ps → slice_get (set ps i y) i ≡ Some y
+there_set [] i y within = absurd (omega arith)
+there_set (p ∷ ps) zero y within = refl
+there_set (p ∷ ps) (suc i) y within = there_set ps i y (omega arith)
+
+-- ---- what a block does
+
+-- a part of an origin was this one before its bytes grew
+record Grown (Own : Part → Type 0) (o : Origin) (payload : List ℕ) (p : Part) : Type 0 where
+  own : Part
+  origin : own.origin ≡ o
+  is : Own own
+  grown : p ≡ extended payload own
+
+-- none of the origin is left, and all others are
+record LeftOver (Others : Part → Type 0) (o : Origin) (ps : List Part) : Type 0 where
+  apart : AreApart ps
+  none : NoneOf o ps
+  others : Each Others ps
+
+-- the last block of a body completes what is at a place
+record Whole (Others Own : Part → Type 0) (o : Origin) (payload : List ℕ) (i : ℕ) (ps : List Part) : Type 0 where
+  part : Part
+  there : slice_get ps i ≡ Some part
+  grown : Grown Own o payload part
+  left : LeftOver Others o (remove ps i)
+
+abbrev OneOf : (Part → Type 0) → (Part → Type 0) → Origin → List ℕ → Part → Type 0
+OneOf Others Own o payload p = (p.origin ≢ o → Others p) × (p.origin ≡ o → Grown Own o payload p)
+
+abbrev Outcome : (Part → Type 0) → (Part → Type 0) → Origin → List ℕ → Added → List Part → Type 0
+Outcome Others Own o payload answer.Continue ps = AreApart ps × Each (OneOf Others Own o payload) ps
+Outcome Others Own o payload (answer.Complete i) ps = Whole Others Own o payload i ps
+Outcome Others Own o payload answer.BadBlock ps = AreApart ps × Each Others ps
+Outcome Others Own o payload answer.Incomplete ps = LeftOver Others o ps
+Outcome Others Own o payload answer.TooLarge ps = LeftOver Others o ps
+Outcome Others Own o payload answer.Full ps = LeftOver Others o ps
+
+-- before: those of the origin are `Own`, and all others are `Others`
+abbrev Either : (Part → Type 0) → (Part → Type 0) → Origin → Part → Type 0
+Either Others Own o p = (p.origin ≢ o → Others p) × (p.origin ≡ o → Own p)
+
+any_part : Part
+any_part = new_part (record { from = record { host = 0; port = 0 }; code = 0; path = [] }) 0
+
+left_over : (Others Own : Part → Type 0) (o : Origin) (ps : List Part) (i : ℕ) → i < length ps → (get_or ps i any_part).origin ≡ o → AreApart ps → Each (Either Others Own o) ps → LeftOver Others o (remove ps i)
+left_over Others Own o ps i within own apart h =
+    let none = none_removed o ps i any_part within own apart in
+    record {
+      apart = apart_removed ps i within apart;
+      none = none;
+      others = each_both (λ (x : Part). x.origin ≢ o) (Either Others Own o) Others (remove ps i) (λ x not_o is. is.0 not_o) none (each_removed (Either Others Own o) ps i within h);
+    }
+
+joined_to_outcome : (Others Own : Part → Type 0) (o : Origin) (b : Block) (payload : List ℕ) (i : ℕ) (own : Part) (ps : List Part) → i < length ps → get_or ps i any_part ≡ own → own.origin ≡ o
+    → AreApart ps → Each (Either Others Own o) ps → Outcome Others Own o payload (joined_to b payload i own ps).0 (joined_to b payload i own ps).1
+joined_to_outcome Others Own o b payload i own ps within there origin apart h =
+    by_tests (not (length own.bytes == block_start b)) (nat_lt longest_request (length own.bytes + length payload)) b.more
+  where
+    at : (get_or ps i any_part).origin ≡ o
+    at = ap (λ (p : Part). p.origin) there ∙ origin
+
+    grown : Grown Own o payload (extended payload own)
+    grown = record {
+      own = own;
+      origin = origin;
+      is = subst Own there ((each_at (Either Others Own o) ps i any_part within h).1 at);
+      grown = refl;
+    }
+
+    left : LeftOver Others o (remove ps i)
+    left = left_over Others Own o ps i within at apart h
+
+    by_tests : (apart_it long more : Bool)
+        → Outcome Others Own o payload
+        (if apart_it then (answer.Incomplete, remove ps i) else if long then (answer.TooLarge, remove ps i) else ((if more then answer.Continue else answer.Complete i), set ps i (extended payload own))).0
+        (if apart_it then (answer.Incomplete, remove ps i) else if long then (answer.TooLarge, remove ps i) else ((if more then answer.Continue else answer.Complete i), set ps i (extended payload own))).1
+    by_tests true long more = left
+    by_tests false true more = left
+    by_tests false false true = (
+      apart_set o ps i any_part (extended payload own) within at origin apart,
+      others_set (Either Others Own o) (OneOf Others Own o payload) o ps i any_part (extended payload own) within at apart h
+          (λ p not_o is. ((λ no. is.0 no), (λ e. absurd (not_o e)))) ((λ not_o. absurd (not_o origin)), (λ e. grown)),
+    )
+    by_tests false false false = record {
+      part = extended payload own;
+      there = there_set ps i (extended payload own) within;
+      grown = grown;
+      left = subst (LeftOver Others o) (sym (removed_set ps i (extended payload own) within)) left;
+    }
+
+joined_outcome : (Others Own : Part → Type 0) (o : Origin) (b : Block) (payload : List ℕ) (ps : List Part) → AreApart ps → Each (Either Others Own o) ps
+    → Outcome Others Own o payload (joined o b payload ps).0 (joined o b payload ps).1
+joined_outcome Others Own o b payload ps apart h = by_place (place_of o ps) refl
+  where
+    by_place : (place : Option ℕ) → place_of o ps ≡ place → Outcome Others Own o payload (joined_at b payload place ps).0 (joined_at b payload place ps).1
+    by_place None e =
+        let none = none_there o ps apart e in
+        record { apart = apart; none = none; others = each_both (λ (x : Part). x.origin ≢ o) (Either Others Own o) Others ps (λ x not_o is. is.0 not_o) none h }
+    by_place (Some i) e =
+        let at = position-Some (is_part_of o) ps i any_part e in
+        joined_to_outcome Others Own o b payload i (part_at i ps) ps at.0 refl (own_origin o (part_at i ps) at.1) apart h
+
+-- the part of an origin that a block is joined to: empty, where it is the first, and else what it was
+abbrev Before : (Part → Type 0) → ℕ → Part → Type 0
+Before P number p = (number ≡ 0 → p.bytes ≡ []) × (number ≢ 0 → P p)
+
+is_zero : (n : ℕ) → (n == 0) ≡ true → n ≡ 0
+is_zero n e = grind (arith, nat_tests)
+
+not_zero : (n : ℕ) → (n == 0) ≡ false → n ≢ 0
+not_zero n e = grind (arith, nat_tests)
+
+begun_outcome : (P : Part → Type 0) (a : BlockArrival) (others : List Part) → a.block.number ≡ 0 → AreApart others → NoneOf a.origin others → Each P others
+    → Outcome P (Before P a.block.number) a.origin a.payload (begun a others).0 (begun a others).1
+begun_outcome P a others first apart none h = by_test (nat_lt (length others) most_parts)
+  where
+    new : Part
+    new = new_part a.origin a.moment
+
+    ready : Each (Either P (Before P a.block.number) a.origin) (others ++ new ∷ [])
+    ready = each_push (Either P (Before P a.block.number) a.origin) others new
+        (each_both (λ (x : Part). x.origin ≢ a.origin) P (Either P (Before P a.block.number) a.origin) others (λ x not_o is. ((λ no. is), (λ e. absurd (not_o e)))) none h)
+        ((λ no. absurd (no refl)), (λ e. ((λ zero_it. refl), (λ some. absurd (some first)))))
+
+    by_test : (t : Bool)
+        → Outcome P (Before P a.block.number) a.origin a.payload
+        (if t then joined a.origin a.block a.payload (others ++ new ∷ []) else (answer.Full, others)).0
+        (if t then joined a.origin a.block a.payload (others ++ new ∷ []) else (answer.Full, others)).1
+    by_test true = joined_outcome P (Before P a.block.number) a.origin a.block a.payload (others ++ new ∷ []) (apart_push others new apart none) ready
+    by_test false = record { apart = apart; none = none; others = h }
+
+after_outcome : (P : Part → Type 0) (a : BlockArrival) (ps : List Part) → AreApart ps → Each P ps
+    → Outcome P (Before P a.block.number) a.origin a.payload (after_block a ps).0 (after_block a ps).1
+after_outcome P a ps apart h = by_tests (is_bad a.block a.payload) (a.block.number == 0) refl
+  where
+    others_rest : other_parts a.origin ps ≡ rest_of (is_part_of a.origin) ps
+    others_rest = place_removed (is_part_of a.origin) ps (place_of a.origin ps) refl
+
+    by_tests : (bad first : Bool) → (a.block.number == 0) ≡ first
+        → Outcome P (Before P a.block.number) a.origin a.payload
+        (if bad then (answer.BadBlock, ps) else if first then begun a (other_parts a.origin ps) else joined a.origin a.block a.payload ps).0
+        (if bad then (answer.BadBlock, ps) else if first then begun a (other_parts a.origin ps) else joined a.origin a.block a.payload ps).1
+    by_tests true first e = (apart, h)
+    by_tests false true e =
+        begun_outcome P a (other_parts a.origin ps) (is_zero a.block.number e)
+        (subst AreApart (sym others_rest) (rest_apart (is_part_of a.origin) ps apart))
+        (subst (NoneOf a.origin) (sym others_rest) (rest_none a.origin ps apart))
+        (subst (Each P) (sym others_rest) (rest_each P (is_part_of a.origin) ps h))
+    by_tests false false e =
+        joined_outcome P (Before P a.block.number) a.origin a.block a.payload ps apart
+        (each_weaker P (Either P (Before P a.block.number) a.origin) ps (λ p is. ((λ no. is), (λ own. ((λ zero_it. absurd (not_zero a.block.number e zero_it)), (λ some. is))))) h)
+
+-- ---- the invariant
+
+abbrev pub IsPart : List Entry → Part → Type 0
+IsPart led p = p.origin.from ≡ client_place → part_of p.origin led ≡ Some p.bytes
+
+pub record Joins (led : List Entry) (s : Server) : Type 0 where
+  pub apart : AreApart s.parts
+  pub parts : Each (IsPart led) s.parts
+
+-- what came of a block, by its answer
+came : (led : List Entry) (from : Endpoint) (now : ℕ) (m : CoapMessage) (a : BlockArrival) (added : Added) (s : Server) (ps : List Part) → BlockComes from now m a added s ps → Joins led s
+    → Outcome (IsPart led) (Before (IsPart led) a.block.number) a.origin a.payload added ps
+came led from now m a added s ps comes j =
+    let at = after_outcome (IsPart led) a (living now s.parts) (apart_filter (λ (p : Part). lives now p.moment) s.parts j.apart) (each_filter (IsPart led) (λ (p : Part). lives now p.moment) s.parts j.parts) in
+    subst (λ (x : Added). Outcome (IsPart led) (Before (IsPart led) a.block.number) a.origin a.payload x ps) (sym comes.gives.answer_is)
+    (subst (λ (x : List Part). Outcome (IsPart led) (Before (IsPart led) a.block.number) a.origin a.payload (after_block a (living now s.parts)).0 x) (sym comes.gives.parts_are) at)
+
+pub joins_stay : (led more : List Entry) (s t : Server) → t.parts ≡ s.parts → ((o : Origin) → part_of o (led ++ more) ≡ part_of o led) → Joins led s → Joins (led ++ more) t
+joins_stay led more s t same stays j = record {
+  apart = subst AreApart (sym same) j.apart;
+  parts = subst (Each (IsPart (led ++ more))) (sym same) (each_weaker (IsPart led) (IsPart (led ++ more)) s.parts (λ p is here. stays p.origin ∙ is here) j.parts);
+}
+
+left_joins : (led more : List Entry) (t : Server) (o : Origin) (ps : List Part) → t.parts ≡ ps → ((x : Origin) → part_of x (led ++ more) ≡ part_of x led) → LeftOver (IsPart led) o ps → Joins (led ++ more) t
+left_joins led more t o ps same stays left = record {
+  apart = subst AreApart (sym same) left.apart;
+  parts = subst (Each (IsPart (led ++ more))) (sym same) (each_weaker (IsPart led) (IsPart (led ++ more)) ps (λ p is here. stays p.origin ∙ is here) left.others);
+}
+
+no_entry : (led : List Entry) (o : Origin) → part_of o (led ++ []) ≡ part_of o led
+no_entry led o = ap (part_of o) (append-nil led)
+
+without_nil : (led : List Entry) (s : Server) → Joins (led ++ []) s → Joins led s
+without_nil led s j = subst (λ (l : List Entry). Joins l s) (append-nil led) j
+
+-- ---- what comes from elsewhere
+
+foreign_answer : (led : List Entry) (o : Origin) (payload : List ℕ) (number : ℕ) (added : Added) (t : Server) (ps : List Part) → (o.from ≡ client_place → ⊥) → t.parts ≡ ps
+    → ((i : ℕ) → added ≡ answer.Complete i → ⊥) → Outcome (IsPart led) (Before (IsPart led) number) o payload added ps → Joins led t
+foreign_answer led o payload number answer.Continue t ps away same not_whole out = record {
+  apart = subst AreApart (sym same) out.0;
+  parts = subst (Each (IsPart led)) (sym same) (each_weaker (OneOf (IsPart led) (Before (IsPart led) number) o payload) (IsPart led) ps
+      (λ p is here. is.0 (λ e. away (sym (ap (λ (x : Origin). x.from) e) ∙ here)) here) out.1);
+}
+foreign_answer led o payload number (answer.Complete i) t ps away same not_whole out = absurd (not_whole i refl)
+foreign_answer led o payload number answer.BadBlock t ps away same not_whole out = record { apart = subst AreApart (sym same) out.0; parts = subst (Each (IsPart led)) (sym same) out.1 }
+foreign_answer led o payload number answer.Incomplete t ps away same not_whole out = record { apart = subst AreApart (sym same) out.apart; parts = subst (Each (IsPart led)) (sym same) out.others }
+foreign_answer led o payload number answer.TooLarge t ps away same not_whole out = record { apart = subst AreApart (sym same) out.apart; parts = subst (Each (IsPart led)) (sym same) out.others }
+foreign_answer led o payload number answer.Full t ps away same not_whole out = record { apart = subst AreApart (sym same) out.apart; parts = subst (Each (IsPart led)) (sym same) out.others }
+
+-- the answer to a block alone isn't that the body is whole
+not_whole_answer : (from : Endpoint) (now : ℕ) (m : CoapMessage) (links : List ℕ) (seen : Option ℕ) (l : Led) (r : Reply) (a : BlockArrival) (added : Added) → LeadsTo from now m links seen l r → l ≡ to_parts a added
+    → (i : ℕ) → added ≡ answer.Complete i → ⊥
+not_whole_answer from now m links seen l r a added (is_refused some same) is i e = cc
+not_whole_answer from now m links seen l r a added (finds_no_memory same says) is i e = cc
+not_whole_answer from now m links seen l r a added (gets_links links_it same says) is i e = cc
+not_whole_answer from now m links seen l r a added (gets_no_links links_it same says) is i e = cc
+not_whole_answer from now m links seen l r a added (gets_block b found wants same says) is i e = cc
+not_whole_answer from now m links seen l r a added (is_joined b x wants same says) is i e =
+    let one : x ≡ added = cc in
+    let none : added_reply b (answer.Complete i) ≡ Some r = subst (λ (y : Added). added_reply b y ≡ Some r) (one ∙ e) says in
+    cc
+not_whole_answer from now m links seen l r a added (is_acted_on x wants apart same what code place says) is i e = cc
+not_whole_answer from now m links seen l r a added (is_acted_on_whole x b body wants apart same what code place says) is i e = cc
+
+-- whose a block is
+from_of : (from : Endpoint) (now : ℕ) (m : CoapMessage) (a : BlockArrival) → a ≡ block_arrival from now m a.block → a.origin.from ≡ from
+from_of from now m a same = ap (λ (x : BlockArrival). x.origin.from) same
+
+pub joins_elsewhere : (led : List Entry) (from : Endpoint) (now : ℕ) (m : CoapMessage) (links : List ℕ) (seen : Option ℕ) (l : Led) (r : Reply) (s t : Server) → (from ≡ client_place → ⊥)
+    → LeadsTo from now m links seen l r → Leaves from now m l s t → Joins led s → Joins led t
+joins_elsewhere led from now m links seen l r s t away leads leaves j = by_led l refl leaves
+  where
+    stays : t.parts ≡ s.parts → Joins led t
+    stays same = without_nil led t (joins_stay led [] s t same (no_entry led) j)
+
+    gone : (a : BlockArrival) (i : ℕ) (ps : List Part) → BlockComes from now m a (answer.Complete i) s ps → t.parts ≡ remove ps i → Joins led t
+    gone a i ps comes after =
+        let w = came led from now m a (answer.Complete i) s ps comes j in
+        without_nil led t (left_joins led [] t a.origin (remove ps i) after (no_entry led) w.left)
+
+    by_led : (x : Led) → l ≡ x → Leaves from now m x s t → Joins led t
+    by_led to_refusal is it = stays it.parts
+    by_led to_no_memory is it = stays it.parts
+    by_led to_links is (leaves_text links_it bodies parts) = stays parts
+    by_led to_links is (leaves_nothing same) = stays same.parts
+    by_led to_links is (drops_body a place parts comes after bodies) = gone a place parts comes after
+    by_led (to_later_block path b found) is it = stays it.1.parts
+    by_led (to_parts a added) is it =
+        foreign_answer led a.origin a.payload a.block.number added t t.parts (λ here. away (sym (from_of from now m a it.0.arrival) ∙ here)) refl
+        (not_whole_answer from now m links seen l r a added leads is) (came led from now m a added s t.parts it.0 j)
+    by_led (to_act a) is it = stays it.1
+    by_led (to_act_on_whole b a) is it = gone b it.0.place it.0.parts it.0.comes it.0.after
+
+-- ---- what comes from the client
+
+bytes_are : (led : List Entry) (a : BlockArrival) (own : Part) → own.origin ≡ a.origin → own.origin.from ≡ client_place → Before (IsPart led) a.block.number own
+    → bytes_with a (part_of a.origin led) ≡ own.bytes ++ a.payload
+bytes_are led a own origin here is = by_test (a.block.number == 0) refl
+  where
+    by_test : (first : Bool) → (a.block.number == 0) ≡ first → (if first then a.payload else unwrap_or (part_of a.origin led) [] ++ a.payload) ≡ own.bytes ++ a.payload
+    by_test true e = ap (λ (l : List ℕ). l ++ a.payload) (sym (is.0 (is_zero a.block.number e)))
+    by_test false e =
+        let before : part_of own.origin led ≡ Some own.bytes = is.1 (not_zero a.block.number e) here in
+        ap (λ (o : Option (List ℕ)). unwrap_or o [] ++ a.payload) (ap (λ (o : Origin). part_of o led) (sym origin) ∙ before)
+
+grown_part : (led : List Entry) (x : Entry) (a : BlockArrival) (p : Part) → x.led ≡ to_parts a answer.Continue → a.origin.from ≡ client_place
+    → OneOf (IsPart led) (Before (IsPart led) a.block.number) a.origin a.payload p → IsPart (led ++ x ∷ []) p
+grown_part led x a p is_it from is here =
+    part_push p.origin None led x ∙ (ap (λ (l : Led). part_by p.origin l (part_of p.origin led)) is_it ∙ by_test (is_of p.origin a) refl)
+  where
+    by_test : (c : Bool) → is_of p.origin a ≡ c → (if c then Some (bytes_with a (part_of p.origin led)) else part_of p.origin led) ≡ Some p.bytes
+    by_test true e =
+        let same : a.origin ≡ p.origin = own_origin p.origin (new_part a.origin 0) e in
+        let g = is.1 (sym same) in
+        let bytes : bytes_with a (part_of a.origin led) ≡ g.own.bytes ++ a.payload = bytes_are led a g.own g.origin (ap (λ (o : Origin). o.from) g.origin ∙ from) g.is in
+        ap (λ (l : List ℕ). Some l) (ap (λ (o : Origin). bytes_with a (part_of o led)) (sym same) ∙ (bytes ∙ ap (λ (q : Part). q.bytes) (sym g.grown)))
+    by_test false e = is.0 (not_same e) here
+      where
+        not_same : is_of p.origin a ≡ false → p.origin ≢ a.origin
+        not_same no same = let wrong = is_itself p.origin (new_part a.origin 0) (sym same) in cc
+
+-- an entry that joins no block
+plain_part : (led : List Entry) (x : Entry) → ((o : Origin) (before : Option (List ℕ)) → part_by o x.led before ≡ before) → (o : Origin) → part_of o (led ++ x ∷ []) ≡ part_of o led
+plain_part led x none o = part_push o None led x ∙ none o (part_of o led)
+
+pub joins_admits : (led : List Entry) (now : ℕ) (m : CoapMessage) (links : List ℕ) (seen : Option ℕ) (x : Entry) (s t : Server) → LeadsTo client_place now m links seen x.led x.reply → Leaves client_place now m x.led s t
+    → Joins led s → Joins (led ++ x ∷ []) t
+joins_admits led now m links seen x s t leads leaves j = by_led x.led refl leaves
+  where
+    none : (l : Led) → x.led ≡ l → ((o : Origin) (before : Option (List ℕ)) → part_by o l before ≡ before) → (o : Origin) → part_of o (led ++ x ∷ []) ≡ part_of o led
+    none l is each = plain_part led x (λ o before. ap (λ (y : Led). part_by o y before) is ∙ each o before)
+
+    stays : (l : Led) → x.led ≡ l → ((o : Origin) (before : Option (List ℕ)) → part_by o l before ≡ before) → t.parts ≡ s.parts → Joins (led ++ x ∷ []) t
+    stays l is each same = joins_stay led (x ∷ []) s t same (none l is each) j
+
+    gone : (l : Led) → x.led ≡ l → ((o : Origin) (before : Option (List ℕ)) → part_by o l before ≡ before) → (a : BlockArrival) (i : ℕ) (ps : List Part) → BlockComes client_place now m a (answer.Complete i) s ps
+        → t.parts ≡ remove ps i → Joins (led ++ x ∷ []) t
+    gone l is each a i ps comes after = left_joins led (x ∷ []) t a.origin (remove ps i) after (none l is each) (came led client_place now m a (answer.Complete i) s ps comes j).left
+
+    by_answer : (a : BlockArrival) (added : Added) → x.led ≡ to_parts a added → a.origin.from ≡ client_place → ((i : ℕ) → added ≡ answer.Complete i → ⊥)
+        → Outcome (IsPart led) (Before (IsPart led) a.block.number) a.origin a.payload added t.parts → Joins (led ++ x ∷ []) t
+    by_answer a answer.Continue is here not_whole out = record {
+      apart = out.0;
+      parts = each_weaker (OneOf (IsPart led) (Before (IsPart led) a.block.number) a.origin a.payload) (IsPart (led ++ x ∷ [])) t.parts (λ p one. grown_part led x a p is here one) out.1;
+    }
+    by_answer a (answer.Complete i) is here not_whole out = absurd (not_whole i refl)
+    by_answer a answer.BadBlock is here not_whole out = record {
+      apart = out.0;
+      parts = each_weaker (IsPart led) (IsPart (led ++ x ∷ [])) t.parts (λ p one at. none (to_parts a answer.BadBlock) is (λ o before. refl) p.origin ∙ one at) out.1;
+    }
+    by_answer a answer.Incomplete is here not_whole out = left_joins led (x ∷ []) t a.origin t.parts refl (none (to_parts a answer.Incomplete) is (λ o before. refl)) out
+    by_answer a answer.TooLarge is here not_whole out = left_joins led (x ∷ []) t a.origin t.parts refl (none (to_parts a answer.TooLarge) is (λ o before. refl)) out
+    by_answer a answer.Full is here not_whole out = left_joins led (x ∷ []) t a.origin t.parts refl (none (to_parts a answer.Full) is (λ o before. refl)) out
+
+    by_led : (l : Led) → x.led ≡ l → Leaves client_place now m l s t → Joins (led ++ x ∷ []) t
+    by_led to_refusal is it = stays to_refusal is (λ o before. refl) it.parts
+    by_led to_no_memory is it = stays to_no_memory is (λ o before. refl) it.parts
+    by_led to_links is (leaves_text links_it bodies parts) = stays to_links is (λ o before. refl) parts
+    by_led to_links is (leaves_nothing same) = stays to_links is (λ o before. refl) same.parts
+    by_led to_links is (drops_body a place parts comes after bodies) = gone to_links is (λ o before. refl) a place parts comes after
+    by_led (to_later_block path b found) is it = stays (to_later_block path b found) is (λ o before. refl) it.1.parts
+    by_led (to_parts a added) is it =
+        by_answer a added is (from_of client_place now m a it.0.arrival) (not_whole_answer client_place now m links seen x.led x.reply a added leads is) (came led client_place now m a added s t.parts it.0 j)
+    by_led (to_act a) is it = stays (to_act a) is (λ o before. refl) it.1
+    by_led (to_act_on_whole b a) is it = gone (to_act_on_whole b a) is (λ o before. refl) b it.0.place it.0.parts it.0.comes it.0.after
+
+-- what is acted on is what the entries before joined, and the last block
+pub whole_for : (led : List Entry) (now : ℕ) (m : CoapMessage) (b : BlockArrival) (body : List ℕ) (s t : Server) → (c : BodyCompletes client_place now m b s t) → body ≡ c.whole.bytes → Joins led s
+    → body ≡ bytes_with b (part_of b.origin led)
+whole_for led now m b body s t c is j =
+    let w = came led client_place now m b (answer.Complete c.place) s c.parts c.comes j in
+    let one : w.part ≡ c.whole = same_Some w.part c.whole (sym w.there ∙ c.there) in
+    let here : b.origin.from ≡ client_place = from_of client_place now m b c.comes.arrival in
+    let bytes = bytes_are led b w.grown.own w.grown.origin (ap (λ (o : Origin). o.from) w.grown.origin ∙ here) w.grown.is in
+    is ∙ (ap (λ (p : Part). p.bytes) (sym one) ∙ (ap (λ (p : Part). p.bytes) w.grown.grown ∙ sym bytes))
+
+pub joins_at_start : (s : Server) → s.parts ≡ [] → Joins [] s
+joins_at_start s none = record { apart = subst AreApart (sym none) tt; parts = subst (Each (IsPart [])) (sym none) tt }

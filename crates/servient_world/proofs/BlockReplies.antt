@@ -1,7 +1,7 @@
 -- What requests want of blocks, and the replies that say or end a block: they are messages, say nothing of Observe, and which block
 -- they say (RFC 7959, section 2).
-use Rattle.std.proofs.Common.{◌≡◌, ◌≢◌, ◌⊎◌, ℕ, ◌/◌, ◌<◌, ◌≤◌, ◌^◌, ◌∙◌, Bool, true, false, cond, Option, Some, None, List, [], ◌∷◌, ◌++◌, length, option_map, inl, inr, refl, sym, ap, subst, arith}
-use Rattle.std.specs.Prelude.{◌==◌, ◌||◌, nat_lt, unwrap_or, if◌then◌else◌}
+use Rattle.std.proofs.Common.{◌≡◌, ◌≢◌, ◌⊎◌, ℕ, ◌+◌, ◌/◌, ◌<◌, ◌≤◌, ◌^◌, ◌∙◌, Bool, true, false, cond, Option, Some, None, List, [], ◌∷◌, ◌++◌, length, option_map, inl, inr, refl, sym, ap, subst, arith}
+use Rattle.std.specs.Prelude.{◌==◌, ◌||◌, nat_lt, codes, unwrap_or, if◌then◌else◌}
 use Rattle.std.proofs.lemmas.Bool.Decides.{nat_tests}
 use Rattle.std.proofs.lemmas.Option.{same_Some}
 use Rattle.coap_msg.specs.declared.block.Block.{Block}
@@ -12,6 +12,7 @@ use Rattle.coap_msg.specs.Numbers.{number_bytes}
 use Rattle.coap_msg.proofs.BlockValues.{blocks_are_read_again}
 use Rattle.coap_msg.proofs.NumberValues.{number_length}
 use Rattle.thing_ops.specs.declared.outcome.Outcome.{Outcome}
+use Rattle.thing_ops.specs.Outcomes.{coap}
 use Rattle.thing_ops.specs.declared.verb.Verb.{Verb}
 use Rattle.thing_ops.specs.declared.verb.Verb.TheVariants as verb
 use Rattle.coap_client.specs.Answers.{sequence_of, block2_of as block_said}
@@ -32,7 +33,7 @@ use Rattle.coap_bind.specs.Blocks.{Portion, block2_of, wanted_by_get, wanted_by_
 use Rattle.coap_bind.specs.Links.{size_asked}
 use Rattle.coap_bind.specs.Observing.{observing_at, observing_of}
 use Rattle.coap_bind.specs.Server.{observing_in, wanted_in, with_whole_body}
-use Rattle.coap_bind.specs.Writing.{Reply, etag_options, observe_options, reply_options, observed, coap_reply}
+use Rattle.coap_bind.specs.Writing.{Reply, word_reply, etag_options, observe_options, reply_options, observed, coap_reply}
 use Rattle.coap_bind.proofs.MessageLaws.{IsResponse}
 use Rattle.servient_world.specs.Laws.{blocks_joined, blocks_by, blocks_for}
 use Rattle.servient_world.proofs.ReplyLaws.{id_at}
@@ -45,7 +46,7 @@ pub record WantsLater (m : CoapMessage) (b : Block) : Type 0 where
   pub block : (what_is_asked m).block2 ≡ Some b
   pub later : b.number ≢ 0
 
-not_zero : (n : ℕ) → (n == 0) ≡ false → n ≢ 0
+pub not_zero : (n : ℕ) → (n == 0) ≡ false → n ≢ 0
 not_zero n e = grind (arith, nat_tests)
 
 same_number : (m n : ℕ) → (m == n) ≡ true → m ≡ n
@@ -134,14 +135,14 @@ pub said_as_asked : (now : ℕ) (m : CoapMessage) (o : Outcome) → wanted_in m 
     → answer_reply (use_of now m.code (observing_in m) (what_is_asked m)) o ≡ answer_reply (blocks_for (what_is_asked m)) o
 said_as_asked now m o wants = said_if (m.code == GET) (m.code == POST) (m.code == PUT) (m.code == DELETE) now (what_is_asked m) o wants
 
-joined_if : (get post put delete : Bool) (a : PlainAsk) (b : Block) → wanted_if get post put a ≡ wanted.Joining b → blocks_by (verb_if get post put delete) a ≡ blocks.Joined b
-joined_if true post put delete a b wants = absurd (get_at (block2_of (observing_at a.observe) a) b wants)
-joined_if false true put delete a b wants = ap blocks_joined (body_at a.block1 b wants)
-joined_if false false true delete a b wants = ap blocks_joined (body_at a.block1 b wants)
-joined_if false false false delete a b wants = absurd cc
+joined_if : (get post put delete : Bool) (a : PlainAsk) (body : List ℕ) (b : Block) → wanted_if get post put a ≡ wanted.Joining b → blocks_by (verb_if get post put delete) (with_whole_body body a) ≡ blocks.Joined b
+joined_if true post put delete a body b wants = absurd (get_at (block2_of (observing_at a.observe) a) b wants)
+joined_if false true put delete a body b wants = ap blocks_joined (body_at a.block1 b wants)
+joined_if false false true delete a body b wants = ap blocks_joined (body_at a.block1 b wants)
+joined_if false false false delete a body b wants = absurd cc
 
 pub joined_as_asked : (m : CoapMessage) (b : Block) (body : List ℕ) → wanted_in m ≡ wanted.Joining b → blocks_for (with_whole_body body (what_is_asked m)) ≡ blocks.Joined b
-joined_as_asked m b body wants = joined_if (m.code == GET) (m.code == POST) (m.code == PUT) (m.code == DELETE) (what_is_asked m) b wants
+joined_as_asked m b body wants = joined_if (m.code == GET) (m.code == POST) (m.code == PUT) (m.code == DELETE) (what_is_asked m) body b wants
 
 -- ---- replies are messages
 
@@ -199,6 +200,16 @@ later_message b (Some c) head next id token counter = by_test (nat_lt (block_sta
     by_test true = response_message (content_reply (portion_at b c.bytes) c) head next (success 5 (omega arith)) (tag_order c.tag c.format (portion_at b c.bytes).block) id token counter
     by_test false = response_message block_reply head next (client_error 0 (omega arith)) tt id token counter
 
+-- the refusals of a block
+abbrev pub incomplete_reply : Reply
+incomplete_reply = word_reply (coap 4 08) (codes "incomplete")
+
+abbrev pub large_reply : Reply
+large_reply = word_reply (coap 4 13) (codes "body")
+
+abbrev pub blocks_reply : Reply
+blocks_reply = word_reply (coap 5 03) (codes "blocks")
+
 pub added_message : (b : Block) (added : Added) (r : Reply) (head : RequestHead) (next : ℕ) → added_reply b added ≡ Some r → head.id < 2 ^ 16 → length head.token ≤ LONGEST_TOKEN → next < 2 ^ 16
     → IsWellFormed (coap_reply r head next)
 added_message b added r head next is id token counter = by_answer added is
@@ -209,10 +220,10 @@ added_message b added r head next is id token counter = by_answer added is
     by_answer : (x : Added) → added_reply b x ≡ Some r → IsWellFormed (coap_reply r head next)
     by_answer answer.Continue e = at (continue_reply b) e (response_message (continue_reply b) head next (success 31 (omega arith)) (block_order (Some (option.Block1 b)) 0 (omega arith)) id token counter)
     by_answer (answer.Complete place) e = absurd cc
-    by_answer answer.BadBlock e = at _ e (response_message _ head next (client_error 0 (omega arith)) tt id token counter)
-    by_answer answer.Incomplete e = at _ e (response_message _ head next (client_error 8 (omega arith)) tt id token counter)
-    by_answer answer.TooLarge e = at _ e (response_message _ head next (client_error 13 (omega arith)) tt id token counter)
-    by_answer answer.Full e = at _ e (response_message _ head next (server_error 3 (omega arith)) tt id token counter)
+    by_answer answer.BadBlock e = at block_reply e (response_message block_reply head next (client_error 0 (omega arith)) tt id token counter)
+    by_answer answer.Incomplete e = at incomplete_reply e (response_message incomplete_reply head next (client_error 8 (omega arith)) tt id token counter)
+    by_answer answer.TooLarge e = at large_reply e (response_message large_reply head next (client_error 13 (omega arith)) tt id token counter)
+    by_answer answer.Full e = at blocks_reply e (response_message blocks_reply head next (server_error 3 (omega arith)) tt id token counter)
 
 -- ---- and have no Observe
 
@@ -247,10 +258,10 @@ added_unnumbered b added r is = by_answer added is
     by_answer : (x : Added) → added_reply b x ≡ Some r → sequence_of (reply_options r) ≡ None
     by_answer answer.Continue e = at (continue_reply b) e refl
     by_answer (answer.Complete place) e = absurd cc
-    by_answer answer.BadBlock e = at _ e refl
-    by_answer answer.Incomplete e = at _ e refl
-    by_answer answer.TooLarge e = at _ e refl
-    by_answer answer.Full e = at _ e refl
+    by_answer answer.BadBlock e = at block_reply e refl
+    by_answer answer.Incomplete e = at incomplete_reply e refl
+    by_answer answer.TooLarge e = at large_reply e refl
+    by_answer answer.Full e = at blocks_reply e refl
 
 -- ---- which block they say
 
@@ -273,3 +284,10 @@ part_block None None b is = said_at b is
 part_block None (Some f) b is = said_at b is
 part_block (Some v) None b is = said_at b is
 part_block (Some v) (Some f) b is = said_at b is
+
+-- and all of it says none
+pub no_part_block : (tag format : Option ℕ) → block_said (etag_options tag ++ with_block None (content_format format)) ≡ None
+no_part_block None None = refl
+no_part_block None (Some f) = refl
+no_part_block (Some v) None = refl
+no_part_block (Some v) (Some f) = refl

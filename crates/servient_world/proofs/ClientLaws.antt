@@ -2,8 +2,7 @@
 use Rattle.std.proofs.Common.{◌≡◌, ◌⊎◌, ℕ, ◌<◌, ◌≤◌, ◌∙◌, Bool, true, false, cond, Option, Some, None, List, [], ◌∷◌, ◌++◌, map, take, length, inl, inr, refl, sym, ap, subst, arith}
 use Rattle.std.specs.Prelude.{All, Contains, slice_get, option_map}
 use Rattle.std.specs.Option.{option_to_list}
-use Rattle.std.proofs.lemmas.List.{append-nil}
-use Rattle.std.proofs.lemmas.List.Elements.{All-append, All-map, All-nil, All-push, All-weaker, All-same}
+use Rattle.std.proofs.lemmas.List.Elements.{All-append, All-map, All-nil, All-push, All-weaker, All-same, All-contains}
 use Rattle.coap_msg.specs.declared.endpoint.Endpoint.{Endpoint}
 use Rattle.coap_msg.specs.declared.message.Type4.{Type4}
 use Rattle.coap_msg.specs.declared.message.Type4.TheVariants.{Con, Ack, Rst}
@@ -20,7 +19,7 @@ use Rattle.coap_client.specs.declared.news.News.{News}
 use Rattle.coap_client.specs.declared.news.News.TheVariants as news
 use Rattle.coap_client.specs.declared.news.Delivered.{Delivered}
 use Rattle.coap_client.specs.Laws.{Did as ClientDid}
-use Rattle.coap_client.specs.Answers.{sequence_of, takes as is_taken, is_for_request, is_for_observation, meaning, notified}
+use Rattle.coap_client.specs.Answers.{sequence_of, block2_of, takes as is_taken, is_for_request, is_for_observation, meaning, notified}
 use Rattle.coap_client.specs.Exchange.{at_moment, Delivers, of_message, of_fault, IsNews, after, valued}
 use Rattle.coap_client.proofs.RequestLaws.{last_is_outstanding, ids_differ}
 use Rattle.coap_client.proofs.RegistrationLaws.{registration_is_observed}
@@ -29,7 +28,9 @@ use Rattle.coap_bind.specs.Writing.{Reply, reply_options, notification}
 use Rattle.servient_world.specs.World.{client_place, server_place, Purpose, copy_of, reply_to, notice_for, other, Datagram, Act, answered, observed, reset, AskEnd, Value, WorldState, latest, with_sent, end_by, taken_by}
 use Rattle.servient_world.proofs.Places.{at_end}
 use Rattle.servient_world.proofs.Holds.{Holds}
-use Rattle.servient_world.proofs.Exact.{Exact, IsWhy, IsKept, IsSaid, IsSentBack, IsNotice, IsEnd, all_kept_more, all_said_more, all_ends_more, same_ask}
+use Rattle.servient_world.proofs.Ledger.{Entry, IsEntry, entry_reply}
+use Rattle.servient_world.proofs.LedgerLaws.{ledger_asked, first_more_ends}
+use Rattle.servient_world.proofs.Exact.{Exact, IsWhy, IsKept, IsSaid, IsSentBack, IsNotice, IsEnd, kept_asked, said_asked, same_ask}
 use Rattle.servient_world.proofs.MeaningLaws.{taken_id, answer_taken, value_taken, no_value_unless, no_value_without, notice_number, notice_no_answer, for_request_else, request_token, observation_token, for_both, latest_or_observed, ended_registration}
 
 -- ---- places
@@ -39,36 +40,60 @@ not_one e = let host : server_place.host ≡ client_place.host = ap (λ (x : End
 
 -- ---- the client sends
 
-pub said_sent : (w : WorldState) (from to : Endpoint) (p : Purpose) (said : List (List ℕ)) → All (λ d. IsSaid w.asks w.acts d d.purpose) w.sent
-    → All (λ bytes. IsSaid w.asks w.acts (record { moment = w.moment; from = from; to = to; bytes = bytes; purpose = p }) p) said
-    → All (λ d. IsSaid w.asks w.acts d d.purpose) (with_sent w from to p said).sent
-said_sent w from to p said all new =
+pub said_sent : (w : WorldState) (led : List Entry) (from to : Endpoint) (p : Purpose) (said : List (List ℕ)) → All (λ d. IsSaid w.asks w.acts led d d.purpose) w.sent
+    → All (λ bytes. IsSaid w.asks w.acts led (record { moment = w.moment; from = from; to = to; bytes = bytes; purpose = p }) p) said
+    → All (λ d. IsSaid w.asks w.acts led d d.purpose) (with_sent w from to p said).sent
+said_sent w led from to p said all new =
     let one : List ℕ → Datagram = λ bytes. record { moment = w.moment; from = from; to = to; bytes = bytes; purpose = p } in
-    All-append (λ (d : Datagram). IsSaid w.asks w.acts d d.purpose) w.sent (map one said) all
-    (All-map (λ (d : Datagram). IsSaid w.asks w.acts d d.purpose) one said new)
+    All-append (λ (d : Datagram). IsSaid w.asks w.acts led d d.purpose) w.sent (map one said) all
+    (All-map (λ (d : Datagram). IsSaid w.asks w.acts led d d.purpose) one said new)
 
-pub exact_asked : (w : WorldState) (t : State) (o : Outstanding) (bytes : List ℕ) → Exact w
+pub exact_asked : (w : WorldState) (t : State) (o : Outstanding) (bytes : List ℕ) → o.first ≡ w.moment → Exact w
     → Exact (with_sent (record w { client = t; asks = w.asks ++ o ∷ [] }) client_place server_place (copy_of (length w.asks)) (bytes ∷ []))
-exact_asked w t o bytes x =
+exact_asked w t o bytes now x =
     let mid : WorldState = record w { client = t; asks = w.asks ++ o ∷ [] } in
     record {
-      kept = subst (λ (l : List Act). All (IsKept (w.asks ++ o ∷ []) l) w.server.exchanges.exchanges) (append-nil w.acts)
-          (all_kept_more w.asks (o ∷ []) w.acts [] w.server.exchanges.exchanges x.kept);
-      said = said_sent mid client_place server_place (copy_of (length w.asks)) (bytes ∷ [])
-          (subst (λ (l : List Act). All (λ d. IsSaid (w.asks ++ o ∷ []) l d d.purpose) w.sent) (append-nil w.acts) (all_said_more w.asks (o ∷ []) w.acts [] w.sent x.said))
-          (λ i d within. not_one);
-      ended = subst (λ (l : List Act). All (λ e. IsEnd (w.asks ++ o ∷ []) l e.ask e.end) w.ends) (append-nil w.acts) (all_ends_more w.asks (o ∷ []) w.acts [] w.ends x.ended);
+      led = x.led;
+      ledger = ledger_asked x.led w.asks w.acts w.server w.moment o now x.ledger;
+      given = x.given;
+      joins = x.joins;
+      fed = x.fed;
+      first = x.first;
+      kept = kept_asked w.asks (o ∷ []) x.led w.server.exchanges.exchanges x.kept;
+      said = said_sent mid x.led client_place server_place (copy_of (length w.asks)) (bytes ∷ []) (said_asked w.asks (o ∷ []) w.acts x.led w.sent x.said) (λ i d within. not_one);
+      ended = x.ended;
     }
 
 pub exact_copied : (w : WorldState) (t : State) (k : ℕ) (bytes : List ℕ) → Exact w → Exact (with_sent (record w { client = t }) client_place server_place (copy_of k) (bytes ∷ []))
 exact_copied w t k bytes x = record {
+  led = x.led;
+  ledger = x.ledger;
+  given = x.given;
+  joins = x.joins;
+  fed = x.fed;
+  first = x.first;
   kept = x.kept;
-  said = said_sent (record w { client = t }) client_place server_place (copy_of k) (bytes ∷ []) x.said (λ i d within. not_one);
+  said = said_sent (record w { client = t }) x.led client_place server_place (copy_of k) (bytes ∷ []) x.said (λ i d within. not_one);
   ended = x.ended;
 }
 
-pub exact_client : (w : WorldState) (t : State) (ends : List AskEnd) (taken : List Value) → Exact w → All (λ e. IsEnd w.asks w.acts e.ask e.end) ends → Exact (record w { client = t; ends = ends; taken = taken })
-exact_client w t ends taken x ended = record { kept = x.kept; said = x.said; ended = ended }
+-- the client alone changed, and these are the ends of asks
+pub exact_client : (w : WorldState) (t : State) (more : List AskEnd) (taken : List Value) → (x : Exact w) → All (λ e. IsEnd w.acts x.led e.ask e.end) more → All (λ (e : AskEnd). e.ask ≡ latest w) more
+    → Exact (record w { client = t; ends = w.ends ++ more; taken = taken })
+exact_client w t more taken x ended latest_ones = record {
+  led = x.led;
+  ledger = x.ledger;
+  given = x.given;
+  joins = x.joins;
+  fed = x.fed;
+  first = first_more_ends x.led w.asks w.acts w.server.links w.ends more x.ledger.entries latest_ones x.first;
+  kept = x.kept;
+  said = x.said;
+  ended = All-append (λ (e : AskEnd). IsEnd w.acts x.led e.ask e.end) w.ends more x.ended ended;
+}
+
+pub exact_same : (w : WorldState) (t : State) → Exact w → Exact (record w { client = t })
+exact_same w t x = record { led = x.led; ledger = x.ledger; given = x.given; joins = x.joins; fed = x.fed; first = x.first; kept = x.kept; said = x.said; ended = x.ended }
 
 -- it isn't acknowledged
 silent_to : (id : ℕ) (b : Bool) (kind : Type4) (x : Option ℕ) (old new : List ℕ) → kind ≡ Ack → IsReplied (empty_reply kind id b) x old new → x ≡ None
@@ -78,37 +103,50 @@ silent_to id b kind x old new is replied = none x (subst (λ (k : Type4). IsRepl
     none None h = refl
     none (Some n) h = absurd h
 
-end_right : (asks : List Outstanding) (acts : List Act) (x y : Option Outstanding) (k : ℕ) (n : News)
-    → ((code : ℕ) (block payload : _) (o : Outstanding) → n ≡ news.Answered code block payload → x ≡ Some o → IsEnd asks acts k (answered code payload.now))
-    → ((payload : _) (o : Outstanding) → n ≡ news.Value payload → x ≡ Some o → y ≡ None → IsEnd asks acts k observed)
-    → All (λ e. IsEnd asks acts e.ask e.end) (end_by x y k n)
-end_right asks acts (Some o) None k (news.Answered code block payload) each shown =
-    All-push (λ (e : AskEnd). IsEnd asks acts e.ask e.end) [] (record { ask = k; end = answered code payload.now }) (All-nil (λ (e : AskEnd). IsEnd asks acts e.ask e.end)) (each code block payload o refl refl)
-end_right asks acts (Some o) None k (news.Value payload) each shown =
-    All-push (λ (e : AskEnd). IsEnd asks acts e.ask e.end) [] (record { ask = k; end = observed }) (All-nil (λ (e : AskEnd). IsEnd asks acts e.ask e.end)) (shown payload o refl refl refl)
-end_right asks acts (Some o) None k news.Reset each shown =
-    All-push (λ (e : AskEnd). IsEnd asks acts e.ask e.end) [] (record { ask = k; end = reset }) (All-nil (λ (e : AskEnd). IsEnd asks acts e.ask e.end)) tt
-end_right asks acts (Some o) None k news.Old each shown = All-nil (λ (e : AskEnd). IsEnd asks acts e.ask e.end)
-end_right asks acts (Some o) None k news.Nothing each shown = All-nil (λ (e : AskEnd). IsEnd asks acts e.ask e.end)
-end_right asks acts (Some o) (Some p) k what each shown = All-nil (λ (e : AskEnd). IsEnd asks acts e.ask e.end)
-end_right asks acts None after k what each shown = All-nil (λ (e : AskEnd). IsEnd asks acts e.ask e.end)
+end_right : (acts : List Act) (led : List Entry) (x y : Option Outstanding) (k : ℕ) (n : News)
+    → ((code : ℕ) (block payload : _) (o : Outstanding) → n ≡ news.Answered code block payload → x ≡ Some o → IsEnd acts led k (answered code block payload.now))
+    → ((payload : _) (o : Outstanding) → n ≡ news.Value payload → x ≡ Some o → y ≡ None → IsEnd acts led k observed)
+    → All (λ e. IsEnd acts led e.ask e.end) (end_by x y k n)
+end_right acts led (Some o) None k (news.Answered code block payload) each shown =
+    All-push (λ (e : AskEnd). IsEnd acts led e.ask e.end) [] (record { ask = k; end = answered code block payload.now }) (All-nil (λ (e : AskEnd). IsEnd acts led e.ask e.end)) (each code block payload o refl refl)
+end_right acts led (Some o) None k (news.Value payload) each shown =
+    All-push (λ (e : AskEnd). IsEnd acts led e.ask e.end) [] (record { ask = k; end = observed }) (All-nil (λ (e : AskEnd). IsEnd acts led e.ask e.end)) (shown payload o refl refl refl)
+end_right acts led (Some o) None k news.Reset each shown =
+    All-push (λ (e : AskEnd). IsEnd acts led e.ask e.end) [] (record { ask = k; end = reset }) (All-nil (λ (e : AskEnd). IsEnd acts led e.ask e.end)) tt
+end_right acts led (Some o) None k news.Old each shown = All-nil (λ (e : AskEnd). IsEnd acts led e.ask e.end)
+end_right acts led (Some o) None k news.Nothing each shown = All-nil (λ (e : AskEnd). IsEnd acts led e.ask e.end)
+end_right acts led (Some o) (Some p) k what each shown = All-nil (λ (e : AskEnd). IsEnd acts led e.ask e.end)
+end_right acts led None after k what each shown = All-nil (λ (e : AskEnd). IsEnd acts led e.ask e.end)
+
+-- an ask that ends is the latest
+latest_ends : (x y : Option Outstanding) (k : ℕ) (n : News) → All (λ (e : AskEnd). e.ask ≡ k) (end_by x y k n)
+latest_ends (Some o) None k (news.Answered code block payload) = All-push (λ (e : AskEnd). e.ask ≡ k) [] (record { ask = k; end = answered code block payload.now }) (All-nil (λ (e : AskEnd). e.ask ≡ k)) refl
+latest_ends (Some o) None k (news.Value payload) = All-push (λ (e : AskEnd). e.ask ≡ k) [] (record { ask = k; end = observed }) (All-nil (λ (e : AskEnd). e.ask ≡ k)) refl
+latest_ends (Some o) None k news.Reset = All-push (λ (e : AskEnd). e.ask ≡ k) [] (record { ask = k; end = reset }) (All-nil (λ (e : AskEnd). e.ask ≡ k)) refl
+latest_ends (Some o) None k news.Old = All-nil (λ (e : AskEnd). e.ask ≡ k)
+latest_ends (Some o) None k news.Nothing = All-nil (λ (e : AskEnd). e.ask ≡ k)
+latest_ends (Some o) (Some p) k what = All-nil (λ (e : AskEnd). e.ask ≡ k)
+latest_ends None after k what = All-nil (λ (e : AskEnd). e.ask ≡ k)
 
 -- what comes to the client is a reply to an ask, or a notice
-pub for_client : (w : WorldState) (d : Datagram) (p : Purpose) → IsSaid w.asks w.acts d p → d.to ≡ client_place → (k : ℕ) × (IsSentBack w.asks w.acts k d ⊎ ((q : ℕ) × IsNotice w.asks w.acts k q d))
-for_client w d (copy_of k) is to = absurd (is to)
-for_client w d (reply_to k) is to = (k, inl is)
-for_client w d (notice_for k q e) is to = (k, inr (q, is))
-for_client w d other is to = absurd (is.0 to)
+pub for_client : (w : WorldState) (led : List Entry) (d : Datagram) (p : Purpose) → IsSaid w.asks w.acts led d p → d.to ≡ client_place
+    → (k : ℕ) × (IsSentBack w.asks led k d ⊎ ((q : ℕ) × IsNotice w.asks w.acts k q d))
+for_client w led d (copy_of k) is to = absurd (is to)
+for_client w led d (reply_to k) is to = (k, inl is)
+for_client w led d (notice_for k q e) is to = (k, inr (q, is))
+for_client w led d other is to = absurd (is.0 to)
 
 -- the act of a reply with Observe
-act_of_reply : (asks : List Outstanding) (acts : List Act) (k : ℕ) (r : Reply) → IsWhy asks acts k r → (sequence_of (reply_options r) ≡ None → ⊥) → (x : Act) × Contains acts x × (x.ask ≡ k)
-act_of_reply asks acts k r (inl full) some = absurd (some (ap (λ (x : Reply). sequence_of (reply_options x)) full))
-act_of_reply asks acts k r (inr (inl none)) some = absurd (some (ap (λ (x : Reply). sequence_of (reply_options x)) none))
-act_of_reply asks acts k r (inr (inr (inl links))) some = absurd (some links.1)
-act_of_reply asks acts k r (inr (inr (inr act))) some = (act.0, act.1, act.2)
+act_of_reply : (asks : List Outstanding) (acts : List Act) (links : List ℕ) (led : List Entry) (k : ℕ) (r : Reply) → All (IsEntry asks acts links) led → IsWhy led k r → (sequence_of (reply_options r) ≡ None → ⊥)
+    → (x : Act) × Contains acts x × (x.ask ≡ k)
+act_of_reply asks acts links led k r entries (inl full) some = absurd (some (ap (λ (x : Reply). sequence_of (reply_options x)) full))
+act_of_reply asks acts links led k r entries (inr x) some = elim (entry_reply asks acts links x.0 (All-contains (IsEntry asks acts links) led x.0 entries x.1)) [
+  | inl act ↦ (act.act, act.made, act.for_it ∙ x.2)
+  | inr silent ↦ absurd (some (ap (λ (y : Reply). sequence_of (reply_options y)) x.3 ∙ silent.silent))
+]
 
-pub exact_taken : (capacity : ℕ) (d : Datagram) (w : WorldState) (told : Delivered) (old new : List ℕ) (t : State) → Holds capacity w → length w.asks ≤ 65536 → Exact w
-    → (k : ℕ) → IsSentBack w.asks w.acts k d → Delivers (at_moment w.moment w.client) d.from d.bytes told old new t
+pub exact_taken : (capacity : ℕ) (d : Datagram) (w : WorldState) (told : Delivered) (old new : List ℕ) (t : State) → Holds capacity w → length w.asks ≤ 65536 → (x : Exact w)
+    → (k : ℕ) → IsSentBack w.asks x.led k d → Delivers (at_moment w.moment w.client) d.from d.bytes told old new t
     → Exact (with_sent (record w { client = t; ends = w.ends ++ end_by w.client.outstanding t.outstanding (latest w) told.news; taken = w.taken ++ taken_by d.purpose told.news })
     client_place d.from other (option_to_list (option_map (λ n. take n new) told.reply)))
 exact_taken capacity d w told old new t h few x k sent (of_message m spells reply news_is after_is) =
@@ -126,28 +164,34 @@ exact_taken capacity d w told old new t h few x k sent (of_message m spells repl
     let ids : right.request.id ≡ last.1.id = sym right.id ∙ (sym (ap (λ (y : CoapMessage). y.id) one) ∙ (id ∙ sym last.3.id)) in
     same_ask w.asks k (latest w) right.request last.1 (ids_differ w.asks w.client h.did few) right.ask (at_end w.asks last.0 last.1 last.2) ids
     in
-    let new_ends : All (λ e. IsEnd w.asks w.acts e.ask e.end) (end_by w.client.outstanding t.outstanding (latest w) told.news)
-    = end_right w.asks w.acts w.client.outstanding t.outstanding (latest w) told.news (λ code block payload o n_is o_is.
+    let new_ends : All (λ e. IsEnd w.acts x.led e.ask e.end) (end_by w.client.outstanding t.outstanding (latest w) told.news)
+    = end_right w.acts x.led w.client.outstanding t.outstanding (latest w) told.news (λ code block payload o n_is o_is.
     let says : IsNews (meaning (at_moment w.moment w.client) d.from m) m (news.Answered code block payload)
     = subst (λ (n : News). IsNews (meaning (at_moment w.moment w.client) d.from m) m n) n_is news_is in (
       right.reply,
-      subst (λ (n : ℕ). IsWhy w.asks w.acts n right.reply) (which o (answer_taken (at_moment w.moment w.client) d.from m says.0) o_is) right.why,
+      subst (λ (n : ℕ). IsWhy x.led n right.reply) (which o (answer_taken (at_moment w.moment w.client) d.from m says.0) o_is) right.why,
       says.1 ∙ (ap (λ (y : CoapMessage). y.code) one ∙ right.code),
+      says.2 ∙ ap block2_of (ap (λ (y : CoapMessage). y.options) one ∙ right.options),
       says.3 ∙ (ap (λ (y : CoapMessage). y.payload) one ∙ right.payload),
     )) (λ payload o n_is o_is t_is.
     let says : IsNews (meaning (at_moment w.moment w.client) d.from m) m (news.Value payload)
     = subst (λ (n : News). IsNews (meaning (at_moment w.moment w.client) d.from m) m n) n_is news_is in
-    let act = act_of_reply w.asks w.acts k right.reply right.why (λ unseen.
+    let act = act_of_reply w.asks w.acts w.server.links x.led k right.reply x.ledger.entries right.why (λ unseen.
     no_value_without (at_moment w.moment w.client) d.from m says.0 (ap (λ (y : CoapMessage). sequence_of y.options) one ∙ (ap sequence_of right.options ∙ unseen)) says.1) in
     (act.0, act.1, act.2 ∙ which o (value_taken (at_moment w.moment w.client) d.from m says.0 says.1) o_is)) in
-    let all_ends = All-append (λ (e : AskEnd). IsEnd w.asks w.acts e.ask e.end) w.ends ends x.ended new_ends in
-    let at = exact_client w t (w.ends ++ ends) (w.taken ++ taken_by d.purpose told.news) x all_ends in
+    let at_end_of = latest_ends w.client.outstanding t.outstanding (latest w) told.news in
     record {
-      kept = at.kept;
-      said = said_sent mid client_place d.from other (option_to_list (option_map (λ n. take n new) told.reply)) at.said
-          (All-same (λ (bytes : List ℕ). IsSaid w.asks w.acts (record { moment = w.moment; from = client_place; to = d.from; bytes = bytes; purpose = other }) other)
+      led = x.led;
+      ledger = x.ledger;
+      given = x.given;
+      joins = x.joins;
+      fed = x.fed;
+      first = first_more_ends x.led w.asks w.acts w.server.links w.ends ends x.ledger.entries at_end_of x.first;
+      kept = x.kept;
+      said = said_sent mid x.led client_place d.from other (option_to_list (option_map (λ n. take n new) told.reply)) x.said
+          (All-same (λ (bytes : List ℕ). IsSaid w.asks w.acts x.led (record { moment = w.moment; from = client_place; to = d.from; bytes = bytes; purpose = other }) other)
           (option_to_list (option_map (λ n. take n new) told.reply)) [] none (All-nil (λ (bytes : List ℕ). _)));
-      ended = at.ended;
+      ended = All-append (λ (e : AskEnd). IsEnd w.acts x.led e.ask e.end) w.ends ends x.ended new_ends;
     }
 exact_taken capacity d w told old new t h few x k sent (of_fault f has reply news_is same) =
     absurd (no_fault_of_message f sent.reply.answer d.bytes sent.reply.spells has)
@@ -207,7 +251,7 @@ is_observed : (s : State) (from : Endpoint) (m : CoapMessage) (q : ℕ) → ((c 
 is_observed s from m q number v e true is = refl
 is_observed s from m q number v e false is = absurd (no_value_unless s from m v (number false is) e)
 
-pub exact_noticed : (capacity : ℕ) (d : Datagram) (w : WorldState) (told : Delivered) (old new : List ℕ) (t : State) → Holds capacity w → length w.asks ≤ 65536 → Exact w
+pub exact_noticed : (capacity : ℕ) (d : Datagram) (w : WorldState) (told : Delivered) (old new : List ℕ) (t : State) → Holds capacity w → length w.asks ≤ 65536 → (x : Exact w)
     → (k q : ℕ) → IsNotice w.asks w.acts k q d → Delivers (at_moment w.moment w.client) d.from d.bytes told old new t
     → Exact (with_sent (record w { client = t; ends = w.ends ++ end_by w.client.outstanding t.outstanding (latest w) told.news; taken = w.taken ++ taken_by d.purpose told.news })
     client_place d.from other (option_to_list (option_map (λ n. take n new) told.reply)))
@@ -224,8 +268,8 @@ exact_noticed capacity d w told old new t h few x k q n_of (of_message m spells 
     in
     let ends : List AskEnd = end_by w.client.outstanding t.outstanding (latest w) told.news in
     let mid : WorldState = record w { client = t; ends = w.ends ++ ends; taken = w.taken ++ taken_by d.purpose told.news } in
-    let new_ends : All (λ e. IsEnd w.asks w.acts e.ask e.end) (end_by w.client.outstanding t.outstanding (latest w) told.news)
-    = end_right w.asks w.acts w.client.outstanding t.outstanding (latest w) told.news (λ code block payload o n_is o_is.
+    let new_ends : All (λ e. IsEnd w.acts x.led e.ask e.end) (end_by w.client.outstanding t.outstanding (latest w) told.news)
+    = end_right w.acts x.led w.client.outstanding t.outstanding (latest w) told.news (λ code block payload o n_is o_is.
     let says : IsNews (meaning (at_moment w.moment w.client) d.from m) m (news.Answered code block payload)
     = subst (λ (n : News). IsNews (meaning (at_moment w.moment w.client) d.from m) m n) n_is news_is in
     absurd (never_answers w o d.from m k n_of.request q h.did few o_is n_of.ask n_of.registers token number says.0 (is_for_observation w.client.observation d.from m.token) refl)) (λ payload o n_is o_is t_is.
@@ -240,16 +284,21 @@ exact_noticed capacity d w told old new t h few x k q n_of (of_message m spells 
       | inl here ↦ (n_of.act, n_of.made, n_of.for_it ∙ here.0)
       | inr elsewhere_is ↦ absurd (let no_one : o.registers ≡ false = elsewhere_is.1 in cc)
     ]) in
-    let all_ends = All-append (λ (e : AskEnd). IsEnd w.asks w.acts e.ask e.end) w.ends ends x.ended new_ends in
-    let at = exact_client w t (w.ends ++ ends) (w.taken ++ taken_by d.purpose told.news) x all_ends in
+    let at_end_of = latest_ends w.client.outstanding t.outstanding (latest w) told.news in
     let small : m.id < 65536 = spells.bounds.id in
     record {
-      kept = at.kept;
-      said = said_sent mid client_place d.from other (option_to_list (option_map (λ n. take n new) told.reply)) at.said
-          (All-weaker AreEmpty (λ (bytes : List ℕ). IsSaid w.asks w.acts (record { moment = w.moment; from = client_place; to = d.from; bytes = bytes; purpose = other }) other)
+      led = x.led;
+      ledger = x.ledger;
+      given = x.given;
+      joins = x.joins;
+      fed = x.fed;
+      first = first_more_ends x.led w.asks w.acts w.server.links w.ends ends x.ledger.entries at_end_of x.first;
+      kept = x.kept;
+      said = said_sent mid x.led client_place d.from other (option_to_list (option_map (λ n. take n new) told.reply)) x.said
+          (All-weaker AreEmpty (λ (bytes : List ℕ). IsSaid w.asks w.acts x.led (record { moment = w.moment; from = client_place; to = d.from; bytes = bytes; purpose = other }) other)
           (λ bytes e. ((λ to. not_one (sym n_of.from ∙ to)), inr (record { message = e.0; spells = e.1; kind = e.2; no_request = e.3 })))
           (option_to_list (option_map (λ n. take n new) told.reply)) (empty_back m.id _ m.kind told.reply old new kind small reply));
-      ended = at.ended;
+      ended = All-append (λ (e : AskEnd). IsEnd w.acts x.led e.ask e.end) w.ends ends x.ended new_ends;
     }
 exact_noticed capacity d w told old new t h few x k q n_of (of_fault f has reply news_is same) =
     absurd (no_fault_of_message f _ d.bytes n_of.spells has)

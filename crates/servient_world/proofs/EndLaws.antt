@@ -1,14 +1,18 @@
 -- What all moves together keep, and how asks ended.
-use Rattle.std.proofs.Common.{◌≡◌, ℕ, ◌≤◌, ◌∙◌, Option, Some, None, List, [], ◌∷◌, length, inl, inr, refl, sym, ap, subst, arith}
-use Rattle.std.specs.Prelude.{slice_get}
+use Rattle.std.proofs.Common.{◌≡◌, ◌⊎◌, ℕ, ◌≤◌, ◌∙◌, Option, Some, None, List, [], ◌∷◌, length, inl, inr, refl, sym, ap, subst, arith}
+use Rattle.std.specs.Prelude.{Contains, slice_get}
 use Rattle.std.proofs.lemmas.List.{length_push}
 use Rattle.std.proofs.lemmas.List.Elements.{All-contains}
+use Rattle.coap_msg.specs.declared.block.Block.{Block}
 use Rattle.coap_client.specs.declared.outstanding.Outstanding.{Outstanding}
+use Rattle.coap_client.specs.Answers.{block2_of}
 use Rattle.coap_client.specs.Exchange.{at_moment, request_for}
 use Rattle.coap_observe.specs.declared.notice.Notice.{Notice}
-use Rattle.coap_bind.specs.Writing.{Reply}
+use Rattle.coap_bind.specs.Writing.{Reply, reply_options}
 use Rattle.servient_world.specs.World.{server_place, Datagram, answered, observed, AskEnd, WorldState, IsStart, WorldMove, ask, due, deliver, pass, elsewhere, emit, notify, ClientAsks, sends_ask, refuses_ask, skips_ask, ClientDoesDue, retransmits, gives_up, waits, with_notice, too_late, to_client, to_server, ComesIfSent, ComesElsewhere, comes_elsewhere, skips_end, Plays, PlaysAll}
-use Rattle.servient_world.specs.Laws.{AnsweredOnce, ObservedOnce}
+use Rattle.servient_world.specs.Laws.{said_of, AsksLinks, AsksOfBlocks, IsExcuse, IsAnsweredBy, AnsweredOnce, ObservedOnce}
+use Rattle.servient_world.proofs.BlockReplies.{observed_block}
+use Rattle.servient_world.proofs.Ledger.{Entry, IsEntry, entry_reply}
 use Rattle.servient_world.proofs.Holds.{Holds}
 use Rattle.servient_world.proofs.OnceLaws.{holds_after, holds_at_start}
 use Rattle.servient_world.proofs.WatchLaws.{Watched}
@@ -112,21 +116,33 @@ stands_after_all exchanges watchers (m ∷ moves) w v plays few s =
 pub observed_once : ObservedOnce
 observed_once first_id exchanges watchers moves w v k start plays few has =
     let s = stands_after_all exchanges watchers moves w v plays few (stands_at_start first_id exchanges watchers w start) in
-    All-contains (λ (e : AskEnd). IsEnd v.asks v.acts e.ask e.end) v.ends (record { ask = k; end = observed }) s.exact.ended has
+    All-contains (λ (e : AskEnd). IsEnd v.acts s.exact.led e.ask e.end) v.ends (record { ask = k; end = observed }) s.exact.ended has
+
+-- what an ask was answered that was admitted
+answered_by : (v : WorldState) (x : Exact v) (k code : ℕ) (block : Option Block) (payload : List ℕ) (r : Reply) (e : Entry) → Contains x.led e → e.ask ≡ k → r ≡ e.reply
+    → code ≡ r.code → block ≡ block2_of (reply_options r) → payload ≡ r.payload → ¬ (AsksLinks v.asks k) → ¬ (AsksOfBlocks v.asks k) → IsExcuse code payload ⊎ IsAnsweredBy v.acts k code block payload
+answered_by v x k code block payload r e has same reply code_is block_is payload_is no_links no_blocks =
+    elim (entry_reply v.asks v.acts v.server.links e (All-contains (IsEntry v.asks v.acts v.server.links) x.led e x.ledger.entries has)) [
+      | inl act ↦ inr (record {
+        act = act.act;
+        made = act.made;
+        for_it = act.for_it ∙ same;
+        says_code = code_is ∙ ap (λ (y : Reply). y.code) (reply ∙ act.says);
+        says_block = block_is ∙ (ap (λ (y : Reply). block2_of (reply_options y)) (reply ∙ act.says) ∙ observed_block act.seen (said_of act.act.acted));
+        says_payload = payload_is ∙ ap (λ (y : Reply). y.payload) (reply ∙ act.says);
+      })
+      | inr rest ↦ elim rest.why [
+        | inl none ↦ inl (code_is ∙ ap (λ (y : Reply). y.code) (reply ∙ none), inr (payload_is ∙ ap (λ (y : Reply). y.payload) (reply ∙ none)))
+        | inr (inl links) ↦ absurd (no_links (subst (AsksLinks v.asks) same links))
+        | inr (inr blocks) ↦ absurd (no_blocks (subst (AsksOfBlocks v.asks) same blocks))
+      ]
+    ]
 
 pub answered_once : AnsweredOnce
-answered_once first_id exchanges watchers moves w v k code payload start plays few apart has =
+answered_once first_id exchanges watchers moves w v k code block payload start plays few no_links no_blocks has =
     let s = stands_after_all exchanges watchers moves w v plays few (stands_at_start first_id exchanges watchers w start) in
-    let is = All-contains (λ (e : AskEnd). IsEnd v.asks v.acts e.ask e.end) v.ends (record { ask = k; end = answered code payload }) s.exact.ended has in
+    let is = All-contains (λ (e : AskEnd). IsEnd v.acts s.exact.led e.ask e.end) v.ends (record { ask = k; end = answered code block payload }) s.exact.ended has in
     elim is.1 [
-      | inl full ↦ inl (is.2 ∙ ap (λ (r : Reply). r.code) full, inl (is.3 ∙ ap (λ (r : Reply). r.payload) full))
-      | inr (inl none) ↦ inl (is.2 ∙ ap (λ (r : Reply). r.code) none, inr (is.3 ∙ ap (λ (r : Reply). r.payload) none))
-      | inr (inr (inl links)) ↦ absurd (apart links.0)
-      | inr (inr (inr act)) ↦ inr (record {
-        act = act.0;
-        made = act.1;
-        for_it = act.2;
-        says_code = is.2 ∙ ap (λ (r : Reply). r.code) act.4;
-        says_payload = is.3 ∙ ap (λ (r : Reply). r.payload) act.4;
-      })
+      | inl full ↦ inl (is.2 ∙ ap (λ (r : Reply). r.code) full, inl (is.4 ∙ ap (λ (r : Reply). r.payload) full))
+      | inr e ↦ answered_by v s.exact k code block payload is.0 e.0 e.1 e.2 e.3 is.2 is.3 is.4 no_links no_blocks
     ]

@@ -47,11 +47,12 @@ last_put path puts = last_by (is_body_of client_place path) None puts
 
 none_after : (test : Body → Bool) (before : Option Body) (puts : List Body) → list_any test puts ≡ false → last_by test before puts ≡ before
 none_after test before [] e = refl
-none_after test before (x ∷ puts) e = by_test (test x) refl e
+none_after test before (x ∷ puts) e = by_test (none_after test before puts) (test x) refl e
   where
-    by_test : (b : Bool) → test x ≡ b → (b || list_any test puts) ≡ false → last_by test (if test x then Some x else before) puts ≡ before
-    by_test true t h = absurd cc
-    by_test false t h = ap (λ (c : Bool). last_by test (if c then Some x else before) puts) t ∙ none_after test before puts h
+    by_test : (list_any test puts ≡ false → last_by test before puts ≡ before) → (b : Bool) → test x ≡ b → (b || list_any test puts) ≡ false
+        → last_by test (if test x then Some x else before) puts ≡ before
+    by_test rest true t h = absurd cc
+    by_test rest false t h = ap (λ (c : Bool). last_by test (if c then Some x else before) puts) t ∙ rest h
 
 last_is : (test : Body → Bool) (before : Option Body) (first after : List Body) (b : Body) → test b ≡ true → list_any test after ≡ false → last_by test before (first ++ b ∷ after) ≡ Some b
 last_is test before [] after b own last = ap (λ (c : Bool). last_by test (if c then Some b else before) after) own ∙ none_after test (Some b) after last
@@ -227,10 +228,10 @@ pub record IsActedOn (m : CoapMessage) (a : Acted) : Type 0 where
   pub apart : asks_links m ≡ false
   pub what : a.what ≡ what_is_asked m
 
-acted_on : (from : Endpoint) (now : ℕ) (m : CoapMessage) (links : List ℕ) (seen : Option ℕ) (l : Led) (r : Reply) (a : Acted) → LeadsTo from now m links seen l r → l ≡ to_act a → IsActedOn m a
+pub acted_on : (from : Endpoint) (now : ℕ) (m : CoapMessage) (links : List ℕ) (seen : Option ℕ) (l : Led) (r : Reply) (a : Acted) → LeadsTo from now m links seen l r → l ≡ to_act a → IsActedOn m a
 acted_on from now m links seen l r a (is_refused some same) is = absurd (cc)
 acted_on from now m links seen l r a (finds_no_memory same says) is = absurd (cc)
-acted_on from now m links seen l r a (gets_links links_it same says) is = absurd (cc)
+acted_on from now m links seen l r a (gets_links wants links_it same says) is = absurd (cc)
 acted_on from now m links seen l r a (gets_no_links links_it same says) is = absurd (cc)
 acted_on from now m links seen l r a (gets_block b found wants same says) is = absurd (cc)
 acted_on from now m links seen l r a (is_joined b added wants same says) is = absurd (cc)

@@ -172,7 +172,7 @@ without_act capacity w p act t more h did moment none =
       once = subst (λ (l : List Act). AllPairs (λ x y. x.ask ≢ y.ask) l) (sym same) h.once;
     }
 
-no_acts : (p : Purpose) (act : Option Acted) → act ≡ None → acts_for p act ≡ []
+pub no_acts : (p : Purpose) (act : Option Acted) → act ≡ None → acts_for p act ≡ []
 no_acts (copy_of k) act e = ap (acts_for (copy_of k)) e
 no_acts (reply_to k) act e = refl
 no_acts (notice_for k q f) act e = refl

@@ -26,6 +26,7 @@ use Rattle.coap_bind.specs.Server.{block_arrival}
 use Rattle.coap_bind.specs.Writing.{Reply}
 use Rattle.servient_world.specs.World.{client_place}
 use Rattle.servient_world.specs.Led.{Led, to_refusal, to_no_memory, to_links, to_later_block, to_parts, to_act, to_act_on_whole, LeadsTo, is_refused, finds_no_memory, gets_links, gets_no_links, gets_block, is_joined, is_acted_on, is_acted_on_whole, BlockComes, BodyCompletes, leaves_text, leaves_nothing, drops_body, Leaves}
+use Rattle.servient_world.proofs.BlockReplies.{not_zero}
 use Rattle.servient_world.proofs.Ledger.{Entry, bytes_with, is_of, part_by, part_of, part_push}
 
 -- ---- parts, each and apart
@@ -213,7 +214,7 @@ Outcome Others Own o payload answer.Full ps = LeftOver Others o ps
 abbrev Either : (Part → Type 0) → (Part → Type 0) → Origin → Part → Type 0
 Either Others Own o p = (p.origin ≢ o → Others p) × (p.origin ≡ o → Own p)
 
-any_part : Part
+abbrev any_part : Part
 any_part = new_part (record { from = record { host = 0; port = 0 }; code = 0; path = [] }) 0
 
 left_over : (Others Own : Part → Type 0) (o : Origin) (ps : List Part) (i : ℕ) → i < length ps → (get_or ps i any_part).origin ≡ o → AreApart ps → Each (Either Others Own o) ps → LeftOver Others o (remove ps i)
@@ -224,6 +225,17 @@ left_over Others Own o ps i within own apart h =
       none = none;
       others = each_both (λ (x : Part). x.origin ≢ o) (Either Others Own o) Others (remove ps i) (λ x not_o is. is.0 not_o) none (each_removed (Either Others Own o) ps i within h);
     }
+
+-- what is answered, by the tests
+abbrev to_at : ℕ → List ℕ → Part → List Part → Bool → Bool → Bool → Added × List Part
+to_at i payload own ps apart_it long more =
+    if apart_it then (answer.Incomplete, remove ps i) else if long then (answer.TooLarge, remove ps i) else ((if more then answer.Continue else answer.Complete i), set ps i (extended payload own))
+
+abbrev begun_at : BlockArrival → List Part → Bool → Added × List Part
+begun_at a others room = if room then joined a.origin a.block a.payload (others ++ new_part a.origin a.moment ∷ []) else (answer.Full, others)
+
+abbrev after_at : BlockArrival → List Part → Bool → Bool → Added × List Part
+after_at a ps bad first = if bad then (answer.BadBlock, ps) else if first then begun a (other_parts a.origin ps) else joined a.origin a.block a.payload ps
 
 joined_to_outcome : (Others Own : Part → Type 0) (o : Origin) (b : Block) (payload : List ℕ) (i : ℕ) (own : Part) (ps : List Part) → i < length ps → get_or ps i any_part ≡ own → own.origin ≡ o
     → AreApart ps → Each (Either Others Own o) ps → Outcome Others Own o payload (joined_to b payload i own ps).0 (joined_to b payload i own ps).1
@@ -244,16 +256,13 @@ joined_to_outcome Others Own o b payload i own ps within there origin apart h =
     left : LeftOver Others o (remove ps i)
     left = left_over Others Own o ps i within at apart h
 
-    by_tests : (apart_it long more : Bool)
-        → Outcome Others Own o payload
-        (if apart_it then (answer.Incomplete, remove ps i) else if long then (answer.TooLarge, remove ps i) else ((if more then answer.Continue else answer.Complete i), set ps i (extended payload own))).0
-        (if apart_it then (answer.Incomplete, remove ps i) else if long then (answer.TooLarge, remove ps i) else ((if more then answer.Continue else answer.Complete i), set ps i (extended payload own))).1
+    by_tests : (apart_it long more : Bool) → Outcome Others Own o payload (to_at i payload own ps apart_it long more).0 (to_at i payload own ps apart_it long more).1
     by_tests true long more = left
     by_tests false true more = left
     by_tests false false true = (
       apart_set o ps i any_part (extended payload own) within at origin apart,
       others_set (Either Others Own o) (OneOf Others Own o payload) o ps i any_part (extended payload own) within at apart h
-          (λ p not_o is. ((λ no. is.0 no), (λ e. absurd (not_o e)))) ((λ not_o. absurd (not_o origin)), (λ e. grown)),
+          (λ p not_o is. ((λ isnt. is.0 isnt), (λ e. absurd (not_o e)))) ((λ not_o. absurd (not_o origin)), (λ e. grown)),
     )
     by_tests false false false = record {
       part = extended payload own;
@@ -281,26 +290,17 @@ Before P number p = (number ≡ 0 → p.bytes ≡ []) × (number ≢ 0 → P p)
 is_zero : (n : ℕ) → (n == 0) ≡ true → n ≡ 0
 is_zero n e = grind (arith, nat_tests)
 
-not_zero : (n : ℕ) → (n == 0) ≡ false → n ≢ 0
-not_zero n e = grind (arith, nat_tests)
-
 begun_outcome : (P : Part → Type 0) (a : BlockArrival) (others : List Part) → a.block.number ≡ 0 → AreApart others → NoneOf a.origin others → Each P others
     → Outcome P (Before P a.block.number) a.origin a.payload (begun a others).0 (begun a others).1
 begun_outcome P a others first apart none h = by_test (nat_lt (length others) most_parts)
   where
-    new : Part
-    new = new_part a.origin a.moment
+    ready : Each (Either P (Before P a.block.number) a.origin) (others ++ new_part a.origin a.moment ∷ [])
+    ready = each_push (Either P (Before P a.block.number) a.origin) others (new_part a.origin a.moment)
+        (each_both (λ (x : Part). x.origin ≢ a.origin) P (Either P (Before P a.block.number) a.origin) others (λ x not_o is. ((λ isnt. is), (λ e. absurd (not_o e)))) none h)
+        ((λ isnt. absurd (isnt refl)), (λ e. ((λ zero_it. refl), (λ some. absurd (some first)))))
 
-    ready : Each (Either P (Before P a.block.number) a.origin) (others ++ new ∷ [])
-    ready = each_push (Either P (Before P a.block.number) a.origin) others new
-        (each_both (λ (x : Part). x.origin ≢ a.origin) P (Either P (Before P a.block.number) a.origin) others (λ x not_o is. ((λ no. is), (λ e. absurd (not_o e)))) none h)
-        ((λ no. absurd (no refl)), (λ e. ((λ zero_it. refl), (λ some. absurd (some first)))))
-
-    by_test : (t : Bool)
-        → Outcome P (Before P a.block.number) a.origin a.payload
-        (if t then joined a.origin a.block a.payload (others ++ new ∷ []) else (answer.Full, others)).0
-        (if t then joined a.origin a.block a.payload (others ++ new ∷ []) else (answer.Full, others)).1
-    by_test true = joined_outcome P (Before P a.block.number) a.origin a.block a.payload (others ++ new ∷ []) (apart_push others new apart none) ready
+    by_test : (t : Bool) → Outcome P (Before P a.block.number) a.origin a.payload (begun_at a others t).0 (begun_at a others t).1
+    by_test true = joined_outcome P (Before P a.block.number) a.origin a.block a.payload (others ++ new_part a.origin a.moment ∷ []) (apart_push others (new_part a.origin a.moment) apart none) ready
     by_test false = record { apart = apart; none = none; others = h }
 
 after_outcome : (P : Part → Type 0) (a : BlockArrival) (ps : List Part) → AreApart ps → Each P ps
@@ -310,10 +310,7 @@ after_outcome P a ps apart h = by_tests (is_bad a.block a.payload) (a.block.numb
     others_rest : other_parts a.origin ps ≡ rest_of (is_part_of a.origin) ps
     others_rest = place_removed (is_part_of a.origin) ps (place_of a.origin ps) refl
 
-    by_tests : (bad first : Bool) → (a.block.number == 0) ≡ first
-        → Outcome P (Before P a.block.number) a.origin a.payload
-        (if bad then (answer.BadBlock, ps) else if first then begun a (other_parts a.origin ps) else joined a.origin a.block a.payload ps).0
-        (if bad then (answer.BadBlock, ps) else if first then begun a (other_parts a.origin ps) else joined a.origin a.block a.payload ps).1
+    by_tests : (bad first : Bool) → (a.block.number == 0) ≡ first → Outcome P (Before P a.block.number) a.origin a.payload (after_at a ps bad first).0 (after_at a ps bad first).1
     by_tests true first e = (apart, h)
     by_tests false true e =
         begun_outcome P a (other_parts a.origin ps) (is_zero a.block.number e)
@@ -322,7 +319,7 @@ after_outcome P a ps apart h = by_tests (is_bad a.block a.payload) (a.block.numb
         (subst (Each P) (sym others_rest) (rest_each P (is_part_of a.origin) ps h))
     by_tests false false e =
         joined_outcome P (Before P a.block.number) a.origin a.block a.payload ps apart
-        (each_weaker P (Either P (Before P a.block.number) a.origin) ps (λ p is. ((λ no. is), (λ own. ((λ zero_it. absurd (not_zero a.block.number e zero_it)), (λ some. is))))) h)
+        (each_weaker P (Either P (Before P a.block.number) a.origin) ps (λ p is. ((λ isnt. is), (λ own. ((λ zero_it. absurd (not_zero a.block.number e zero_it)), (λ some. is))))) h)
 
 -- ---- the invariant
 
@@ -341,7 +338,7 @@ came led from now m a added s ps comes j =
     subst (λ (x : Added). Outcome (IsPart led) (Before (IsPart led) a.block.number) a.origin a.payload x ps) (sym comes.gives.answer_is)
     (subst (λ (x : List Part). Outcome (IsPart led) (Before (IsPart led) a.block.number) a.origin a.payload (after_block a (living now s.parts)).0 x) (sym comes.gives.parts_are) at)
 
-pub joins_stay : (led more : List Entry) (s t : Server) → t.parts ≡ s.parts → ((o : Origin) → part_of o (led ++ more) ≡ part_of o led) → Joins led s → Joins (led ++ more) t
+joins_stay : (led more : List Entry) (s t : Server) → t.parts ≡ s.parts → ((o : Origin) → part_of o (led ++ more) ≡ part_of o led) → Joins led s → Joins (led ++ more) t
 joins_stay led more s t same stays j = record {
   apart = subst AreApart (sym same) j.apart;
   parts = subst (Each (IsPart (led ++ more))) (sym same) (each_weaker (IsPart led) (IsPart (led ++ more)) s.parts (λ p is here. stays p.origin ∙ is here) j.parts);
@@ -358,6 +355,9 @@ no_entry led o = ap (part_of o) (append-nil led)
 
 without_nil : (led : List Entry) (s : Server) → Joins (led ++ []) s → Joins led s
 without_nil led s j = subst (λ (l : List Entry). Joins l s) (append-nil led) j
+
+pub joins_same : (led : List Entry) (s t : Server) → t.parts ≡ s.parts → Joins led s → Joins led t
+joins_same led s t same j = without_nil led t (joins_stay led [] s t same (no_entry led) j)
 
 -- ---- what comes from elsewhere
 
@@ -379,7 +379,7 @@ not_whole_answer : (from : Endpoint) (now : ℕ) (m : CoapMessage) (links : List
     → (i : ℕ) → added ≡ answer.Complete i → ⊥
 not_whole_answer from now m links seen l r a added (is_refused some same) is i e = cc
 not_whole_answer from now m links seen l r a added (finds_no_memory same says) is i e = cc
-not_whole_answer from now m links seen l r a added (gets_links links_it same says) is i e = cc
+not_whole_answer from now m links seen l r a added (gets_links wants links_it same says) is i e = cc
 not_whole_answer from now m links seen l r a added (gets_no_links links_it same says) is i e = cc
 not_whole_answer from now m links seen l r a added (gets_block b found wants same says) is i e = cc
 not_whole_answer from now m links seen l r a added (is_joined b x wants same says) is i e =
@@ -398,7 +398,7 @@ pub joins_elsewhere : (led : List Entry) (from : Endpoint) (now : ℕ) (m : Coap
 joins_elsewhere led from now m links seen l r s t away leads leaves j = by_led l refl leaves
   where
     stays : t.parts ≡ s.parts → Joins led t
-    stays same = without_nil led t (joins_stay led [] s t same (no_entry led) j)
+    stays same = joins_same led s t same j
 
     gone : (a : BlockArrival) (i : ℕ) (ps : List Part) → BlockComes from now m a (answer.Complete i) s ps → t.parts ≡ remove ps i → Joins led t
     gone a i ps comes after =
@@ -444,7 +444,7 @@ grown_part led x a p is_it from is here =
     by_test false e = is.0 (not_same e) here
       where
         not_same : is_of p.origin a ≡ false → p.origin ≢ a.origin
-        not_same no same = let wrong = is_itself p.origin (new_part a.origin 0) (sym same) in cc
+        not_same isnt same = let wrong = is_itself p.origin (new_part a.origin 0) (sym same) in cc
 
 -- an entry that joins no block
 plain_part : (led : List Entry) (x : Entry) → ((o : Origin) (before : Option (List ℕ)) → part_by o x.led before ≡ before) → (o : Origin) → part_of o (led ++ x ∷ []) ≡ part_of o led

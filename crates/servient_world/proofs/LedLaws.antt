@@ -181,16 +181,16 @@ led_at_once from bytes now act back s u t m slot r parts b none met replies is (
 
 -- the links are given
 led_to_links : (from : Endpoint) (bytes : List ℕ) (now : ℕ) (act : Option Acted) (back : List (List ℕ)) (s u t : Server) (m : CoapMessage) (slot : ℕ) (b : List ℕ)
-    → act ≡ None → IsMet from bytes now m (Fresh slot) s u → asks_links m ≡ true
+    → act ≡ None → IsMet from bytes now m (Fresh slot) s u → wanted_in m ≡ wanted.Act → asks_links m ≡ true
     → Replies (links_reply (size_asked (observing_in m) (what_is_asked m)) u.links) (opened m slot) b (links_given from now m.token (observing_in m) (what_is_asked m) u) t
     → back ≡ b ∷ [] → IsLed from bytes now act back s t
-led_to_links from bytes now act back s u t m slot b none met links replies is =
+led_to_links from bytes now act back s u t m slot b none met wants links replies is =
     let v : Server = links_given from now m.token (observing_in m) (what_is_asked m) u in
     let size : Option ℕ = size_asked (observing_in m) (what_is_asked m) in
     let left = replied_leaves (links_reply size u.links) (opened m slot) b v t replies in
     let with_text : List ℕ → List Body → List Body = λ text bodies. bodies_with_links from (what_is_asked m).request.path now size text bodies in
     led_so from bytes now act back s v u t m slot to_links (links_reply size u.links) b none refl met replies refl refl is
-    (gets_links links refl (ap (links_reply size) met.same_links))
+    (gets_links wants links refl (ap (links_reply size) met.same_links))
     (leaves_text links (left.bodies ∙ (ap (λ (text : List ℕ). with_text text u.bodies) met.same_links ∙ ap (with_text s.links) met.same_bodies)) (left.parts ∙ met.same_parts))
 
 -- ---- what is asked and answered
@@ -278,7 +278,7 @@ led_unasked from bytes now h act back s t none is (settled settles) unasked = in
 led_unasked from bytes now h act back s t none is (admitted m slot u met (replied r parts b why replies e)) unasked =
     inr (led_at_once from bytes now act back s u t m slot r parts b none met replies (is ∙ ap sent_back e) why)
 led_unasked from bytes now h act back s t none is (admitted m slot u met (gives_links b faultless wants links get replies e)) unasked =
-    inr (led_to_links from bytes now act back s u t m slot b none met links replies (is ∙ ap sent_back e))
+    inr (led_to_links from bytes now act back s u t m slot b none met wants links replies (is ∙ ap sent_back e))
 led_unasked from bytes now h act back s t none is (admitted m slot u met (bad_option_ignored number fault non e same)) unasked =
     inr (record {
       message = m;

@@ -217,7 +217,7 @@ entry_reply asks acts links x e = by_reason e.leads
     by_reason : LeadsTo client_place e.now e.message links e.seen x.led x.reply → IsActReply acts x.ask x.reply ⊎ IsOtherReply asks x.ask x.reply
     by_reason (is_refused some same) = absurd (some e.is.options)
     by_reason (finds_no_memory same is) = inr (record { why = inl is; silent = ap (λ (r : Reply). sequence_of (reply_options r)) is ∙ unnumbered Memory })
-    by_reason (gets_links links_it same is) = inr (record {
+    by_reason (gets_links wants links_it same is) = inr (record {
       why = inr (inl (its, links_it));
       silent = ap (λ (r : Reply). sequence_of (reply_options r)) is ∙ links_unnumbered (size_asked (observing_in e.message) (what_is_asked e.message)) links;
     })

@@ -7,6 +7,7 @@ pub mod OnceLaws
 pub mod Ledger
 pub mod Given
 pub mod Joins
+pub mod LedgerLaws
 pub mod ReplyLaws
 pub mod BlockReplies
 pub mod WatchLaws
@@ -19,6 +20,10 @@ pub mod AnsweredLaws
 pub mod CounterLaws
 pub mod WatchedLaws
 pub mod EndLaws
+pub mod RowLaws
+pub mod ReadTexts
+pub mod ReadRows
+pub mod WriteRows
 pub mod ValueLaws
 pub mod TakenLaws
 pub mod SourceLaws

@@ -1,5 +1,5 @@
 -- Elements of lists by their places.
-use Rattle.std.proofs.Common.{◌≡◌, ℕ, ◌-◌, ◌∙◌, ◌++◌, List, [], ◌∷◌, Some, length, zero, suc, refl, sym, ap, subst, arith}
+use Rattle.std.proofs.Common.{◌≡◌, ℕ, ◌-◌, ◌∙◌, ◌++◌, List, [], ◌∷◌, Some, take, length, zero, suc, refl, sym, ap, subst, arith}
 use Rattle.std.specs.Prelude.{All, slice_get}
 use Rattle.std.proofs.lemmas.List.{length_push}
 use Rattle.std.proofs.lemmas.Option.{same_Some, slice_get_within, get_or_from_slice_get}
@@ -27,3 +27,9 @@ at_end {X} xs before x e =
     let total = ap length e in
     let place : length xs - 1 ≡ length before = omega arith in
     ap (λ k. slice_get xs k) place ∙ (ap (λ (l : List X). slice_get l (length before)) e ∙ at_last before x)
+
+-- one more element of the first ones
+pub take_next : {X : Type 0} (xs : List X) (k : ℕ) (x : X) → slice_get xs k ≡ Some x → take (suc k) xs ≡ take k xs ++ x ∷ []
+take_next [] k x e = absurd (cc)
+take_next {X} (y ∷ xs) zero x e = ap (λ (z : X). z ∷ []) (same_Some y x e)
+take_next {X} (y ∷ xs) (suc k) x e = ap (λ (l : List X). y ∷ l) (take_next xs k x e)

@@ -32,6 +32,7 @@ use Rattle.servient_world.specs.Laws.{WasRead, WasEmitted, ValuesHaveASource}
 use Rattle.servient_world.proofs.Places.{all_at, at_more, at_last}
 use Rattle.servient_world.proofs.Holds.{Holds}
 use Rattle.servient_world.proofs.WatchLaws.{IsKnown, Watched}
+use Rattle.servient_world.proofs.Ledger.{Entry, IsEntry, entry_reply}
 use Rattle.servient_world.proofs.Exact.{Exact, IsSaid, IsWhy}
 use Rattle.servient_world.proofs.NoticeLaws.{purpose_is, not_client_purpose}
 use Rattle.servient_world.proofs.EndLaws.{grows_by, all_grow, Stands, stands_after, stands_at_start}
@@ -167,64 +168,67 @@ plain_back other acts emitted d = tt
 
 -- ---- what is taken
 
-read_of : (asks : List Outstanding) (acts : List Act) (k : ℕ) (r : Reply) (payload : List ℕ) → IsWhy asks acts k r → (sequence_of (reply_options r) ≡ None → ⊥) → payload ≡ r.payload → WasRead acts (record { ask = k; place = 0; payload = payload })
-read_of asks acts k r payload (inl full) some is = absurd (some (ap (λ (x : Reply). sequence_of (reply_options x)) full))
-read_of asks acts k r payload (inr (inl none)) some is = absurd (some (ap (λ (x : Reply). sequence_of (reply_options x)) none))
-read_of asks acts k r payload (inr (inr (inl links))) some is = absurd (some links.1)
-read_of asks acts k r payload (inr (inr (inr act))) some is =
-    record { act = act.0; made = act.1; for_it = act.2; first = refl; payload = is ∙ ap (λ (x : Reply). x.payload) act.4 }
+read_of : (asks : List Outstanding) (acts : List Act) (links : List ℕ) (led : List Entry) (k : ℕ) (r : Reply) (payload : List ℕ) → All (IsEntry asks acts links) led → IsWhy led k r
+    → (sequence_of (reply_options r) ≡ None → ⊥) → payload ≡ r.payload → WasRead acts (record { ask = k; place = 0; payload = payload })
+read_of asks acts links led k r payload entries (inl full) some is = absurd (some (ap (λ (x : Reply). sequence_of (reply_options x)) full))
+read_of asks acts links led k r payload entries (inr x) some is =
+    let says = entry_reply asks acts links x.0 (All-contains (IsEntry asks acts links) led x.0 entries x.1) in
+    elim says [
+      | inl act ↦ record { act = act.act; made = act.made; for_it = act.for_it ∙ x.2; first = refl; payload = is ∙ (ap (λ (y : Reply). y.payload) x.3 ∙ ap (λ (y : Reply). y.payload) act.says) }
+      | inr silent ↦ absurd (some (ap (λ (y : Reply). sequence_of (reply_options y)) x.3 ∙ silent.silent))
+    ]
 
 no_number : (os : _) (q : ℕ) → sequence_of os ≡ Some q → sequence_of os ≡ None → ⊥
 no_number os q e none = let wrong : None ≡ Some q = sym none ∙ e in cc
 
-source_of : (w : WorldState) (i : ℕ) (d : Datagram) (p : Purpose) (m : CoapMessage) (q : ℕ) (payload : List ℕ) → Sourced w → IsFor w i d p → SaysIt w.acts w.emitted d p → Spells m d.bytes
+source_of : (w : WorldState) (x : Exact w) (i : ℕ) (d : Datagram) (p : Purpose) (m : CoapMessage) (q : ℕ) (payload : List ℕ) → Sourced w → IsFor w x.led i d p → SaysIt w.acts w.emitted d p → Spells m d.bytes
     → meaning (at_moment w.moment w.client) d.from m ≡ meant.Value q → payload ≡ m.payload → All (IsSource w.acts w.emitted) (value_by p payload)
-source_of w i d p m q payload y (back_on k is sent) says spells e same =
+source_of w x i d p m q payload y (back_on k is sent) says spells e same =
     let right = sent.reply in
     let one : m ≡ right.answer = at_most_one_message m right.answer d.bytes spells right.spells in
     let shown = notified_says (at_moment w.moment w.client) d.from m q (value_says (at_moment w.moment w.client) d.from m q e).0 in
     let options : m.options ≡ reply_options right.reply = ap (λ (y : CoapMessage). y.options) one ∙ right.options in
-    let read = read_of w.asks w.acts k right.reply payload right.why (λ unseen. no_number m.options q shown.1 (ap sequence_of options ∙ unseen)) (same ∙ (ap (λ (y : CoapMessage). y.payload) one ∙ right.payload)) in
-    subst (λ (x : Purpose). All (IsSource w.acts w.emitted) (value_by x payload)) (sym is)
+    let read = read_of w.asks w.acts w.server.links x.led k right.reply payload x.ledger.entries right.why (λ unseen. no_number m.options q shown.1 (ap sequence_of options ∙ unseen)) (same ∙ (ap (λ (y : CoapMessage). y.payload) one ∙ right.payload)) in
+    subst (λ (z : Purpose). All (IsSource w.acts w.emitted) (value_by z payload)) (sym is)
     (All-push (IsSource w.acts w.emitted) [] (record { ask = k; place = 0; payload = payload }) (All-nil (IsSource w.acts w.emitted)) (inl read))
-source_of w i d p m q payload y (notice_of k q0 place is n_of) says spells e same =
-    let x : Says w.acts w.emitted k place d = subst (SaysIt w.acts w.emitted d) is says in
-    let one : m ≡ notification x.notice x.value = at_most_one_message m (notification x.notice x.value) d.bytes spells x.spells in
-    let text : x.value ≡ payload = sym (ap (λ (z : CoapMessage). z.payload) one) ∙ sym same in
+source_of w x i d p m q payload y (notice_of k q0 place is n_of) says spells e same =
+    let n : Says w.acts w.emitted k place d = subst (SaysIt w.acts w.emitted d) is says in
+    let one : m ≡ notification n.notice n.value = at_most_one_message m (notification n.notice n.value) d.bytes spells n.spells in
+    let text : n.value ≡ payload = sym (ap (λ (z : CoapMessage). z.payload) one) ∙ sym same in
     subst (λ (z : Purpose). All (IsSource w.acts w.emitted) (value_by z payload)) (sym is)
     (All-push (IsSource w.acts w.emitted) [] (record { ask = k; place = place; payload = payload }) (All-nil (IsSource w.acts w.emitted)) (inr (record {
-      act = x.act;
-      made = x.made;
-      for_it = x.for_it;
-      target = x.notice.target;
-      of_target = x.of_target;
-      some = x.some;
-      there = subst (λ (t : List ℕ). slice_get w.emitted (place - 1) ≡ Some (record { target = x.notice.target; text = t })) text x.there;
+      act = n.act;
+      made = n.made;
+      for_it = n.for_it;
+      target = n.notice.target;
+      of_target = n.of_target;
+      some = n.some;
+      there = subst (λ (t : List ℕ). slice_get w.emitted (place - 1) ≡ Some (record { target = n.notice.target; text = t })) text n.there;
     })))
 
-told_source : (w : WorldState) (i : ℕ) (d : Datagram) (p : Purpose) (m : CoapMessage) (n : News) → Sourced w → IsFor w i d p → SaysIt w.acts w.emitted d p → Spells m d.bytes
+told_source : (w : WorldState) (x : Exact w) (i : ℕ) (d : Datagram) (p : Purpose) (m : CoapMessage) (n : News) → Sourced w → IsFor w x.led i d p → SaysIt w.acts w.emitted d p → Spells m d.bytes
     → IsNews (meaning (at_moment w.moment w.client) d.from m) m n → All (IsSource w.acts w.emitted) (taken_by p n)
-told_source w i d p m (news.Value payload) y it says spells is = source_of w i d p m is.0 payload.now y it says spells is.1 is.2
-told_source w i d p m (news.Answered code block payload) y it says spells is = All-nil (IsSource w.acts w.emitted)
-told_source w i d p m news.Old y it says spells is = All-nil (IsSource w.acts w.emitted)
-told_source w i d p m news.Reset y it says spells is = All-nil (IsSource w.acts w.emitted)
-told_source w i d p m news.Nothing y it says spells is = All-nil (IsSource w.acts w.emitted)
+told_source w x i d p m (news.Value payload) y it says spells is = source_of w x i d p m is.0 payload.now y it says spells is.1 is.2
+told_source w x i d p m (news.Answered code block payload) y it says spells is = All-nil (IsSource w.acts w.emitted)
+told_source w x i d p m news.Old y it says spells is = All-nil (IsSource w.acts w.emitted)
+told_source w x i d p m news.Reset y it says spells is = All-nil (IsSource w.acts w.emitted)
+told_source w x i d p m news.Nothing y it says spells is = All-nil (IsSource w.acts w.emitted)
 
-delivered_source : (w : WorldState) (i : ℕ) (d : Datagram) (told : Delivered) (old new : List ℕ) (t : State) → Sourced w → IsFor w i d d.purpose → SaysIt w.acts w.emitted d d.purpose
+delivered_source : (w : WorldState) (x : Exact w) (i : ℕ) (d : Datagram) (told : Delivered) (old new : List ℕ) (t : State) → Sourced w → IsFor w x.led i d d.purpose → SaysIt w.acts w.emitted d d.purpose
     → Delivers (at_moment w.moment w.client) d.from d.bytes told old new t → All (IsSource w.acts w.emitted) (taken_by d.purpose told.news)
-delivered_source w i d told old new t y it says (of_message m spells reply news_is after_is) = told_source w i d d.purpose m told.news y it says spells news_is
-delivered_source w i d told old new t y it says (of_fault f has reply news_is same) = let b = bytes_of w i d d.purpose it in absurd (no_fault_of_message f b.0 d.bytes b.1 has)
+delivered_source w x i d told old new t y it says (of_message m spells reply news_is after_is) = told_source w x i d d.purpose m told.news y it says spells news_is
+delivered_source w x i d told old new t y it says (of_fault f has reply news_is same) = let b = bytes_of w x.led i d d.purpose it in absurd (no_fault_of_message f b.0 d.bytes b.1 has)
 
 -- ---- the moves
 
 sourced_come : (w v : WorldState) (i : ℕ) (d : Datagram) → slice_get w.sent i ≡ Some d → Comes d w v → Exact w → Sourced w → Sourced v
 sourced_come w v i d at (too_late late is) x y = subst Sourced (sym is) y
 sourced_come w v i d at (to_client may to s) x y =
-    let said = all_at (λ (z : Datagram). IsSaid w.asks w.acts z z.purpose) w.sent i d x.said at in
+    let said = all_at (λ (z : Datagram). IsSaid w.asks w.acts x.led z z.purpose) w.sent i d x.said at in
     let says = all_at (λ (z : Datagram). SaysIt w.acts w.emitted z z.purpose) w.sent i d y.says at in
     let ends : List AskEnd = w.ends ++ end_by w.client.outstanding s.after.outstanding (latest w) s.told.news in
     let mid : WorldState = record w { client = s.after; ends = ends; taken = w.taken ++ taken_by d.purpose s.told.news } in
-    let new_ones = delivered_source w i d s.told s.old s.new s.after y (is_for_end w i d d.purpose said to) says s.delivers in
+    let new_ones = delivered_source w x i d s.told s.old s.new s.after y (is_for_end w x.led i d d.purpose said to) says s.delivers in
     subst Sourced (sym s.next) (sourced_sent mid client_place d.from other (option_to_list (option_map (λ n. take n s.new) s.told.reply)) (λ z. tt)
     (record { says = y.says; source = All-append (IsSource w.acts w.emitted) w.taken (taken_by d.purpose s.told.news) y.source new_ones }))
 sourced_come w v i d at (to_server may to s) x y =

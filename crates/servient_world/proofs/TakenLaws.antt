@@ -45,6 +45,7 @@ use Rattle.servient_world.proofs.Places.{all_at, at_same, at_end}
 use Rattle.servient_world.proofs.Tokens.{own_token}
 use Rattle.servient_world.proofs.Holds.{Holds, came_soon, both_true}
 use Rattle.servient_world.proofs.WatchLaws.{IsKnown, IsNoted, Watched}
+use Rattle.servient_world.proofs.Ledger.{Entry}
 use Rattle.servient_world.proofs.Exact.{Exact, IsSentBack, IsNotice, IsSaid, same_ask}
 use Rattle.servient_world.proofs.MeaningLaws.{value_taken, taken_id, notice_number}
 use Rattle.servient_world.proofs.NoticeLaws.{purpose_is, not_client_purpose}
@@ -75,10 +76,10 @@ carries s from m taken =
 
 -- ---- a reply brings a value
 
-taken_reply : (capacity : ℕ) (w : WorldState) (d : Datagram) (k q : ℕ) (m : CoapMessage) (t : State) → Holds capacity w → length w.asks ≤ 65536 → Valued w → (sent : IsSentBack w.asks w.acts k d)
+taken_reply : (capacity : ℕ) (w : WorldState) (d : Datagram) (k q : ℕ) (m : CoapMessage) (t : State) → Holds capacity w → length w.asks ≤ 65536 → Valued w → (led : List Entry) (sent : IsSentBack w.asks led k d)
     → Spells m d.bytes → meaning (at_moment w.moment w.client) d.from m ≡ meant.Value q → t ≡ after (at_moment w.moment w.client) d.from m.token (meaning (at_moment w.moment w.client) d.from m)
     → IsTaken w t q k 0
-taken_reply capacity w d k q m t h few v sent spells e after_is =
+taken_reply capacity w d k q m t h few v led sent spells e after_is =
     let right = sent.reply in
     let s : State = at_moment w.moment w.client in
     let one : m ≡ right.answer = at_most_one_message m right.answer d.bytes spells right.spells in
@@ -168,40 +169,40 @@ taken_news w t ends p mm m news.Nothing (inl is) back each v = nothing_taken w t
 taken_news w t ends p mm m news.Nothing (inr is) back each v = nothing_taken w t ends (back (λ q e. let wrong : meant.Foreign ≡ meant.Value q = sym is ∙ e in cc)) v
 
 -- what it is that comes
-pub data IsFor (w : WorldState) (i : ℕ) (d : Datagram) (p : Purpose) : Type 0 where
-  back_on : (k : ℕ) → p ≡ reply_to k → IsSentBack w.asks w.acts k d → IsFor w i d p
-  notice_of : (k q e : ℕ) → p ≡ notice_for k q e → IsNotice w.asks w.acts k q d → IsFor w i d p
+pub data IsFor (w : WorldState) (led : List Entry) (i : ℕ) (d : Datagram) (p : Purpose) : Type 0 where
+  back_on : (k : ℕ) → p ≡ reply_to k → IsSentBack w.asks led k d → IsFor w led i d p
+  notice_of : (k q e : ℕ) → p ≡ notice_for k q e → IsNotice w.asks w.acts k q d → IsFor w led i d p
 
-pub is_for_end : (w : WorldState) (i : ℕ) (d : Datagram) (p : Purpose) → IsSaid w.asks w.acts d p → d.to ≡ client_place → IsFor w i d p
-is_for_end w i d (copy_of k) is to = absurd (is to)
-is_for_end w i d (reply_to k) is to = back_on k refl is
-is_for_end w i d (notice_for k q e) is to = notice_of k q e refl is
-is_for_end w i d other is to = absurd (is.0 to)
+pub is_for_end : (w : WorldState) (led : List Entry) (i : ℕ) (d : Datagram) (p : Purpose) → IsSaid w.asks w.acts led d p → d.to ≡ client_place → IsFor w led i d p
+is_for_end w led i d (copy_of k) is to = absurd (is to)
+is_for_end w led i d (reply_to k) is to = back_on k refl is
+is_for_end w led i d (notice_for k q e) is to = notice_of k q e refl is
+is_for_end w led i d other is to = absurd (is.0 to)
 
-pub bytes_of : (w : WorldState) (i : ℕ) (d : Datagram) (p : Purpose) → IsFor w i d p → (m : CoapMessage) × Spells m d.bytes
-bytes_of w i d p (back_on k is sent) = (sent.reply.answer, sent.reply.spells)
-bytes_of w i d p (notice_of k q e is n_of) = (notification n_of.notice n_of.value, n_of.spells)
+pub bytes_of : (w : WorldState) (led : List Entry) (i : ℕ) (d : Datagram) (p : Purpose) → IsFor w led i d p → (m : CoapMessage) × Spells m d.bytes
+bytes_of w led i d p (back_on k is sent) = (sent.reply.answer, sent.reply.spells)
+bytes_of w led i d p (notice_of k q e is n_of) = (notification n_of.notice n_of.value, n_of.spells)
 
-value_taken_of : (capacity : ℕ) (w : WorldState) (i : ℕ) (d : Datagram) (p : Purpose) (m : CoapMessage) (t : State) (ends : List AskEnd) → Holds capacity w → length w.asks ≤ 65536 → Valued w → IsFor w i d p
+value_taken_of : (capacity : ℕ) (w : WorldState) (led : List Entry) (i : ℕ) (d : Datagram) (p : Purpose) (m : CoapMessage) (t : State) (ends : List AskEnd) → Holds capacity w → length w.asks ≤ 65536 → Valued w → IsFor w led i d p
     → slice_get w.sent i ≡ Some d → d.purpose ≡ p → w.moment - d.moment ≤ MAX_LATENCY
     → Spells m d.bytes → t ≡ after (at_moment w.moment w.client) d.from m.token (meaning (at_moment w.moment w.client) d.from m)
     → (q : ℕ) (payload : List ℕ) → meaning (at_moment w.moment w.client) d.from m ≡ meant.Value q → Valued (record w { client = t; ends = ends; taken = w.taken ++ value_by p payload })
-value_taken_of capacity w i d p m t ends h few v (back_on k is sent) at purpose soon spells after_is q payload e =
+value_taken_of capacity w led i d p m t ends h few v (back_on k is sent) at purpose soon spells after_is q payload e =
     subst (λ (x : Purpose). Valued (record w { client = t; ends = ends; taken = w.taken ++ value_by x payload })) (sym is)
-    (valued_value capacity w t ends q k 0 payload h few (taken_reply capacity w d k q m t h few v sent spells e after_is) v)
-value_taken_of capacity w i d p m t ends h few v (notice_of k q0 emission is n_of) at purpose soon spells after_is q payload e =
+    (valued_value capacity w t ends q k 0 payload h few (taken_reply capacity w d k q m t h few v led sent spells e after_is) v)
+value_taken_of capacity w led i d p m t ends h few v (notice_of k q0 emission is n_of) at purpose soon spells after_is q payload e =
     subst (λ (x : Purpose). Valued (record w { client = t; ends = ends; taken = w.taken ++ value_by x payload })) (sym is)
     (valued_value capacity w t ends q k emission payload h few (taken_notice capacity w i d k q0 emission q m t h few v n_of at (purpose ∙ is) soon spells e after_is) v)
 
-valued_delivered : (capacity : ℕ) (w : WorldState) (i : ℕ) (d : Datagram) (told : Delivered) (old new : List ℕ) (t : State) (ends : List AskEnd) → Holds capacity w → length w.asks ≤ 65536 → Valued w → IsFor w i d d.purpose
+valued_delivered : (capacity : ℕ) (w : WorldState) (led : List Entry) (i : ℕ) (d : Datagram) (told : Delivered) (old new : List ℕ) (t : State) (ends : List AskEnd) → Holds capacity w → length w.asks ≤ 65536 → Valued w → IsFor w led i d d.purpose
     → slice_get w.sent i ≡ Some d → w.moment - d.moment ≤ MAX_LATENCY → Delivers (at_moment w.moment w.client) d.from d.bytes told old new t
     → Valued (record w { client = t; ends = ends; taken = w.taken ++ taken_by d.purpose told.news })
-valued_delivered capacity w i d told old new t ends h few v it at soon (of_message m spells reply news_is after_is) =
+valued_delivered capacity w led i d told old new t ends h few v it at soon (of_message m spells reply news_is after_is) =
     taken_news w t ends d.purpose (meaning (at_moment w.moment w.client) d.from m) m told.news news_is
     (λ no_value o is. seen_back (at_moment w.moment w.client) d.from m.token (meaning (at_moment w.moment w.client) d.from m) o no_value (sym (ap (λ (y : State). y.observation) after_is) ∙ is))
-    (λ q payload e. value_taken_of capacity w i d d.purpose m t ends h few v it at refl soon spells after_is q payload e) v
-valued_delivered capacity w i d told old new t ends h few v it at soon (of_fault f has reply news_is same) =
-    let b = bytes_of w i d d.purpose it in absurd (no_fault_of_message f b.0 d.bytes b.1 has)
+    (λ q payload e. value_taken_of capacity w led i d d.purpose m t ends h few v it at refl soon spells after_is q payload e) v
+valued_delivered capacity w led i d told old new t ends h few v it at soon (of_fault f has reply news_is same) =
+    let b = bytes_of w led i d d.purpose it in absurd (no_fault_of_message f b.0 d.bytes b.1 has)
 
 -- ---- the moves
 
@@ -223,10 +224,10 @@ number_back other = tt
 valued_come : (capacity : ℕ) (w v : WorldState) (i : ℕ) (d : Datagram) → slice_get w.sent i ≡ Some d → Comes d w v → Holds capacity w → length w.asks ≤ 65536 → Exact w → Valued w → Valued v
 valued_come capacity w v i d at (too_late late is) h few x y = subst Valued (sym is) y
 valued_come capacity w v i d at (to_client may to s) h few x y =
-    let said = all_at (λ (z : Datagram). IsSaid w.asks w.acts z z.purpose) w.sent i d x.said at in
+    let said = all_at (λ (z : Datagram). IsSaid w.asks w.acts x.led z z.purpose) w.sent i d x.said at in
     let ends : List AskEnd = w.ends ++ end_by w.client.outstanding s.after.outstanding (latest w) s.told.news in
     let mid : WorldState = record w { client = s.after; ends = ends; taken = w.taken ++ taken_by d.purpose s.told.news } in
-    let it = valued_delivered capacity w i d s.told s.old s.new s.after ends h few y (is_for_end w i d d.purpose said to) at (came_soon w.moment d may) s.delivers in
+    let it = valued_delivered capacity w x.led i d s.told s.old s.new s.after ends h few y (is_for_end w x.led i d d.purpose said to) at (came_soon w.moment d may) s.delivers in
     subst Valued (sym s.next) (valued_sent mid client_place d.from other (option_to_list (option_map (λ n. take n s.new) s.told.reply)) it h.past (λ q. tt) tt)
 valued_come capacity w v i d at (to_server may to s) h few x y =
     let mid : WorldState = record w { server = s.after; acts = w.acts ++ acts_for d.purpose s.act; ids = w.ids + id_used w.server s.after } in

@@ -30,6 +30,7 @@ use Rattle.servient_world.proofs.Tokens.{same_token}
 use Rattle.servient_world.proofs.AskLaws.{HasMessage}
 use Rattle.servient_world.proofs.Holds.{Holds, IsCopy, IsSentFor}
 use Rattle.servient_world.proofs.WatchLaws.{IsKnown, IsNoted, Watched, acts_more, asks_more, all_noted_more, all_noted_account, none_registered, IsByRequest, GoesOn, account_goes_on}
+use Rattle.servient_world.proofs.Ledger.{Entry}
 use Rattle.servient_world.proofs.Exact.{Exact, IsSaid, IsEmpty}
 use Rattle.servient_world.proofs.ClientLaws.{not_one}
 use Rattle.servient_world.proofs.NoticeLaws.{purpose_is, not_client_purpose}
@@ -190,13 +191,13 @@ same_watched watchers w more t n y same up = record {
 
 -- what comes to the server, by what it was sent for
 first_by_purpose : (capacity watchers : ℕ) (d : Datagram) (w : WorldState) (p : Purpose) (act : Option Acted) (back : List (List ℕ)) (t : Server) → Holds capacity w → length w.asks ≤ 65536
-    → (y : Watched watchers w) → IsSentFor w.asks d p → IsSaid w.asks w.acts d p → d.to ≡ server_place → AllPairs (λ x z. x.ask ≢ z.ask) (w.acts ++ acts_for p act)
+    → (y : Watched watchers w) → (led : List Entry) → IsSentFor w.asks d p → IsSaid w.asks w.acts led d p → d.to ≡ server_place → AllPairs (λ x z. x.ask ≢ z.ask) (w.acts ++ acts_for p act)
     → IsTreated d.from d.bytes w.moment act back w.server t
     → (r : Registration) → r.from ≡ d.from → IsByRequest d.bytes act r → IsFirst w.asks (w.acts ++ acts_for p act) y.account r
-first_by_purpose capacity watchers d w (copy_of k) act back t h few y copy is to once was_treated = first_of_copy capacity watchers w d k act copy h few y once
-first_by_purpose capacity watchers d w (reply_to k) act back t h few y copy is to once was_treated = absurd (not_one (sym to ∙ is.to))
-first_by_purpose capacity watchers d w (notice_for k q e) act back t h few y copy is to once was_treated = absurd (not_one (sym to ∙ is.to))
-first_by_purpose capacity watchers d w other act back t h few y copy is to once was_treated = λ r from by. elim is.1 [
+first_by_purpose capacity watchers d w (copy_of k) act back t h few y led copy is to once was_treated = first_of_copy capacity watchers w d k act copy h few y once
+first_by_purpose capacity watchers d w (reply_to k) act back t h few y led copy is to once was_treated = absurd (not_one (sym to ∙ is.to))
+first_by_purpose capacity watchers d w (notice_for k q e) act back t h few y led copy is to once was_treated = absurd (not_one (sym to ∙ is.to))
+first_by_purpose capacity watchers d w other act back t h few y led copy is to once was_treated = λ r from by. elim is.1 [
   | inl never ↦ absurd (never to)
   | inr empty ↦ absurd (let none = empty_registers_none watchers w d act back t y empty was_treated in let wrong : None ≡ Some by.made = sym none ∙ by.acted_is in cc)
 ]
@@ -226,8 +227,8 @@ watched_received capacity watchers d w v s y each =
         (counter_receives d.from d.bytes w.moment s.act s.back w.server s.after (treated short treats) y.id)
         (up_by w.ids (id_used w.server s.after)) (each was_treated)
 
-watched_come : (capacity watchers : ℕ) (d : Datagram) (w v : WorldState) → Comes d w v → Holds capacity w → Holds capacity v → length w.asks ≤ 65536 → Exact w → Watched watchers w
-    → IsSentFor w.asks d d.purpose → IsSaid w.asks w.acts d d.purpose → Watched watchers v
+watched_come : (capacity watchers : ℕ) (d : Datagram) (w v : WorldState) → Comes d w v → Holds capacity w → Holds capacity v → length w.asks ≤ 65536 → (x : Exact w) → Watched watchers w
+    → IsSentFor w.asks d d.purpose → IsSaid w.asks w.acts x.led d d.purpose → Watched watchers v
 watched_come capacity watchers d w v (Comes.too_late late is) h h_after few x y sent said = subst (Watched watchers) (sym is) y
 watched_come capacity watchers d w v (to_client may to s) h h_after few x y sent said =
     subst (Watched watchers) (sym s.next)
@@ -236,7 +237,7 @@ watched_come capacity watchers d w v (to_client may to s) h h_after few x y sent
     (watched_client watchers w s.after (w.ends ++ end_by w.client.outstanding s.after.outstanding (latest w) s.told.news) (w.taken ++ taken_by d.purpose s.told.news) y))
 watched_come capacity watchers d w v (to_server may to s) h h_after few x y sent said =
     watched_received capacity watchers d w v s y
-    (first_by_purpose capacity watchers d w d.purpose s.act s.back s.after h few y sent said to
+    (first_by_purpose capacity watchers d w d.purpose s.act s.back s.after h few y x.led sent said to
     (subst (λ (l : List Act). AllPairs (λ a b. a.ask ≢ b.ask) l) (ap (λ (z : WorldState). z.acts) s.next) h_after.once))
 
 watched_deliver : (capacity watchers : ℕ) (w v : WorldState) (i : ℕ) (o : Option Datagram) → slice_get w.sent i ≡ o → ComesIfSent o w v → Holds capacity w → Holds capacity v → length w.asks ≤ 65536
@@ -244,7 +245,7 @@ watched_deliver : (capacity watchers : ℕ) (w v : WorldState) (i : ℕ) (o : Op
 watched_deliver capacity watchers w v i None e is h h_after few x y = subst (Watched watchers) (sym is) y
 watched_deliver capacity watchers w v i (Some d) e is h h_after few x y =
     watched_come capacity watchers d w v is h h_after few x y (all_at (λ (z : Datagram). IsSentFor w.asks z z.purpose) w.sent i d h.purposes e)
-    (all_at (λ (z : Datagram). IsSaid w.asks w.acts z z.purpose) w.sent i d x.said e)
+    (all_at (λ (z : Datagram). IsSaid w.asks w.acts x.led z z.purpose) w.sent i d x.said e)
 
 watched_elsewhere : (capacity watchers : ℕ) (from : Endpoint) (bytes : List ℕ) (w v : WorldState) → ComesElsewhere from bytes w v → Watched watchers w → Watched watchers v
 watched_elsewhere capacity watchers from bytes w v (comes_elsewhere no_end s) y =

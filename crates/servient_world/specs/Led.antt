@@ -58,7 +58,7 @@ act_in (to_act_on_whole block a) = Some a
 pub data LeadsTo (from : Endpoint) (now : ℕ) (m : CoapMessage) (links : List ℕ) (seen : Option ℕ) (led : Led) (r : Reply) : Type 0 where
   is_refused : faults_of m.options ≢ [] → led ≡ to_refusal → LeadsTo from now m links seen led r
   finds_no_memory : led ≡ to_no_memory → r ≡ reply_of Memory → LeadsTo from now m links seen led r
-  gets_links : asks_links m ≡ true → led ≡ to_links → r ≡ links_reply (size_asked (observing_in m) (what_is_asked m)) links
+  gets_links : wanted_in m ≡ Act → asks_links m ≡ true → led ≡ to_links → r ≡ links_reply (size_asked (observing_in m) (what_is_asked m)) links
       → LeadsTo from now m links seen led r
   gets_no_links : asks_links m ≡ true → led ≡ to_links → r ≡ method_reply → LeadsTo from now m links seen led r
   gets_block : (b : Block) (found : Option Content) → wanted_in m ≡ LaterBlock b → led ≡ to_later_block (what_is_asked m).request.path b found → r ≡ later_reply b found

@@ -14,7 +14,7 @@ use Rattle.thing_core.specs.State.{State as ThingState}
 use Rattle.thing_core.specs.Thing.{only, Acts, refuses}
 use Rattle.coap_opts.specs.Reading.{asked as what_is_asked}
 use Rattle.coap_client.specs.declared.state.State.{State as ClientState}
-use Rattle.coap_client.specs.Asking.{message_for}
+use Rattle.coap_client.specs.Asking.{message_for, MayAsk}
 use Rattle.coap_client.specs.Names.{is_recent}
 use Rattle.coap_client.specs.Exchange.{IsNew, Asks, request_for, with_request}
 use Rattle.coap_bind.specs.declared.server.Server.{Server}
@@ -28,7 +28,7 @@ use Rattle.servient_outside.specs.Network.{heard, did}
 use Rattle.servient_core.specs.declared.capacity.TheConstants.{MOST_WATCHERS}
 use Rattle.servient_core.specs.Trace.{Sighting, at_network}
 use Rattle.servient_core.specs.Machine.{State, start, EventAndStep}
-use Rattle.servient_world.specs.World.{client_place, server_place, copy_of, reply_to, WorldState, acts_for, id_used, with_sent, MayAskWhole, ClientAsks, sends_ask}
+use Rattle.servient_world.specs.World.{client_place, server_place, copy_of, reply_to, WorldState, acts_for, id_used, with_sent, ClientAsks, sends_ask}
 use Rattle.servient_ends.specs.Ends.{EndsState, IsBeginning, act_of, back_of, emitted_by_datagram, notices_in, with_emissions, with_notices, event_at, ServientHears, Arrives, to_servient, TakesAll}
 use Rattle.servient_ends.specs.Examples.{beside, get_root, ask_that_comes, SomeServientActs}
 
@@ -105,8 +105,8 @@ asked_world uses =
     with_sent (record (beside (fresh uses)).world { client = asked_state uses; asks = request_for (fresh uses) server_place get_root 0 ∷ [] })
     client_place server_place (copy_of 0) (sent_bytes ∷ [])
 
-may_ask_it : MayAskWhole get_root
-may_ask_it = record { may = record { code = λ e. omega arith; class = omega arith; segments = All-nil (λ (segment : List ℕ). length segment ≤ 255); block1 = tt; block2 = tt }; block1 = refl; block2 = refl }
+may_ask_it : MayAsk get_root
+may_ask_it = record { code = λ e. omega arith; class = omega arith; segments = All-nil (λ (segment : List ℕ). length segment ≤ 255); block1 = tt; block2 = tt }
 
 asks_it : (uses : List (Option ℕ)) → slice_index_or uses 0 None ≡ None → Asks (fresh uses) server_place get_root (length question_bytes) question_bytes question_bytes (asked_state uses)
 asks_it uses unused = record {

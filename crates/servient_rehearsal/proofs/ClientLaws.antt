@@ -13,12 +13,12 @@ use Rattle.coap_client.specs.declared.news.News.{News}
 use Rattle.coap_client.specs.declared.news.News.TheVariants as news
 use Rattle.coap_client.specs.declared.news.Delivered.{Delivered}
 use Rattle.coap_client.specs.declared.due.Due.TheVariants as what
-use Rattle.coap_client.specs.Asking.{Asking, message_for}
+use Rattle.coap_client.specs.Asking.{Asking, MayAsk, message_for}
 use Rattle.coap_client.specs.Exchange.{at_moment, Asks, IsRefused, is_registration, request_for, token_for, ComesDue, Delivers}
 use Rattle.thing_handler.specs.Handler.{Seen}
 use Rattle.servient_core.specs.Machine.{Site}
 use Rattle.servient_core.specs.declared.layers.Layers.{Layers}
-use Rattle.servient_world.specs.World.{WorldState, Datagram, AskEnd as AskEndInWorld, answered, observed, reset, timed_out, client_place, server_place, copy_of, other, latest, with_sent, sent_now, may_come, end_by, taken_by, MayAskWhole, ClientAsks, sends_ask, refuses_ask, skips_ask, ClientDoesDue, retransmits, gives_up, waits, ClientTakes}
+use Rattle.servient_world.specs.World.{WorldState, Datagram, AskEnd as AskEndInWorld, answered, observed, reset, timed_out, client_place, server_place, copy_of, other, latest, with_sent, sent_now, may_come, end_by, taken_by, ClientAsks, sends_ask, refuses_ask, skips_ask, ClientDoesDue, retransmits, gives_up, waits, ClientTakes}
 use Rattle.servient_ends.specs.Ends.{Turn, asks_next, does_due, delivers, passes, to_client, too_late, Takes}
 use Rattle.servient_rehearsal.specs.declared.notes.Notes.{Notes}
 use Rattle.servient_rehearsal.specs.declared.world.SentDatagram.{SentDatagram}
@@ -46,22 +46,12 @@ in_world P s client notes p are holds =
 
 -- ---- asking
 
--- what asks for no block may be asked where the rest of it may
-pub may_ask_whole : (a : Asking) → a.code ≢ 0 → a.code < 32 → a.block1 ≡ None → a.block2 ≡ None → All (λ segment. length segment ≤ 255) a.path → MayAskWhole a
-may_ask_whole a code class block1 block2 segments = record {
-  may = record {
-    code = code;
-    class = class;
-    segments = segments;
-    block1 = subst (λ (b : Option Block). IfSome b IsBlock) (sym block1) tt;
-    block2 = subst (λ (b : Option Block). IfSome b IsBlock) (sym block2) tt;
-  };
-  block1 = block1;
-  block2 = block2;
-}
+-- what is of class 0 may be asked, with short segments and blocks that an option can say
+pub may_be_asked : (a : Asking) → a.code ≢ 0 → a.code < 32 → IfSome a.block1 IsBlock → IfSome a.block2 IsBlock → All (λ segment. length segment ≤ 255) a.path → MayAsk a
+may_be_asked a code class block1 block2 segments = record { code = code; class = class; segments = segments; block1 = block1; block2 = block2 }
 
 pub asked_turn : (site : Site) (s : Layers) (slots : List Seen) (a : Asking) (client t : ClientState) (notes : Notes) (n : ℕ) (old new : List ℕ)
-    → MayAskWhole a → Asks (at_moment notes.world.moment client) server_place a n old new t
+    → MayAsk a → Asks (at_moment notes.world.moment client) server_place a n old new t
     → Turns site (asks_next a) (kept s client notes) s t slots slots (with_ask (take n new) (noted_of notes.world)) (number_after (is_registration a.observe) (length notes.world.asks.items) notes.registered)
 asked_turn site s slots a client t notes n old new may asks_kept = λ p are.
     let w : WorldState = p.ends.world in
@@ -108,7 +98,7 @@ refused_turn site s slots a client t notes f refused is = λ p are.
       registered = are.registered;
     }
 
-pub skipped_turn : (site : Site) (s : Layers) (slots : List Seen) (a : Asking) (client : ClientState) (notes : Notes) → ¬ (MayAskWhole a)
+pub skipped_turn : (site : Site) (s : Layers) (slots : List Seen) (a : Asking) (client : ClientState) (notes : Notes) → ¬ (MayAsk a)
     → Turns site (asks_next a) (kept s client notes) s client slots slots (noted_of notes.world) notes.registered
 skipped_turn site s slots a client notes may_not = λ p are. record {
   next = p;
@@ -201,7 +191,7 @@ news_end : (what_came : News) (x y : Option Outstanding) (k : ℕ) (n : Noted) (
     → (with_news what_came (is_some x && not (is_some y)) k n).ends ≡ shown_ends (ends ++ end_by x y (length asks - 1) what_came)
 news_end (news.Answered code block payload) None y k n asks ends same is = is ∙ end_news ends
 news_end (news.Answered code block payload) (Some o) (Some u) k n asks ends same is = is ∙ end_news ends
-news_end (news.Answered code block payload) (Some o) None k n asks ends same is = end_shown n.asks asks n.ends ends (answered code payload.now) same is
+news_end (news.Answered code block payload) (Some o) None k n asks ends same is = end_shown n.asks asks n.ends ends (answered code block payload.now) same is
 news_end (news.Value payload) None y k n asks ends same is = is ∙ end_news ends
 news_end (news.Value payload) (Some o) (Some u) k n asks ends same is = is ∙ end_news ends
 news_end (news.Value payload) (Some o) None k n asks ends same is = end_shown n.asks asks n.ends ends observed same is
@@ -226,14 +216,14 @@ end_leaves true e n = (record { moment = refl; sent = refl; asks = refl }, refl)
 end_leaves false e n = (record { moment = refl; sent = refl; asks = refl }, refl)
 
 news_leave : (what_came : News) (b : Bool) (k : ℕ) (n : Noted) → LeavesAllBut n (with_news what_came b k n)
-news_leave (news.Answered code block payload) b k n = (end_leaves b (end.Answered code payload.now) n).0
+news_leave (news.Answered code block payload) b k n = (end_leaves b (end.Answered code block payload.now) n).0
 news_leave (news.Value payload) b k n = let l = (end_leaves b end.Observed n).0 in record { moment = l.moment; sent = l.sent; asks = l.asks }
 news_leave news.Reset b k n = (end_leaves b end.Reset n).0
 news_leave news.Old b k n = record { moment = refl; sent = refl; asks = refl }
 news_leave news.Nothing b k n = record { moment = refl; sent = refl; asks = refl }
 
 news_value : (what_came : News) (b : Bool) (k : ℕ) (n : Noted) → (with_news what_came b k n).taken ≡ n.taken ++ values_in k what_came
-news_value (news.Answered code block payload) b k n = (end_leaves b (end.Answered code payload.now) n).1 ∙ sym (append-nil n.taken)
+news_value (news.Answered code block payload) b k n = (end_leaves b (end.Answered code block payload.now) n).1 ∙ sym (append-nil n.taken)
 news_value (news.Value payload) b k n = ap (λ (l : List TakenValue). l ++ record { ask = k; value = payload.now } ∷ []) (end_leaves b end.Observed n).1
 news_value news.Reset b k n = (end_leaves b end.Reset n).1 ∙ sym (append-nil n.taken)
 news_value news.Old b k n = sym (append-nil n.taken)

@@ -1,7 +1,8 @@
 -- A rehearsal begins a new world, and the laws of the world of both ends hold of it.
 use Rattle.std.proofs.Common.{◌≡◌, ◌∙◌, ℕ, ◌≤◌, List, [], ◌∷◌, ◌++◌, map, length, zero, suc, refl, sym, ap, subst, arith}
-use Rattle.std.specs.Prelude.{Some, Contains, slice_get}
+use Rattle.std.specs.Prelude.{Option, Some, Contains, slice_get}
 use Rattle.std.proofs.lemmas.Option.{same_Some, slice_get_within, slice_get-get_or, get_or_from_slice_get}
+use Rattle.coap_msg.specs.declared.block.Block.{Block}
 use Rattle.coap_client.specs.declared.state.State.{State as ClientState}
 use Rattle.coap_client.specs.Exchange.{IsNew}
 use Rattle.thing_handler.specs.Handler.{Seen}
@@ -11,7 +12,7 @@ use Rattle.servient_core.specs.Serving.{StandsFor}
 use Rattle.servient_core.specs.declared.layers.Layers.{Layers}
 use Rattle.servient_world.specs.World.{AskEnd as AskEndInWorld, End as EndInWorld, answered, observed, reset, timed_out}
 use Rattle.servient_ends.specs.Ends.{IsBeginning}
-use Rattle.servient_ends.proofs.EndsLaws.{servient_acts_once, servient_answers_once, servient_observes_once, servient_values_never_go_back, servient_values_have_a_source}
+use Rattle.servient_ends.proofs.EndsLaws.{servient_acts_once, servient_answers_once, servient_observes_once, servient_values_never_go_back, servient_values_have_a_source, servient_reads_one_act, servient_writes_one_act}
 use Rattle.servient_rehearsal.specs.declared.moves.Move.{Move}
 use Rattle.servient_rehearsal.specs.declared.notes.Notes.{Notes}
 use Rattle.servient_rehearsal.specs.declared.world.World.{World}
@@ -73,14 +74,15 @@ begins_noted servient exchanges client notes stands noted registered = record {
 
 -- ---- how asks ended
 
-end_answered : (e : EndInWorld) (code : ℕ) (payload : List ℕ) → shown_end e ≡ end.Answered code payload → e ≡ answered code payload
-end_answered (answered c p) code payload is = let one : c ≡ code = cc in let two : p ≡ payload = cc in λ i. answered (one i) (two i)
-end_answered observed code payload is = absurd (cc)
-end_answered reset code payload is = absurd (cc)
-end_answered timed_out code payload is = absurd (cc)
+end_answered : (e : EndInWorld) (code : ℕ) (block : Option Block) (payload : List ℕ) → shown_end e ≡ end.Answered code block payload → e ≡ answered code block payload
+end_answered (answered c b p) code block payload is =
+    let one : c ≡ code = cc in let two : b ≡ block = cc in let three : p ≡ payload = cc in λ i. answered (one i) (two i) (three i)
+end_answered observed code block payload is = absurd (cc)
+end_answered reset code block payload is = absurd (cc)
+end_answered timed_out code block payload is = absurd (cc)
 
 end_observed : (e : EndInWorld) → shown_end e ≡ end.Observed → e ≡ observed
-end_observed (answered c p) is = absurd (cc)
+end_observed (answered c b p) is = absurd (cc)
 end_observed observed is = refl
 end_observed reset is = absurd (cc)
 end_observed timed_out is = absurd (cc)
@@ -138,16 +140,20 @@ rehearsed servient after exchanges client t moves notes then_notes before shown 
       };
       shown = a.1.shown;
       acts_once = servient_acts_once site client.next_id exchanges (map turn_of moves) from.ends a.0.ends begin all;
-      answers_once = λ k code payload low apart has.
-          servient_answers_once site client.next_id exchanges (map turn_of moves) from.ends a.0.ends k code payload begin all (few low) apart
-          (ended_in_world a.0.ends.world.ends k (end.Answered code payload) (answered code payload) (λ y is. end_answered y code payload is)
-          (subst (λ (l : List AskEnd). Contains l (record { ask = k; end = end.Answered code payload })) a.1.shown.ends has));
+      answers_once = λ k code block payload low no_links no_blocks has.
+          servient_answers_once site client.next_id exchanges (map turn_of moves) from.ends a.0.ends k code block payload begin all (few low) no_links no_blocks
+          (ended_in_world a.0.ends.world.ends k (end.Answered code block payload) (answered code block payload) (λ y is. end_answered y code block payload is)
+          (subst (λ (l : List AskEnd). Contains l (record { ask = k; end = end.Answered code block payload })) a.1.shown.ends has));
       observes_once = λ k low has.
           servient_observes_once site client.next_id exchanges (map turn_of moves) from.ends a.0.ends k begin all (few low)
           (ended_in_world a.0.ends.world.ends k end.Observed observed end_observed (subst (λ (l : List AskEnd). Contains l (record { ask = k; end = end.Observed })) a.1.shown.ends has));
       taken = λ low. a.1.shown.taken ∙ taken_as_sent site client.next_id exchanges (map turn_of moves) from a.2.seen a.0 begin refl a.2.move (few low);
       sources = λ low. servient_values_have_a_source site client.next_id exchanges (map turn_of moves) from.ends a.0.ends begin all (few low);
       order = λ low ids. servient_values_never_go_back site client.next_id exchanges (map turn_of moves) from.ends a.0.ends begin all (few low) ids;
+      reads = λ path szx x row low are in_order no_other.
+          servient_reads_one_act site client.next_id exchanges (map turn_of moves) from.ends a.0.ends path szx x row begin all (few low) are in_order no_other;
+      writes = λ code path szx x row low write are in_order no_other.
+          servient_writes_one_act site client.next_id exchanges (map turn_of moves) from.ends a.0.ends code path szx x row begin all (few low) write are in_order no_other;
     }
 
 pub rehearsed_some : (servient after : Layers) (exchanges : ℕ) (client t : ClientState) (moves : List Move) (notes then_notes : Notes) (before shown : List Seen)

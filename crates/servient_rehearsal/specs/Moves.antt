@@ -1,5 +1,5 @@
 -- The moves of a rehearsal, as turns of the world of both ends.
-use Rattle.std.specs.Prelude.{◌≤◌, ◌+◌, ◌^◌, ◌==◌, ◌&&◌, ℕ, nat_lt, nat_le, Bool, true, false, List, [], ◌∷◌, length, None, if◌then◌else◌}
+use Rattle.std.specs.Prelude.{◌≤◌, ◌+◌, ◌^◌, ◌==◌, ◌&&◌, ℕ, nat_lt, nat_le, Bool, true, false, List, [], ◌∷◌, length, if◌then◌else◌}
 use Rattle.servient_outside.specs.declared.net.What.{What}
 use Rattle.servient_outside.specs.declared.net.What.TheVariants as what
 use Rattle.servient_outside.specs.Network.{byte_count}
@@ -36,7 +36,8 @@ turn_besides w bytes = if is_given w bytes then happens w bytes else passes 0
 
 -- the turn that a move is
 abbrev pub turn_of : Move → Turn
-turn_of (move.Ask code path observe format payload) = asks_next (record { code = code; path = path; observe = observe; format = format; block1 = None; block2 = None; payload = payload })
+turn_of (move.Ask code path observe format block1 block2 payload) =
+    asks_next (record { code = code; path = path; observe = observe; format = format; block1 = block1; block2 = block2; payload = payload })
 turn_of move.Due = does_due
 turn_of (move.Deliver i) = delivers i
 turn_of (move.Pass time) = passes time
@@ -45,7 +46,7 @@ turn_of (move.Other w bytes) = turn_besides w bytes
 -- the time that a move lets pass, in milliseconds
 abbrev pub passed_by : Move → ℕ
 passed_by (move.Pass time) = time
-passed_by (move.Ask code path observe format payload) = 0
+passed_by (move.Ask code path observe format block1 block2 payload) = 0
 passed_by move.Due = 0
 passed_by (move.Deliver i) = 0
 passed_by (move.Other w bytes) = 0

@@ -64,7 +64,7 @@ with_end_if true e n = with_end e n
 with_end_if false e n = n
 
 abbrev pub with_news : News → Bool → ℕ → Noted → Noted
-with_news (news.Answered code block payload) ends k n = with_end_if ends (end.Answered code payload.now) n
+with_news (news.Answered code block payload) ends k n = with_end_if ends (end.Answered code block payload.now) n
 with_news (news.Value payload) ends k n = with_value k payload.now (with_end_if ends end.Observed n)
 with_news news.Reset ends k n = with_end_if ends end.Reset n
 with_news news.Old ends k n = n
@@ -82,7 +82,7 @@ shown_asks k [] = []
 shown_asks k (a ∷ asks) = record { ask = k; id = a.id; first = a.first } ∷ shown_asks (k + 1) asks
 
 abbrev pub shown_end : EndInWorld → End
-shown_end (answered code payload) = end.Answered code payload
+shown_end (answered code block payload) = end.Answered code block payload
 shown_end observed = end.Observed
 shown_end reset = end.Reset
 shown_end timed_out = end.TimedOut

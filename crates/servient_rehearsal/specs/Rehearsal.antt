@@ -1,7 +1,8 @@
 -- What a rehearsal is: a run of the world of both ends, from its beginning, which the real objects made. The laws of that
--- world hold of it.
-use Rattle.std.specs.Prelude.{◌≡◌, ◌≤◌, ◌⊎◌, ℕ, List, [], ◌++◌, length, map, Contains}
+-- world hold of it. Of rows it is said over how asks ended in the world, which is what is noted of that (`shown`).
+use Rattle.std.specs.Prelude.{◌≡◌, ◌≤◌, ◌⊎◌, ℕ, List, [], ◌∷◌, ◌++◌, length, map, Contains, Option}
 use Rattle.servient_base.specs.Moves.{Each}
+use Rattle.coap_msg.specs.declared.block.Block.{Block}
 use Rattle.coap_client.specs.declared.state.State.{State as ClientState}
 use Rattle.thing_handler.specs.Handler.{Seen}
 use Rattle.thing_handler.specs.Turns.{RackShows}
@@ -10,7 +11,8 @@ use Rattle.servient_core.specs.Machine.{Site, start}
 use Rattle.servient_core.specs.Serving.{StandsFor}
 use Rattle.servient_core.specs.declared.layers.Layers.{Layers}
 use Rattle.servient_world.specs.World.{Act}
-use Rattle.servient_world.specs.Laws.{AreForDifferentAsks, AsksLinks, IsExcuse, IsAnsweredBy, NeverGoBack, HaveASource}
+use Rattle.servient_world.specs.Laws.{AreForDifferentAsks, AsksLinks, AsksOfBlocks, IsExcuse, IsAnsweredBy, NeverGoBack, HaveASource}
+use Rattle.servient_world.specs.Rows.{RowAsk, AreInOrder, NoOther, IsOfPath, AreReads, AreOfOneAct, IsWrite, IsOfCodeAndPath, AreWrites, IsOneAct}
 use Rattle.servient_ends.specs.Ends.{IsBeginning}
 use Rattle.servient_rehearsal.specs.declared.moves.Move.{Move}
 use Rattle.servient_rehearsal.specs.declared.world.World.{World}
@@ -47,11 +49,12 @@ pub record Rehearses (site : Site) (moves : List Move) (old_servient servient : 
   pub shown : IsShown (noted_of w) run.to
   -- For each ask the servient made at most one act.
   pub acts_once : AreForDifferentAsks run.to.ends.world.acts
-  -- For an ask for another path than that of the links which ended with a response that is no excuse it made one, and the
-  -- response says what that came to.
-  pub answers_once : (k code : ℕ) (payload : List ℕ) → length w.asks.items ≤ 65536
-      → ¬ (AsksLinks run.to.ends.world.asks k) → Contains w.ends.items (record { ask = k; end = end.Answered code payload })
-      → IsExcuse code payload ⊎ IsAnsweredBy run.to.ends.world.acts k code payload
+  -- For an ask for another path than that of the links, without a block of its body and without one after the first of the
+  -- response, which ended with a response that is no excuse it made one, and the response says what that came to.
+  pub answers_once : (k code : ℕ) (block : Option Block) (payload : List ℕ) → length w.asks.items ≤ 65536
+      → ¬ (AsksLinks run.to.ends.world.asks k) → ¬ (AsksOfBlocks run.to.ends.world.asks k)
+      → Contains w.ends.items (record { ask = k; end = end.Answered code block payload })
+      → IsExcuse code payload ⊎ IsAnsweredBy run.to.ends.world.acts k code block payload
   -- For an ask that ended with a value of what it observes it made one.
   pub observes_once : (k : ℕ) → length w.asks.items ≤ 65536 → Contains w.ends.items (record { ask = k; end = end.Observed })
       → (x : Act) × Contains run.to.ends.world.acts x × (x.ask ≡ k)
@@ -61,6 +64,14 @@ pub record Rehearses (site : Site) (moves : List Move) (old_servient servient : 
   pub sources : length w.asks.items ≤ 65536 → HaveASource run.to.ends.world.acts run.to.ends.world.emitted run.to.ends.world.taken
   -- For one ask none is of an earlier emission than one before it, and the one that was read comes first.
   pub order : length w.asks.items ≤ 65536 → run.to.ends.world.ids ≤ 65536 → NeverGoBack run.to.ends.world.taken
+  -- What a row of asks for the blocks of one body read is of one act, or of the links of the servient.
+  pub reads : (path : List (List ℕ)) (szx : ℕ) (x : RowAsk) (row : List RowAsk) → length w.asks.items ≤ 65536
+      → AreReads run.to.ends.world.asks run.to.ends.world.ends path szx 0 (x ∷ row) → AreInOrder (x ∷ row)
+      → NoOther run.to.ends.world.asks (IsOfPath path) x row → AreOfOneAct path run.to.ends.world x row
+  -- What a row of asks with the blocks of one body wrote was acted on once, whole.
+  pub writes : (code : ℕ) (path : List (List ℕ)) (szx : ℕ) (x : RowAsk) (row : List RowAsk) → length w.asks.items ≤ 65536 → IsWrite code
+      → AreWrites run.to.ends.world.asks run.to.ends.world.ends code path szx 0 (x ∷ row) → AreInOrder (x ∷ row)
+      → NoOther run.to.ends.world.asks (IsOfCodeAndPath code path) x row → IsOneAct run.to.ends.world x row
 
 -- Out of memory: both ends are left as a run by a first part of the moves leaves them.
 abbrev pub RehearsesSome : Site → List Move → Layers → Layers → ClientState → ClientState → List Seen → List Seen → Type 0

@@ -1,8 +1,8 @@
 //! The client asks, and does what is due.
 
 ghost use Rattle.std.specs.Prelude.{◌≡◌, ◌≤◌, ◌<◌, ◌^◌, ◌↔◌, length, IsTrue, OnErr, OnOk};
-ghost use Rattle.coap_client.specs.Asking.{asking_of};
-ghost use Rattle.servient_world.specs.World.{MayAskWhole};
+ghost use Rattle.coap_client.specs.Asking.{asking_of, MayAsk};
+ghost use Rattle.coap_msg.specs.Blocks.{IsBlock};
 ghost use Rattle.servient_ends.specs.Ends.{asks_next, does_due};
 ghost use Rattle.servient_rehearsal.specs.Playing.{ClientPlays, ClientPlaysAtMost, ClientGoesOn};
 
@@ -10,7 +10,7 @@ use crate::NoMemory;
 use crate::notes::Notes;
 use crate::world::{CLIENT, End, SERVIENT};
 use coap_client::{Ask, Client, Due};
-use coap_msg::{LONGEST_MESSAGE, LONGEST_SEGMENT};
+use coap_msg::{Block, LONGEST_MESSAGE, LONGEST_SEGMENT};
 use thing_ops::Segments;
 
 /// The client asks the servient, if it may ask that.
@@ -31,19 +31,31 @@ pub fn ask_servient(client: &mut Client, notes: &mut Notes, ask: &Ask<'_>) -> Re
     }
 }
 
-/// Whether this may be asked: a code of class 0 that isn't 0.00, segments of at most 255 bytes, and no blocks.
-#[tactic(auto, using(crate::proofs::ClientLaws::may_ask_whole))]
+/// Whether this may be asked: a code of class 0 that isn't 0.00, segments of at most 255 bytes, and blocks that an option
+/// can say.
+#[tactic(auto, using(crate::proofs::ClientLaws::may_be_asked))]
 fn may_ask(ask: &Ask<'_>) -> bool
-    ensures { IsTrue result ↔ MayAskWhole (asking_of ask.now) }
+    ensures { IsTrue result ↔ MayAsk (asking_of ask.now) }
 {
     ask.code != 0
         && ask.code < 32
-        && ask.block1.is_none()
-        && ask.block2.is_none()
+        && can_be_said(ask.block1)
+        && can_be_said(ask.block2)
         && has_short_segments(ask.path)
 }
 
-ghost use Rattle.std.specs.Prelude.{All};
+/// Whether an option can say this block, if there is one: its number has 20 bits, and its size is one of the seven there
+/// are (RFC 7959, section 2.2).
+fn can_be_said(block: Option<Block>) -> bool
+    ensures { IsTrue result ↔ IfSome block IsBlock }
+{
+    match block {
+        Some(block) => block.number < 1 << 20 && block.szx <= 6,
+        None => true,
+    }
+}
+
+ghost use Rattle.std.specs.Prelude.{All, IfSome};
 
 /// Whether each segment has at most 255 bytes.
 fn has_short_segments(path: &Segments) -> bool

@@ -6,7 +6,8 @@
 //!
 //! // The client asks for the status of a lamp, and what it sends comes twice.
 //! let mut moves = Vec::new(alloc);
-//! moves.push(Move::Ask { code: 1, path, observe: None, format: None, payload: Bytes::new(alloc) })?;
+//! let (block1, block2, payload) = (None, None, Bytes::new(alloc));
+//! moves.push(Move::Ask { code: 1, path, observe: None, format: None, block1, block2, payload })?;
 //! moves.push(Move::Deliver(0))?;
 //! moves.push(Move::Deliver(0))?;
 //! moves.push(Move::Deliver(1))?;

@@ -4,7 +4,7 @@ ghost use Rattle.std.specs.Prelude.{◌≡◌, ◌↔◌, IsTrue};
 ghost use Rattle.servient_rehearsal.specs.Moves.{is_given as may_be_given, is_of_an_end, passed_by as time_of, AreShort};
 
 use crate::world::{CLIENT, SERVIENT};
-use coap_msg::is_same_endpoint;
+use coap_msg::{Block, is_same_endpoint};
 use servient_outside::What;
 use thing_ops::Segments;
 use wot_json::Bytes;
@@ -18,6 +18,10 @@ pub enum Move {
         path: Segments,
         observe: Option<bool>,
         format: Option<u16>,
+        /// Which block of its body this is (RFC 7959, section 2.1).
+        block1: Option<Block>,
+        /// Which block of the response is wanted.
+        block2: Option<Block>,
         payload: Bytes,
     },
     /// The client does what is due.

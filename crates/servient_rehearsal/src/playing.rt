@@ -50,6 +50,8 @@ pub fn play<R: Handlers>(
             path,
             observe,
             format,
+            block1,
+            block2,
             payload,
         } => {
             let ask = Ask {
@@ -57,8 +59,8 @@ pub fn play<R: Handlers>(
                 path,
                 observe: *observe,
                 format: *format,
-                block1: None,
-                block2: None,
+                block1: *block1,
+                block2: *block2,
                 payload: payload.as_slice(),
             };
             ask_servient(client, notes, &ask)

@@ -49,12 +49,12 @@ fn note_news(notes: &mut Notes, news: &News<'_>, ends: bool) -> Result<(), NoMem
     ensures registered { notes.new.registered ≡ notes.old.registered }
 {
     match *news {
-        News::Answered(code, _, payload) => {
+        News::Answered(code, block, payload) => {
             if !ends {
                 return Ok(());
             }
             let payload = Bytes::copy_of(notes.alloc, payload)?;
-            notes.ended(End::Answered(code, payload))
+            notes.ended(End::Answered(code, block, payload))
         }
         News::Value(payload) => {
             if ends {

@@ -1,6 +1,6 @@
 //! What is seen of a rehearsal.
 
-use coap_msg::Endpoint;
+use coap_msg::{Block, Endpoint};
 use wot_json::Bytes;
 
 /// Where the client is.
@@ -70,8 +70,9 @@ pub struct AskEnd {
 /// How an ask ended.
 #[derive(Debug, Drop)]
 pub enum End {
-    /// By a response, with its code and its payload.
-    Answered(u8, Bytes),
+    /// By a response, with its code, the block of its body that it says if it says one (RFC 7959, section 2.1), and its
+    /// payload.
+    Answered(u8, Option<Block>, Bytes),
     /// By a value of what it registered for.
     Observed,
     /// By a Reset (RFC 7252, section 4.2).

@@ -17,7 +17,7 @@ use Rattle.thing_ops.specs.declared.outcome.Outcome.TheVariants as outcome
 use Rattle.thing_ops.specs.Outcomes.{payload_of}
 use Rattle.coap_bind.specs.declared.blocks.BlockUse.TheVariants.{Joined}
 use Rattle.coap_bind.specs.declared.blocks.Wanted.TheVariants as wanted
-use Rattle.coap_bind.specs.Blocks.{wanted_by_body, wanted_of, block2_of, added_reply, block_reply, continue_reply, most_bytes, answer_reply}
+use Rattle.coap_bind.specs.Blocks.{wanted_by_body, wanted_of, block2_of, added_reply, block_reply, continue_reply, portion_of, most_bytes, reply_with, answer_reply}
 use Rattle.coap_bind.specs.Observing.{observing_of}
 use Rattle.coap_bind.specs.Server.{wanted_in, with_whole_body, block_arrival}
 use Rattle.coap_bind.specs.Treating.{Acted}
@@ -138,7 +138,7 @@ act_code outcome.Memory e = omega (arith, e)
 joined_code : (b : Block) (o : Outcome) → (answer_reply (Joined b) o).code ≡ 95 → ⊥
 joined_code b o e = by_test (nat_lt (most_bytes (Joined b) o) (length (payload_of o))) e
   where
-    by_test : (long : Bool) → (if long then long_reply else whole_reply o).code ≡ 95 → ⊥
+    by_test : (long : Bool) → (if long then long_reply else reply_with (portion_of (Joined b) o) o).code ≡ 95 → ⊥
     by_test true code = omega (arith, code)
     by_test false code = act_code o code
 

@@ -1,8 +1,7 @@
 use Rattle.std.proofs.Common.{ℕ, Bool, ◌∙◌, length, take, refl, ap}
 use Rattle.std.proofs.lemmas.Result.{on_ok_weaker}
-use Rattle.coap_client.specs.Asking.{asking_of}
+use Rattle.coap_client.specs.Asking.{asking_of, MayAsk}
 use Rattle.coap_client.specs.Exchange.{is_registration}
-use Rattle.servient_world.specs.World.{MayAskWhole}
 use Rattle.servient_ends.specs.Ends.{asks_next}
 use Rattle.servient_rehearsal.specs.Noted.{noted_of, with_ask, number_after}
 use Rattle.servient_rehearsal.proofs.ClientLaws.{asked_turn, refused_turn, skipped_turn}
@@ -11,12 +10,12 @@ use Rattle.servient_rehearsal.proofs.asking.ask_servient.Goals as goal
 
 pub returns-then-not-may_ask-clause-ok : goal.returns-then-not-may_ask-clause-ok
 returns-then-not-may_ask-clause-ok c =
-    let may_not : ¬ (MayAskWhole (asking_of c.args.ask.now)) = λ may. absurd (let wrong = c.if-not-may_ask.ensures.1 may in cc) in
+    let may_not : ¬ (MayAsk (asking_of c.args.ask.now)) = λ may. absurd (let wrong = c.if-not-may_ask.ensures.1 may in cc) in
     client_played (asks_next (asking_of c.args.ask.now)) c.args.client.now c.args.client.now c.args.notes.now c.args.notes.now (noted_of c.args.notes.now.world) c.args.notes.now.registered
     (λ site s slots. skipped_turn site s slots (asking_of c.args.ask.now) c.args.client.now c.args.notes.now may_not) refl refl
 
 pub request-requires-clause-ask : goal.request-requires-clause-ask
-request-requires-clause-ask c = (c.if-not-may_ask.ensures.0 refl).may
+request-requires-clause-ask c = c.if-not-may_ask.ensures.0 refl
 
 pub returns-in-Ok-clause-ok : goal.returns-in-Ok-clause-ok
 returns-in-Ok-clause-ok c =

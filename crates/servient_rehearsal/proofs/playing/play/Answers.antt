@@ -1,4 +1,4 @@
-use Rattle.std.proofs.Common.{◌≡◌, ◌∙◌, ◌+◌, ℕ, List, refl, sym, ap, subst, None}
+use Rattle.std.proofs.Common.{◌≡◌, ◌∙◌, ◌+◌, ℕ, List, refl, sym, ap, subst}
 use Rattle.std.proofs.lemmas.Result.{on_ok_weaker}
 use Rattle.servient_ends.specs.Ends.{Turn, asks_next, does_due, delivers, passes}
 use Rattle.servient_rehearsal.specs.declared.notes.Notes.{Notes}
@@ -12,7 +12,7 @@ use Rattle.servient_rehearsal.proofs.playing.play.Goals as goal
 
 pub returns-in-Ask-clause-ok : goal.returns-in-Ask-clause-ok
 returns-in-Ask-clause-ok g c =
-    let same : asks_next (record { code = c.in-Ask.code; path = c.in-Ask.path; observe = c.in-Ask.observe; format = c.in-Ask.format; block1 = None; block2 = None; payload = c.as_slice.result.now }) ≡ turn_of c.args.next.now = ap (λ (l : List ℕ). asks_next (record { code = c.in-Ask.code; path = c.in-Ask.path; observe = c.in-Ask.observe; format = c.in-Ask.format; block1 = None; block2 = None; payload = l })) c.as_slice.ensures ∙ ap turn_of (sym c.in-Ask.is) in
+    let same : asks_next (record { code = c.in-Ask.code; path = c.in-Ask.path; observe = c.in-Ask.observe; format = c.in-Ask.format; block1 = c.in-Ask.block1; block2 = c.in-Ask.block2; payload = c.as_slice.result.now }) ≡ turn_of c.args.next.now = ap (λ (l : List ℕ). asks_next (record { code = c.in-Ask.code; path = c.in-Ask.path; observe = c.in-Ask.observe; format = c.in-Ask.format; block1 = c.in-Ask.block1; block2 = c.in-Ask.block2; payload = l })) c.as_slice.ensures ∙ ap turn_of (sym c.in-Ask.is) in
     on_ok_weaker c.ask_servient.result
     (λ plays. subst (λ (x : Turn). PlaysTurn c.args.servient.now.exposed.site x (kept c.args.servient.now c.args.client.now c.args.notes.now)
     (kept c.args.servient.now c.ask_servient.new.client c.ask_servient.new.notes) (g.R.Handlers.slots c.args.rack.now) (g.R.Handlers.slots c.args.rack.now)) same (plays c.args.servient.now.exposed.site c.args.servient.now (g.R.Handlers.slots c.args.rack.now)))
@@ -20,7 +20,7 @@ returns-in-Ask-clause-ok g c =
 
 pub returns-in-Ask-clause-fault : goal.returns-in-Ask-clause-fault
 returns-in-Ask-clause-fault g c =
-    let same : asks_next (record { code = c.in-Ask.code; path = c.in-Ask.path; observe = c.in-Ask.observe; format = c.in-Ask.format; block1 = None; block2 = None; payload = c.as_slice.result.now }) ≡ turn_of c.args.next.now = ap (λ (l : List ℕ). asks_next (record { code = c.in-Ask.code; path = c.in-Ask.path; observe = c.in-Ask.observe; format = c.in-Ask.format; block1 = None; block2 = None; payload = l })) c.as_slice.ensures ∙ ap turn_of (sym c.in-Ask.is) in
+    let same : asks_next (record { code = c.in-Ask.code; path = c.in-Ask.path; observe = c.in-Ask.observe; format = c.in-Ask.format; block1 = c.in-Ask.block1; block2 = c.in-Ask.block2; payload = c.as_slice.result.now }) ≡ turn_of c.args.next.now = ap (λ (l : List ℕ). asks_next (record { code = c.in-Ask.code; path = c.in-Ask.path; observe = c.in-Ask.observe; format = c.in-Ask.format; block1 = c.in-Ask.block1; block2 = c.in-Ask.block2; payload = l })) c.as_slice.ensures ∙ ap turn_of (sym c.in-Ask.is) in
     on_error_weaker c.ask_servient.result
     (λ plays. subst (λ (x : Turn). PlaysTurnAtMost c.args.servient.now.exposed.site x (kept c.args.servient.now c.args.client.now c.args.notes.now)
     (kept c.args.servient.now c.ask_servient.new.client c.ask_servient.new.notes) (g.R.Handlers.slots c.args.rack.now) (g.R.Handlers.slots c.args.rack.now)) same (plays c.args.servient.now.exposed.site c.args.servient.now c.ask_servient.new.notes (g.R.Handlers.slots c.args.rack.now)))

@@ -3,8 +3,9 @@
 //! `rehearsals` has cases, which are separated by empty lines: moves, a line each, and then what comes of them. The
 //! program prints each case with what does come of it: so it prints its file, if all is right.
 //!
-//! - `ask METHOD PATH`, perhaps `Content-Format=N` and a payload: the client asks; `observe ..` and `unobserve ..`: the
-//!   same with Observe 0 and 1;
+//! - `ask METHOD PATH`, perhaps `Content-Format=N`, `Block2=N` and `Block1=N`, and a payload: the client asks; a block is
+//!   written as its number times 16, 8 where others follow, and SZX; `observe ..` and `unobserve ..`: the same with
+//!   Observe 0 and 1;
 //! - `due`: the client does what is due;
 //! - `deliver N`: the datagram of this number comes;
 //! - `pass N`: so many milliseconds pass;

@@ -1,7 +1,7 @@
 //! Moves in words.
 
 use case_notation::{bytes_of, message_of, number};
-use coap_msg::Endpoint;
+use coap_msg::{Block, Endpoint};
 use servient_outside::What;
 use servient_rehearsal::{Move, Moves};
 use std::alloc::{AllocError, Global};
@@ -29,15 +29,39 @@ fn path_of(alloc: Global, text: &str) -> Result<Segments, AllocError> {
     Ok(path)
 }
 
-/// The content format at the beginning of these words, if there is one, and what comes after it.
-fn format_of(words: &str) -> (Option<u16>, &str) {
-    match words.strip_prefix("Content-Format=") {
+/// The number of the option of this name at the beginning of these words, if it is there, and what comes after it.
+fn option_of<'a>(name: &str, words: &'a str) -> (Option<&'a str>, &'a str) {
+    match words.strip_prefix(name) {
         Some(rest) => {
             let (digits, payload) = rest.split_once(' ').unwrap_or((rest, "-"));
-            (digits.parse::<u16>().ok(), payload)
+            (Some(digits), payload)
         }
         None => (None, words),
     }
+}
+
+/// The content format of these digits.
+fn format_of(digits: Option<&str>) -> Option<u16> {
+    match digits {
+        Some(digits) => digits.parse::<u16>().ok(),
+        None => None,
+    }
+}
+
+/// The block that a number says (RFC 7959, section 2.2); none where it is too great.
+fn block_of(digits: Option<&str>) -> Option<Block> {
+    let value = match digits {
+        Some(digits) => number(Some(digits)),
+        None => return None,
+    };
+    if value >= 1 << 24 {
+        return None;
+    }
+    Some(Block {
+        number: (value / 16) as u32,
+        more: value / 8 % 2 == 1,
+        szx: (value % 8) as u8,
+    })
 }
 
 /// What is asked in these words.
@@ -45,12 +69,16 @@ fn ask_of(alloc: Global, observe: Option<bool>, words: &str) -> Result<Move, All
     let mut fields = words.splitn(3, ' ');
     let code = code_of(fields.next().unwrap_or(""));
     let path = path_of(alloc, fields.next().unwrap_or(""))?;
-    let (format, payload) = format_of(fields.next().unwrap_or("-"));
+    let (format, words) = option_of("Content-Format=", fields.next().unwrap_or("-"));
+    let (block2, words) = option_of("Block2=", words);
+    let (block1, payload) = option_of("Block1=", words);
     Ok(Move::Ask {
         code,
         path,
         observe,
-        format,
+        format: format_of(format),
+        block1: block_of(block1),
+        block2: block_of(block2),
         payload: Bytes::from_vec(bytes_of(alloc, payload)?),
     })
 }

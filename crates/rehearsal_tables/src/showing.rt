@@ -10,7 +10,7 @@
 //! ```
 
 use case_notation::{put, put_message};
-use coap_msg::Endpoint;
+use coap_msg::{Block, Endpoint};
 use servient_rehearsal::{AskEnd, End, SentDatagram, World};
 use std::alloc::AllocError;
 use std::fmt::Write;
@@ -36,11 +36,28 @@ fn put_sent(text: &mut String, index: usize, sent: &SentDatagram) -> Result<(), 
     text.push_str("\n")
 }
 
+/// The number that says a block (RFC 7959, section 2.2).
+fn put_block(text: &mut String, block: Option<Block>) -> Result<(), AllocError> {
+    match block {
+        Some(block) => {
+            let more: u32 = if block.more { 8 } else { 0 };
+            let number = block.number.saturating_mul(16).saturating_add(more);
+            write!(
+                text,
+                "Block2={} ",
+                number.saturating_add(u32::from(block.szx))
+            )
+        }
+        None => Ok(()),
+    }
+}
+
 fn put_end(text: &mut String, ended: &AskEnd) -> Result<(), AllocError> {
     write!(text, "ended {} by ", ended.ask)?;
     match &ended.end {
-        End::Answered(code, payload) => {
+        End::Answered(code, block, payload) => {
             write!(text, "{}.{:02} ", *code / 32, *code % 32)?;
+            put_block(text, *block)?;
             put(text, payload.as_slice())?;
         }
         End::Observed => text.push_str("a value")?,

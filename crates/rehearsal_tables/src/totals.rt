@@ -35,7 +35,7 @@ pub const NONE: Totals = Totals {
 fn add_ends(totals: &mut Totals, world: &World) {
     for ended in world.ends.iter() {
         match &ended.end {
-            End::Answered(_, _) => totals.answered = totals.answered.saturating_add(1),
+            End::Answered(_, _, _) => totals.answered = totals.answered.saturating_add(1),
             End::Observed => totals.observed = totals.observed.saturating_add(1),
             End::TimedOut => totals.timed_out = totals.timed_out.saturating_add(1),
             End::Reset => {}

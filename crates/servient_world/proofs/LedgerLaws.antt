@@ -18,7 +18,7 @@ use Rattle.coap_client.specs.declared.outstanding.Outstanding.{Outstanding}
 use Rattle.coap_bind.specs.declared.server.Server.{Server}
 use Rattle.coap_bind.specs.Server.{is_request, arrival, IsMet}
 use Rattle.coap_bind.specs.Laws.{AreArrivals, Did as ServerDid}
-use Rattle.coap_bind.specs.Treating.{Acted, Treats, ignores, answers, acts}
+use Rattle.coap_bind.specs.Treating.{Acted, Treats, ignores, answers, acts as acted_for}
 use Rattle.coap_bind.specs.Writing.{Reply, full_reply}
 use Rattle.coap_bind.proofs.ArrivalLaws.{hearing_goes_on}
 use Rattle.coap_bind.proofs.HistoryLaws.{exchanges_are_of_the_history, met_as_duplicate}
@@ -87,7 +87,7 @@ pub did_treated : (capacity : ℕ) (history : List Arrival) (from : Endpoint) (b
     → Treats from bytes now act back s t → (new : List Arrival) × AreArrivals from bytes now new × ServerDid capacity (history ++ new) t × (t.exchanges.moment ≤ now)
 did_treated capacity history from bytes now act back s t did early (ignores hears none is) = hearing_goes_on capacity history s t from bytes now _ did early hears
 did_treated capacity history from bytes now act back s t did early (answers reply hears none is) = hearing_goes_on capacity history s t from bytes now _ did early hears
-did_treated capacity history from bytes now act back s t did early (acts a ask reply u hears code place answer acted_is is) =
+did_treated capacity history from bytes now act back s t did early (acted_for a ask reply u hears code place answer acted_is is) =
     let goes = hearing_goes_on capacity history s u from bytes now _ did early hears in (
       goes.0,
       goes.1,

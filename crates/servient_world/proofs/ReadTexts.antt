@@ -19,7 +19,6 @@ use Rattle.coap_bind.specs.declared.blocks.BlockOption.TheVariants as option
 use Rattle.coap_bind.specs.declared.blocks.BlockUse.{BlockUse}
 use Rattle.coap_bind.specs.declared.blocks.BlockUse.TheVariants as blocks
 use Rattle.coap_bind.specs.Blocks.{Portion, all_of, goes_on, portion_at, first_block, is_in_blocks, given_portion, is_representation, is_kept, portion_of, most_bytes, reply_with, answer_reply, content_reply, later_reply, block_reply, with_block, content_format}
-use Rattle.coap_bind.specs.declared.links.TheConstants.{LINK_FORMAT}
 use Rattle.coap_bind.specs.Links.{links_content, links_reply}
 use Rattle.coap_bind.specs.Writing.{Reply, long_reply, whole_reply, text_format, etag_options, reply_options}
 use Rattle.servient_world.specs.Rows.{RowAsk, last_of, joined_payloads, says_more, IsFollowed, IsReadOf}
@@ -144,7 +143,7 @@ links_first z text fits is = by_test (nat_lt longest_body (length text)) is
   where
     by_test : (long : Bool) → (links_if z text long).code ≡ 69 → FirstOf z text (links_if z text long).payload (block_said (reply_options (links_if z text long)))
     by_test true code = absurd (omega (arith, code))
-    by_test false code = first_portion z text None LINK_FORMAT fits
+    by_test false code = first_portion z text None 40 fits
 
 -- ---- a later block
 

@@ -1,0 +1,254 @@
+//! What is checked of the rows of a schedule, by the turns of the devices and the bytes alone. For a row that meets the
+//! premises (no other ask that could disturb it was made from 200,000 ms before it on) there is printed how many turns
+//! made what it says:
+//!
+//! - of a row that writes: the turns that write the number in the joined payloads to the status, or fade with it;
+//! - of a row that reads the status of an invocation: the turns that queried it and whose answer is in the joined payloads,
+//!   or begins with them where the row has no last block;
+//! - of a row that reads another path no handler is called: whether the joined payloads are its text.
+//!
+//! And of each number that was asked for there is one turn at most.
+
+use crate::asks::number_of;
+use crate::played::{Played, acted_with};
+use crate::rows::{Row, rows_of};
+use crate::steps::{Step, Way, steps_of};
+use case_notation::put;
+use std::alloc::{AllocError, Global};
+use std::fmt::Write;
+use thing_handler::{Answer, CallKind, Turn};
+use wot_json::Tree;
+
+/// The number that is said by the digits of a payload.
+fn number_in(alloc: Global, payload: &[u8]) -> Result<i64, AllocError> {
+    let mut digits = Vec::new(alloc);
+    for byte in payload.iter() {
+        if byte.is_ascii_digit() {
+            digits.push(*byte)?;
+        }
+    }
+    Ok(number_of(digits.as_slice()))
+}
+
+/// How many turns write this number or fade with it.
+fn acts_with(played: &Played<'_>, number: i64) -> usize {
+    let mut count: usize = 0;
+    for turn in played.status.iter().chain(played.fade.iter()) {
+        if acted_with(turn) == Some(number) {
+            count = count.saturating_add(1);
+        }
+    }
+    count
+}
+
+/// What the status of an invocation is after a turn that queried it, as the servient says it.
+fn status_by(alloc: Global, turn: &Turn) -> Result<Option<String>, AllocError> {
+    let mut text = String::new(alloc);
+    match (&turn.what, &turn.answer) {
+        (CallKind::Query(id), Answer::Running) => {
+            write!(text, "{{\"id\":{id},\"status\":\"running\"}}")?;
+        }
+        (CallKind::Query(id), Answer::Finished(Some(Tree::Int(output)))) => {
+            write!(
+                text,
+                "{{\"id\":{id},\"output\":{output},\"status\":\"completed\"}}"
+            )?;
+        }
+        _ => return Ok(None),
+    }
+    Ok(Some(text))
+}
+
+/// Whether the joined payloads of a row are this text, or the beginning of it where the last block is missing.
+fn is_of(row: &Row, text: &str) -> bool {
+    let joined = row.joined.as_slice();
+    if row.is_whole {
+        text.as_bytes() == joined
+    } else {
+        text.as_bytes().starts_with(joined)
+    }
+}
+
+/// How many turns queried what was read in a row.
+fn queries_of(alloc: Global, played: &Played<'_>, row: &Row) -> Result<usize, AllocError> {
+    let mut count: usize = 0;
+    for turn in played.fade {
+        if let Some(text) = status_by(alloc, turn)? {
+            if is_of(row, text.as_str()) {
+                count = count.saturating_add(1);
+            }
+        }
+    }
+    Ok(count)
+}
+
+/// The text of a path, if these lines give one: `text PATH TEXT`.
+fn text_of<'a>(lines: &'a str, path: &[u8]) -> Option<&'a str> {
+    for line in lines.lines() {
+        if let Some(given) = line.strip_prefix("text ") {
+            if let Some((named, text)) = given.split_once(' ') {
+                if named.as_bytes() == path {
+                    return Some(text);
+                }
+            }
+        }
+    }
+    None
+}
+
+/// Writes what is checked of a row that meets the premises.
+fn put_found(
+    text: &mut String,
+    alloc: Global,
+    lines: &str,
+    played: &Played<'_>,
+    row: &Row,
+) -> Result<(), AllocError> {
+    if row.way == Way::Written {
+        let number = number_in(alloc, row.joined.as_slice())?;
+        return write!(text, "{number} by {} turns", acts_with(played, number));
+    }
+    match text_of(lines, row.path.as_slice()) {
+        Some(wanted) if is_of(row, wanted) => text.push_str("its text"),
+        Some(_) => text.push_str("another text"),
+        None => write!(text, "by {} turns", queries_of(alloc, played, row)?),
+    }
+}
+
+/// Writes a row and what is checked of it.
+fn put_row(
+    text: &mut String,
+    alloc: Global,
+    lines: &str,
+    played: &Played<'_>,
+    row: &Row,
+) -> Result<(), AllocError> {
+    put(text, row.path.as_slice())?;
+    let way = match row.way {
+        Way::Read => "read",
+        Way::Written => "written",
+    };
+    write!(text, " {way} in {}: ", row.count)?;
+    if !row.is_alone {
+        return text.push_str("not alone");
+    }
+    put_found(text, alloc, lines, played, row)?;
+    if !row.is_whole {
+        text.push_str(" so far")?;
+    }
+    Ok(())
+}
+
+/// Whether each number that was asked for has one turn at most. A number that is brought in blocks is in the last of them
+/// too, so each ask is looked at for itself and with all rows.
+fn acts_are_single(played: &Played<'_>) -> bool {
+    for turn in played.status.iter().chain(played.fade.iter()) {
+        if let Some(number) = acted_with(turn) {
+            if acts_with(played, number) != 1 {
+                return false;
+            }
+        }
+    }
+    true
+}
+
+/// How many rows there were that met the premises and ended with the last block, and in how many schedules.
+#[derive(Clone, Copy)]
+pub struct Tally {
+    reads: usize,
+    writes: usize,
+    with_reads: usize,
+    with_writes: usize,
+    schedules: usize,
+    datagrams: usize,
+    asks: usize,
+    acts: usize,
+}
+
+/// None yet.
+pub const NONE: Tally = Tally {
+    reads: 0,
+    writes: 0,
+    with_reads: 0,
+    with_writes: 0,
+    schedules: 0,
+    datagrams: 0,
+    asks: 0,
+    acts: 0,
+};
+
+/// How many of these rows met the premises, went this way and ended with the last block.
+fn ended(rows: &[Row], way: Way) -> usize {
+    let mut count: usize = 0;
+    for row in rows {
+        if row.way == way && row.is_whole && row.is_alone {
+            count = count.saturating_add(1);
+        }
+    }
+    count
+}
+
+/// How many turns write or fade.
+fn acts_in(played: &Played<'_>) -> usize {
+    let mut count: usize = 0;
+    for turn in played.status.iter().chain(played.fade.iter()) {
+        if acted_with(turn).is_some() {
+            count = count.saturating_add(1);
+        }
+    }
+    count
+}
+
+/// Counts a schedule.
+fn add(tally: &mut Tally, played: &Played<'_>, steps: &[Step<'_>], rows: &[Row]) {
+    let reads = ended(rows, Way::Read);
+    let writes = ended(rows, Way::Written);
+    tally.reads = tally.reads.saturating_add(reads);
+    tally.writes = tally.writes.saturating_add(writes);
+    tally.with_reads = tally.with_reads.saturating_add(reads.min(1));
+    tally.with_writes = tally.with_writes.saturating_add(writes.min(1));
+    tally.schedules = tally.schedules.saturating_add(1);
+    tally.datagrams = tally.datagrams.saturating_add(played.world.sent.len());
+    tally.asks = tally.asks.saturating_add(steps.len());
+    tally.acts = tally.acts.saturating_add(acts_in(played));
+}
+
+/// Writes what was checked of the rows of a schedule, with the texts that these lines give.
+pub fn put_joined(
+    text: &mut String,
+    alloc: Global,
+    lines: &str,
+    played: &Played<'_>,
+    tally: &mut Tally,
+) -> Result<(), AllocError> {
+    let steps = steps_of(alloc, played.world)?;
+    let rows = rows_of(alloc, steps.as_slice())?;
+    add(tally, played, steps.as_slice(), rows.as_slice());
+    if !acts_are_single(played) {
+        return text.push_str("there are acts that were made twice");
+    }
+    if rows.is_empty() {
+        return text.push_str("no row");
+    }
+    for (index, row) in rows.iter().enumerate() {
+        if index > 0 {
+            text.push_str(", ")?;
+        }
+        put_row(text, alloc, lines, played, row)?;
+    }
+    Ok(())
+}
+
+/// Writes how many rows and schedules there were.
+pub fn put_tally(text: &mut String, tally: &Tally) -> Result<(), AllocError> {
+    writeln!(
+        text,
+        "rows that end and meet the premises: {} of reads in {} schedules, {} of writes in {} schedules",
+        tally.reads, tally.with_reads, tally.writes, tally.with_writes
+    )?;
+    writeln!(
+        text,
+        "in all: {} schedules, {} datagrams, {} asks, {} acts",
+        tally.schedules, tally.datagrams, tally.asks, tally.acts
+    )
+}

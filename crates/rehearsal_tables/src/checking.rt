@@ -14,6 +14,8 @@ use crate::asks::{
     written_by_http,
 };
 use crate::played::{Played, response_in};
+use crate::steps::block_in;
+use coap_msg::{BLOCK2, Block};
 use servient_rehearsal::{AskMade, End, SentDatagram, World};
 use std::alloc::AllocError;
 use std::fmt::Write;
@@ -78,10 +80,20 @@ fn is_said(made: &AskMade, response: &SentDatagram, code: u8, payload: &[u8]) ->
     }
 }
 
+/// Whether a response says this block of its body, or none where there is none.
+fn says_block(made: &AskMade, response: &SentDatagram, block: Option<Block>) -> bool {
+    match response_in(response, made) {
+        Some(message) => block_in(&message, BLOCK2) == block,
+        None => false,
+    }
+}
+
 /// Whether an ask with this response may end so.
 fn may_end(made: &AskMade, response: &SentDatagram, end: &End) -> bool {
     match end {
-        End::Answered(code, payload) => is_said(made, response, *code, payload.as_slice()),
+        End::Answered(code, block, payload) => {
+            is_said(made, response, *code, payload.as_slice()) && says_block(made, response, *block)
+        }
         End::Observed | End::Reset | End::TimedOut => true,
     }
 }
@@ -89,7 +101,7 @@ fn may_end(made: &AskMade, response: &SentDatagram, end: &End) -> bool {
 /// Whether an ask without a response may end so.
 fn may_end_unheard(end: &End) -> bool {
     match end {
-        End::Answered(_, _) | End::Observed => false,
+        End::Answered(_, _, _) | End::Observed => false,
         End::Reset | End::TimedOut => true,
     }
 }

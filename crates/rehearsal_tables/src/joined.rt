@@ -9,7 +9,7 @@
 //!
 //! And of each number that was asked for there is one turn at most.
 
-use crate::asks::number_of;
+use crate::asks::{acts, number_of};
 use crate::played::{Played, acted_with};
 use crate::rows::{Row, rows_of};
 use crate::steps::{Step, Way, steps_of};
@@ -30,15 +30,20 @@ fn number_in(alloc: Global, payload: &[u8]) -> Result<i64, AllocError> {
     Ok(number_of(digits.as_slice()))
 }
 
-/// How many turns write this number or fade with it.
-fn acts_with(played: &Played<'_>, number: i64) -> usize {
+/// How many of these turns write this number or fade with it.
+fn turns_with(turns: &[Turn], number: i64) -> usize {
     let mut count: usize = 0;
-    for turn in played.status.iter().chain(played.fade.iter()) {
+    for turn in turns {
         if acted_with(turn) == Some(number) {
             count = count.saturating_add(1);
         }
     }
     count
+}
+
+/// How many turns write this number or fade with it.
+fn acts_with(played: &Played<'_>, number: i64) -> usize {
+    turns_with(played.status, number).saturating_add(turns_with(played.fade, number))
 }
 
 /// What the status of an invocation is after a turn that queried it, as the servient says it.
@@ -139,10 +144,9 @@ fn put_row(
     Ok(())
 }
 
-/// Whether each number that was asked for has one turn at most. A number that is brought in blocks is in the last of them
-/// too, so each ask is looked at for itself and with all rows.
-fn acts_are_single(played: &Played<'_>) -> bool {
-    for turn in played.status.iter().chain(played.fade.iter()) {
+/// Whether each of these turns is the only one with its number.
+fn are_single(played: &Played<'_>, turns: &[Turn]) -> bool {
+    for turn in turns {
         if let Some(number) = acted_with(turn) {
             if acts_with(played, number) != 1 {
                 return false;
@@ -188,17 +192,6 @@ fn ended(rows: &[Row], way: Way) -> usize {
     count
 }
 
-/// How many turns write or fade.
-fn acts_in(played: &Played<'_>) -> usize {
-    let mut count: usize = 0;
-    for turn in played.status.iter().chain(played.fade.iter()) {
-        if acted_with(turn).is_some() {
-            count = count.saturating_add(1);
-        }
-    }
-    count
-}
-
 /// Counts a schedule.
 fn add(tally: &mut Tally, played: &Played<'_>, steps: &[Step<'_>], rows: &[Row]) {
     let reads = ended(rows, Way::Read);
@@ -210,7 +203,7 @@ fn add(tally: &mut Tally, played: &Played<'_>, steps: &[Step<'_>], rows: &[Row])
     tally.schedules = tally.schedules.saturating_add(1);
     tally.datagrams = tally.datagrams.saturating_add(played.world.sent.len());
     tally.asks = tally.asks.saturating_add(steps.len());
-    tally.acts = tally.acts.saturating_add(acts_in(played));
+    tally.acts = tally.acts.saturating_add(acts(played));
 }
 
 /// Writes what was checked of the rows of a schedule, with the texts that these lines give.
@@ -224,7 +217,7 @@ pub fn put_joined(
     let steps = steps_of(alloc, played.world)?;
     let rows = rows_of(alloc, steps.as_slice())?;
     add(tally, played, steps.as_slice(), rows.as_slice());
-    if !acts_are_single(played) {
+    if !are_single(played, played.status) || !are_single(played, played.fade) {
         return text.push_str("there are acts that were made twice");
     }
     if rows.is_empty() {

@@ -13,17 +13,24 @@
 //!
 //! `schedules` has schedules that were drawn at random, by `bench/draw-schedules`, a line each. After ` => ` stands what
 //! was checked of it (`checking.rt`), and at the end of the file what came about in them and how much was done.
+//!
+//! `block_schedules` has such schedules of block-wise asks, by `bench/draw-block-schedules`. After ` => ` stands for each row
+//! of them how many turns made what its joined payloads say (`joined.rt`), and at the end how many rows there were.
 #![tactic(auto)]
 
 mod asks;
+mod blockwise;
 mod cases;
 mod checking;
+mod joined;
 mod kinds;
 mod lamp;
 mod played;
 mod reading;
+mod rows;
 mod schedules;
 mod showing;
+mod steps;
 mod totals;
 
 use std::alloc::{AllocError, Global};
@@ -33,6 +40,7 @@ use std::{env, fs, io};
 fn page(alloc: Global, name: &str, lines: &str) -> Result<String, AllocError> {
     let mut text = String::new(alloc);
     match name {
+        "block_schedules" => blockwise::put(&mut text, alloc, lines)?,
         "schedules" => schedules::put(&mut text, alloc, lines)?,
         _ => cases::put(&mut text, alloc, lines)?,
     }

@@ -41,7 +41,7 @@ fn disturbs(way: Way, first: &Step<'_>, other: &Step<'_>) -> bool {
 fn has_block(way: Way, size: u8, step: &Step<'_>, number: usize) -> bool {
     match step.block {
         Some((found, block)) => {
-            found == way && block.szx == size && usize::try_from(block.number) == Ok(number)
+            found == way && block.szx == size && block.number as usize == number
         }
         None => false,
     }

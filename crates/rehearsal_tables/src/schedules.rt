@@ -74,7 +74,7 @@ fn push_words(moves: &mut Moves, alloc: Global, words: &str) -> Result<(), Alloc
 }
 
 /// The moves of a line.
-fn moves_of(alloc: Global, line: &str) -> Result<Moves, AllocError> {
+pub fn moves_of(alloc: Global, line: &str) -> Result<Moves, AllocError> {
     let mut moves = Vec::new(alloc);
     for words in line.split("; ") {
         push_words(&mut moves, alloc, words)?;

@@ -36,7 +36,7 @@ pub struct Step<'a> {
 }
 
 /// The first block that an option of this number says, if there is one.
-fn block_in(request: &Message<'_>, wanted: u16) -> Option<Block> {
+pub fn block_in(request: &Message<'_>, wanted: u16) -> Option<Block> {
     for (number, value) in request.options.iter() {
         if number == wanted {
             return read_block(value);

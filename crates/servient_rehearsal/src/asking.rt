@@ -1,6 +1,6 @@
 //! The client asks, and does what is due.
 
-ghost use Rattle.std.specs.Prelude.{◌≡◌, ◌≤◌, ◌<◌, ◌^◌, ◌↔◌, length, IsTrue, OnErr, OnOk};
+ghost use Rattle.std.specs.Prelude.{◌≡◌, ◌≤◌, ◌<◌, ◌^◌, ◌↔◌, length, IfSome, IsTrue, OnErr, OnOk};
 ghost use Rattle.coap_client.specs.Asking.{asking_of, MayAsk};
 ghost use Rattle.coap_msg.specs.Blocks.{IsBlock};
 ghost use Rattle.servient_ends.specs.Ends.{asks_next, does_due};
@@ -55,7 +55,7 @@ fn can_be_said(block: Option<Block>) -> bool
     }
 }
 
-ghost use Rattle.std.specs.Prelude.{All, IfSome};
+ghost use Rattle.std.specs.Prelude.{All};
 
 /// Whether each segment has at most 255 bytes.
 fn has_short_segments(path: &Segments) -> bool

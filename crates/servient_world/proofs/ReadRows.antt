@@ -39,7 +39,7 @@ use Rattle.servient_world.proofs.Ledger.{Entry, IsEntry, given_at, given_by, giv
 use Rattle.servient_world.proofs.Exact.{Exact}
 use Rattle.servient_world.proofs.EndLaws.{Stands, stands_at_start, stands_after_all}
 use Rattle.servient_world.proofs.ReadTexts.{size_of, FirstOf, give, ActFirst, act_first, links_first, LaterOf, later_of, IsBlockOf, AreBlocksOf, row_reads}
-use Rattle.servient_world.proofs.RowLaws.{EntryFor, entry_for, EndsWell, ended_well, one_place, in_order, entry_at, Row, between, RisesFrom, rises, up_to_last, one_of, none_of}
+use Rattle.servient_world.proofs.RowLaws.{plus_none, plus_next, EntryFor, entry_for, EndsWell, ended_well, one_place, in_order, entry_at, Row, between, RisesFrom, rises, up_to_last, one_of, none_of}
 
 -- ---- an ask of the row and its entry
 
@@ -222,11 +222,11 @@ quiet path (to_act a) before none = by_use (blocks_for a.what)
 -- where nothing between gives anything, the same is given
 given_still : (path : List (List ℕ)) (led : List Entry) (start more : ℕ) → start + more ≤ length led → ((q : ℕ) (y : Entry) → start ≤ q → q < start + more → slice_get led q ≡ Some y → (before : Option Content) → given_by path y.led before ≡ before)
     → given_to path (take (start + more) led) ≡ given_to path (take start led)
-given_still path led start zero within each = ap (λ (n : ℕ). given_to path (take n led)) (omega arith)
+given_still path led start zero within each = ap (λ (n : ℕ). given_to path (take n led)) (plus_none start)
 given_still path led start (suc more) within each =
     let last : ℕ = start + more in
     let there = slice_get_cases led last in
-    let next : take (start + suc more) led ≡ take (suc (start + more)) led = ap (λ (n : ℕ). take n led) (omega arith) in
+    let next : take (start + suc more) led ≡ take (suc (start + more)) led = ap (λ (n : ℕ). take n led) (plus_next start more) in
     elim there.1 [
       | inl some ↦
           ap (given_to path) (next ∙ take_next led (start + more) some.0 some.2)

@@ -41,8 +41,11 @@ first_is_block z more fits = record { number = omega arith; szx = fits }
 starts_at_none : (n : ℕ) → 0 * n ≡ 0
 starts_at_none n = omega arith
 
+ends_after_one : (n : ℕ) → 0 * n + n ≡ n
+ends_after_one n = omega arith
+
 goes_on_first : (z : ℕ) (text : List ℕ) → goes_on (first_block (Some z)) text ≡ nat_lt (size_of z) (length text)
-goes_on_first z text = ap (λ (n : ℕ). nat_lt (n + size_of z) (length text)) (starts_at_none (size_of z))
+goes_on_first z text = ap (λ (n : ℕ). nat_lt n (length text)) (ends_after_one (size_of z))
 
 first_payload : (z : ℕ) (text : List ℕ) → (portion_at (first_block (Some z)) text).payload ≡ take (size_of z) text
 first_payload z text = ap (λ (n : ℕ). take (size_of z) (drop n text)) (starts_at_none (size_of z))

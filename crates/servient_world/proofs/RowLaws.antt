@@ -19,6 +19,12 @@ use Rattle.servient_world.proofs.Exact.{Exact, IsEnd}
 
 -- ---- elements by their places
 
+pub plus_none : (n : ℕ) → n + zero ≡ n
+plus_none n = omega arith
+
+pub plus_next : (m n : ℕ) → m + suc n ≡ suc (m + n)
+plus_next m n = omega arith
+
 pub pair_at : {X : Type 0} (R : X → X → Type 0) (xs : List X) (i j : ℕ) (a b : X) → AllPairs R xs → i < j → slice_get xs i ≡ Some a → slice_get xs j ≡ Some b → R a b
 pair_at {X} R xs i j a b all before at_i at_j =
     let one : get_or xs i a ≡ a = get_or_from_slice_get xs i a a at_i in

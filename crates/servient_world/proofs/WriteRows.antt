@@ -34,7 +34,7 @@ use Rattle.servient_world.proofs.Ledger.{Entry, IsEntry, HasEntry, bytes_with, i
 use Rattle.servient_world.proofs.Exact.{Exact}
 use Rattle.servient_world.proofs.EndLaws.{stands_at_start, stands_after_all}
 use Rattle.servient_world.proofs.ReadRows.{same_message}
-use Rattle.servient_world.proofs.RowLaws.{EntryFor, entry_for, EndsWell, ended_well, one_place, in_order, entry_at, Row, between, RisesFrom, rises, up_to_last, one_of, none_of}
+use Rattle.servient_world.proofs.RowLaws.{plus_none, plus_next, EntryFor, entry_for, EndsWell, ended_well, one_place, in_order, entry_at, Row, between, RisesFrom, rises, up_to_last, one_of, none_of}
 
 -- ---- an ask of the row and its entry
 
@@ -266,10 +266,10 @@ quiet o (to_parts a added) before none = by_answer added (is_of o a) refl
 -- where nothing between joins anything of it, the same is joined
 part_still : (o : Origin) (led : List Entry) (start more : ℕ) → start + more ≤ length led → ((q : ℕ) (y : Entry) → start ≤ q → q < start + more → slice_get led q ≡ Some y → (before : Option (List ℕ)) → part_by o y.led before ≡ before)
     → part_of o (take (start + more) led) ≡ part_of o (take start led)
-part_still o led start zero within each = ap (λ (n : ℕ). part_of o (take n led)) (omega arith)
+part_still o led start zero within each = ap (λ (n : ℕ). part_of o (take n led)) (plus_none start)
 part_still o led start (suc more) within each =
     let there = slice_get_cases led (start + more) in
-    let next : take (start + suc more) led ≡ take (suc (start + more)) led = ap (λ (n : ℕ). take n led) (omega arith) in
+    let next : take (start + suc more) led ≡ take (suc (start + more)) led = ap (λ (n : ℕ). take n led) (plus_next start more) in
     elim there.1 [
       | inl some ↦
           ap (part_of o) (next ∙ take_next led (start + more) some.0 some.2)

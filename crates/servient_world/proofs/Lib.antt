@@ -6,6 +6,7 @@ pub mod Holds
 pub mod OnceLaws
 pub mod Ledger
 pub mod Given
+pub mod OwnParts
 pub mod Joins
 pub mod LedgerLaws
 pub mod ReplyLaws
@@ -16,13 +17,16 @@ pub mod KeptReplies
 pub mod MeaningLaws
 pub mod ClientLaws
 pub mod NoticeLaws
+pub mod ServedLaws
 pub mod AnsweredLaws
 pub mod CounterLaws
 pub mod WatchedLaws
 pub mod EndLaws
 pub mod RowLaws
 pub mod ReadTexts
+pub mod ReadEntries
 pub mod ReadRows
+pub mod WriteEntries
 pub mod WriteRows
 pub mod ValueLaws
 pub mod TakenLaws

@@ -87,15 +87,22 @@ fn queries_of(alloc: Global, played: &Played<'_>, row: &Row) -> Result<usize, Al
     Ok(count)
 }
 
-/// The text of a path, if these lines give one: `text PATH TEXT`.
+/// The text that a line gives of a path, if it does: `text PATH TEXT`.
+fn text_in<'a>(line: &'a str, path: &[u8]) -> Option<&'a str> {
+    let given = line.strip_prefix("text ")?;
+    let (named, text) = given.split_once(' ')?;
+    if named.as_bytes() == path {
+        Some(text)
+    } else {
+        None
+    }
+}
+
+/// The text of a path, if these lines give one.
 fn text_of<'a>(lines: &'a str, path: &[u8]) -> Option<&'a str> {
     for line in lines.lines() {
-        if let Some(given) = line.strip_prefix("text ") {
-            if let Some((named, text)) = given.split_once(' ') {
-                if named.as_bytes() == path {
-                    return Some(text);
-                }
-            }
+        if let Some(text) = text_in(line, path) {
+            return Some(text);
         }
     }
     None
@@ -206,17 +213,23 @@ fn add(tally: &mut Tally, played: &Played<'_>, steps: &[Step<'_>], rows: &[Row])
     tally.acts = tally.acts.saturating_add(acts(played));
 }
 
-/// Writes what was checked of the rows of a schedule, with the texts that these lines give.
+/// A file of schedules, which gives the texts of paths, and how many rows there were in it so far.
+#[derive(Drop)]
+pub struct Book<'a> {
+    pub lines: &'a str,
+    pub tally: Tally,
+}
+
+/// Writes what was checked of the rows of a schedule.
 pub fn put_joined(
     text: &mut String,
     alloc: Global,
-    lines: &str,
     played: &Played<'_>,
-    tally: &mut Tally,
+    book: &mut Book<'_>,
 ) -> Result<(), AllocError> {
     let steps = steps_of(alloc, played.world)?;
     let rows = rows_of(alloc, steps.as_slice())?;
-    add(tally, played, steps.as_slice(), rows.as_slice());
+    add(&mut book.tally, played, steps.as_slice(), rows.as_slice());
     if !are_single(played, played.status) || !are_single(played, played.fade) {
         return text.push_str("there are acts that were made twice");
     }
@@ -227,7 +240,7 @@ pub fn put_joined(
         if index > 0 {
             text.push_str(", ")?;
         }
-        put_row(text, alloc, lines, played, row)?;
+        put_row(text, alloc, book.lines, played, row)?;
     }
     Ok(())
 }

@@ -92,6 +92,26 @@ fn part_of<'a>(way: Way, step: &Step<'a>, answer: &Answer<'a>) -> &'a [u8] {
     }
 }
 
+/// Takes an ask into a row, if it is its next one and was answered so; says whether others may follow it.
+fn take(row: &mut Row, size: u8, step: &Step<'_>) -> Result<bool, AllocError> {
+    if !has_block(row.way, size, step, row.count) {
+        return Ok(false);
+    }
+    let answer = match &step.answer {
+        Some(answer) => answer,
+        None => return Ok(false),
+    };
+    let is_last = ends_with(row.way, answer);
+    if !is_last && !goes_on(row.way, answer) {
+        return Ok(false);
+    }
+    row.joined
+        .extend_from_slice(part_of(row.way, step, answer))?;
+    row.count = row.count.saturating_add(1);
+    row.is_whole = is_last;
+    Ok(!is_last)
+}
+
 /// Goes through the asks from the beginning of a row on, as far as it goes.
 fn go(
     row: &mut Row,
@@ -101,26 +121,8 @@ fn go(
     place: usize,
 ) -> Result<(), AllocError> {
     for (index, step) in steps.iter().enumerate() {
-        if index >= place && disturbs(row.way, first, step) {
-            if !has_block(row.way, size, step, row.count) {
-                return Ok(());
-            }
-            match &step.answer {
-                Some(answer) => {
-                    let is_last = ends_with(row.way, answer);
-                    if !is_last && !goes_on(row.way, answer) {
-                        return Ok(());
-                    }
-                    row.joined
-                        .extend_from_slice(part_of(row.way, step, answer))?;
-                    row.count = row.count.saturating_add(1);
-                    row.is_whole = is_last;
-                    if is_last {
-                        return Ok(());
-                    }
-                }
-                None => return Ok(()),
-            }
+        if index >= place && disturbs(row.way, first, step) && !take(row, size, step)? {
+            return Ok(());
         }
     }
     Ok(())

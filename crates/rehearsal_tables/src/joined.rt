@@ -46,31 +46,37 @@ fn acts_with(played: &Played<'_>, number: i64) -> usize {
     turns_with(played.status, number).saturating_add(turns_with(played.fade, number))
 }
 
-/// What the status of an invocation is after a turn that queried it, as the servient says it.
-fn status_by(alloc: Global, turn: &Turn) -> Result<Option<String>, AllocError> {
-    let mut text = String::new(alloc);
-    match (&turn.what, &turn.answer) {
-        (CallKind::Query(id), Answer::Running) => {
-            write!(text, "{{\"id\":{id},\"status\":\"running\"}}")?;
-        }
-        (CallKind::Query(id), Answer::Finished(Some(Tree::Int(output)))) => {
-            write!(
-                text,
-                "{{\"id\":{id},\"output\":{output},\"status\":\"completed\"}}"
-            )?;
+/// What the status of an invocation is after an answer to a query, as the servient says it.
+fn status_after(alloc: Global, id: u32, answer: &Answer) -> Result<Option<String>, AllocError> {
+    let mut text = String::from_str(alloc, "{\"id\":")?;
+    match answer {
+        Answer::Running => write!(text, "{id},\"status\":\"running\"")?,
+        Answer::Finished(Some(Tree::Int(output))) => {
+            write!(text, "{id},\"output\":{output},\"status\":\"completed\"")?;
         }
         _ => return Ok(None),
     }
+    text.push_str("}")?;
     Ok(Some(text))
+}
+
+/// What the status of an invocation is after a turn, if that queried it.
+fn status_by(alloc: Global, turn: &Turn) -> Result<Option<String>, AllocError> {
+    match &turn.what {
+        CallKind::Query(id) => status_after(alloc, *id, &turn.answer),
+        _ => Ok(None),
+    }
 }
 
 /// Whether the joined payloads of a row are this text, or the beginning of it where the last block is missing.
 fn is_of(row: &Row, text: &str) -> bool {
     let joined = row.joined.as_slice();
     if row.is_whole {
-        text.as_bytes() == joined
-    } else {
-        text.as_bytes().starts_with(joined)
+        return text.as_bytes() == joined;
+    }
+    match text.as_bytes().get(..joined.len()) {
+        Some(begin) => begin == joined,
+        None => false,
     }
 }
 

@@ -12,8 +12,8 @@ use Rattle.coap_msg.specs.Opts.{segment_options}
 use Rattle.coap_msg.specs.Blocks.{IsBlock, block_number, block_bytes, block_of}
 use Rattle.coap_msg.proofs.BlockValues.{block_is_short, blocks_are_read_again}
 use Rattle.coap_msg.proofs.NumberValues.{short_length}
-use Rattle.coap_opts.specs.Table.{observe, block1, block2, stands_again}
-use Rattle.coap_opts.specs.Reading.{faults_after, fault_of, and_then_these, faults_of, values_under, number_under, number_within, block_under, HasBlocks, asked as what_is_asked}
+use Rattle.coap_opts.specs.Table.{observe, stands_again}
+use Rattle.coap_opts.specs.Reading.{faults_after, fault_of, and_then_these, faults_of, values_under, number_under, number_within, HasBlocks, asked as what_is_asked}
 use Rattle.coap_client.specs.declared.outstanding.Outstanding.{Outstanding}
 use Rattle.coap_client.specs.declared.state.State.{State}
 use Rattle.coap_client.specs.Asking.{Asking, MayAsk, observe_option, format_option, block_option, both_blocks, options_for, message_for}

@@ -1,14 +1,13 @@
 -- What requests want of blocks, and the replies that say or end a block: they are messages, say nothing of Observe, and which block
 -- they say (RFC 7959, section 2).
-use Rattle.std.proofs.Common.{◌≡◌, ◌≢◌, ◌⊎◌, ℕ, ◌+◌, ◌/◌, ◌<◌, ◌≤◌, ◌^◌, ◌∙◌, Bool, true, false, cond, Option, Some, None, List, [], ◌∷◌, ◌++◌, length, option_map, inl, inr, refl, sym, ap, subst, arith}
+use Rattle.std.proofs.Common.{◌≡◌, ◌≢◌, ℕ, ◌+◌, ◌<◌, ◌≤◌, ◌^◌, Bool, true, false, Option, Some, None, List, [], ◌∷◌, ◌++◌, length, option_map, inl, inr, refl, sym, ap, subst, arith}
 use Rattle.std.specs.Prelude.{◌==◌, ◌||◌, nat_lt, codes, unwrap_or, if◌then◌else◌}
 use Rattle.std.proofs.lemmas.Bool.Decides.{nat_tests}
 use Rattle.std.proofs.lemmas.Option.{same_Some}
 use Rattle.coap_msg.specs.declared.block.Block.{Block}
-use Rattle.coap_msg.specs.declared.constants.TheConstants.{GET, POST, PUT, DELETE, CONTENT_FORMAT, ETAG, BLOCK1, BLOCK2, LONGEST_TOKEN}
-use Rattle.coap_msg.specs.Blocks.{IsBlock, block_number, block_bytes, block_of, block_start}
-use Rattle.coap_msg.specs.Grammar.{CoapMessage, CoapOption, AreInOrder, IsWellFormed}
-use Rattle.coap_msg.specs.Numbers.{number_bytes}
+use Rattle.coap_msg.specs.declared.constants.TheConstants.{GET, POST, PUT, DELETE, BLOCK2, LONGEST_TOKEN}
+use Rattle.coap_msg.specs.Blocks.{IsBlock, block_number, block_bytes, block_start}
+use Rattle.coap_msg.specs.Grammar.{CoapMessage, AreInOrder, IsWellFormed}
 use Rattle.coap_msg.proofs.BlockValues.{blocks_are_read_again}
 use Rattle.coap_msg.proofs.NumberValues.{number_length}
 use Rattle.thing_ops.specs.declared.outcome.Outcome.{Outcome}
@@ -19,7 +18,7 @@ use Rattle.coap_client.specs.Answers.{sequence_of, block2_of as block_said}
 use Rattle.coap_blocks.specs.Bodies.{Content}
 use Rattle.coap_blocks.specs.declared.added.Added.{Added}
 use Rattle.coap_blocks.specs.declared.added.Added.TheVariants as answer
-use Rattle.coap_opts.specs.Reading.{PlainAsk, verb_of, asked as what_is_asked, HasBlocks}
+use Rattle.coap_opts.specs.Reading.{PlainAsk, asked as what_is_asked}
 use Rattle.coap_bind.specs.declared.head.RequestHead.{RequestHead}
 use Rattle.coap_bind.specs.declared.blocks.BlockOption.{BlockOption}
 use Rattle.coap_bind.specs.declared.blocks.BlockOption.TheVariants as option
@@ -29,9 +28,8 @@ use Rattle.coap_bind.specs.declared.blocks.Wanted.{Wanted}
 use Rattle.coap_bind.specs.declared.blocks.Wanted.TheVariants as wanted
 use Rattle.coap_bind.specs.declared.observing.Observing.{Observing}
 use Rattle.coap_bind.specs.declared.observing.Observing.TheVariants as observing
-use Rattle.coap_bind.specs.Blocks.{Portion, block2_of, wanted_by_get, wanted_by_body, use_of, with_block, content_format, content_reply, portion_at, goes_on, later_reply, block_reply, continue_reply, added_reply, answer_reply}
-use Rattle.coap_bind.specs.Links.{size_asked}
-use Rattle.coap_bind.specs.Observing.{observing_at, observing_of}
+use Rattle.coap_bind.specs.Blocks.{block2_of, wanted_by_get, wanted_by_body, use_of, with_block, content_format, content_reply, portion_at, later_reply, block_reply, continue_reply, added_reply, answer_reply}
+use Rattle.coap_bind.specs.Observing.{observing_at}
 use Rattle.coap_bind.specs.Server.{observing_in, wanted_in, with_whole_body}
 use Rattle.coap_bind.specs.Writing.{Reply, word_reply, etag_options, observe_options, reply_options, observed, coap_reply}
 use Rattle.coap_bind.proofs.MessageLaws.{IsResponse}

@@ -30,7 +30,7 @@ use Rattle.servient_world.proofs.Places.{at_end}
 use Rattle.servient_world.proofs.Holds.{Holds}
 use Rattle.servient_world.proofs.Ledger.{Entry, IsEntry, entry_reply}
 use Rattle.servient_world.proofs.LedgerLaws.{ledger_asked, first_more_ends}
-use Rattle.servient_world.proofs.Exact.{Exact, IsWhy, IsKept, IsSaid, IsSentBack, IsNotice, IsEnd, kept_asked, said_asked, same_ask}
+use Rattle.servient_world.proofs.Exact.{Exact, IsWhy, IsSaid, IsSentBack, IsNotice, IsEnd, kept_asked, said_asked, same_ask}
 use Rattle.servient_world.proofs.MeaningLaws.{taken_id, answer_taken, value_taken, no_value_unless, no_value_without, notice_number, notice_no_answer, for_request_else, request_token, observation_token, for_both, latest_or_observed, ended_registration}
 
 -- ---- places

@@ -1,7 +1,7 @@
 -- What else holds of the world where no two asks have one id (`Exact`): what the copies of asks led to, of which each reply that is
 -- kept or was sent is one, and so is each response that ended an ask; and each notification is of an ask that registered.
-use Rattle.std.proofs.Common.{◌≡◌, ◌≢◌, ◌⊎◌, ℕ, ◌<◌, ◌^◌, ◌∙◌, true, false, Option, Some, List, [], ◌++◌, get_or, inl, inr, sym, ap, subst, arith}
-use Rattle.std.specs.Prelude.{None, All, AllPairs, Contains, slice_get}
+use Rattle.std.proofs.Common.{◌≡◌, ◌≢◌, ◌⊎◌, ℕ, ◌<◌, ◌^◌, ◌∙◌, true, false, Some, List, [], ◌++◌, get_or, inl, inr, sym, ap, subst, arith}
+use Rattle.std.specs.Prelude.{All, AllPairs, Contains, slice_get}
 use Rattle.std.proofs.lemmas.Bool.{cases_lt}
 use Rattle.std.proofs.lemmas.List.{append-nil}
 use Rattle.std.proofs.lemmas.List.Elements.{All-weaker, Contains-append_left}
@@ -9,7 +9,6 @@ use Rattle.std.proofs.lemmas.Option.{slice_get_within, get_or_from_slice_get}
 use Rattle.coap_msg.specs.declared.message.Type4.TheVariants.{Ack, Rst}
 use Rattle.coap_msg.specs.Grammar.{CoapMessage, Spells}
 use Rattle.coap_exchange.specs.Table.{Exchange}
-use Rattle.coap_msg.specs.declared.block.Block.{Block}
 use Rattle.coap_client.specs.declared.outstanding.Outstanding.{Outstanding}
 use Rattle.coap_client.specs.Answers.{sequence_of, block2_of}
 use Rattle.coap_observe.specs.declared.notice.Notice.{Notice}

@@ -1,27 +1,23 @@
 -- The bodies that the server keeps for the later blocks of what it reads (RFC 7959, section 2.4): the last that was given to the
 -- client for a path is that of the last act of the ledger that leaves one, or the text of the links.
-use Rattle.std.proofs.Common.{◌≡◌, ◌≢◌, ◌⊎◌, ℕ, ◌∙◌, ◌&&◌, ◌||◌, Bool, true, false, cond, Option, Some, None, List, [], ◌∷◌, ◌++◌, option_map, length, inl, inr, refl, sym, ap, subst, append-nil}
+use Rattle.std.proofs.Common.{◌≡◌, ℕ, ◌∙◌, ◌&&◌, ◌||◌, Bool, true, false, Option, Some, None, List, [], ◌∷◌, ◌++◌, option_map, length, refl, sym, ap, subst, append-nil}
 use Rattle.std.specs.Prelude.{◌==◌, if◌then◌else◌}
 use Rattle.std.specs.List.{list_any}
 use Rattle.std.proofs.lemmas.Option.{same_Some}
-use Rattle.coap_msg.specs.declared.block.Block.{Block}
 use Rattle.coap_msg.specs.declared.constants.TheConstants.{GET, POST, PUT, DELETE}
 use Rattle.coap_msg.specs.declared.endpoint.Endpoint.{Endpoint}
-use Rattle.coap_msg.specs.Endpoints.{is_same_endpoint}
 use Rattle.coap_msg.specs.Grammar.{CoapMessage}
-use Rattle.coap_msg.proofs.SameEndpoints.{same_endpoint}
 use Rattle.coap_blocks.specs.Bodies.{Body, Content, is_body_of, with_body, body_for, kept_bodies}
 use Rattle.coap_blocks.specs.Paths.{is_same_path}
 use Rattle.coap_blocks.proofs.BodyLaws.{bodies_follow_the_puts, the_last_body_is_got, own_is}
-use Rattle.coap_blocks.proofs.Paths.{same_path, path_itself}
-use Rattle.coap_opts.specs.Reading.{PlainAsk, verb_of, asked as what_is_asked}
+use Rattle.coap_opts.specs.Reading.{PlainAsk, asked as what_is_asked}
 use Rattle.thing_ops.specs.declared.outcome.Outcome.{Outcome}
 use Rattle.coap_bind.specs.declared.server.Server.{Server}
 use Rattle.coap_bind.specs.declared.blocks.BlockUse.{BlockUse}
 use Rattle.coap_bind.specs.declared.blocks.BlockUse.TheVariants as blocks
 use Rattle.coap_bind.specs.declared.blocks.Wanted.TheVariants as wanted
 use Rattle.coap_bind.specs.Blocks.{use_of, outcome_content, body_of, is_kept, bodies_after}
-use Rattle.coap_bind.specs.Links.{is_links_path, links_content, size_asked, is_text_kept, bodies_with_links}
+use Rattle.coap_bind.specs.Links.{is_links_path, links_content, size_asked, is_text_kept}
 use Rattle.coap_bind.specs.Server.{asks_links, observing_in, wanted_in}
 use Rattle.coap_bind.specs.Treating.{Acted}
 use Rattle.coap_bind.specs.Writing.{Reply}

@@ -1,7 +1,7 @@
 -- What the server keeps and sends back is as `Exact` says: on a copy of an ask a reply to it, on an empty message nothing, and what comes
 -- from elsewhere makes no exchange of the client's.
 use Rattle.std.proofs.Common.{◌≡◌, ◌≢◌, ℕ, ◌<◌, ◌^◌, ◌∙◌, ◌&&◌, Bool, true, false, cond, Option, Some, None, List, [], ◌∷◌, ◌++◌, get_or, inl, inr, refl, sym, ap, subst, arith}
-use Rattle.std.specs.Prelude.{◌==◌, All, AllPairs, Contains, slice_get, option_map}
+use Rattle.std.specs.Prelude.{◌==◌, All, AllPairs, slice_get, option_map}
 use Rattle.std.specs.List.{find}
 use Rattle.std.proofs.lemmas.Bool.Decides.{nat_tests}
 use Rattle.std.proofs.lemmas.List.Elements.{All-nil, All-head, All-tail, All-push, All-same, All-filter, Contains-push}

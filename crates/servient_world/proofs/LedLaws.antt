@@ -2,16 +2,14 @@
 use Rattle.std.proofs.Common.{◌≡◌, ◌≢◌, ◌⊎◌, ℕ, ◌∙◌, true, false, Option, Some, None, List, [], ◌∷◌, inl, inr, refl, sym, ap, subst}
 use Rattle.std.specs.Prelude.{option_map, slice_get}
 use Rattle.std.proofs.lemmas.Option.{same_Some}
-use Rattle.std.specs.List.{remove}
 use Rattle.coap_msg.specs.declared.block.Block.{Block}
 use Rattle.coap_msg.specs.declared.endpoint.Endpoint.{Endpoint}
 use Rattle.coap_msg.specs.declared.message.RequestType.{RequestType}
 use Rattle.coap_msg.specs.declared.message.RequestType.TheVariants.{Confirmable, NonConfirmable}
-use Rattle.coap_msg.specs.Grammar.{CoapMessage, Spells, spelling}
+use Rattle.coap_msg.specs.Grammar.{CoapMessage, spelling}
 use Rattle.coap_msg.specs.Requests.{request_type}
 use Rattle.coap_msg.proofs.Messages.{at_most_one_message}
 use Rattle.coap_msg.proofs.FaultLaws.{no_fault_of_message}
-use Rattle.coap_exchange.specs.Table.{Table}
 use Rattle.coap_exchange.specs.declared.met.Met.TheVariants.{Fresh}
 use Rattle.coap_blocks.specs.Bodies.{Body, body_for}
 use Rattle.coap_blocks.specs.Parts.{Part, living, after_block, Gives}
@@ -34,7 +32,7 @@ use Rattle.coap_bind.specs.declared.observing.Observing.{Observing}
 use Rattle.coap_bind.specs.Writing.{Reply, full_reply, observed, head_of, coap_reply}
 use Rattle.coap_bind.specs.Laws.{HasShortPlace}
 use Rattle.coap_bind.specs.Server.{Heard, ignored, answered_at_once, asked, with_id_used, with_kept, with_parts, with_bodies, with_watchers, with_whole_body, is_request, block_arrival, Adds, opened, opened_ask, joined_ask, observing_in, wanted_in, asks_links, links_given, Replies, IsMet, Settles, malformed, no_request, duplicate, full, bad_option, bad_block, for_proxy, no_memory, later_block, joined, takes_no_other_verb, takes_no_body, IsAnsweredAtOnce, replied, bad_option_ignored, gives_links, asks, asks_whole, settled, admitted, Hears, Answers}
-use Rattle.coap_bind.specs.Treating.{Acted, Treats, ignores, answers, acts, sent_back}
+use Rattle.coap_bind.specs.Treating.{Acted, ignores, answers, acts, sent_back}
 use Rattle.coap_bind.proofs.HistoryLaws.{not_replied, not_duplicate}
 use Rattle.servient_world.specs.Led.{Led, to_refusal, to_no_memory, to_links, to_later_block, to_parts, to_act, to_act_on_whole, act_in, LeadsTo, is_refused, finds_no_memory, gets_links, gets_no_links, gets_block, is_joined, is_acted_on, is_acted_on_whole, SameBlocks, BlockComes, leaves_text, leaves_nothing, drops_body, Leaves, IsPassedOver, IsLed, AllAreLed}
 

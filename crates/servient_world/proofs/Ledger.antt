@@ -1,10 +1,9 @@
 -- What each copy of an ask that was admitted led to, in the order in which they were (`Entry`), and what that leaves of bodies and
 -- parts. What holds of all entries is `Ledger`.
-use Rattle.std.proofs.Common.{◌≡◌, ◌≢◌, ◌⊎◌, ℕ, ◌+◌, ◌<◌, ◌≤◌, ◌∙◌, ◌&&◌, Bool, true, false, cond, Option, Some, None, List, [], ◌∷◌, ◌++◌, take, length, get_or, inl, inr, refl, sym, ap, subst, arith}
+use Rattle.std.proofs.Common.{◌≡◌, ◌≢◌, ◌⊎◌, ℕ, ◌+◌, ◌<◌, ◌≤◌, ◌∙◌, ◌&&◌, Bool, true, false, Option, Some, None, List, [], ◌∷◌, ◌++◌, take, length, get_or, inl, inr, refl, sym, ap}
 use Rattle.std.specs.Prelude.{◌==◌, All, AllPairs, Contains, slice_get, is_some, unwrap_or, if◌then◌else◌}
-use Rattle.std.proofs.lemmas.List.Elements.{All-weaker, All-push, All-contains, Contains-append_left}
+use Rattle.std.proofs.lemmas.List.Elements.{Contains-append_left}
 use Rattle.coap_msg.specs.declared.constants.TheConstants.{SERVICE_UNAVAILABLE}
-use Rattle.coap_msg.specs.declared.block.Block.{Block}
 use Rattle.coap_msg.specs.Grammar.{CoapMessage}
 use Rattle.coap_exchange.specs.Admission.{Arrival}
 use Rattle.coap_client.specs.declared.outstanding.Outstanding.{Outstanding}
@@ -19,21 +18,20 @@ use Rattle.coap_opts.specs.Reading.{PlainAsk, asked as what_is_asked}
 use Rattle.coap_bind.specs.declared.server.Server.{Server}
 use Rattle.coap_bind.specs.declared.blocks.BlockUse.{BlockUse}
 use Rattle.coap_bind.specs.declared.blocks.BlockUse.TheVariants as blocks
-use Rattle.coap_bind.specs.declared.blocks.Wanted.TheVariants as wanted
 use Rattle.coap_bind.specs.Blocks.{outcome_content, is_kept, answer_reply}
 use Rattle.coap_bind.specs.Links.{is_links_path, links_content, size_asked}
 use Rattle.coap_bind.specs.Laws.{Did as ServerDid}
-use Rattle.coap_bind.specs.Server.{observing_in, with_whole_body}
+use Rattle.coap_bind.specs.Server.{observing_in}
 use Rattle.coap_bind.specs.Treating.{Acted}
-use Rattle.coap_bind.specs.Writing.{Reply, full_reply, reply_of, reply_options, observed as observed_reply}
+use Rattle.coap_bind.specs.Writing.{Reply, reply_of, reply_options, observed as observed_reply}
 use Rattle.servient_world.specs.World.{client_place, Act, End, answered, observed, reset, timed_out, AskEnd}
 use Rattle.servient_world.specs.Led.{Led, to_refusal, to_no_memory, to_links, to_later_block, to_parts, to_act, to_act_on_whole, act_in, LeadsTo, is_refused, finds_no_memory, gets_links, gets_no_links, gets_block, is_joined, is_acted_on, is_acted_on_whole}
 use Rattle.servient_world.specs.Laws.{blocks_for, said_of, Asked, AsksLinks, AsksOfBlocks}
-use Rattle.servient_world.proofs.Places.{at_more, all_at}
+use Rattle.servient_world.proofs.Places.{at_more}
 use Rattle.servient_world.proofs.AskLaws.{IsAskOf}
 use Rattle.servient_world.proofs.Holds.{IsAdmitted}
 use Rattle.servient_world.proofs.ReplyLaws.{unnumbered, links_unnumbered}
-use Rattle.servient_world.proofs.BlockReplies.{WantsLater, wants_later, wants_joining, said_as_asked, joined_as_asked, later_unnumbered, added_unnumbered}
+use Rattle.servient_world.proofs.BlockReplies.{wants_later, wants_joining, said_as_asked, joined_as_asked, later_unnumbered, added_unnumbered}
 
 -- ---- entries
 

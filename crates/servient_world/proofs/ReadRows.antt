@@ -12,7 +12,7 @@ use Rattle.coap_bind.specs.declared.blocks.Wanted.TheVariants as wanted
 use Rattle.coap_bind.specs.Links.{is_links_path, links_content}
 use Rattle.coap_bind.specs.Server.{wanted_in}
 use Rattle.coap_bind.specs.Writing.{Reply, reply_options}
-use Rattle.servient_world.specs.World.{Act, WorldState, client_place}
+use Rattle.servient_world.specs.World.{WorldState, client_place}
 use Rattle.servient_world.specs.Led.{to_later_block, LeadsTo, is_refused, finds_no_memory, gets_links, gets_no_links, gets_block, is_joined, is_acted_on, is_acted_on_whole}
 use Rattle.servient_world.specs.Rows.{RowAsk, asks_of, last_of, IsOfPath, says_more, IsFollowed, AreReads, IsReadOf, ReadsAreOfOneAct}
 use Rattle.servient_world.proofs.Given.{acted_on}

@@ -1,6 +1,6 @@
 -- What the reply to a block-wise GET has of its text: the first block, by an act or of the links, and each later one, of a body that
 -- is kept (RFC 7959, section 2.4).
-use Rattle.std.proofs.Common.{◌≡◌, ◌≢◌, ◌⊎◌, ℕ, ◌+◌, ◌*◌, ◌^◌, ◌<◌, ◌≤◌, ◌∙◌, ◌&&◌, ◌||◌, Bool, true, false, cond, Option, Some, None, List, [], ◌∷◌, ◌++◌, take, drop, length, refl, sym, ap, append-nil, append_assoc, length-drop, arith}
+use Rattle.std.proofs.Common.{◌≡◌, ℕ, ◌+◌, ◌*◌, ◌<◌, ◌≤◌, ◌∙◌, ◌&&◌, ◌||◌, Bool, true, false, Option, Some, None, List, [], ◌∷◌, ◌++◌, take, drop, length, refl, sym, ap, append-nil, append_assoc, length-drop, arith}
 use Rattle.std.proofs.Math.ListN.{drop_of_length-le}
 use Rattle.std.proofs.Math.Nat.{add-mul}
 use Rattle.std.proofs.lemmas.List.{take-append-drop, drop-drop}
@@ -13,12 +13,10 @@ use Rattle.coap_client.specs.Answers.{block2_of as block_said}
 use Rattle.coap_blocks.specs.Bodies.{Content, longest_body}
 use Rattle.thing_ops.specs.declared.outcome.Outcome.{Outcome}
 use Rattle.thing_ops.specs.declared.outcome.Outcome.TheVariants as outcome
-use Rattle.thing_ops.specs.Outcomes.{payload_of, version_of}
-use Rattle.coap_bind.specs.declared.blocks.BlockOption.{BlockOption}
-use Rattle.coap_bind.specs.declared.blocks.BlockOption.TheVariants as option
+use Rattle.thing_ops.specs.Outcomes.{payload_of}
 use Rattle.coap_bind.specs.declared.blocks.BlockUse.{BlockUse}
 use Rattle.coap_bind.specs.declared.blocks.BlockUse.TheVariants as blocks
-use Rattle.coap_bind.specs.Blocks.{Portion, all_of, goes_on, portion_at, first_block, is_in_blocks, given_portion, is_representation, is_kept, portion_of, most_bytes, reply_with, answer_reply, content_reply, later_reply, block_reply, with_block, content_format}
+use Rattle.coap_bind.specs.Blocks.{Portion, all_of, goes_on, portion_at, first_block, given_portion, is_kept, portion_of, most_bytes, reply_with, answer_reply, content_reply, later_reply, block_reply, with_block, content_format}
 use Rattle.coap_bind.specs.Links.{links_content, links_reply}
 use Rattle.coap_bind.specs.Writing.{Reply, long_reply, whole_reply, text_format, etag_options, reply_options}
 use Rattle.servient_world.specs.Rows.{RowAsk, last_of, joined_payloads, says_more, IsFollowed, IsReadOf}

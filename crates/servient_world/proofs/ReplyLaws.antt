@@ -1,12 +1,12 @@
 -- What replies and notifications say of Observe (RFC 7641, section 2).
-use Rattle.std.proofs.Common.{◌≡◌, ℕ, ◌<◌, ◌≤◌, ◌^◌, ◌∙◌, Bool, true, false, cond, Option, Some, None, List, [], ◌∷◌, ◌++◌, length, option_map, inr, refl, sym, ap, arith}
-use Rattle.std.specs.Prelude.{◌==◌, nat_lt, nat_le, if◌then◌else◌}
+use Rattle.std.proofs.Common.{◌≡◌, ℕ, ◌<◌, ◌≤◌, ◌^◌, ◌∙◌, Bool, true, false, cond, Option, Some, None, List, [], ◌∷◌, ◌++◌, length, inr, refl, ap, arith}
+use Rattle.std.specs.Prelude.{nat_lt, nat_le}
 use Rattle.std.specs.Option.{option_map_or}
 use Rattle.std.proofs.lemmas.Bool.Decides.{nat_tests}
 use Rattle.coap_msg.specs.declared.constants.TheConstants.{OBSERVE, LOCATION_PATH, CONTENT_FORMAT, JSON, LONGEST_PAYLOAD}
 use Rattle.coap_msg.specs.declared.message.RequestType.{RequestType}
 use Rattle.coap_msg.specs.declared.message.RequestType.TheVariants.{Confirmable, NonConfirmable}
-use Rattle.coap_msg.specs.Grammar.{CoapMessage, CoapOption, IsWellFormed}
+use Rattle.coap_msg.specs.Grammar.{CoapOption, IsWellFormed}
 use Rattle.coap_msg.specs.Numbers.{number_of, number_bytes}
 use Rattle.coap_msg.proofs.NumberValues.{number_is_read, short_length}
 use Rattle.coap_msg.specs.Opts.{segment_options}

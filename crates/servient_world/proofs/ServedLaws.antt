@@ -26,7 +26,7 @@ use Rattle.coap_bind.proofs.HistoryLaws.{sent_stays}
 use Rattle.coap_bind.proofs.MessageLaws.{notifications_are_messages}
 use Rattle.coap_bind.proofs.TreatingLaws.{all_are_treated}
 use Rattle.servient_world.specs.declared.network.TheConstants.{MAX_LATENCY}
-use Rattle.servient_world.specs.World.{Emission, client_place, server_place, Purpose, copy_of, reply_to, notice_for, other, Datagram, Act, End, answered, observed, reset, timed_out, AskEnd, WorldState, ask, with_sent, Receives, too_long, treated, id_used, acts_for, purpose_back, ServerTakes, last_value, purpose_of, notice_sent, with_notice, is_end}
+use Rattle.servient_world.specs.World.{Emission, client_place, server_place, Purpose, copy_of, reply_to, notice_for, other, Datagram, Act, End, answered, observed, reset, timed_out, AskEnd, WorldState, with_sent, Receives, too_long, treated, id_used, acts_for, purpose_back, ServerTakes, last_value, purpose_of, notice_sent, with_notice}
 use Rattle.servient_world.specs.Led.{Led, to_refusal, to_no_memory, to_links, to_later_block, to_parts, to_act, to_act_on_whole, LeadsTo, Leaves, IsPassedOver, IsLed}
 use Rattle.servient_world.proofs.AskLaws.{HasMessage}
 use Rattle.servient_world.proofs.LedLaws.{all_are_led}

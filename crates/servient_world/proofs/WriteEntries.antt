@@ -1,5 +1,5 @@
 -- An ask of a row that writes, and the entry of what it led to: a block that was joined, or, for the last, an act on all of them.
-use Rattle.std.proofs.Common.{◌≡◌, ◌≢◌, ℕ, ◌-◌, ◌/◌, ◌∙◌, Bool, true, false, Some, List, length, inl, inr, refl, sym, ap, subst, arith}
+use Rattle.std.proofs.Common.{◌≡◌, ◌≢◌, ℕ, ◌/◌, ◌∙◌, Bool, true, false, Some, List, length, inl, inr, refl, sym, ap, subst, arith}
 use Rattle.std.specs.Prelude.{nat_lt, if◌then◌else◌}
 use Rattle.std.proofs.lemmas.Option.{same_Some}
 use Rattle.coap_msg.specs.declared.block.Block.{Block}
@@ -18,7 +18,7 @@ use Rattle.coap_bind.specs.Observing.{observing_of}
 use Rattle.coap_bind.specs.Server.{wanted_in, with_whole_body, block_arrival}
 use Rattle.coap_bind.specs.Treating.{Acted}
 use Rattle.coap_bind.specs.Writing.{Reply, long_reply, whole_reply}
-use Rattle.servient_world.specs.World.{Act, WorldState, client_place}
+use Rattle.servient_world.specs.World.{WorldState, client_place}
 use Rattle.servient_world.specs.Led.{Led, to_parts, to_act_on_whole, LeadsTo, is_refused, finds_no_memory, gets_links, gets_no_links, gets_block, is_joined, is_acted_on, is_acted_on_whole}
 use Rattle.servient_world.specs.Laws.{Asked}
 use Rattle.servient_world.specs.Rows.{RowAsk, IsAnsweredSo, IsWrite, IsOfCodeAndPath, AsksWithBlock}

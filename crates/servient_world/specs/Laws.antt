@@ -1,5 +1,5 @@
 -- What holds of the world over every schedule.
-use Rattle.std.specs.Prelude.{◌≡◌, ◌≢◌, ◌<◌, ◌≤◌, ◌-◌, ◌⊎◌, ℕ, true, List, [], length, codes, All, AllPairs, Contains, Option, Some, None, IsSome, slice_get}
+use Rattle.std.specs.Prelude.{◌≡◌, ◌≢◌, ◌<◌, ◌≤◌, ◌-◌, ◌⊎◌, ℕ, true, List, length, codes, All, AllPairs, Contains, Option, Some, None, IsSome, slice_get}
 use Rattle.coap_msg.specs.declared.block.Block.{Block}
 use Rattle.coap_msg.specs.Grammar.{CoapMessage, Spells}
 use Rattle.coap_client.specs.declared.outstanding.Outstanding.{Outstanding}

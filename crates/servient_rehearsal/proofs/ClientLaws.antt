@@ -1,5 +1,5 @@
 -- What the client does is a turn of both ends.
-use Rattle.std.proofs.Common.{◌≡◌, ◌≢◌, ◌∙◌, ℕ, ◌+◌, ◌-◌, ◌<◌, ◌≤◌, ◌&&◌, Bool, true, false, cond, not, List, [], ◌∷◌, ◌++◌, map, take, length, inl, inr, refl, sym, ap, subst, arith}
+use Rattle.std.proofs.Common.{◌≡◌, ◌≢◌, ◌∙◌, ℕ, ◌+◌, ◌-◌, ◌^◌, ◌<◌, ◌≤◌, ◌&&◌, Bool, true, false, cond, not, List, [], ◌∷◌, ◌++◌, map, take, length, inl, inr, refl, sym, ap, subst, arith}
 use Rattle.std.specs.Prelude.{All, IfSome, Option, Some, None, is_some, slice_get, option_map}
 use Rattle.std.specs.Option.{option_to_list}
 use Rattle.std.proofs.lemmas.List.{append-nil}
@@ -45,6 +45,10 @@ in_world P s client notes p are holds =
     subst (λ (c : ClientState). P (at_moment p.ends.world.moment c)) (sym are.left.client) (subst (λ (m : ℕ). P (at_moment m client)) are.shown.moment holds)
 
 -- ---- asking
+
+-- a block with a number of 20 bits and one of the sizes there are can be said
+pub can_be_said : (b : Block) → b.number < 2 ^ 20 → b.szx ≤ 6 → IsBlock b
+can_be_said b number size = record { number = number; szx = size }
 
 -- what is of class 0 may be asked, with short segments and blocks that an option can say
 pub may_be_asked : (a : Asking) → a.code ≢ 0 → a.code < 32 → IfSome a.block1 IsBlock → IfSome a.block2 IsBlock → All (λ segment. length segment ≤ 255) a.path → MayAsk a

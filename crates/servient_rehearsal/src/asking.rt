@@ -46,6 +46,7 @@ fn may_ask(ask: &Ask<'_>) -> bool
 
 /// Whether an option can say this block, if there is one: its number has 20 bits, and its size is one of the seven there
 /// are (RFC 7959, section 2.2).
+#[tactic(auto, using(crate::proofs::ClientLaws::can_be_said))]
 fn can_be_said(block: Option<Block>) -> bool
     ensures { IsTrue result ↔ IfSome block IsBlock }
 {

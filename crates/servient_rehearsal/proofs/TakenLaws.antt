@@ -97,7 +97,7 @@ shown_for : (d : Datagram) (p : Purpose) (k last : ℕ) (payload : List ℕ) →
 shown_for d p k last payload is shown same =
     ap (λ (x : Purpose). shown_values (value_by x payload)) is ∙ (shown ∙ ap (λ (n : ℕ). record { ask = n; value = payload } ∷ []) same)
 
-value_for : (exchanges : ℕ) (w : WorldState) (i : ℕ) (d : Datagram) (m : CoapMessage) → Stands exchanges MOST_WATCHERS w → length w.asks ≤ 65536 → IsFor w i d d.purpose → Spells m d.bytes
+value_for : (exchanges : ℕ) (w : WorldState) (i : ℕ) (d : Datagram) (m : CoapMessage) (s : Stands exchanges MOST_WATCHERS w) → length w.asks ≤ 65536 → IsFor w s.exact.led i d d.purpose → Spells m d.bytes
     → (q : ℕ) → meaning (at_moment w.moment w.client) d.from m ≡ meant.Value q → (payload : List ℕ) → shown_values (value_by d.purpose payload) ≡ record { ask = last_registration w.asks; value = payload } ∷ []
 value_for exchanges w i d m s few (back_on k is sent) spells q e payload =
     let right = sent.reply in
@@ -125,9 +125,9 @@ value_for exchanges w i d m s few (notice_of k q0 emission is n_of) spells q e p
 value_delivered : (exchanges : ℕ) (w : WorldState) (i : ℕ) (d : Datagram) (told : Delivered) (old new : List ℕ) (t : ClientState) → Stands exchanges MOST_WATCHERS w → length w.asks ≤ 65536 → slice_get w.sent i ≡ Some d
     → d.to ≡ client_place → Delivers (at_moment w.moment w.client) d.from d.bytes told old new t → values_in (last_registration w.asks) told.news ≡ shown_values (taken_by d.purpose told.news)
 value_delivered exchanges w i d told old new t s few at to (of_message m spells reply is after_is) =
-    let said = all_at (λ (z : Datagram). IsSaid w.asks w.acts z z.purpose) w.sent i d s.exact.said at in
+    let said = all_at (λ (z : Datagram). IsSaid w.asks w.acts s.exact.led z z.purpose) w.sent i d s.exact.said at in
     by_news (meaning (at_moment w.moment w.client) d.from m) m told.news d.purpose (last_registration w.asks) is
-    (value_for exchanges w i d m s few (is_for_end w i d d.purpose said to) spells)
+    (value_for exchanges w i d m s few (is_for_end w s.exact.led i d d.purpose said to) spells)
 value_delivered exchanges w i d told old new t s few at to (of_fault f has reply none same) =
     ap (values_in (last_registration w.asks)) none ∙ sym (ap (λ (n : News). shown_values (taken_by d.purpose n)) none)
 

@@ -5,7 +5,7 @@ ghost use Rattle.servient_core.specs.Trace.{Outside};
 ghost use Rattle.std.specs.List.{AllByRecursion};
 ghost use Rattle.wot_terms.specs.Faults.{IsValid};
 ghost use Rattle.wot_terms.specs.ThingLists.{kept_thing, kept_things};
-ghost use Rattle.servient_plan.specs.Plan.{HasFewExchanges};
+ghost use Rattle.servient_plan.specs.Plan.{CanBeServed};
 ghost use Rattle.servient_cli.specs.Stages.{AndThen, Around, around};
 ghost use Rattle.servient_cli.specs.Reading.{ReadsFile, longest_json};
 ghost use Rattle.servient_cli.specs.Deriving.{AddsModel, Derives, DerivesAndPrints, ReadsPlan, ReadsPlanned, TakesModel, TakesModels, thing_text, things_text};
@@ -49,7 +49,7 @@ fn derive_and_print(alloc: Global, planned: &Planned) -> Result<Ending, Ended>
 pub fn read_planned<F: Files>(alloc: Global, name: &str, files: &mut F) -> Result<Planned, Ended>
     ensures stage { (w : Outside) → Performs (ReadsPlanned (F.seen files.old).held name.now) (around (F.seen files.old) w) (around (F.seen files.new) w) result }
     ensures held { (F.seen files.new).held ≡ (F.seen files.old).held }
-    ensures exchanges { IfOk result (λ p. HasFewExchanges p.plan) }
+    ensures bounds { IfOk result (λ p. CanBeServed p.plan) }
 {
     let content = read_file(alloc, name, LONGEST_JSON, files)?;
     let tree = read_tree(alloc, name, content.as_slice())?;
@@ -61,7 +61,7 @@ pub fn read_planned<F: Files>(alloc: Global, name: &str, files: &mut F) -> Resul
 /// The plan that a tree is.
 fn read_plan(alloc: Global, name: &str, tree: &Tree) -> Result<Plan, Ended>
     ensures stage { (a : Around) → Performs (ReadsPlan name.now tree.now) a a result }
-    ensures exchanges { IfOk result HasFewExchanges }
+    ensures bounds { IfOk result CanBeServed }
 {
     match Plan::read(alloc, tree) {
         Ok(plan) => Ok(plan),

@@ -1,11 +1,11 @@
 //! `serve PLAN`: the Things of a plan are served at the plan's place, over the network.
 
-ghost use Rattle.std.specs.Prelude.{ℕ, List, ◌*◌};
+ghost use Rattle.std.specs.Prelude.{ℕ, List, Option, ◌*◌};
 ghost use Rattle.thing_site.specs.Exposing.{kinds_of};
 ghost use Rattle.thing_site.specs.Fits.{Fits};
 ghost use Rattle.thing_handler.specs.Handler.{Seen};
 ghost use Rattle.servient_core.specs.Trace.{outside};
-ghost use Rattle.servient_plan.specs.Plan.{HasFewExchanges, place_of};
+ghost use Rattle.servient_plan.specs.Plan.{CanBeServed, place_of};
 ghost use Rattle.servient_core.specs.Machine.{start};
 ghost use Rattle.servient_core.specs.Serving.{StandsFor};
 ghost use Rattle.servient_outside.specs.Files.{FilesSeen};
@@ -57,7 +57,7 @@ fn serve_planned<N: Net, R: Handlers>(
     net: &mut N,
     rack: &mut R,
 ) -> Result<Ending, Ended>
-    requires { HasFewExchanges planned.now.plan }
+    requires { CanBeServed planned.now.plan }
     ensures { (files : FilesSeen) → EndsBy (ServesPlanned request.entry.plan.now (kinds_of (R.slots rack.old)) request.entry.events request.entry.idle planned.now)
         (around files (outside (N.seen net.old) (R.slots rack.old)))
         (around files (outside (N.seen net.new) (R.slots rack.new))) result }
@@ -89,8 +89,8 @@ fn serve_events<N: Net, R: Handlers>(
     rack: &mut R,
 ) -> Result<Ending, Ended>
     requires fits { Fits servient.old.exposed.site (R.slots rack.old) }
-    ensures { (files : FilesSeen) → (exchanges : ℕ) → StandsFor servient.old (start servient.old.exposed.site exchanges)
-        → EndsBy (ServesEvents budget exchanges servient.old.exposed.site)
+    ensures { (files : FilesSeen) → (exchanges : ℕ) → (epoch : Option ℕ) → StandsFor servient.old (start servient.old.exposed.site exchanges epoch)
+        → EndsBy (ServesEvents budget exchanges epoch servient.old.exposed.site)
         (around files (outside (N.seen net.old) (R.slots rack.old)))
         (around files (outside (N.seen net.new) (R.slots rack.new))) result }
 {

@@ -5,7 +5,7 @@ ghost use Rattle.std.specs.List.{AllByRecursion};
 ghost use Rattle.wot_terms.specs.Faults.{IsValid};
 ghost use Rattle.thing_site.specs.Exposing.{kinds_of};
 ghost use Rattle.thing_site.specs.Fits.{Fits};
-ghost use Rattle.servient_plan.specs.Plan.{HasFewExchanges};
+ghost use Rattle.servient_plan.specs.Plan.{CanBeServed};
 ghost use Rattle.servient_core.specs.Machine.{start};
 ghost use Rattle.servient_core.specs.Serving.{StandsFor};
 ghost use Rattle.servient_cli.specs.Stages.{Around};
@@ -27,9 +27,9 @@ pub fn open<R: Handlers>(
     planned: &Planned,
     rack: &R,
 ) -> Result<Servient, Ended>
-    requires exchanges { HasFewExchanges planned.now.plan }
+    requires bounds { CanBeServed planned.now.plan }
     ensures stage { (a : Around) → Performs (Opens name.now (kinds_of (R.slots rack.now)) planned.now) a a (site_in result) }
-    ensures start { IfOk result (λ s. StandsFor s (start s.exposed.site planned.now.plan.exchanges)) }
+    ensures start { IfOk result (λ s. StandsFor s (start s.exposed.site planned.now.plan.exchanges planned.now.plan.epoch)) }
     ensures fits { IfOk result (λ s. Fits s.exposed.site (R.slots rack.now)) }
 {
     let things = derive_things(alloc, planned)?;
@@ -44,10 +44,10 @@ fn expose<R: Handlers>(
     things: Things,
     rack: &R,
 ) -> Result<Servient, Ended>
-    requires exchanges { HasFewExchanges plan.now }
+    requires bounds { CanBeServed plan.now }
     requires valid { AllByRecursion (λ thing. IsValid thing.1) things }
     ensures stage { (a : Around) → Performs (Exposes name.now (kinds_of (R.slots rack.now)) plan.now.slots things) a a (site_in result) }
-    ensures start { IfOk result (λ s. StandsFor s (start s.exposed.site plan.now.exchanges)) }
+    ensures start { IfOk result (λ s. StandsFor s (start s.exposed.site plan.now.exchanges plan.now.epoch)) }
     ensures fits { IfOk result (λ s. Fits s.exposed.site (R.slots rack.now)) }
 {
     match Servient::new(alloc, plan, things, rack) {

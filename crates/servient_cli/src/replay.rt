@@ -1,6 +1,6 @@
 //! Running a script on the Things of a plan, and what the run prints.
 
-ghost use Rattle.std.specs.Prelude.{◌≡◌, ◌≤◌, ◌++◌, ℕ, List, length, map, IfOk, IfSome, IsSome};
+ghost use Rattle.std.specs.Prelude.{◌≡◌, ◌≤◌, ◌++◌, ℕ, List, Option, length, map, IfOk, IfSome, IsSome};
 ghost use Rattle.thing_handler.specs.Turns.{RunTurn};
 ghost use Rattle.servient_outside.specs.declared.net.EventWithBytes.{EventWithBytes};
 ghost use Rattle.servient_outside.specs.Network.{Happening, NetSeen, acts_in};
@@ -8,7 +8,7 @@ ghost use Rattle.servient_outside.specs.NetMemory.{left_events, told_history};
 ghost use Rattle.servient_core.specs.Trace.{Outside, outside};
 ghost use Rattle.thing_site.specs.Exposing.{kinds_of};
 ghost use Rattle.thing_site.specs.Fits.{Fits};
-ghost use Rattle.servient_plan.specs.Plan.{HasFewExchanges};
+ghost use Rattle.servient_plan.specs.Plan.{CanBeServed};
 ghost use Rattle.servient_core.specs.Machine.{start};
 ghost use Rattle.servient_core.specs.Serving.{StandsFor};
 ghost use Rattle.servient_cli.specs.Script.{StopsAtEnd};
@@ -60,7 +60,7 @@ pub fn read_inputs<F: Files>(
     files: &mut F,
 ) -> Result<Inputs, Ended>
     ensures stage { (w : Outside) → Performs (ReadsInputs (F.seen files.old).held plan.now script.now) (around (F.seen files.old) w) (around (F.seen files.new) w) result }
-    ensures exchanges { IfOk result (λ read. HasFewExchanges read.planned.plan) }
+    ensures bounds { IfOk result (λ read. CanBeServed read.planned.plan) }
     ensures ends { IfOk result (λ read. StopsAtEnd read.events) }
 {
     let planned = plan_of(alloc, plan, files)?;
@@ -72,7 +72,7 @@ pub fn read_inputs<F: Files>(
 fn plan_of<F: Files>(alloc: Global, plan: &Option<Text>, files: &mut F) -> Result<Planned, Ended>
     ensures stage { (w : Outside) → Performs (Plans (F.seen files.old).held plan.now) (around (F.seen files.old) w) (around (F.seen files.new) w) result }
     ensures held { (F.seen files.new).held ≡ (F.seen files.old).held }
-    ensures exchanges { IfOk result (λ p. HasFewExchanges p.plan) }
+    ensures bounds { IfOk result (λ p. CanBeServed p.plan) }
 {
     match plan {
         Some(name) => read_planned(alloc, name.as_str(), files),
@@ -83,7 +83,7 @@ fn plan_of<F: Files>(alloc: Global, plan: &Option<Text>, files: &mut F) -> Resul
 /// The plan of the built-in Thing, and the library of its one model.
 pub fn built_in(alloc: Global) -> Result<Planned, Ended>
     ensures stage { (a : Around) → Performs TakesBuiltIn a a result }
-    ensures exchanges { IfOk result (λ p. HasFewExchanges p.plan) }
+    ensures bounds { IfOk result (λ p. CanBeServed p.plan) }
 {
     let plan = Plan::built_in(alloc)?;
     let model = Plan::built_in_model(alloc)?;
@@ -125,7 +125,7 @@ pub fn run_inputs<R: Handlers>(
     budget: u64,
     rack: &mut R,
 ) -> Result<Ending, Ended>
-    requires exchanges { HasFewExchanges inputs.planned.plan }
+    requires bounds { CanBeServed inputs.planned.plan }
     requires ends { StopsAtEnd inputs.events }
     ensures { (files : FilesSeen) → (net : NetSeen) → EndsBy (RunsOn name.now (kinds_of (R.slots rack.old)) budget inputs)
         (around files (outside net (R.slots rack.old))) (around files (outside net (R.slots rack.new))) result }
@@ -145,8 +145,8 @@ fn run_script<R: Handlers>(
 ) -> Result<Ending, Ended>
     requires fits { Fits servient.old.exposed.site (R.slots rack.old) }
     requires ends { StopsAtEnd events }
-    ensures { (files : FilesSeen) → (net : NetSeen) → (exchanges : ℕ) → StandsFor servient.old (start servient.old.exposed.site exchanges)
-        → EndsBy (RunsScript budget events exchanges servient.old.exposed.site)
+    ensures { (files : FilesSeen) → (net : NetSeen) → (exchanges : ℕ) → (epoch : Option ℕ) → StandsFor servient.old (start servient.old.exposed.site exchanges epoch)
+        → EndsBy (RunsScript budget events exchanges epoch servient.old.exposed.site)
         (around files (outside net (R.slots rack.old))) (around files (outside net (R.slots rack.new))) result }
 {
     let mut net = NetMemory::new(alloc, events, Calls::new(alloc))?;
@@ -163,9 +163,9 @@ fn run_network<R: Handlers>(
 ) -> Result<Ending, Ended>
     requires fits { Fits servient.old.exposed.site (R.slots rack.old) }
     requires script { (events : List EventWithBytes) × HasScript events net.old }
-    ensures { (files : FilesSeen) → (seen : NetSeen) → (exchanges : ℕ) → (events : List EventWithBytes) → HasScript events net.old
-        → StandsFor servient.old (start servient.old.exposed.site exchanges)
-        → EndsBy (RunsScript budget events exchanges servient.old.exposed.site)
+    ensures { (files : FilesSeen) → (seen : NetSeen) → (exchanges : ℕ) → (epoch : Option ℕ) → (events : List EventWithBytes) → HasScript events net.old
+        → StandsFor servient.old (start servient.old.exposed.site exchanges epoch)
+        → EndsBy (RunsScript budget events exchanges epoch servient.old.exposed.site)
         (around files (outside seen (R.slots rack.old))) (around files (outside seen (R.slots rack.new))) result }
 {
     let counts = turn_counts(alloc, rack)?;

@@ -35,7 +35,8 @@ pub record EndsState : Type 0 where
 -- nothing happened yet
 pub record IsBeginning (site : Site) (first_id exchanges : ℕ) (p : EndsState) : Type 0 where
   pub world : IsStart first_id exchanges MOST_WATCHERS p.world
-  pub servient : p.servient ≡ start site exchanges
+  pub epoch : Option ℕ
+  pub servient : p.servient ≡ start site exchanges epoch
 
 -- ---- what is read off a step
 

@@ -30,6 +30,7 @@ impl Plan {
             choices: Choices::new(alloc),
             slots: slots(alloc)?,
             exchanges: 1024,
+            epoch: None,
         })
     }
 

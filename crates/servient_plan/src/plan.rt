@@ -3,12 +3,12 @@
 ghost use Rattle.std.specs.Prelude.{◌≡◌, ◌⊎◌, ◌++◌, ◌∷◌, [], codes, IfOk, OnErr, OnOk};
 ghost use Rattle.wot_json.specs.Meaning.{json_of};
 ghost use Rattle.wot_json.specs.Merge.{members_under};
-ghost use Rattle.servient_plan.specs.Plan.{plan_of, place_of, Reads, HasFewExchanges};
+ghost use Rattle.servient_plan.specs.Plan.{plan_of, place_of, Reads, CanBeServed};
 ghost use Rattle.servient_plan.specs.Plan as spec;
 
 use crate::texts::{TextRow, base_point};
 use crate::values::{
-    bindings_row, choices_row, exchanges_row, instance_row, models_row, slots_row, text_row,
+    bindings_row, choices_row, epoch_row, exchanges_row, instance_row, models_row, slots_row, text_row,
 };
 use servient_outside::Place;
 use std::alloc::{AllocError, Global};
@@ -38,6 +38,8 @@ pub struct Plan {
     pub slots: Slots,
     /// How many CoAP exchanges may live at a time.
     pub exchanges: u32,
+    /// When the clock began, in milliseconds after the start of 1970, where the plan says so.
+    pub epoch: Option<u64>,
 }
 
 /// What the first rows of the table read: who the root Thing is, where it is served, and the URL of its model.
@@ -143,7 +145,7 @@ impl Plan {
     #[tactic(auto, using(crate::proofs::PlanLaws::refused_there, crate::proofs::PlanLaws::goes_on_there))]
     pub fn read(alloc: Global, tree: &Tree) -> Result<Plan, PlanFault>
         ensures reads { Reads result (plan_of (json_of tree.now)) }
-        ensures exchanges { IfOk result HasFewExchanges }
+        ensures bounds { IfOk result CanBeServed }
     {
         if !is_object(tree) {
             return Err(PlanFault::At(Text::copy_of(alloc, "")?));
@@ -153,6 +155,7 @@ impl Plan {
         let instance = instance_row(alloc, tree)?;
         let slots = slots_row(alloc, tree)?;
         let exchanges = exchanges_row(alloc, tree)?;
+        let epoch = epoch_row(alloc, tree)?;
         let frame = Frame {
             segment: names.segment,
             id: names.id,
@@ -167,6 +170,7 @@ impl Plan {
             choices: lists.choices,
             slots,
             exchanges,
+            epoch,
         })
     }
 

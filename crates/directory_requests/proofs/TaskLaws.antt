@@ -15,18 +15,18 @@ use Rattle.thing_ops.specs.Routes.{route_of}
 use Rattle.thing_ops.specs.Verbs.{verbs_of}
 use Rattle.thing_site.specs.Places.{is_listed}
 use Rattle.wot_directory.specs.Contents.{Contents}
-use Rattle.wot_registry.specs.Registry.{Registered, shown_under, shown_entries}
+use Rattle.wot_registry.specs.Registry.{Registered, standing, shown_under, shown_entries}
 use Rattle.directory_requests.specs.declared.act.DirectoryAct.{DirectoryAct}
 use Rattle.directory_requests.specs.declared.act.DirectoryAct.TheVariants as act
 use Rattle.directory_requests.specs.declared.judging.Task.{Task}
 use Rattle.directory_requests.specs.declared.judging.Task.TheVariants as task
 use Rattle.directory_requests.specs.Asked.{is_of_directory, act_of, act_at, act_asked, id_in, no_flags}
 use Rattle.directory_requests.specs.declared.server.Entries.{Entries}
-use Rattle.directory_requests.specs.declared.server.Entries.TheVariants as entries
+use Rattle.directory_requests.specs.declared.server.Entries.TheVariants as kept
 use Rattle.directory_requests.specs.Judged.{IsTask, IsJudged, IsOrMemory, IsRefusedOrMemory, act_of_task, DoesTask, DoesTaskAt}
 use Rattle.directory_requests.specs.Window.{window_of}
 use Rattle.wot_json.specs.Lookup.{member_named}
-use Rattle.directory_requests.specs.Requests.{listed_by, shown, CreatesEntry, PutsEntry, PatchesEntry, RemovesEntry, CreatesEntryAt, PutsEntryAt, PatchesEntryAt, RemovesEntryAt, ActsOnStanding, refuses, is_out_of_memory, performs}
+use Rattle.directory_requests.specs.Requests.{listed_by, shown, CreatesEntry, PutsEntry, PatchesEntry, RemovesEntry, CreatesEntryAt, PutsEntryAt, PatchesEntryAt, RemovesEntryAt, standing_at, ActsOnStanding, refuses, is_out_of_memory, performs}
 
 -- ---- the act of what is to be done
 
@@ -98,13 +98,25 @@ pub removes_at : (q : PlainRequest) (id : List ℕ) (now : ℕ) (o : Outcome) (r
 removes_at q id now o r s same done = inl (subst (λ (x : List ℕ). RemovesEntryAt x o r s) same done)
 
 -- so the request acts on what stands
-pub acts_untimed : (q : PlainRequest) (t : Task) (now : ℕ) (o : Outcome) (d e : Contents) → IsJudged q t → DoesTask t q o d e → ActsOnStanding q now o (entries.Untimed d) (entries.Untimed e)
-acts_untimed q t now o d e j (inl done) = performs (act_of_task t) (asked_act q t j) j.unrefused (e, done, refl)
-acts_untimed q t now o d e j (inr memory) = is_out_of_memory memory.0 (ap entries.Untimed memory.1)
+does_untimed : (q : PlainRequest) (t : Task) (now : ℕ) (o : Outcome) (d e : Contents) → IsJudged q t → DoesTask t q o d e → ActsOnStanding q now o (kept.Untimed d) (kept.Untimed e)
+does_untimed q t now o d e j (inl done) = performs (act_of_task t) (asked_act q t j) j.unrefused (e, done, refl)
+does_untimed q t now o d e j (inr memory) = is_out_of_memory memory.0 (ap (λ (x : Contents). kept.Untimed x) memory.1)
 
-pub acts_timed : (q : PlainRequest) (t : Task) (now : ℕ) (o : Outcome) (r s : Registered) → IsJudged q t → DoesTaskAt t q now o r s → ActsOnStanding q now o (entries.Timed r) (entries.Timed s)
-acts_timed q t now o r s j (inl done) = performs (act_of_task t) (asked_act q t j) j.unrefused (s, done, refl)
-acts_timed q t now o r s j (inr memory) = is_out_of_memory memory.0 (ap entries.Timed memory.1)
+does_timed : (q : PlainRequest) (t : Task) (now : ℕ) (o : Outcome) (r s : Registered) → IsJudged q t → DoesTaskAt t q now o r s → ActsOnStanding q now o (kept.Timed r) (kept.Timed s)
+does_timed q t now o r s j (inl done) = performs (act_of_task t) (asked_act q t j) j.unrefused (s, done, refl)
+does_timed q t now o r s j (inr memory) = is_out_of_memory memory.0 (ap (λ (x : Registered). kept.Timed x) memory.1)
+
+pub acts_untimed : (q : PlainRequest) (t : Task) (now : ℕ) (o : Outcome) (d e : Contents) (old new : Entries) → old ≡ kept.Untimed d → new ≡ kept.Untimed e → IsJudged q t → DoesTask t q o d e
+    → ActsOnStanding q now o (standing_at now old) new
+acts_untimed q t now o d e old new was is j done =
+    subst (λ (x : Entries). ActsOnStanding q now o (standing_at now x) new) (sym was)
+    (subst (λ (x : Entries). ActsOnStanding q now o (kept.Untimed d) x) (sym is) (does_untimed q t now o d e j done))
+
+pub acts_timed : (q : PlainRequest) (t : Task) (now : ℕ) (o : Outcome) (r s : Registered) (old new : Entries) → old ≡ kept.Timed r → new ≡ kept.Timed s → IsJudged q t → DoesTaskAt t q now o (standing now r) s
+    → ActsOnStanding q now o (standing_at now old) new
+acts_timed q t now o r s old new was is j done =
+    subst (λ (x : Entries). ActsOnStanding q now o (standing_at now x) new) (sym was)
+    (subst (λ (x : Entries). ActsOnStanding q now o (kept.Timed (standing now r)) x) (sym is) (does_timed q t now o (standing now r) s j done))
 
 -- a request that is refused
 pub refused : (q : PlainRequest) (now : ℕ) (o : Outcome) (d t : Entries) → IsRefusedOrMemory q o → t ≡ d → ActsOnStanding q now o d t

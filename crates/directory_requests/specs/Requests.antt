@@ -17,7 +17,7 @@ use Rattle.wot_registry.specs.Registry.{Registered, empty_registry, standing, Pu
 use Rattle.wot_registry.specs.declared.fault.RegFault.{RegFault}
 use Rattle.wot_registry.specs.declared.fault.RegFault.TheVariants as reg_fault
 use Rattle.directory_requests.specs.declared.server.Entries.{Entries}
-use Rattle.directory_requests.specs.declared.server.Entries.TheVariants as entries
+use Rattle.directory_requests.specs.declared.server.Entries.TheVariants as kept
 use Rattle.directory_requests.specs.declared.act.DirectoryAct.{DirectoryAct}
 use Rattle.directory_requests.specs.declared.act.DirectoryAct.TheVariants as act
 use Rattle.directory_requests.specs.Asked.{act_asked, id_in, IsRefused, IsUnrefused}
@@ -131,18 +131,18 @@ PerformsAt act.Removes q now o r s = RemovesEntryAt (id_in q.path) o r s
 
 -- no entries, which have times where it is known when the clock began
 abbrev pub no_entries : Option ℕ → Entries
-no_entries None = entries.Untimed empty_directory
-no_entries (Some epoch) = entries.Timed (empty_registry epoch)
+no_entries None = kept.Untimed empty_directory
+no_entries (Some epoch) = kept.Timed (empty_registry epoch)
 
 -- what stands at a moment: all but entries whose time to live has passed
 abbrev pub standing_at : ℕ → Entries → Entries
-standing_at now (entries.Untimed d) = entries.Untimed d
-standing_at now (entries.Timed r) = entries.Timed (standing now r)
+standing_at now (kept.Untimed d) = kept.Untimed d
+standing_at now (kept.Timed r) = kept.Timed (standing now r)
 
 -- an act is done
 abbrev pub PerformsOn : DirectoryAct → PlainRequest → ℕ → Outcome → Entries → Entries → Type 0
-PerformsOn a q now o (entries.Untimed d) t = (e : Contents) × Performs a q o d e × (t ≡ entries.Untimed e)
-PerformsOn a q now o (entries.Timed r) t = (s : Registered) × PerformsAt a q now o r s × (t ≡ entries.Timed s)
+PerformsOn a q now o (kept.Untimed d) t = (e : Contents) × Performs a q o d e × (t ≡ kept.Untimed e)
+PerformsOn a q now o (kept.Timed r) t = (s : Registered) × PerformsAt a q now o r s × (t ≡ kept.Timed s)
 
 -- A request to the directory at a moment, what stands then, and its outcome.
 pub data ActsOnStanding (q : PlainRequest) (now : ℕ) (o : Outcome) (d t : Entries) : Type 0 where

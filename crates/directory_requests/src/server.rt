@@ -33,13 +33,14 @@ pub struct DirectoryServer {
 }
 
 impl Model for DirectoryServer {
+    ghost use Rattle.std.specs.Coded.{codes};
     ghost use Rattle.wot_directory.specs.Contents.{contents_code};
     ghost use Rattle.wot_registry.specs.Registry.{registered_code};
     ghost use Rattle.directory_requests.specs.declared.server.Entries.{Entries};
 
     ghost Value = { Entries };
 
-    ghost coded = { Prim.hlevel (contents_code, registered_code) };
+    ghost coded = { Prim.hlevel (codes, contents_code, registered_code) };
 
     ghost view = { λ s. s.entries };
 }

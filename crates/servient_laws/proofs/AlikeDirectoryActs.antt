@@ -12,7 +12,7 @@ use Rattle.wot_directory.specs.Contents.{Contents}
 use Rattle.wot_registry.specs.Registry.{Registered}
 use Rattle.directory_requests.specs.declared.act.DirectoryAct.{DirectoryAct}
 use Rattle.directory_requests.specs.declared.server.Entries.{Entries}
-use Rattle.directory_requests.specs.declared.server.Entries.TheVariants as entries
+use Rattle.directory_requests.specs.declared.server.Entries.TheVariants as kept
 use Rattle.directory_requests.specs.Asked.{refusals, Stands, IsAnsweredWith}
 use Rattle.directory_requests.specs.Requests.{standing_at, PerformsOn, ActsOnStanding, refuses, is_out_of_memory, performs, DirectoryActs}
 use Rattle.servient_laws.proofs.AlikeDirectories.{Same, HadMemory, performed_once}
@@ -42,12 +42,12 @@ one_refusal q (r ∷ rs) o p (inr a) (inr b) = one_refusal q rs o p a.1 b.1
 
 on_entries_once : (a : DirectoryAct) (q : PlainRequest) (now : ℕ) (o p : Outcome) (d t u : Entries) → HadMemory o → HadMemory p
     → PerformsOn a q now o d t → PerformsOn a q now p d u → Same o p t u
-on_entries_once a q now o p (entries.Untimed d) t u on_o on_p (e, done, is) (f, other, is') =
+on_entries_once a q now o p (kept.Untimed d) t u on_o on_p (e, done, is) (f, other, is') =
     let same = performed_once a q o p d e f on_o on_p done other in
-    record { outcome = same.outcome; contents = is ∙ ap (λ (x : Contents). entries.Untimed x) same.contents ∙ sym is' }
-on_entries_once a q now o p (entries.Timed r) t u on_o on_p (e, done, is) (f, other, is') =
+    record { outcome = same.outcome; contents = is ∙ ap (λ (x : Contents). kept.Untimed x) same.contents ∙ sym is' }
+on_entries_once a q now o p (kept.Timed r) t u on_o on_p (e, done, is) (f, other, is') =
     let same = performed_at_once a q now o p r e f on_o on_p done other in
-    record { outcome = same.outcome; contents = is ∙ ap (λ (x : Registered). entries.Timed x) same.contents ∙ sym is' }
+    record { outcome = same.outcome; contents = is ∙ ap (λ (x : Registered). kept.Timed x) same.contents ∙ sym is' }
 
 -- ---- requests
 

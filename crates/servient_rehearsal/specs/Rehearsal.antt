@@ -1,6 +1,6 @@
 -- What a rehearsal is: a run of the world of both ends, from its beginning, which the real objects made. The laws of that
 -- world hold of it.
-use Rattle.std.specs.Prelude.{◌≡◌, ◌≤◌, ◌⊎◌, ℕ, List, [], ◌++◌, length, map, Contains}
+use Rattle.std.specs.Prelude.{◌≡◌, ◌≤◌, ◌⊎◌, ℕ, Option, List, [], ◌++◌, length, map, Contains}
 use Rattle.servient_base.specs.Moves.{Each}
 use Rattle.coap_client.specs.declared.state.State.{State as ClientState}
 use Rattle.thing_handler.specs.Handler.{Seen}
@@ -22,7 +22,7 @@ use Rattle.servient_rehearsal.specs.Playing.{IsShown}
 
 -- a servient as it was made
 abbrev pub IsUnused : Layers → Type 0
-IsUnused servient = (exchanges : ℕ) × StandsFor servient (start servient.exposed.site exchanges)
+IsUnused servient = (exchanges : ℕ) × (epoch : Option ℕ) × StandsFor servient (start servient.exposed.site exchanges epoch)
 
 -- A run by these moves, from a new world which the real objects stood for, to one that they stand for as they are left. What the
 -- rack shows are the calls of handlers that are seen of it.

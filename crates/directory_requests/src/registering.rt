@@ -34,7 +34,13 @@ pub(crate) fn perform_task_at(
     match task {
         Task::Lists => list(registry, request.query, now),
         Task::Creates(description) => create(registry, description, now),
-        Task::Shows => show(alloc, registry, entry_id(&request.path), request.accept, now),
+        Task::Shows => show(
+            alloc,
+            registry,
+            entry_id(&request.path),
+            request.accept,
+            now,
+        ),
         Task::Puts(description) => put(registry, entry_id(&request.path), description, now),
         Task::Patches(merge) => patch(registry, entry_id(&request.path), &merge, now),
         Task::Removes => remove(registry, entry_id(&request.path), now),

@@ -9,7 +9,8 @@ ghost use Rattle.tm_derive.specs.Segments.{is_plain_segment};
 
 use crate::texts::{TextRow, base_point};
 use crate::values::{
-    bindings_row, choices_row, epoch_row, exchanges_row, instance_row, models_row, slots_row, text_row,
+    bindings_row, choices_row, epoch_row, exchanges_row, instance_row, models_row, slots_row,
+    text_row,
 };
 use servient_outside::Place;
 use std::alloc::{AllocError, Global};

@@ -31,8 +31,8 @@ pub record DoesMove (move : Move) (old new : Layers) (before after : Outside) : 
   pub ready : IsReady new
   pub site : new.exposed.site ≡ old.exposed.site
 
--- What a request by HTTP did at a moment: to the directory, of which no handler knows and which emits nothing, or to the Things; what
--- they emit waits to be handed out.
+-- What a request by HTTP did at a moment: to the directory, of which no handler knows and which emits nothing, or to the
+-- Things; what they emit waits to be handed out.
 pub record MakesByHttp (old new : Kept) (d t : Entries) (now : ℕ) (q : PlainRequest) (o : Outcome) (before after : List Seen) : Type 0 where
   pub done : Done
   pub outcome : done.outcome ≡ o

@@ -33,7 +33,8 @@ pub record StandsFor (kept : Layers) (s : State) : Type 0 where
   pub directory : s.directory ≡ kept.directory
 
 -- Between two events: no emission waits to be handed out, the exchanges are at no later moment, the moment is one that a
--- clock may give, and each connection has room for another piece. It is an invariant of `Servient`, so that `step` and `serve` ask only that the rack fits.
+-- clock may give, and each connection has room for another piece. It is an invariant of `Servient`, so that `step` and
+-- `serve` ask only that the rack fits.
 pub record IsReady (kept : Layers) : Type 0 where
   pub pending : kept.exposed.pending ≡ []
   pub moment : kept.coap.exchanges.moment ≤ kept.moment

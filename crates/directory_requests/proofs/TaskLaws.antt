@@ -1,9 +1,8 @@
 -- What is to be done tells the act that was asked for; and an act on an entry was asked for at the path of one.
 use Rattle.std.proofs.Common.{◌≡◌, ℕ, List, [], ◌∷◌, Bool, true, false, refl, sym, ap, subst, ◌∙◌, inl, inr}
 use Rattle.std.proofs.lemmas.Option.{same_Some}
-use Rattle.std.specs.Prelude.{Option, Some, None, if◌then◌else◌}
+use Rattle.std.specs.Prelude.{Some, None, if◌then◌else◌}
 use Rattle.wot_json.specs.Meaning.{json_of}
-use Rattle.wot_json.specs.Reading.{tree_of}
 use Rattle.wot_json.specs.declared.tree.Tree.{Tree}
 use Rattle.thing_ops.specs.declared.verb.Verb.{Verb}
 use Rattle.thing_ops.specs.declared.verb.Verb.TheVariants as verb
@@ -20,7 +19,7 @@ use Rattle.directory_requests.specs.declared.act.DirectoryAct.{DirectoryAct}
 use Rattle.directory_requests.specs.declared.act.DirectoryAct.TheVariants as act
 use Rattle.directory_requests.specs.declared.judging.Task.{Task}
 use Rattle.directory_requests.specs.declared.judging.Task.TheVariants as task
-use Rattle.directory_requests.specs.Asked.{is_of_directory, act_of, act_at, act_asked, id_in, no_flags}
+use Rattle.directory_requests.specs.Asked.{is_of_directory, act_of, act_asked, id_in, no_flags}
 use Rattle.directory_requests.specs.declared.server.Entries.{Entries}
 use Rattle.directory_requests.specs.declared.server.Entries.TheVariants as kept
 use Rattle.directory_requests.specs.Judged.{IsTask, IsJudged, IsOrMemory, IsRefusedOrMemory, act_of_task, DoesTask, DoesTaskAt}

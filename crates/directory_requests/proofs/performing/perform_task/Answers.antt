@@ -1,7 +1,6 @@
-use Rattle.std.proofs.Common.{refl, sym, subst}
+use Rattle.std.proofs.Common.{sym, subst}
 use Rattle.thing_ops.specs.Requests.{plain_request}
 use Rattle.directory_requests.specs.declared.judging.Task.{Task}
-use Rattle.directory_requests.specs.declared.judging.Task.TheVariants as task
 use Rattle.directory_requests.specs.Judged.{IsJudged, DoesTask}
 use Rattle.directory_requests.proofs.TaskLaws.{lists, creates, shows, puts, patches, removes, on_entry}
 use Rattle.directory_requests.proofs.performing.perform_task.Goals as goal

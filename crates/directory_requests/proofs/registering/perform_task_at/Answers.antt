@@ -1,7 +1,6 @@
-use Rattle.std.proofs.Common.{refl, sym, subst}
+use Rattle.std.proofs.Common.{sym, subst}
 use Rattle.thing_ops.specs.Requests.{plain_request}
 use Rattle.directory_requests.specs.declared.judging.Task.{Task}
-use Rattle.directory_requests.specs.declared.judging.Task.TheVariants as task
 use Rattle.directory_requests.specs.Judged.{IsJudged, DoesTaskAt}
 use Rattle.wot_registry.specs.Registry.{standing}
 use Rattle.directory_requests.proofs.TaskLaws.{lists_at, creates_at, shows_at, puts_at, patches_at, removes_at, on_entry}

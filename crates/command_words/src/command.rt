@@ -7,7 +7,9 @@ ghost use Rattle.command_words.specs.Parts.{Reads, texts};
 ghost use Rattle.command_words.specs.Line.{AreTexts};
 
 use crate::fault::WordsFault;
-use crate::parts::{events, file, name, number, number_or, operation, optional, required, scheme, server};
+use crate::parts::{
+    events, file, name, number, number_or, operation, optional, required, scheme, server,
+};
 use crate::values::Given;
 use servient_base::NoMemory;
 use std::alloc::Global;

@@ -1,7 +1,9 @@
 //! A stored run over sockets. The program starts itself as a child that serves a plan, writes and reads a property of
 //! the shipped rack over TCP and UDP, and prints what came, and how the child ended once no traffic came for five
-//! seconds. Meanwhile further children consume the Thing: one writes the property over CoAP, and two read it, over CoAP
-//! and over HTTP; three write a text of 1,000 bytes each, and one reads all properties, which come in blocks. Then a child that may open no more than 24 files is spoken to beside 30 connections that do nothing.
+//! seconds. Meanwhile a child asks it over CoAP which Things it has, and further children consume the one: one writes the
+//! property over CoAP, and two read it, over CoAP and over HTTP; three write a text of 1,000 bytes each, and one reads all
+//! properties, which come in blocks. Then a child that may open no more than 24 files is spoken to beside 30 connections
+//! that do nothing.
 //! Last a child checks a Thing Description without a `title`, which ends with a status that isn't 0.
 //!
 //! With words of its own it is the servient; without any it is the run.
@@ -113,6 +115,7 @@ fn speak(rt: &HostRuntime) -> io::Result<bool> {
     let read = exchange(rt, TcpStream::connect(rt, ("127.0.0.1", http))?, READ)?;
     let mut answer = [0u8; 2048];
     let size = ask(rt, coap, &mut answer)?;
+    discover(rt, coap)?;
     consume(rt, http, coap)?;
     let output = child.wait_with_output(rt.alloc())?;
     print(
@@ -231,6 +234,17 @@ fn description(rt: &HostRuntime, http: u16, coap: u16) -> io::Result<String> {
     Ok(format!(in rt.alloc();
         "{{\"@context\":\"https://www.w3.org/2022/wot/td/v1.1\",\"title\":\"Lamp\",\"security\":\"none\",\"securityDefinitions\":{{\"none\":{{\"scheme\":\"nosec\"}}}},\"properties\":{{\"level\":{{\"type\":\"integer\",\"forms\":[{{\"href\":\"coap://127.0.0.1:{coap}/lamp/properties/level\"}},{{\"href\":\"http://127.0.0.1:{http}/lamp/properties/level\"}}]}},\"a\":{{\"type\":\"string\",\"forms\":[{{\"href\":\"coap://127.0.0.1:{coap}/lamp/properties/a\"}}]}},\"b\":{{\"type\":\"string\",\"forms\":[{{\"href\":\"coap://127.0.0.1:{coap}/lamp/properties/b\"}}]}},\"c\":{{\"type\":\"string\",\"forms\":[{{\"href\":\"coap://127.0.0.1:{coap}/lamp/properties/c\"}}]}}}},\"forms\":[{{\"href\":\"coap://127.0.0.1:{coap}/lamp/properties\",\"op\":\"readallproperties\"}}]}}"
     )?)
+}
+
+/// Has the server at this port asked which Things it has, and prints whether it names the lamp and no other: the port isn't
+/// the same at each run.
+fn discover(rt: &HostRuntime, coap: u16) -> io::Result<()> {
+    let server = format!(in rt.alloc(); "127.0.0.1:{coap}")?;
+    let output = servient(rt, &["discover", server.as_str()])?.output(rt)?;
+    let lamp = format!(in rt.alloc(); "coap://{server}/lamp\n")?;
+    let status = output.status.code().unwrap_or(-1);
+    let is_lamp = output.stdout.as_slice() == lamp.as_bytes();
+    println!(rt; "status {status}, the lamp and no other: {is_lamp}")
 }
 
 /// Has the Thing at these ports consumed, and prints what comes of that.

@@ -73,8 +73,8 @@ returns-then-asks_others-clause-net g c = λ none. absurd (asking_uses_network c
 pub returns-then-asks_others-clause-files : goal.returns-then-asks_others-clause-files
 returns-then-asks_others-clause-files g c = λ is. c.ask_and_report.ensures.files (sym (ap is_discovering c.in-Ok.ensures) ∙ is)
 
-pub returns-else-asks_others-clause-ends : goal.returns-else-asks_others-clause-ends
-returns-else-asks_others-clause-ends g c =
+pub returns-in-Ok-clause-ends : goal.returns-in-Ok-clause-ends
+returns-in-Ok-clause-ends g c =
     let before = around (g.F.Files.seen c.args.files.now) (outside (g.N.Net.seen c.args.net.now) (g.R.Handlers.slots c.args.rack.now)) in
     let now = around (g.F.Files.seen c.run_command.new.files) (outside (g.N.Net.seen c.run_command.new.net) (g.R.Handlers.slots c.run_command.new.rack)) in
     let out = g.O.Out.seen c.args.out.now in
@@ -83,8 +83,8 @@ returns-else-asks_others-clause-ends g c =
     let whole = built_ends c.args.words.now before now out out_now c.in-Ok.command c.run_command.result result c.in-Ok.ensures c.run_command.ensures.ends c.report.ensures.reported c.report.ensures.no_failure in
     whole
 
-pub returns-else-asks_others-clause-complete : goal.returns-else-asks_others-clause-complete
-returns-else-asks_others-clause-complete g c = λ fine kept.
+pub returns-in-Ok-clause-complete : goal.returns-in-Ok-clause-complete
+returns-in-Ok-clause-complete g c = λ fine kept.
     let before = around (g.F.Files.seen c.args.files.now) (outside (g.N.Net.seen c.args.net.now) (g.R.Handlers.slots c.args.rack.now)) in
     let now = around (g.F.Files.seen c.run_command.new.files) (outside (g.N.Net.seen c.run_command.new.net) (g.R.Handlers.slots c.run_command.new.rack)) in
     let out = g.O.Out.seen c.args.out.now in
@@ -94,8 +94,8 @@ returns-else-asks_others-clause-complete g c = λ fine kept.
     ends_well c.args.words.now before now out out_now result whole fine kept
     (output_failed c.args.words.now before now out out_now result whole (other_is_not c.args.words.now c.in-Ok.command c.in-Ok.ensures (sym c.asks_others.ensures ∙ c.if-asks_others.false)))
 
-pub returns-else-asks_others-clause-output : goal.returns-else-asks_others-clause-output
-returns-else-asks_others-clause-output g c =
+pub returns-in-Ok-clause-output : goal.returns-in-Ok-clause-output
+returns-in-Ok-clause-output g c =
     let before = around (g.F.Files.seen c.args.files.now) (outside (g.N.Net.seen c.args.net.now) (g.R.Handlers.slots c.args.rack.now)) in
     let now = around (g.F.Files.seen c.run_command.new.files) (outside (g.N.Net.seen c.run_command.new.net) (g.R.Handlers.slots c.run_command.new.rack)) in
     let out = g.O.Out.seen c.args.out.now in
@@ -104,8 +104,8 @@ returns-else-asks_others-clause-output g c =
     let whole = built_ends c.args.words.now before now out out_now c.in-Ok.command c.run_command.result result c.in-Ok.ensures c.run_command.ensures.ends c.report.ensures.reported c.report.ensures.no_failure in
     output_failed c.args.words.now before now out out_now result whole (other_is_not c.args.words.now c.in-Ok.command c.in-Ok.ensures (sym c.asks_others.ensures ∙ c.if-asks_others.false))
 
-pub returns-else-asks_others-clause-usage : goal.returns-else-asks_others-clause-usage
-returns-else-asks_others-clause-usage g c =
+pub returns-in-Ok-clause-usage : goal.returns-in-Ok-clause-usage
+returns-in-Ok-clause-usage g c =
     let before = around (g.F.Files.seen c.args.files.now) (outside (g.N.Net.seen c.args.net.now) (g.R.Handlers.slots c.args.rack.now)) in
     let now = around (g.F.Files.seen c.run_command.new.files) (outside (g.N.Net.seen c.run_command.new.net) (g.R.Handlers.slots c.run_command.new.rack)) in
     let out = g.O.Out.seen c.args.out.now in
@@ -114,8 +114,8 @@ returns-else-asks_others-clause-usage g c =
     let whole = built_ends c.args.words.now before now out out_now c.in-Ok.command c.run_command.result result c.in-Ok.ensures c.run_command.ensures.ends c.report.ensures.reported c.report.ensures.no_failure in
     usage_is_exact c.args.words.now before now out out_now result whole
 
-pub returns-else-asks_others-clause-storm : goal.returns-else-asks_others-clause-storm
-returns-else-asks_others-clause-storm g c =
+pub returns-in-Ok-clause-storm : goal.returns-in-Ok-clause-storm
+returns-in-Ok-clause-storm g c =
     let before = around (g.F.Files.seen c.args.files.now) (outside (g.N.Net.seen c.args.net.now) (g.R.Handlers.slots c.args.rack.now)) in
     let now = around (g.F.Files.seen c.run_command.new.files) (outside (g.N.Net.seen c.run_command.new.net) (g.R.Handlers.slots c.run_command.new.rack)) in
     let out = g.O.Out.seen c.args.out.now in
@@ -124,8 +124,8 @@ returns-else-asks_others-clause-storm g c =
     let whole = built_ends c.args.words.now before now out out_now c.in-Ok.command c.run_command.result result c.in-Ok.ensures c.run_command.ensures.ends c.report.ensures.reported c.report.ensures.no_failure in
     never_spent c.args.words.now before now out out_now result whole
 
-pub returns-else-asks_others-clause-discovery : goal.returns-else-asks_others-clause-discovery
-returns-else-asks_others-clause-discovery g c =
+pub returns-in-Ok-clause-discovery : goal.returns-in-Ok-clause-discovery
+returns-in-Ok-clause-discovery g c =
     let before = around (g.F.Files.seen c.args.files.now) (outside (g.N.Net.seen c.args.net.now) (g.R.Handlers.slots c.args.rack.now)) in
     let now = around (g.F.Files.seen c.run_command.new.files) (outside (g.N.Net.seen c.run_command.new.net) (g.R.Handlers.slots c.run_command.new.rack)) in
     let out = g.O.Out.seen c.args.out.now in
@@ -134,11 +134,11 @@ returns-else-asks_others-clause-discovery g c =
     let whole = built_ends c.args.words.now before now out out_now c.in-Ok.command c.run_command.result result c.in-Ok.ensures c.run_command.ensures.ends c.report.ensures.reported c.report.ensures.no_failure in
     discovery_ends c.args.words.now before now out out_now result whole
 
-pub returns-else-asks_others-clause-files : goal.returns-else-asks_others-clause-files
-returns-else-asks_others-clause-files g c = λ is. absurd (other_discovers_not c.args.words.now c.in-Ok.command c.in-Ok.ensures (sym c.asks_others.ensures ∙ c.if-asks_others.false) is)
+pub returns-in-Ok-clause-files : goal.returns-in-Ok-clause-files
+returns-in-Ok-clause-files g c = λ is. absurd (other_discovers_not c.args.words.now c.in-Ok.command c.in-Ok.ensures (sym c.asks_others.ensures ∙ c.if-asks_others.false) is)
 
-pub returns-else-asks_others-clause-rack : goal.returns-else-asks_others-clause-rack
-returns-else-asks_others-clause-rack g c = λ is. absurd (other_asks_not c.args.words.now c.in-Ok.command c.in-Ok.ensures (sym c.asks_others.ensures ∙ c.if-asks_others.false) is)
+pub returns-in-Ok-clause-rack : goal.returns-in-Ok-clause-rack
+returns-in-Ok-clause-rack g c = λ is. absurd (other_asks_not c.args.words.now c.in-Ok.command c.in-Ok.ensures (sym c.asks_others.ensures ∙ c.if-asks_others.false) is)
 
 pub returns-clause-ends : goal.returns-clause-ends
 returns-clause-ends g c =

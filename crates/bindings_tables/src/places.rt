@@ -37,6 +37,7 @@ fn any_outcome_of(alloc: Global, word: &str) -> Result<Outcome, AllocError> {
         "Invalid" => Ok(Outcome::Invalid(u8::try_from(number_in(carried)).unwrap_or(0))),
         "IdDiffers" => Ok(Outcome::IdDiffers),
         "HasId" => Ok(Outcome::HasId),
+        "BadTtl" => Ok(Outcome::BadTtl),
         "DirectoryFull" => Ok(Outcome::DirectoryFull),
         _ => outcome_of(alloc, word),
     }

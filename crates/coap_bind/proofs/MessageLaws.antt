@@ -134,6 +134,7 @@ whole_code outcome.CallsUsed c = server_error 3 (omega arith)
 whole_code (outcome.Invalid n) c = absurd (cc)
 whole_code outcome.IdDiffers c = absurd (cc)
 whole_code outcome.HasId c = absurd (cc)
+whole_code outcome.BadTtl c = absurd (cc)
 whole_code outcome.DirectoryFull c = absurd (cc)
 whole_code outcome.Memory c = server_error 3 (omega arith)
 

@@ -1,9 +1,8 @@
 -- What is to be done tells the act that was asked for; and an act on an entry was asked for at the path of one.
 use Rattle.std.proofs.Common.{◌≡◌, ℕ, List, [], ◌∷◌, Bool, true, false, refl, sym, ap, subst, ◌∙◌, inl, inr}
 use Rattle.std.proofs.lemmas.Option.{same_Some}
-use Rattle.std.specs.Prelude.{Option, Some, None, if◌then◌else◌}
+use Rattle.std.specs.Prelude.{Some, None, if◌then◌else◌}
 use Rattle.wot_json.specs.Meaning.{json_of}
-use Rattle.wot_json.specs.Reading.{tree_of}
 use Rattle.wot_json.specs.declared.tree.Tree.{Tree}
 use Rattle.thing_ops.specs.declared.verb.Verb.{Verb}
 use Rattle.thing_ops.specs.declared.verb.Verb.TheVariants as verb
@@ -15,25 +14,20 @@ use Rattle.thing_ops.specs.Routes.{route_of}
 use Rattle.thing_ops.specs.Verbs.{verbs_of}
 use Rattle.thing_site.specs.Places.{is_listed}
 use Rattle.wot_directory.specs.Contents.{Contents}
+use Rattle.wot_registry.specs.Registry.{Registered, standing, shown_under, shown_entries}
 use Rattle.directory_requests.specs.declared.act.DirectoryAct.{DirectoryAct}
 use Rattle.directory_requests.specs.declared.act.DirectoryAct.TheVariants as act
 use Rattle.directory_requests.specs.declared.judging.Task.{Task}
 use Rattle.directory_requests.specs.declared.judging.Task.TheVariants as task
-use Rattle.directory_requests.specs.Asked.{is_of_directory, act_of, act_at, act_asked, id_in, no_flags}
-use Rattle.directory_requests.specs.Judged.{IsTask, IsJudged, IsOrMemory, IsRefusedOrMemory}
+use Rattle.directory_requests.specs.Asked.{is_of_directory, act_of, act_asked, id_in, no_flags}
+use Rattle.directory_requests.specs.declared.server.Entries.{Entries}
+use Rattle.directory_requests.specs.declared.server.Entries.TheVariants as kept
+use Rattle.directory_requests.specs.Judged.{IsTask, IsJudged, IsOrMemory, IsRefusedOrMemory, act_of_task, DoesTask, DoesTaskAt}
 use Rattle.directory_requests.specs.Window.{window_of}
 use Rattle.wot_json.specs.Lookup.{member_named}
-use Rattle.directory_requests.specs.Requests.{listed_by, shown, CreatesEntry, PutsEntry, PatchesEntry, RemovesEntry, Performs, DirectoryActs, refuses, is_out_of_memory, performs}
+use Rattle.directory_requests.specs.Requests.{listed_by, shown, CreatesEntry, PutsEntry, PatchesEntry, RemovesEntry, CreatesEntryAt, PutsEntryAt, PatchesEntryAt, RemovesEntryAt, standing_at, ActsOnStanding, refuses, is_out_of_memory, performs}
 
 -- ---- the act of what is to be done
-
-abbrev pub act_of_task : Task → DirectoryAct
-act_of_task task.Lists = act.Lists
-act_of_task (task.Creates tree) = act.Creates
-act_of_task task.Shows = act.Shows
-act_of_task (task.Puts tree) = act.Puts
-act_of_task (task.Patches tree) = act.Patches
-act_of_task task.Removes = act.Removes
 
 same_act : (a : DirectoryAct) (body : List ℕ) (t : Task) → IsTask a body t → a ≡ act_of_task t
 same_act act.Lists body task.Lists e = refl
@@ -50,40 +44,83 @@ asked_act q t j = j.asked ∙ ap (λ (a : DirectoryAct). Some a) (same_act j.act
 pub body_is : (q : PlainRequest) (t : Task) → IsJudged q t → IsTask (act_of_task t) q.body t
 body_is q t j = subst (λ (a : DirectoryAct). IsTask a q.body t) (same_act j.act q.body t j.is_task) j.is_task
 
--- it is done
-pub does : (q : PlainRequest) (t : Task) (o : Outcome) (d e : Contents) → IsJudged q t → Performs (act_of_task t) q o d e → DirectoryActs q o d e
-does q t o d e j done = performs (act_of_task t) (asked_act q t j) j.unrefused done
-
 -- each of them, by what the function that does it says
-pub lists : (q : PlainRequest) (o : Outcome) (d : Contents) → IsJudged q task.Lists → IsOrMemory (listed_by (window_of q.query) d.entries) o → DirectoryActs q o d d
-lists q o d j (inl is) = does q task.Lists o d d j (is, refl)
-lists q o d j (inr memory) = is_out_of_memory memory refl
+pub lists : (q : PlainRequest) (o : Outcome) (d : Contents) → IsOrMemory (listed_by (window_of q.query) d.entries) o → DoesTask task.Lists q o d d
+lists q o d (inl is) = inl (is, refl)
+lists q o d (inr memory) = inr (memory, refl)
 
-pub creates : (q : PlainRequest) (tree : Tree) (o : Outcome) (d t : Contents) → IsJudged q (task.Creates tree) → CreatesEntry (json_of tree) o d t → DirectoryActs q o d t
-creates q tree o d t j done = does q (task.Creates tree) o d t j (json_of tree, body_is q (task.Creates tree) j, done)
+pub creates : (q : PlainRequest) (tree : Tree) (o : Outcome) (d t : Contents) → IsJudged q (task.Creates tree) → CreatesEntry (json_of tree) o d t → DoesTask (task.Creates tree) q o d t
+creates q tree o d t j done = inl (json_of tree, body_is q (task.Creates tree) j, done)
 
-pub shows : (q : PlainRequest) (id : List ℕ) (o : Outcome) (d : Contents) → IsJudged q task.Shows → id ≡ id_in q.path → IsOrMemory (shown (member_named id d.entries) q.accept) o
-    → DirectoryActs q o d d
-shows q id o d j same (inl is) = does q task.Shows o d d j (subst (λ (x : List ℕ). o ≡ shown (member_named x d.entries) q.accept) same is, refl)
-shows q id o d j same (inr memory) = is_out_of_memory memory refl
+pub shows : (q : PlainRequest) (id : List ℕ) (o : Outcome) (d : Contents) → id ≡ id_in q.path → IsOrMemory (shown (member_named id d.entries) q.accept) o → DoesTask task.Shows q o d d
+shows q id o d same (inl is) = inl (subst (λ (x : List ℕ). o ≡ shown (member_named x d.entries) q.accept) same is, refl)
+shows q id o d same (inr memory) = inr (memory, refl)
 
 pub puts : (q : PlainRequest) (id : List ℕ) (tree : Tree) (o : Outcome) (d t : Contents) → IsJudged q (task.Puts tree) → id ≡ id_in q.path → PutsEntry id (json_of tree) o d t
-    → DirectoryActs q o d t
+    → DoesTask (task.Puts tree) q o d t
 puts q id tree o d t j same done =
-    does q (task.Puts tree) o d t j (json_of tree, body_is q (task.Puts tree) j, subst (λ (x : List ℕ). PutsEntry x (json_of tree) o d t) same done)
+    inl (json_of tree, body_is q (task.Puts tree) j, subst (λ (x : List ℕ). PutsEntry x (json_of tree) o d t) same done)
 
 pub patches : (q : PlainRequest) (id : List ℕ) (tree : Tree) (o : Outcome) (d t : Contents) → IsJudged q (task.Patches tree) → id ≡ id_in q.path → PatchesEntry id (json_of tree) o d t
-    → DirectoryActs q o d t
+    → DoesTask (task.Patches tree) q o d t
 patches q id tree o d t j same done =
-    does q (task.Patches tree) o d t j (json_of tree, body_is q (task.Patches tree) j, subst (λ (x : List ℕ). PatchesEntry x (json_of tree) o d t) same done)
+    inl (json_of tree, body_is q (task.Patches tree) j, subst (λ (x : List ℕ). PatchesEntry x (json_of tree) o d t) same done)
 
-pub removes : (q : PlainRequest) (id : List ℕ) (o : Outcome) (d t : Contents) → IsJudged q task.Removes → id ≡ id_in q.path → RemovesEntry id o d t → DirectoryActs q o d t
-removes q id o d t j same done = does q task.Removes o d t j (subst (λ (x : List ℕ). RemovesEntry x o d t) same done)
+pub removes : (q : PlainRequest) (id : List ℕ) (o : Outcome) (d t : Contents) → id ≡ id_in q.path → RemovesEntry id o d t → DoesTask task.Removes q o d t
+removes q id o d t same done = inl (subst (λ (x : List ℕ). RemovesEntry x o d t) same done)
+
+-- and with times
+pub lists_at : (q : PlainRequest) (now : ℕ) (o : Outcome) (r s : Registered) → IsOrMemory (listed_by (window_of q.query) (shown_entries r)) o → s ≡ r → DoesTaskAt task.Lists q now o r s
+lists_at q now o r s (inl is) left = inl (is, left)
+lists_at q now o r s (inr memory) left = inr (memory, left)
+
+pub creates_at : (q : PlainRequest) (tree : Tree) (now : ℕ) (o : Outcome) (r s : Registered) → IsJudged q (task.Creates tree) → CreatesEntryAt (json_of tree) now o r s
+    → DoesTaskAt (task.Creates tree) q now o r s
+creates_at q tree now o r s j done = inl (json_of tree, body_is q (task.Creates tree) j, done)
+
+pub shows_at : (q : PlainRequest) (id : List ℕ) (now : ℕ) (o : Outcome) (r s : Registered) → id ≡ id_in q.path → IsOrMemory (shown (shown_under id r) q.accept) o → s ≡ r
+    → DoesTaskAt task.Shows q now o r s
+shows_at q id now o r s same (inl is) left = inl (subst (λ (x : List ℕ). o ≡ shown (shown_under x r) q.accept) same is, left)
+shows_at q id now o r s same (inr memory) left = inr (memory, left)
+
+pub puts_at : (q : PlainRequest) (id : List ℕ) (tree : Tree) (now : ℕ) (o : Outcome) (r s : Registered) → IsJudged q (task.Puts tree) → id ≡ id_in q.path → PutsEntryAt id (json_of tree) now o r s
+    → DoesTaskAt (task.Puts tree) q now o r s
+puts_at q id tree now o r s j same done =
+    inl (json_of tree, body_is q (task.Puts tree) j, subst (λ (x : List ℕ). PutsEntryAt x (json_of tree) now o r s) same done)
+
+pub patches_at : (q : PlainRequest) (id : List ℕ) (tree : Tree) (now : ℕ) (o : Outcome) (r s : Registered) → IsJudged q (task.Patches tree) → id ≡ id_in q.path → PatchesEntryAt id (json_of tree) now o r s
+    → DoesTaskAt (task.Patches tree) q now o r s
+patches_at q id tree now o r s j same done =
+    inl (json_of tree, body_is q (task.Patches tree) j, subst (λ (x : List ℕ). PatchesEntryAt x (json_of tree) now o r s) same done)
+
+pub removes_at : (q : PlainRequest) (id : List ℕ) (now : ℕ) (o : Outcome) (r s : Registered) → id ≡ id_in q.path → RemovesEntryAt id o r s → DoesTaskAt task.Removes q now o r s
+removes_at q id now o r s same done = inl (subst (λ (x : List ℕ). RemovesEntryAt x o r s) same done)
+
+-- so the request acts on what stands
+does_untimed : (q : PlainRequest) (t : Task) (now : ℕ) (o : Outcome) (d e : Contents) → IsJudged q t → DoesTask t q o d e → ActsOnStanding q now o (kept.Untimed d) (kept.Untimed e)
+does_untimed q t now o d e j (inl done) = performs (act_of_task t) (asked_act q t j) j.unrefused (e, done, refl)
+does_untimed q t now o d e j (inr memory) = is_out_of_memory memory.0 (ap (λ (x : Contents). kept.Untimed x) memory.1)
+
+does_timed : (q : PlainRequest) (t : Task) (now : ℕ) (o : Outcome) (r s : Registered) → IsJudged q t → DoesTaskAt t q now o r s → ActsOnStanding q now o (kept.Timed r) (kept.Timed s)
+does_timed q t now o r s j (inl done) = performs (act_of_task t) (asked_act q t j) j.unrefused (s, done, refl)
+does_timed q t now o r s j (inr memory) = is_out_of_memory memory.0 (ap (λ (x : Registered). kept.Timed x) memory.1)
+
+pub acts_untimed : (q : PlainRequest) (t : Task) (now : ℕ) (o : Outcome) (d e : Contents) (old new : Entries) → old ≡ kept.Untimed d → new ≡ kept.Untimed e → IsJudged q t → DoesTask t q o d e
+    → ActsOnStanding q now o (standing_at now old) new
+acts_untimed q t now o d e old new was is j done =
+    subst (λ (x : Entries). ActsOnStanding q now o (standing_at now x) new) (sym was)
+    (subst (λ (x : Entries). ActsOnStanding q now o (kept.Untimed d) x) (sym is) (does_untimed q t now o d e j done))
+
+pub acts_timed : (q : PlainRequest) (t : Task) (now : ℕ) (o : Outcome) (r s : Registered) (old new : Entries) → old ≡ kept.Timed r → new ≡ kept.Timed s → IsJudged q t → DoesTaskAt t q now o (standing now r) s
+    → ActsOnStanding q now o (standing_at now old) new
+acts_timed q t now o r s old new was is j done =
+    subst (λ (x : Entries). ActsOnStanding q now o (standing_at now x) new) (sym was)
+    (subst (λ (x : Entries). ActsOnStanding q now o (kept.Timed (standing now r)) x) (sym is) (does_timed q t now o (standing now r) s j done))
 
 -- a request that is refused
-pub refused : (q : PlainRequest) (o : Outcome) (d : Contents) → IsRefusedOrMemory q o → DirectoryActs q o d d
-refused q o d (inl memory) = is_out_of_memory memory refl
-refused q o d (inr is) = refuses is refl
+pub refused : (q : PlainRequest) (now : ℕ) (o : Outcome) (d t : Entries) → IsRefusedOrMemory q o → t ≡ d → ActsOnStanding q now o d t
+refused q now o d t (inl memory) left = is_out_of_memory memory left
+refused q now o d t (inr is) left = refuses is left
 
 -- ---- where it was asked for
 

@@ -5,12 +5,15 @@ use Rattle.wot_json.specs.Reading.{tree_of}
 use Rattle.thing_ops.specs.declared.outcome.Outcome.{Outcome}
 use Rattle.thing_ops.specs.declared.outcome.Outcome.TheVariants as outcome
 use Rattle.thing_ops.specs.Requests.{PlainRequest}
+use Rattle.wot_directory.specs.Contents.{Contents}
+use Rattle.wot_registry.specs.Registry.{Registered}
 use Rattle.thing_site.specs.Refusals.{nothing_there, verb_not_taken, IsFirst, IsNone}
 use Rattle.directory_requests.specs.declared.act.DirectoryAct.{DirectoryAct}
 use Rattle.directory_requests.specs.declared.act.DirectoryAct.TheVariants as act
 use Rattle.directory_requests.specs.declared.judging.Task.{Task}
 use Rattle.directory_requests.specs.declared.judging.Task.TheVariants as task
 use Rattle.directory_requests.specs.Asked.{act_asked, Stands, IsAnsweredWith, IsRefused, IsUnrefused}
+use Rattle.directory_requests.specs.Requests.{Performs, PerformsAt}
 
 -- the act, or the outcome where there is none: nothing is there, or the verb isn't taken
 abbrev pub IsAsked : PlainRequest → Result DirectoryAct Outcome → Type 0
@@ -41,3 +44,19 @@ IsRefusedOrMemory q o = (o ≡ outcome.Memory) ⊎ IsRefused q o
 -- it is this outcome, or it was out of memory
 abbrev pub IsOrMemory : Outcome → Outcome → Type 0
 IsOrMemory o result = (result ≡ o) ⊎ (result ≡ outcome.Memory)
+
+-- the act of what is to be done
+abbrev pub act_of_task : Task → DirectoryAct
+act_of_task task.Lists = act.Lists
+act_of_task (task.Creates tree) = act.Creates
+act_of_task task.Shows = act.Shows
+act_of_task (task.Puts tree) = act.Puts
+act_of_task (task.Patches tree) = act.Patches
+act_of_task task.Removes = act.Removes
+
+-- it was done, or it was out of memory and nothing changed
+abbrev pub DoesTask : Task → PlainRequest → Outcome → Contents → Contents → Type 0
+DoesTask t q o d e = Performs (act_of_task t) q o d e ⊎ ((o ≡ outcome.Memory) × (e ≡ d))
+
+abbrev pub DoesTaskAt : Task → PlainRequest → ℕ → Outcome → Registered → Registered → Type 0
+DoesTaskAt t q now o r s = PerformsAt (act_of_task t) q now o r s ⊎ ((o ≡ outcome.Memory) × (s ≡ r))

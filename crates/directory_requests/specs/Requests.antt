@@ -1,4 +1,5 @@
--- What a request does to the directory, and its outcome.
+-- What a request does to the directory, and its outcome. The entries of a directory may have times (WoT Discovery,
+-- registration information): then each request finds what stands at its moment.
 use Rattle.std.specs.Prelude.{◌≡◌, ◌⊎◌, ℕ, List, Bool, Option, Some, None, if◌then◌else◌}
 use Rattle.wot_json.specs.Tree.{Json}
 use Rattle.wot_json.specs.Json.{text_of}
@@ -9,9 +10,14 @@ use Rattle.thing_ops.specs.declared.outcome.Outcome.{Outcome}
 use Rattle.thing_ops.specs.declared.outcome.Outcome.TheVariants as outcome
 use Rattle.thing_ops.specs.Requests.{PlainRequest}
 use Rattle.wot_directory.specs.Contents.{Contents}
-use Rattle.wot_directory.specs.Directory.{Creates, Puts, Patches, Removes, HasCreateFault, HasPutFault, HasPatchFault, HasRemoveFault, list_text}
+use Rattle.wot_directory.specs.Directory.{empty_directory, Creates, Puts, Patches, Removes, HasCreateFault, HasPutFault, HasPatchFault, HasRemoveFault, list_text}
 use Rattle.wot_directory.specs.declared.fault.DirFault.{DirFault}
 use Rattle.wot_directory.specs.declared.fault.DirFault.TheVariants as fault
+use Rattle.wot_registry.specs.Registry.{Registered, empty_registry, standing, PutsAt, IsPutFault, CreatesAt, IsCreateFault, PatchesAt, IsPatchFault, RemovesAt, IsRemoveFault, shown_under, shown_entries}
+use Rattle.wot_registry.specs.declared.fault.RegFault.{RegFault}
+use Rattle.wot_registry.specs.declared.fault.RegFault.TheVariants as reg_fault
+use Rattle.directory_requests.specs.declared.server.Entries.{Entries}
+use Rattle.directory_requests.specs.declared.server.Entries.TheVariants as kept
 use Rattle.directory_requests.specs.declared.act.DirectoryAct.{DirectoryAct}
 use Rattle.directory_requests.specs.declared.act.DirectoryAct.TheVariants as act
 use Rattle.directory_requests.specs.Asked.{act_asked, id_in, IsRefused, IsUnrefused}
@@ -29,6 +35,10 @@ outcome_of fault.HasId = outcome.HasId
 outcome_of fault.Full = outcome.DirectoryFull
 outcome_of fault.NoMemory = outcome.Memory
 
+abbrev pub outcome_of_fault : RegFault → Outcome
+outcome_of_fault reg_fault.Ttl = outcome.BadTtl
+outcome_of_fault (reg_fault.Directory found) = outcome_of found
+
 -- the entries that a query asks for, of these
 abbrev pub listed_by : Option Window → List (List ℕ × Json) → Outcome
 listed_by None entries = outcome.BadValue
@@ -43,7 +53,7 @@ shown (Some description) accept = outcome.Description (text_of description) acce
 abbrev pub put_outcome : Bool → Outcome
 put_outcome is_new = if is_new then outcome.Created None else outcome.Changed
 
--- ---- acts
+-- ---- acts on entries without times
 
 -- the description or the patch that a body is
 abbrev pub WithBody : List ℕ → (Json → Type 0) → Type 0
@@ -82,11 +92,68 @@ Performs act.Puts q o d t = WithBody q.body (λ description. PutsEntry (id_in q.
 Performs act.Patches q o d t = WithBody q.body (λ patch. PatchesEntry (id_in q.path) patch o d t)
 Performs act.Removes q o d t = RemovesEntry (id_in q.path) o d t
 
--- A request to the directory, and its outcome.
-pub data DirectoryActs (q : PlainRequest) (o : Outcome) (d t : Contents) : Type 0 where
+-- ---- acts on entries with times, at a moment
+
+-- this fault is answered, and nothing changed
+abbrev pub IsNotDoneAt : (RegFault → Type 0) → Outcome → Registered → Registered → Type 0
+IsNotDoneAt IsFault o r s = (found : RegFault) × IsFault found × (o ≡ outcome_of_fault found) × (s ≡ r)
+
+abbrev pub CreatesEntryAt : Json → ℕ → Outcome → Registered → Registered → Type 0
+CreatesEntryAt description now o r s =
+    ((id : List ℕ) × CreatesAt description now r id s × (o ≡ outcome.Created (Some id)))
+    ⊎ IsNotDoneAt (λ e. IsCreateFault e description r) o r s
+
+abbrev pub PutsEntryAt : List ℕ → Json → ℕ → Outcome → Registered → Registered → Type 0
+PutsEntryAt id description now o r s =
+    ((is_new : Bool) × PutsAt id description now r is_new s × (o ≡ put_outcome is_new))
+    ⊎ IsNotDoneAt (λ e. IsPutFault e id description r) o r s
+
+abbrev pub PatchesEntryAt : List ℕ → Json → ℕ → Outcome → Registered → Registered → Type 0
+PatchesEntryAt id patch now o r s =
+    (PatchesAt id patch now r s × (o ≡ outcome.Changed))
+    ⊎ IsNotDoneAt (λ e. IsPatchFault e id patch r) o r s
+
+abbrev pub RemovesEntryAt : List ℕ → Outcome → Registered → Registered → Type 0
+RemovesEntryAt id o r s =
+    (RemovesAt id r s × (o ≡ outcome.Deleted))
+    ⊎ IsNotDoneAt (λ e. IsRemoveFault e id r) o r s
+
+-- What each act does: the same table, where entries are given out with what is said of their times.
+abbrev pub PerformsAt : DirectoryAct → PlainRequest → ℕ → Outcome → Registered → Registered → Type 0
+PerformsAt act.Lists q now o r s = (o ≡ listed_by (window_of q.query) (shown_entries r)) × (s ≡ r)
+PerformsAt act.Creates q now o r s = WithBody q.body (λ description. CreatesEntryAt description now o r s)
+PerformsAt act.Shows q now o r s = (o ≡ shown (shown_under (id_in q.path) r) q.accept) × (s ≡ r)
+PerformsAt act.Puts q now o r s = WithBody q.body (λ description. PutsEntryAt (id_in q.path) description now o r s)
+PerformsAt act.Patches q now o r s = WithBody q.body (λ patch. PatchesEntryAt (id_in q.path) patch now o r s)
+PerformsAt act.Removes q now o r s = RemovesEntryAt (id_in q.path) o r s
+
+-- ---- requests
+
+-- no entries, which have times where it is known when the clock began
+abbrev pub no_entries : Option ℕ → Entries
+no_entries None = kept.Untimed empty_directory
+no_entries (Some epoch) = kept.Timed (empty_registry epoch)
+
+-- what stands at a moment: all but entries whose time to live has passed
+abbrev pub standing_at : ℕ → Entries → Entries
+standing_at now (kept.Untimed d) = kept.Untimed d
+standing_at now (kept.Timed r) = kept.Timed (standing now r)
+
+-- an act is done
+abbrev pub PerformsOn : DirectoryAct → PlainRequest → ℕ → Outcome → Entries → Entries → Type 0
+PerformsOn a q now o (kept.Untimed d) t = (e : Contents) × Performs a q o d e × (t ≡ kept.Untimed e)
+PerformsOn a q now o (kept.Timed r) t = (s : Registered) × PerformsAt a q now o r s × (t ≡ kept.Timed s)
+
+-- A request to the directory at a moment, what stands then, and its outcome.
+pub data ActsOnStanding (q : PlainRequest) (now : ℕ) (o : Outcome) (d t : Entries) : Type 0 where
   -- the first refusal that holds decides, and nothing changes
-  refuses : IsRefused q o → t ≡ d → DirectoryActs q o d t
+  refuses : IsRefused q o → t ≡ d → ActsOnStanding q now o d t
   -- it may be out of memory, and nothing changes
-  is_out_of_memory : o ≡ outcome.Memory → t ≡ d → DirectoryActs q o d t
+  is_out_of_memory : o ≡ outcome.Memory → t ≡ d → ActsOnStanding q now o d t
   -- none holds, and the act is done
-  performs : (a : DirectoryAct) → act_asked q ≡ Some a → IsUnrefused q → Performs a q o d t → DirectoryActs q o d t
+  performs : (a : DirectoryAct) → act_asked q ≡ Some a → IsUnrefused q → PerformsOn a q now o d t → ActsOnStanding q now o d t
+
+-- The same where what is over isn't taken away yet: it goes first. Only where there was no memory to read the request
+-- is the directory not asked at all. What is over is then left in it, which no later request finds.
+abbrev pub DirectoryActs : PlainRequest → ℕ → Outcome → Entries → Entries → Type 0
+DirectoryActs q now o d t = ActsOnStanding q now o (standing_at now d) t ⊎ ((o ≡ outcome.Memory) × (t ≡ d))

@@ -2,26 +2,31 @@
 //! Things API of WoT Discovery, in outline).
 //!
 //! A `DirectoryServer` judges a request by the refusals of all requests, of which the directory has rows of its own
-//! (`specs/Asked.antt`), and then does its act with a `Directory` (`specs/Requests.antt`). Which entries a list has is
-//! said by the query (`specs/Window.antt`).
+//! (`specs/Asked.antt`), and then does its act (`specs/Requests.antt`): with a `Directory`, or, where it is known when
+//! the clock began, with a `Registry`, whose entries have times and may be over. Which entries a list has is said by the
+//! query (`specs/Window.antt`).
 //!
 //! ```
 //! use directory_requests::DirectoryServer;
 //!
-//! let mut directory = DirectoryServer::new(alloc);
-//! // POST /things with a description
-//! let outcome = directory.perform(&request);
+//! // A clock that began at 2000-02-29T00:00:00Z.
+//! let mut directory = DirectoryServer::new(alloc, Some(951_782_400_000));
+//! // POST /things with a description, five seconds later
+//! let outcome = directory.perform(&request, 5_000);
 //! assert!(matches!(outcome, Outcome::Created(Some(_))));
 //! ```
 //!
-//! The contract in a sentence: the outcome is that of the first refusal, or of the act, and the directory is then as the
-//! step of `wot_directory` has it, or as it was; and where it was out of memory nothing changed.
+//! The contract in a sentence: what is over at the moment of a request is taken away; the outcome is that of the first
+//! refusal, or of the act, and the directory is then as the step of `wot_directory` or `wot_registry` has it, or as it
+//! was; and where it was out of memory nothing else changed.
 #![tactic(auto)]
 
 mod act;
 mod judging;
 mod performing;
+mod registering;
+mod server;
 mod window;
 
 pub use act::{DirectoryAct, is_of_directory};
-pub use performing::DirectoryServer;
+pub use server::{DirectoryServer, Entries};

@@ -1,71 +1,30 @@
-//! What a request does to the directory.
+//! What a request does to a directory whose entries have no times.
 
 ghost use Rattle.std.specs.Prelude.{◌≡◌};
 ghost use Rattle.wot_json.specs.Meaning.{json_of};
 ghost use Rattle.wot_json.specs.Lookup.{member_named};
 ghost use Rattle.thing_ops.specs.Requests.{plain_request};
-ghost use Rattle.wot_directory.specs.Directory.{empty_directory};
 ghost use Rattle.directory_requests.specs.Window.{window_of as window_by};
 ghost use Rattle.directory_requests.specs.Requests as spec;
-ghost use Rattle.directory_requests.specs.Judged.{IsJudged, IsOrMemory};
+ghost use Rattle.directory_requests.specs.Judged.{IsJudged, IsOrMemory, DoesTask};
 
 use crate::act::entry_id;
-use crate::judging::{Task, judge};
+use crate::judging::Task;
 use crate::window::window_of;
 use std::alloc::Global;
-use std::marker::Model;
 use thing_ops::{Accept, Outcome, Request};
 use wot_directory::{DirFault, Directory};
 use wot_json::{Tree, text_of};
 
-/// A directory that does what requests ask. Contracts see its descriptions (`Contents` of `wot_directory`).
-#[derive(Drop)]
-pub struct DirectoryServer {
-    alloc: Global,
-    directory: Directory,
-}
-
-impl Model for DirectoryServer {
-    ghost use Rattle.wot_directory.specs.Contents.{Contents, contents_code};
-
-    ghost Value = { Contents };
-
-    ghost coded = { contents_code };
-
-    ghost view = { λ s. s.directory };
-}
-
-impl DirectoryServer {
-    /// A directory without descriptions.
-    pub fn new(alloc: Global) -> Self
-        ensures { result ≡ empty_directory }
-    {
-        DirectoryServer {
-            alloc,
-            directory: Directory::new(alloc),
-        }
-    }
-
-    /// Does what a request asks, and gives its outcome.
-    pub fn perform(&mut self, request: &Request<'_>) -> Outcome
-        ensures { spec.DirectoryActs (plain_request request.now) result self.old self.new }
-    {
-        match judge(self.alloc, request) {
-            Ok(task) => perform_task(self.alloc, &mut self.directory, task, request),
-            Err(outcome) => outcome,
-        }
-    }
-}
-
 /// Does what is to be done of a request.
-fn perform_task(
+pub(crate) fn perform_task(
     alloc: Global,
     directory: &mut Directory,
     task: Task,
     request: &Request<'_>,
 ) -> Outcome
     requires { IsJudged (plain_request request.now) task }
-    ensures { spec.DirectoryActs (plain_request request.now) result directory.old directory.new }
+    ensures { DoesTask task (plain_request request.now) result directory.old directory.new }
 {
     match task {
         Task::Lists => list(directory, request.query),
@@ -147,7 +106,7 @@ fn remove(directory: &mut Directory, id: &str) -> Outcome
 }
 
 /// The outcome of a fault.
-fn outcome_of(fault: DirFault) -> Outcome
+pub(crate) fn outcome_of(fault: DirFault) -> Outcome
     ensures { result ≡ spec.outcome_of fault }
 {
     match fault {

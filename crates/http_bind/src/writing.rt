@@ -262,6 +262,7 @@ fn media_type(outcome: &Outcome) -> Option<&'static str>
         | Outcome::Invalid(_)
         | Outcome::IdDiffers
         | Outcome::HasId
+        | Outcome::BadTtl
         | Outcome::DirectoryFull
         | Outcome::Memory => Some(PLAIN_TEXT),
     }

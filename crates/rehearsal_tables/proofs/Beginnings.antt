@@ -1,5 +1,5 @@
 -- A servient and a client as they are made are as a rehearsal asks for them.
-use Rattle.std.proofs.Common.{◌≡◌, ℕ, true, ap, refl}
+use Rattle.std.proofs.Common.{◌≡◌, ℕ, Option, true, ap, refl}
 use Rattle.coap_client.specs.declared.state.State.{State}
 use Rattle.coap_client.specs.Exchange.{IsNew}
 use Rattle.tm_derive.specs.Segments.{is_plain_segment}
@@ -10,8 +10,8 @@ use Rattle.servient_core.specs.Machine.{start}
 use Rattle.servient_core.specs.Serving.{StandsFor}
 use Rattle.servient_rehearsal.specs.Rehearsal.{IsUnused}
 
-pub unused_of : (s : Layers) (exchanges : ℕ) → StandsFor s (start s.exposed.site exchanges) → IsUnused s
-unused_of s exchanges stands = (exchanges, stands)
+pub unused_of : (s : Layers) (exchanges : ℕ) (epoch : Option ℕ) → StandsFor s (start s.exposed.site exchanges epoch) → IsUnused s
+unused_of s exchanges epoch stands = (exchanges, epoch, stands)
 
 pub new_of : (first_id : ℕ) (s : State) → IsNew first_id s → IsNew s.next_id s
 new_of first_id s new = record {

@@ -164,10 +164,10 @@ script_well name content events seen o script (is_no_script line bad none end) =
 script_well name content events seen o script (script_memory end) = inr end.1
 
 -- a script within the budget is run to its end
-run_well : (budget : ℕ) (events : List EventWithBytes) (exchanges : ℕ) (site : Site) (seen : List Deed) (o : Outcome (Unit {0})) → length (run_events events) ≤ budget → RunsScript budget events exchanges site seen o → EndsWell o
-run_well budget events exchanges site seen o few (is_whole ran end fits run ends_so) = inl ends_so.1
-run_well budget events exchanges site seen o few (is_spent ran end more run ends_so) = absurd (omega (arith, few, more))
-run_well budget events exchanges site seen o few (run_memory ran end count run ends_so) = inr ends_so.1
+run_well : (budget : ℕ) (events : List EventWithBytes) (exchanges : ℕ) (epoch : Option ℕ) (site : Site) (seen : List Deed) (o : Outcome (Unit {0})) → length (run_events events) ≤ budget → RunsScript budget events exchanges epoch site seen o → EndsWell o
+run_well budget events exchanges epoch site seen o few (is_whole ran end fits run ends_so) = inl ends_so.1
+run_well budget events exchanges epoch site seen o few (is_spent ran end more run ends_so) = absurd (omega (arith, few, more))
+run_well budget events exchanges epoch site seen o few (run_memory ran end count run ends_so) = inr ends_so.1
 
 -- a JSON text is read
 pub tree_well : (name content : List ℕ) (v : Json) (seen : List Deed) (o : Outcome Tree) → tree_of content ≡ Some v → ReadsTree name content seen o → GoesOn (λ tree. json_of tree ≡ v) o
@@ -315,6 +315,6 @@ open_well name kinds p things seen o derives fits quiet stage =
 pub run_on_well : (name : List ℕ) (kinds : List Kind) (budget : ℕ) (read : Inputs) (things : List (List ℕ × Json)) (seen : List Deed) (o : Outcome (Unit {0})) → derived_of read.planned ≡ Ok things → expose_faults kinds read.planned.plan.slots things ≡ [] → length (run_events read.events) ≤ budget → ¬ (HasTrouble seen)
     → RunsOn name kinds budget read seen o → EndsWell o
 run_on_well name kinds budget read things seen o derives fits few quiet stage =
-    then_well EndsWell by_memory (Opens name kinds read.planned) (RunsScript budget read.events read.planned.plan.exchanges) (λ site. Unit {0}) seen o quiet
+    then_well EndsWell by_memory (Opens name kinds read.planned) (RunsScript budget read.events read.planned.plan.exchanges read.planned.plan.epoch) (λ site. Unit {0}) seen o quiet
     (λ s r q st. open_well name kinds read.planned things s r derives fits q st)
-    (λ site any s q st. run_well budget read.events read.planned.plan.exchanges site s o few st) stage
+    (λ site any s q st. run_well budget read.events read.planned.plan.exchanges read.planned.plan.epoch site s o few st) stage

@@ -45,18 +45,18 @@ failing_breaks budget site s t ran serves =
     subst HasTrouble (sym (ap sees (run.whole ∙ ap (λ (more : List Sighting). run.first ++ more) run.other.saw) ∙ sees-append run.first last))
     (trouble_after (sees run.first) (sees last) tt)
 
-serve_well : (budget exchanges : ℕ) (site : Site) (seen : List Deed) (o : Outcome (Unit {0})) → ¬ (HasTrouble seen) → ServesEvents budget exchanges site seen o → IsServed o
-serve_well budget exchanges site seen o quiet (has_served served.Stopped ran end serves out) = inl out.1
-serve_well budget exchanges site seen o quiet (has_served served.Failed ran end serves out) =
-    absurd (quiet (subst HasTrouble (sym out.0) (trouble_before (sees ran) (did_write network_line ∷ []) (failing_breaks budget site (start site exchanges) end ran serves))))
-serve_well budget exchanges site seen o quiet (has_served served.Spent ran end serves out) = inr (inr out.1)
+serve_well : (budget exchanges : ℕ) (epoch : Option ℕ) (site : Site) (seen : List Deed) (o : Outcome (Unit {0})) → ¬ (HasTrouble seen) → ServesEvents budget exchanges epoch site seen o → IsServed o
+serve_well budget exchanges epoch site seen o quiet (has_served served.Stopped ran end serves out) = inl out.1
+serve_well budget exchanges epoch site seen o quiet (has_served served.Failed ran end serves out) =
+    absurd (quiet (subst HasTrouble (sym out.0) (trouble_before (sees ran) (did_write network_line ∷ []) (failing_breaks budget site (start site exchanges epoch) end ran serves))))
+serve_well budget exchanges epoch site seen o quiet (has_served served.Spent ran end serves out) = inr (inr out.1)
 
 pub serving_well : (held : Option (List HeldFile)) (files : List HeldFile) (kinds : List Kind) (plan : List ℕ) (budget idle : ℕ) (fine : IsFaultlessServing files kinds plan) (seen : List Deed) (o : Outcome (Unit {0})) → held ≡ Some files → ¬ (HasTrouble seen) → ServesPlan held kinds plan budget idle seen o → IsServed o
 serving_well held files kinds plan budget idle fine seen o is_held quiet stage =
     then_well IsServed served_memory (ReadsPlanned held plan) (ServesPlanned plan kinds budget idle) (λ p. p ≡ fine.planned) seen o quiet
     (λ s r q st. planned_well held files plan fine.planned s r is_held fine.by_plan q st)
-    (λ p same s q st. then_well IsServed served_memory (Opens plan kinds p) (λ site. AndThen (Listens (place_of p.plan (idle * 1000))) (λ _. ServesEvents budget p.plan.exchanges site)) (λ site. Unit {0}) s o q
+    (λ p same s q st. then_well IsServed served_memory (Opens plan kinds p) (λ site. AndThen (Listens (place_of p.plan (idle * 1000))) (λ _. ServesEvents budget p.plan.exchanges p.plan.epoch site)) (λ site. Unit {0}) s o q
     (λ s2 r q2 st2. open_well plan kinds p fine.things s2 r (ap derived_of same ∙ fine.derived_is) (ap (λ (x : Planned). expose_faults kinds x.plan.slots fine.things) same ∙ fine.fits) q2 st2)
-    (λ site any s2 q2 st2. then_well IsServed served_memory (Listens (place_of p.plan (idle * 1000))) (λ _. ServesEvents budget p.plan.exchanges site) (λ u. Unit {0}) s2 o q2
+    (λ site any s2 q2 st2. then_well IsServed served_memory (Listens (place_of p.plan (idle * 1000))) (λ _. ServesEvents budget p.plan.exchanges p.plan.epoch site) (λ u. Unit {0}) s2 o q2
     (λ s3 r q3 st3. listen_well (place_of p.plan (idle * 1000)) s3 r q3 st3)
-    (λ u also s3 q3 st3. serve_well budget p.plan.exchanges site s3 o q3 st3) st2) st) stage
+    (λ u also s3 q3 st3. serve_well budget p.plan.exchanges p.plan.epoch site s3 o q3 st3) st2) st) stage

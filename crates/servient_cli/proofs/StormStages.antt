@@ -101,9 +101,9 @@ counts_are seed n datagrams turns ran heard all made =
 
 -- ---- how it ends
 
-run_well : (seed n exchanges : ℕ) (site : Site) (seen : List Deed) (o : Outcome (Unit {0})) → RunsStorm seed n exchanges site seen o → EndsWell o
-run_well seed n exchanges site seen o (is_counted ran end run end_is) = inl end_is.1
-run_well seed n exchanges site seen o (storm_memory ran end count run end_is) = inr end_is.1
+run_well : (seed n exchanges : ℕ) (epoch : Option ℕ) (site : Site) (seen : List Deed) (o : Outcome (Unit {0})) → RunsStorm seed n exchanges epoch site seen o → EndsWell o
+run_well seed n exchanges epoch site seen o (is_counted ran end run end_is) = inl end_is.1
+run_well seed n exchanges epoch site seen o (storm_memory ran end count run end_is) = inr end_is.1
 
 thing_well : (seen : List Deed) (o : Outcome Planned) → TakesBuiltIn seen o → GoesOn (λ p. p ≡ built_in) o
 thing_well seen o (is_built_in saw goes) = inl (built_in, refl, goes)
@@ -114,11 +114,11 @@ pub storm_well : (kinds : List Kind) (seed n : ℕ) (fine : IsFaultlessStorm kin
 storm_well kinds seed n fine seen o quiet stage =
     then_well EndsWell by_memory TakesBuiltIn (λ p. StormsOn kinds seed n (with_few_exchanges p)) (λ p. p ≡ built_in) seen o quiet
     (λ s r q st. thing_well s r st)
-    (λ p same s q st. then_well EndsWell by_memory (Opens (plan_name None) kinds (with_few_exchanges p)) (RunsStorm seed n STORM_EXCHANGES) (λ site. Unit {0}) s o q
+    (λ p same s q st. then_well EndsWell by_memory (Opens (plan_name None) kinds (with_few_exchanges p)) (RunsStorm seed n STORM_EXCHANGES p.plan.epoch) (λ site. Unit {0}) s o q
     (λ s2 r q2 st2. open_well (plan_name None) kinds (with_few_exchanges p) fine.things s2 r
     (ap (λ (x : Planned). derived_of (with_few_exchanges x)) same ∙ fine.derived_is)
     (ap (λ (x : Planned). expose_faults kinds (with_few_exchanges x).plan.slots fine.things) same ∙ fine.fits) q2 st2)
-    (λ site any s2 q2 st2. run_well seed n STORM_EXCHANGES site s2 o st2) st) stage
+    (λ site any s2 q2 st2. run_well seed n STORM_EXCHANGES p.plan.epoch site s2 o st2) st) stage
 
 -- ---- it never spends its budget
 
@@ -153,16 +153,16 @@ expose_not name kinds slots things seen o (is_exposed a b is) = goes_further_on 
 expose_not name kinds slots things seen o (is_misfit fault a b end) = ends_other o 4 end.1 (omega arith)
 expose_not name kinds slots things seen o (expose_memory end) = ends_other o 9 end.1 (omega arith)
 
-run_not : (seed n exchanges : ℕ) (site : Site) (seen : List Deed) (o : Outcome (Unit {0})) → RunsStorm seed n exchanges site seen o → NotSpent o
-run_not seed n exchanges site seen o (is_counted ran end run end_is) = ends_other o 0 end_is.1 (omega arith)
-run_not seed n exchanges site seen o (storm_memory ran end count run end_is) = ends_other o 9 end_is.1 (omega arith)
+run_not : (seed n exchanges : ℕ) (epoch : Option ℕ) (site : Site) (seen : List Deed) (o : Outcome (Unit {0})) → RunsStorm seed n exchanges epoch site seen o → NotSpent o
+run_not seed n exchanges epoch site seen o (is_counted ran end run end_is) = ends_other o 0 end_is.1 (omega arith)
+run_not seed n exchanges epoch site seen o (storm_memory ran end count run end_is) = ends_other o 9 end_is.1 (omega arith)
 
 storm_not : (kinds : List Kind) (seed n : ℕ) (seen : List Deed) (o : Outcome (Unit {0})) → Storms kinds seed n seen o → NotSpent o
 storm_not kinds seed n seen o stage =
     then_not TakesBuiltIn (λ p. StormsOn kinds seed n (with_few_exchanges p)) seen o thing_not
-    (λ p s r st. then_not (Opens (plan_name None) kinds (with_few_exchanges p)) (RunsStorm seed n STORM_EXCHANGES) s r
+    (λ p s r st. then_not (Opens (plan_name None) kinds (with_few_exchanges p)) (RunsStorm seed n STORM_EXCHANGES p.plan.epoch) s r
     (λ s2 r2 st2. then_not (Derives (with_few_exchanges p)) (Exposes (plan_name None) kinds p.plan.slots) s2 r2 (derive_not (with_few_exchanges p)) (expose_not (plan_name None) kinds p.plan.slots) st2)
-    (run_not seed n STORM_EXCHANGES) st) stage
+    (run_not seed n STORM_EXCHANGES p.plan.epoch) st) stage
 
 command_not : (held : Option (List HeldFile)) (kinds : List Kind) (command : Command) (seen : List Deed) (o : Outcome (Unit {0})) → is_storm (Some command) ≡ true → Does held kinds command seen o → NotSpent o
 command_not held kinds (Replay script plan events) seen o is stage = absurd cc

@@ -99,10 +99,10 @@ script_not name content seen o (is_script events a b d is) = goes_by o events is
 script_not name content seen o (is_no_script line a b e) = by_status o 4 e.1 (omega arith, omega arith)
 script_not name content seen o (script_memory e) = by_status o 9 e.1 (omega arith, omega arith)
 
-run_not : (budget : ℕ) (events : List EventWithBytes) (exchanges : ℕ) (site : Site) (seen : List Deed) (o : Outcome (Unit {0})) → RunsScript budget events exchanges site seen o → EndsPlainly o
-run_not budget events exchanges site seen o (is_whole ran end a b e) = by_status o 0 e.1 (omega arith, omega arith)
-run_not budget events exchanges site seen o (is_spent ran end a b e) = by_status o 8 e.1 (omega arith, omega arith)
-run_not budget events exchanges site seen o (run_memory ran end count b e) = by_status o 9 e.1 (omega arith, omega arith)
+run_not : (budget : ℕ) (events : List EventWithBytes) (exchanges : ℕ) (epoch : Option ℕ) (site : Site) (seen : List Deed) (o : Outcome (Unit {0})) → RunsScript budget events exchanges epoch site seen o → EndsPlainly o
+run_not budget events exchanges epoch site seen o (is_whole ran end a b e) = by_status o 0 e.1 (omega arith, omega arith)
+run_not budget events exchanges epoch site seen o (is_spent ran end a b e) = by_status o 8 e.1 (omega arith, omega arith)
+run_not budget events exchanges epoch site seen o (run_memory ran end count b e) = by_status o 9 e.1 (omega arith, omega arith)
 
 expose_not : (name : List ℕ) (kinds : List Kind) (slots : Slots) (things : List (List ℕ × Json)) (seen : List Deed) (o : Outcome Site) → Exposes name kinds slots things seen o → EndsPlainly o
 expose_not name kinds slots things seen o (is_exposed a b is) = goes_by o _ is
@@ -173,7 +173,7 @@ open_not name kinds p seen o stage = then_not (Derives p) (Exposes name kinds p.
 
 run_on_not : (name : List ℕ) (kinds : List Kind) (budget : ℕ) (read : Inputs) (seen : List Deed) (o : Outcome (Unit {0})) → RunsOn name kinds budget read seen o → EndsPlainly o
 run_on_not name kinds budget read seen o stage =
-    then_not (Opens name kinds read.planned) (RunsScript budget read.events read.planned.plan.exchanges) seen o (open_not name kinds read.planned) (run_not budget read.events read.planned.plan.exchanges) stage
+    then_not (Opens name kinds read.planned) (RunsScript budget read.events read.planned.plan.exchanges read.planned.plan.epoch) seen o (open_not name kinds read.planned) (run_not budget read.events read.planned.plan.exchanges read.planned.plan.epoch) stage
 
 listen_not : (place : Place) (seen : List Deed) (o : Outcome (Unit {0})) → Listens place seen o → EndsPlainly o
 listen_not place seen o (is_listening a is) = goes_by o tt is
@@ -181,25 +181,25 @@ listen_not place seen o (cannot_listen e) = by_status o 6 e.1 (omega arith, omeg
 listen_not place seen o (place_memory e) = by_status o 9 e.1 (omega arith, omega arith)
 listen_not place seen o (listen_memory e) = by_status o 9 e.1 (omega arith, omega arith)
 
-serve_not : (budget exchanges : ℕ) (site : Site) (seen : List Deed) (o : Outcome (Unit {0})) → ServesEvents budget exchanges site seen o → EndsPlainly o
-serve_not budget exchanges site seen o (has_served served.Stopped ran end serves e) = by_status o 0 e.1 (omega arith, omega arith)
-serve_not budget exchanges site seen o (has_served served.Failed ran end serves e) = by_status o 6 e.1 (omega arith, omega arith)
-serve_not budget exchanges site seen o (has_served served.Spent ran end serves e) = by_status o 8 e.1 (omega arith, omega arith)
+serve_not : (budget exchanges : ℕ) (epoch : Option ℕ) (site : Site) (seen : List Deed) (o : Outcome (Unit {0})) → ServesEvents budget exchanges epoch site seen o → EndsPlainly o
+serve_not budget exchanges epoch site seen o (has_served served.Stopped ran end serves e) = by_status o 0 e.1 (omega arith, omega arith)
+serve_not budget exchanges epoch site seen o (has_served served.Failed ran end serves e) = by_status o 6 e.1 (omega arith, omega arith)
+serve_not budget exchanges epoch site seen o (has_served served.Spent ran end serves e) = by_status o 8 e.1 (omega arith, omega arith)
 
 serving_not : (name : List ℕ) (kinds : List Kind) (budget idle : ℕ) (p : Planned) (seen : List Deed) (o : Outcome (Unit {0})) → ServesPlanned name kinds budget idle p seen o → EndsPlainly o
 serving_not name kinds budget idle p seen o stage =
-    then_not (Opens name kinds p) (λ site. AndThen (Listens (place_of p.plan (idle * 1000))) (λ _. ServesEvents budget p.plan.exchanges site)) seen o (open_not name kinds p)
-    (λ site s r st. then_not (Listens (place_of p.plan (idle * 1000))) (λ _. ServesEvents budget p.plan.exchanges site) s r (listen_not (place_of p.plan (idle * 1000)))
-    (λ u. serve_not budget p.plan.exchanges site) st) stage
+    then_not (Opens name kinds p) (λ site. AndThen (Listens (place_of p.plan (idle * 1000))) (λ _. ServesEvents budget p.plan.exchanges p.plan.epoch site)) seen o (open_not name kinds p)
+    (λ site s r st. then_not (Listens (place_of p.plan (idle * 1000))) (λ _. ServesEvents budget p.plan.exchanges p.plan.epoch site) s r (listen_not (place_of p.plan (idle * 1000)))
+    (λ u. serve_not budget p.plan.exchanges p.plan.epoch site) st) stage
 
-storm_run_not : (seed n exchanges : ℕ) (site : Site) (seen : List Deed) (o : Outcome (Unit {0})) → RunsStorm seed n exchanges site seen o → EndsPlainly o
-storm_run_not seed n exchanges site seen o (is_counted ran end a e) = by_status o 0 e.1 (omega arith, omega arith)
-storm_run_not seed n exchanges site seen o (storm_memory ran end count a e) = by_status o 9 e.1 (omega arith, omega arith)
+storm_run_not : (seed n exchanges : ℕ) (epoch : Option ℕ) (site : Site) (seen : List Deed) (o : Outcome (Unit {0})) → RunsStorm seed n exchanges epoch site seen o → EndsPlainly o
+storm_run_not seed n exchanges epoch site seen o (is_counted ran end a e) = by_status o 0 e.1 (omega arith, omega arith)
+storm_run_not seed n exchanges epoch site seen o (storm_memory ran end count a e) = by_status o 9 e.1 (omega arith, omega arith)
 
 storm_not : (kinds : List Kind) (seed n : ℕ) (seen : List Deed) (o : Outcome (Unit {0})) → Storms kinds seed n seen o → EndsPlainly o
 storm_not kinds seed n seen o stage =
     then_not TakesBuiltIn (λ p. StormsOn kinds seed n (with_few_exchanges p)) seen o (plans_not None None)
-    (λ p s r st. then_not (Opens (plan_name None) kinds (with_few_exchanges p)) (RunsStorm seed n STORM_EXCHANGES) s r (open_not (plan_name None) kinds (with_few_exchanges p)) (storm_run_not seed n STORM_EXCHANGES) st) stage
+    (λ p s r st. then_not (Opens (plan_name None) kinds (with_few_exchanges p)) (RunsStorm seed n STORM_EXCHANGES p.plan.epoch) s r (open_not (plan_name None) kinds (with_few_exchanges p)) (storm_run_not seed n STORM_EXCHANGES p.plan.epoch) st) stage
 
 described_not : (tree : Tree) (seen : List Deed) (o : Outcome Tree) → TakesDescription tree seen o → EndsPlainly o
 described_not tree seen o (is_taken a b is) = goes_by o tree is

@@ -42,14 +42,14 @@ line_after served.Failed = network_line
 line_after served.Spent = spent_line
 
 -- Serving at most n events, where m exchanges may live: what the machine does with those that come, from its start.
-pub data ServesEvents (budget exchanges : ℕ) (site : Site) (seen : List Deed) (o : Outcome (Unit {0})) : Type 0 where
-  has_served : (result : Served) (ran : List Sighting) (end : State) → Serves site budget result (start site exchanges) ran end
-      → EndsWith (sees ran) (status_after result) (line_after result) seen o → ServesEvents budget exchanges site seen o
+pub data ServesEvents (budget exchanges : ℕ) (epoch : Option ℕ) (site : Site) (seen : List Deed) (o : Outcome (Unit {0})) : Type 0 where
+  has_served : (result : Served) (ran : List Sighting) (end : State) → Serves site budget result (start site exchanges epoch) ran end
+      → EndsWith (sees ran) (status_after result) (line_after result) seen o → ServesEvents budget exchanges epoch site seen o
 
 -- what is done once the plan is read, where serving ends after n seconds without traffic, or never for 0
 abbrev pub ServesPlanned : List ℕ → List Kind → ℕ → ℕ → Planned → List Deed → Outcome (Unit {0}) → Type 0
 ServesPlanned name kinds budget idle p =
-    AndThen (Opens name kinds p) (λ site. AndThen (Listens (place_of p.plan (idle * 1000))) (λ _. ServesEvents budget p.plan.exchanges site))
+    AndThen (Opens name kinds p) (λ site. AndThen (Listens (place_of p.plan (idle * 1000))) (λ _. ServesEvents budget p.plan.exchanges p.plan.epoch site))
 
 -- Serving a plan on a rack with handlers of these kinds.
 abbrev pub ServesPlan : Option (List HeldFile) → List Kind → List ℕ → ℕ → ℕ → List Deed → Outcome (Unit {0}) → Type 0

@@ -87,21 +87,21 @@ abbrev pub print_of_run : List Sighting → List ℕ
 print_of_run ran = print_text (acts_in (happened_in ran)) (turns_in (calls_in ran))
 
 -- Running the events of a script, of which there may be n, where m exchanges may live.
-pub data RunsScript (budget : ℕ) (events : List EventWithBytes) (exchanges : ℕ) (site : Site) (seen : List Deed) (o : Outcome (Unit {0})) : Type 0 where
+pub data RunsScript (budget : ℕ) (events : List EventWithBytes) (exchanges : ℕ) (epoch : Option ℕ) (site : Site) (seen : List Deed) (o : Outcome (Unit {0})) : Type 0 where
   -- all of them were taken
-  is_whole : (ran : List Sighting) (end : State) → length (run_events events) ≤ budget → Run site (run_events events) (start site exchanges) ran end
-      → EndsWith (calls_of_run ran) 0 (print_of_run ran) seen o → RunsScript budget events exchanges site seen o
+  is_whole : (ran : List Sighting) (end : State) → length (run_events events) ≤ budget → Run site (run_events events) (start site exchanges epoch) ran end
+      → EndsWith (calls_of_run ran) 0 (print_of_run ran) seen o → RunsScript budget events exchanges epoch site seen o
   -- they are more than the budget, and the first of them were taken
-  is_spent : (ran : List Sighting) (end : State) → budget < length (run_events events) → Run site (take budget (run_events events)) (start site exchanges) ran end
-      → EndsWith (calls_of_run ran ++ did_write (print_of_run ran) ∷ []) 8 spent_line seen o → RunsScript budget events exchanges site seen o
+  is_spent : (ran : List Sighting) (end : State) → budget < length (run_events events) → Run site (take budget (run_events events)) (start site exchanges epoch) ran end
+      → EndsWith (calls_of_run ran ++ did_write (print_of_run ran) ∷ []) 8 spent_line seen o → RunsScript budget events exchanges epoch site seen o
   -- It was out of memory, before the run or after n events: nothing is printed then, and the handlers were called as in
   -- a run over those.
-  run_memory : (ran : List Sighting) (end : State) (count : ℕ) → Run site (take count (run_events events)) (start site exchanges) ran end
-      → RunsOut (calls_of_run ran) seen o → RunsScript budget events exchanges site seen o
+  run_memory : (ran : List Sighting) (end : State) (count : ℕ) → Run site (take count (run_events events)) (start site exchanges epoch) ran end
+      → RunsOut (calls_of_run ran) seen o → RunsScript budget events exchanges epoch site seen o
 
 -- what is done once the files are read
 abbrev pub RunsOn : List ℕ → List Kind → ℕ → Inputs → List Deed → Outcome (Unit {0}) → Type 0
-RunsOn name kinds budget read = AndThen (Opens name kinds read.planned) (RunsScript budget read.events read.planned.plan.exchanges)
+RunsOn name kinds budget read = AndThen (Opens name kinds read.planned) (RunsScript budget read.events read.planned.plan.exchanges read.planned.plan.epoch)
 
 -- A replay on a rack with handlers of these kinds.
 abbrev pub Replays : Option (List HeldFile) → List Kind → List ℕ → Option (List ℕ) → ℕ → List Deed → Outcome (Unit {0}) → Type 0

@@ -1,6 +1,6 @@
 //! `serve PLAN`: the Things of a plan are served at the plan's place, over the network.
 
-ghost use Rattle.std.specs.Prelude.{ℕ, List, ◌*◌};
+ghost use Rattle.std.specs.Prelude.{ℕ, List, Option, ◌*◌};
 ghost use Rattle.thing_site.specs.Exposing.{kinds_of};
 ghost use Rattle.thing_site.specs.Fits.{Fits};
 ghost use Rattle.thing_handler.specs.Handler.{Seen};
@@ -89,8 +89,8 @@ fn serve_events<N: Net, R: Handlers>(
     rack: &mut R,
 ) -> Result<Ending, Ended>
     requires fits { Fits servient.old.exposed.site (R.slots rack.old) }
-    ensures { (files : FilesSeen) → (exchanges : ℕ) → StandsFor servient.old (start servient.old.exposed.site exchanges)
-        → EndsBy (ServesEvents budget exchanges servient.old.exposed.site)
+    ensures { (files : FilesSeen) → (exchanges : ℕ) → (epoch : Option ℕ) → StandsFor servient.old (start servient.old.exposed.site exchanges epoch)
+        → EndsBy (ServesEvents budget exchanges epoch servient.old.exposed.site)
         (around files (outside (N.seen net.old) (R.slots rack.old)))
         (around files (outside (N.seen net.new) (R.slots rack.new))) result }
 {

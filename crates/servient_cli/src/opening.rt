@@ -30,7 +30,7 @@ pub fn open<R: Handlers>(
 ) -> Result<Servient, Ended>
     requires served { MayBeServed planned.now.plan }
     ensures stage { (a : Around) → Performs (Opens name.now (kinds_of (R.slots rack.now)) planned.now) a a (site_in result) }
-    ensures start { IfOk result (λ s. StandsFor s (start s.exposed.site planned.now.plan.exchanges)) }
+    ensures start { IfOk result (λ s. StandsFor s (start s.exposed.site planned.now.plan.exchanges planned.now.plan.epoch)) }
     ensures fits { IfOk result (λ s. Fits s.exposed.site (R.slots rack.now)) }
 {
     let things = derive_things(alloc, planned)?;
@@ -49,7 +49,7 @@ fn expose<R: Handlers>(
     requires valid { AllByRecursion (λ thing. IsValid thing.1) things }
     requires plain { AllByRecursion (λ thing. is_plain_segment thing.0 ≡ true) things }
     ensures stage { (a : Around) → Performs (Exposes name.now (kinds_of (R.slots rack.now)) plan.now.slots things) a a (site_in result) }
-    ensures start { IfOk result (λ s. StandsFor s (start s.exposed.site plan.now.exchanges)) }
+    ensures start { IfOk result (λ s. StandsFor s (start s.exposed.site plan.now.exchanges plan.now.epoch)) }
     ensures fits { IfOk result (λ s. Fits s.exposed.site (R.slots rack.now)) }
 {
     match Servient::new(alloc, plan, things, rack) {

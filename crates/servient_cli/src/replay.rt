@@ -1,6 +1,6 @@
 //! Running a script on the Things of a plan, and what the run prints.
 
-ghost use Rattle.std.specs.Prelude.{◌≡◌, ◌≤◌, ◌++◌, ℕ, List, length, map, IfOk, IfSome, IsSome};
+ghost use Rattle.std.specs.Prelude.{◌≡◌, ◌≤◌, ◌++◌, ℕ, List, Option, length, map, IfOk, IfSome, IsSome};
 ghost use Rattle.thing_handler.specs.Turns.{RunTurn};
 ghost use Rattle.servient_outside.specs.declared.net.EventWithBytes.{EventWithBytes};
 ghost use Rattle.servient_outside.specs.Network.{Happening, NetSeen, acts_in};
@@ -145,8 +145,8 @@ fn run_script<R: Handlers>(
 ) -> Result<Ending, Ended>
     requires fits { Fits servient.old.exposed.site (R.slots rack.old) }
     requires ends { StopsAtEnd events }
-    ensures { (files : FilesSeen) → (net : NetSeen) → (exchanges : ℕ) → StandsFor servient.old (start servient.old.exposed.site exchanges)
-        → EndsBy (RunsScript budget events exchanges servient.old.exposed.site)
+    ensures { (files : FilesSeen) → (net : NetSeen) → (exchanges : ℕ) → (epoch : Option ℕ) → StandsFor servient.old (start servient.old.exposed.site exchanges epoch)
+        → EndsBy (RunsScript budget events exchanges epoch servient.old.exposed.site)
         (around files (outside net (R.slots rack.old))) (around files (outside net (R.slots rack.new))) result }
 {
     let mut net = NetMemory::new(alloc, events, Calls::new(alloc))?;
@@ -163,9 +163,9 @@ fn run_network<R: Handlers>(
 ) -> Result<Ending, Ended>
     requires fits { Fits servient.old.exposed.site (R.slots rack.old) }
     requires script { (events : List EventWithBytes) × HasScript events net.old }
-    ensures { (files : FilesSeen) → (seen : NetSeen) → (exchanges : ℕ) → (events : List EventWithBytes) → HasScript events net.old
-        → StandsFor servient.old (start servient.old.exposed.site exchanges)
-        → EndsBy (RunsScript budget events exchanges servient.old.exposed.site)
+    ensures { (files : FilesSeen) → (seen : NetSeen) → (exchanges : ℕ) → (epoch : Option ℕ) → (events : List EventWithBytes) → HasScript events net.old
+        → StandsFor servient.old (start servient.old.exposed.site exchanges epoch)
+        → EndsBy (RunsScript budget events exchanges epoch servient.old.exposed.site)
         (around files (outside seen (R.slots rack.old))) (around files (outside seen (R.slots rack.new))) result }
 {
     let counts = turn_counts(alloc, rack)?;

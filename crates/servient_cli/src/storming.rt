@@ -1,6 +1,6 @@
 //! `storm SEED N`: the events of a storm are run on the built-in Thing, and what came of them is counted.
 
-ghost use Rattle.std.specs.Prelude.{◌≡◌, ℕ, List, IfOk, IfSome, IsSome};
+ghost use Rattle.std.specs.Prelude.{◌≡◌, ℕ, List, Option, IfOk, IfSome, IsSome};
 ghost use Rattle.servient_outside.specs.Network.{Happening, NetSeen, acts_in};
 ghost use Rattle.servient_outside.specs.NetMemory.{left_events, told_history};
 ghost use Rattle.servient_outside.specs.Files.{FilesSeen};
@@ -79,8 +79,8 @@ fn run_storm<R: Handlers>(
     rack: &mut R,
 ) -> Result<Ending, Ended>
     requires fits { Fits servient.old.exposed.site (R.slots rack.old) }
-    ensures { (files : FilesSeen) → (net : NetSeen) → (exchanges : ℕ) → StandsFor servient.old (start servient.old.exposed.site exchanges)
-        → EndsBy (RunsStorm seed count exchanges servient.old.exposed.site)
+    ensures { (files : FilesSeen) → (net : NetSeen) → (exchanges : ℕ) → (epoch : Option ℕ) → StandsFor servient.old (start servient.old.exposed.site exchanges epoch)
+        → EndsBy (RunsStorm seed count exchanges epoch servient.old.exposed.site)
         (around files (outside net (R.slots rack.old))) (around files (outside net (R.slots rack.new))) result }
 {
     let events = storm_events(alloc, seed, count)?;
@@ -102,9 +102,9 @@ fn serve_storm<R: Handlers>(
 ) -> Result<Ending, Ended>
     requires fits { Fits servient.old.exposed.site (R.slots rack.old) }
     requires storm { (seed : ℕ) × (count : ℕ) × HasStorm seed count load net.old }
-    ensures { (files : FilesSeen) → (seen : NetSeen) → (exchanges seed count : ℕ) → HasStorm seed count load net.old
-        → StandsFor servient.old (start servient.old.exposed.site exchanges)
-        → EndsBy (RunsStorm seed count exchanges servient.old.exposed.site)
+    ensures { (files : FilesSeen) → (seen : NetSeen) → (exchanges : ℕ) → (epoch : Option ℕ) → (seed count : ℕ) → HasStorm seed count load net.old
+        → StandsFor servient.old (start servient.old.exposed.site exchanges epoch)
+        → EndsBy (RunsStorm seed count exchanges epoch servient.old.exposed.site)
         (around files (outside seen (R.slots rack.old))) (around files (outside seen (R.slots rack.new))) result }
 {
     let before = turns_kept(rack);

@@ -14,9 +14,8 @@ use Rattle.thing_site.specs.Site.{Site}
 use Rattle.thing_core.specs.Thing.{Done, only, has_no_memory}
 use Rattle.thing_core.specs.Kept.{Kept}
 use Rattle.thing_ops.specs.Routes.{route_of}
-use Rattle.wot_directory.specs.Contents.{Contents}
 use Rattle.directory_requests.specs.Asked.{is_of_directory}
-use Rattle.directory_requests.specs.Requests.{is_out_of_memory}
+use Rattle.directory_requests.specs.declared.server.Entries.{Entries}
 use Rattle.http_bind.specs.Replying.{fault_word}
 use Rattle.http_bind.specs.Streams.{Streams, asks, wants_continue, is_faulty, interrupts, Takes, IsDry, Answers, Continues, Refuses, Ended, Closes, IsIdle, NoneIdle}
 use Rattle.http_bind.specs.Slots.{Held, Slots, Leads, StandsFor as ConnectionsStandFor, place_at, with_place, HasRoom}
@@ -82,7 +81,7 @@ sends_if_any c k n m slots None shows = refines_acts k n m slots [] shows
 sends_if_any c k n m slots (Some reply) shows = refines_acts k n m slots (acts_of_reply c reply) shows
 
 -- a request is taken, done and answered, and what is emitted is delivered
-pub takes_request : (site : Site) (c : ℕ) (q : PlainRequest) (done : Done) (o : Outcome) (k l : Layers) (b d : Slots) (e : Kept) (f : Contents) (n m : NetSeen) (before after : List Seen) (v : Outside)
+pub takes_request : (site : Site) (c : ℕ) (q : PlainRequest) (done : Done) (o : Outcome) (k l : Layers) (b d : Slots) (e : Kept) (f : Entries) (n m : NetSeen) (before after : List Seen) (v : Outside)
     → Leads (Takes c (asks q)) k.http b
     → Refines StandsFor Shows (PerformsByHttp site q done) (record k { http = b }) (record k { http = b; exposed = e; directory = f }) (outside n before) (outside n after)
     → done.outcome ≡ o → SendsAnswer c o k.moment b d n m
@@ -112,7 +111,7 @@ unread site q k w = either (is_of_directory (route_of q.path)) refl
     either true is = λ s stands. (
       s,
       stands,
-      record { seen = []; move = inl (is, (s.directory, is_out_of_memory refl refl, refl, record { next = refl; saw = refl })); shows = shows_in_order.none w },
+      record { seen = []; move = inl (is, (s.directory, inr (refl, refl), refl, record { next = refl; saw = refl })); shows = shows_in_order.none w },
     )
     either false isnt = λ s stands. (
       s,
@@ -243,6 +242,7 @@ pub closing_ready : (first k : Layers) (n m : NetSeen) → Closing first k n m �
 closing_ready first k n m t ready room = record {
   pending = ap (λ (x : Kept). x.pending) t.exposed ∙ ready.pending;
   moment = omega (arith, ap (λ (x : Server). x.exchanges.moment) t.coap, t.moment, ready.moment);
+  clock = omega (arith, t.moment, ready.clock);
   room = room;
 }
 

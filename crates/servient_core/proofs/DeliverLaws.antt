@@ -21,6 +21,7 @@ use Rattle.http_bind.specs.Slots.{Slots, HasRoom}
 use Rattle.servient_outside.specs.Network.{NetSeen}
 use Rattle.servient_core.specs.Trace.{Outside, outside, Shows}
 use Rattle.servient_core.specs.Machine.{State, Move, OnHttp, OnThing, Sends, acts_of_reply, RepliesToWait, AnswersWait, AnswersWaits, AnswersLateWait, MarksWatchers, Delivers, DeliversEach, PollsAndDelivers}
+use Rattle.wot_registry.specs.Times.{last_moment}
 use Rattle.servient_core.specs.Serving.{StandsFor, IsReady}
 use Rattle.servient_core.specs.Keeping.{DoesQuietly, DoesMove, LeavesNoMore, OnlyDelivers, SendsToWait, PollsOne, polls, ends}
 use Rattle.servient_core.specs.declared.layers.Layers.{Layers}
@@ -172,11 +173,12 @@ delivering_ends first k e n m d none state = λ slots s stands.
     let a = subst (λ (ts : List ℕ). Refines StandsFor Shows (Each Delivers ts) first k (outside n slots) (outside m slots)) all (d.made slots) s stands in
     (a.0, record { moment = a.1.moment; http = a.1.http; coap = a.1.coap; thing = a.1.thing ∙ sym state; directory = a.1.directory }, a.2)
 
-pub ready_after : (old new : Layers) → ((c : ℕ) → HasRoom c old.http) → old.coap.exchanges.moment ≤ old.moment → OnlyDelivers old new → new.exposed.pending ≡ []
-    → IsReady new
-ready_after old new room early only none = record {
+pub ready_after : (old new : Layers) → ((c : ℕ) → HasRoom c old.http) → old.coap.exchanges.moment ≤ old.moment → old.moment ≤ last_moment → OnlyDelivers old new
+    → new.exposed.pending ≡ [] → IsReady new
+ready_after old new room early clock only none = record {
   pending = none;
   moment = omega (arith, early, only.moment, ap (λ (x : Table). x.moment) only.exchanges);
+  clock = omega (arith, clock, only.moment);
   room = λ c. room_stays old.http new.http c only.left (room c);
 }
 

@@ -71,6 +71,7 @@ pub ready_notified : (old new : Layers) → IsReady old → new ≡ record old {
 ready_notified old new ready rest same = record {
   pending = ap (λ (x : Layers). x.exposed.pending) rest ∙ ready.pending;
   moment = omega (arith, ap (λ (x : Table). x.moment) same, ap (λ (x : Layers). x.moment) rest, ready.moment);
+  clock = omega (arith, ap (λ (x : Layers). x.moment) rest, ready.clock);
   room = λ c. room_stays old.http new.http c (subst (λ (x : Slots). LeavesNoMore old.http x) (sym (ap (λ (x : Layers). x.http) rest)) (λ d. omega arith)) (ready.room c);
 }
 
@@ -78,6 +79,7 @@ pub ready_answered : (old new : Layers) → IsReady old → new ≡ record old {
 ready_answered old new ready rest left = record {
   pending = ap (λ (x : Layers). x.exposed.pending) rest ∙ ready.pending;
   moment = omega (arith, ap (λ (x : Layers). x.coap.exchanges.moment) rest, ap (λ (x : Layers). x.moment) rest, ready.moment);
+  clock = omega (arith, ap (λ (x : Layers). x.moment) rest, ready.clock);
   room = λ c. room_stays old.http new.http c left (ready.room c);
 }
 

@@ -1,5 +1,5 @@
 -- The links to the Things: their text as it is written, and that it is read back.
-use Rattle.std.proofs.Common.{◌≡◌, ◌∙◌, ℕ, ◌+◌, ◌<◌, List, [], ◌∷◌, ◌++◌, map, length, drop, get_or, Bool, true, false, ◌&&◌, refl, sym, ap, subst, append_assoc, add-one, drop-cons, arith}
+use Rattle.std.proofs.Common.{◌≡◌, ◌∙◌, ℕ, Option, ◌+◌, ◌<◌, List, [], ◌∷◌, ◌++◌, map, length, drop, get_or, Bool, true, false, ◌&&◌, refl, sym, ap, subst, append_assoc, add-one, drop-cons, arith}
 use Rattle.std.specs.Prelude.{◌||◌, ◌==◌, codes}
 use Rattle.std.specs.List.{AllByRecursion, flat_map, list_all}
 use Rattle.std.proofs.lemmas.Bool.{and_parts}
@@ -72,9 +72,9 @@ segments_same slots list things site kept is =
     segments_are slots list ∙ ap (λ (ts : List (List ℕ × Json)). segments_of (site_of slots ts)) kept ∙ sym (ap segments_of is)
 
 -- the CoAP server is that with which the machine begins
-pub coap_starts : (slots : Slots) (list : List Thing) (things : List (List ℕ × Json)) (site : Site) (exchanges : ℕ) (coap : Server) → kept_things list ≡ things → site ≡ site_of slots things
-    → coap ≡ with_links (text_of_links (segments_in list)) (nothing_came exchanges MOST_WATCHERS) → (start site exchanges).coap ≡ coap
-coap_starts slots list things site exchanges coap kept is coap_is =
+pub coap_starts : (slots : Slots) (list : List Thing) (things : List (List ℕ × Json)) (site : Site) (exchanges : ℕ) (epoch : Option ℕ) (coap : Server) → kept_things list ≡ things → site ≡ site_of slots things
+    → coap ≡ with_links (text_of_links (segments_in list)) (nothing_came exchanges MOST_WATCHERS) → (start site exchanges epoch).coap ≡ coap
+coap_starts slots list things site exchanges epoch coap kept is coap_is =
     ap (λ (ss : List (List ℕ)). with_links (text_of_links ss) (nothing_came exchanges MOST_WATCHERS)) (sym (segments_same slots list things site kept is)) ∙ sym coap_is
 
 plain_segments : (slots : Slots) (things : List (List ℕ × Json)) → AllByRecursion (λ t. is_plain_segment t.0 ≡ true) things

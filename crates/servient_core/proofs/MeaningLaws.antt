@@ -17,7 +17,7 @@ use Rattle.thing_core.specs.State.{State as ThingState, Emission, Invocation}
 use Rattle.thing_core.specs.Places.{place_of}
 use Rattle.thing_core.specs.Thing.{Done, Acts, refuses, has_no_memory, performs}
 use Rattle.thing_core.proofs.DeterminedLaws.{determined}
-use Rattle.wot_directory.specs.Contents.{Contents}
+use Rattle.directory_requests.specs.declared.server.Entries.{Entries}
 use Rattle.directory_requests.specs.Asked.{is_of_directory}
 use Rattle.directory_requests.specs.Requests.{DirectoryActs}
 use Rattle.coap_opts.specs.Reading.{PlainAsk}
@@ -164,7 +164,7 @@ one_meaning site m n answers done other s t r u seen shown same isnt things one 
 pub asks_directory_alone : (site : Site) (c : ℕ) (q : PlainRequest) → AsksDirectoryAlone site c q
 asks_directory_alone site c q s t seen is (done, both) = either both.one
   where
-    either : PerformsByHttp site q done s both.first both.mid → (o : Outcome) × DirectoryActs q o s.directory t.directory × (calls_in seen ≡ []) × (t.thing ≡ s.thing)
+    either : PerformsByHttp site q done s both.first both.mid → (o : Outcome) × DirectoryActs q s.moment o s.directory t.directory × (calls_in seen ≡ []) × (t.thing ≡ s.thing)
     either (inr things) = absurd (never (is_of_directory (route_of q.path)) is things.0)
     either (inl directory) =
         let on = directory.1 in
@@ -174,7 +174,7 @@ asks_directory_alone site c q s t seen is (done, both) = either both.one
         (stays_quiet rest.mid t rest.second rest.other) rest.whole in
         let same : on.0 ≡ t.directory = sym (quiet.directory ∙ ap (λ (x : State). x.directory) on.3.next) in (
           done.outcome,
-          subst (λ (d : Contents). DirectoryActs q done.outcome s.directory d) same on.1,
+          subst (λ (d : Entries). DirectoryActs q s.moment done.outcome s.directory d) same on.1,
           ap calls_in both.whole ∙ filter_map-append call_in both.first both.second ∙ ap₂ (λ (x y : List HandlerCall). x ++ y) (ap calls_in on.3.saw) quiet.calls,
           quiet.thing ∙ ap (λ (x : State). x.thing) on.3.next,
         )

@@ -310,8 +310,8 @@ run_goes_on k history now site (e ∷ es) s t seen r h =
     }
 
 pub each_run_has_a_history : EachRunHasAHistory
-each_run_has_a_history site k took seen t r =
-    let run = run_goes_on k [] 0 site took (start site k) t seen r (record { did = (MOST_WATCHERS, linked [] (nothing_came k MOST_WATCHERS) (start site k).coap (text_of_links (segments_of site)) nothing refl); early = omega arith; at = refl }) in
+each_run_has_a_history site k epoch took seen t r =
+    let run = run_goes_on k [] 0 site took (start site k epoch) t seen r (record { did = (MOST_WATCHERS, linked [] (nothing_came k MOST_WATCHERS) (start site k epoch).coap (text_of_links (segments_of site)) nothing refl); early = omega arith; at = refl }) in
     record { history = run.new; requests = run.requests; did = run.holds.did; moment = omega (arith, run.holds.early, run.holds.at) }
 
 -- the end of serving changes nothing
@@ -321,5 +321,5 @@ ends_same served.Failed s t seen ends = ends.next
 ends_same served.Spent s t seen ends = ends.next
 
 pub serving_has_a_history : ServingHasAHistory
-serving_has_a_history site k budget result seen t r =
-    subst (HasHistory k r.took) (sym (ends_same result r.run.mid t r.run.second r.run.other)) (each_run_has_a_history site k r.took r.run.first r.run.mid r.run.one)
+serving_has_a_history site k budget epoch result seen t r =
+    subst (HasHistory k r.took) (sym (ends_same result r.run.mid t r.run.second r.run.other)) (each_run_has_a_history site k epoch r.took r.run.first r.run.mid r.run.one)

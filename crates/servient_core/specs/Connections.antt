@@ -6,6 +6,7 @@ use Rattle.thing_handler.specs.Handler.{Seen}
 use Rattle.thing_site.specs.Site.{Site}
 use Rattle.thing_site.specs.Fits.{Fits}
 use Rattle.http_bind.specs.Streams.{Answers, Continues, Refuses, IsDry}
+use Rattle.wot_registry.specs.Times.{last_moment}
 use Rattle.http_bind.specs.Slots.{Slots, Leads}
 use Rattle.servient_outside.specs.declared.net.Act.{Act}
 use Rattle.servient_outside.specs.Network.{NetSeen, NetShows, did}
@@ -13,11 +14,12 @@ use Rattle.servient_core.specs.Machine.{Move, TakesNextMessage, acts_of_reply}
 use Rattle.servient_core.specs.declared.layers.Layers.{Layers}
 
 -- While the messages of a connection are taken: no emission waits to be handed out, the exchanges are at no later
--- moment, and the rack is the Things'.
+-- moment, the moment is one that a clock may give, and the rack is the Things'.
 pub record IsOn (c : ℕ) (kept : Layers) (slots : List Seen) : Type 0 where
   pub connection : c < 64
   pub pending : kept.exposed.pending ≡ []
   pub moment : kept.coap.exchanges.moment ≤ kept.moment
+  pub clock : kept.moment ≤ last_moment
   pub fits : Fits kept.exposed.site slots
 
 -- what is done where there is a reply, and where a request waits

@@ -11,8 +11,8 @@ use Rattle.thing_site.specs.Site.{Placed}
 use Rattle.thing_site.specs.Fits.{Fits}
 use Rattle.thing_core.specs.Kept.{Kept}
 use Rattle.thing_core.specs.Thing.{Done, Acts}
-use Rattle.wot_directory.specs.Contents.{Contents}
 use Rattle.directory_requests.specs.Asked.{is_of_directory}
+use Rattle.directory_requests.specs.declared.server.Entries.{Entries}
 use Rattle.directory_requests.specs.Requests.{DirectoryActs}
 use Rattle.thing_core.specs.declared.polling.Round.{Round}
 use Rattle.thing_core.specs.Rounds.{events_left}
@@ -31,9 +31,9 @@ pub record DoesMove (move : Move) (old new : Layers) (before after : Outside) : 
   pub ready : IsReady new
   pub site : new.exposed.site ≡ old.exposed.site
 
--- What a request by HTTP did: to the directory, of which no handler knows and which emits nothing, or to the Things; what
--- they emit waits to be handed out.
-pub record MakesByHttp (old new : Kept) (d t : Contents) (q : PlainRequest) (o : Outcome) (before after : List Seen) : Type 0 where
+-- What a request by HTTP did at a moment: to the directory, of which no handler knows and which emits nothing, or to the
+-- Things; what they emit waits to be handed out.
+pub record MakesByHttp (old new : Kept) (d t : Entries) (now : ℕ) (q : PlainRequest) (o : Outcome) (before after : List Seen) : Type 0 where
   pub done : Done
   pub outcome : done.outcome ≡ o
   pub pending : new.pending ≡ map (λ e. e.target) done.emissions
@@ -41,7 +41,7 @@ pub record MakesByHttp (old new : Kept) (d t : Contents) (q : PlainRequest) (o :
   pub fits : Fits old.site before → Fits new.site after
   pub move :
       ((is_of_directory (route_of q.path) ≡ true)
-      × DirectoryActs q done.outcome d t × (done.emissions ≡ []) × (new ≡ old) × (after ≡ before))
+      × DirectoryActs q now done.outcome d t × (done.emissions ≡ []) × (new ≡ old) × (after ≡ before))
       ⊎ ((is_of_directory (route_of q.path) ≡ false) × Makes RackShows (Acts old.site q done) old.state new.state before after × (t ≡ d))
 
 -- An outcome can be sent by CoAP: it has a code, and its place is short. The place of an invocation is: its action's

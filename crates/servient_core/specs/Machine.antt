@@ -22,10 +22,9 @@ use Rattle.thing_site.specs.Site.{Placed, Site as Things, events_of}
 use Rattle.thing_core.specs.State.{State as ThingState, Emission, last_of, start as no_request_yet}
 use Rattle.thing_core.specs.Thing.{Move as ThingMove, Done, Acts, PollsEvent}
 use Rattle.thing_core.specs.Places.{target_of}
-use Rattle.wot_directory.specs.Contents.{Contents}
-use Rattle.wot_directory.specs.Directory.{empty_directory}
 use Rattle.directory_requests.specs.Asked.{is_of_directory}
-use Rattle.directory_requests.specs.Requests.{DirectoryActs}
+use Rattle.directory_requests.specs.declared.server.Entries.{Entries}
+use Rattle.directory_requests.specs.Requests.{no_entries, DirectoryActs}
 use Rattle.coap_observe.specs.declared.notice.Notice.{Notice}
 use Rattle.coap_opts.specs.Reading.{PlainAsk}
 use Rattle.coap_bind.specs.declared.head.OpenAsk.{OpenAsk}
@@ -51,17 +50,18 @@ Site = Things
 
 -- The machine's state: the greatest moment so far in milliseconds; the connections with their whole streams and the
 -- requests that wait; the CoAP server with its exchanges, its watchers and the id of its next message; what the Things
--- don't leave to their devices; the directory's descriptions.
+-- don't leave to their devices; the directory's entries, with times where it is known when the clock began.
 pub record State : Type 0 where
   pub moment : ℕ
   pub http : Streams
   pub coap : Server
   pub thing : ThingState
-  pub directory : Contents
+  pub directory : Entries
 
--- before the first event, where n exchanges may live; nobody watches, and the CoAP server has the links to the Things
-abbrev pub start : Site → ℕ → State
-start site exchanges = record { moment = 0; http = none_open; coap = with_links (text_of_links (segments_of site)) (nothing_came exchanges MOST_WATCHERS); thing = no_request_yet site; directory = empty_directory }
+-- before the first event, where n exchanges may live, of a clock that began then, if that is known; nobody watches, and the
+-- CoAP server has the links to the Things
+abbrev pub start : Site → ℕ → Option ℕ → State
+start site exchanges epoch = record { moment = 0; http = none_open; coap = with_links (text_of_links (segments_of site)) (nothing_came exchanges MOST_WATCHERS); thing = no_request_yet site; directory = no_entries epoch }
 
 abbrev pub Move : Type 1
 Move = State → List Sighting → State → Type 0
@@ -130,10 +130,11 @@ DeliversEach emissions = Each Delivers (map (λ e. e.target) emissions)
 abbrev pub Performs : Site → PlainRequest → Done → Move
 Performs site q done = OnThing (Acts site q done)
 
--- one to the directory (WoT Discovery, "Things API", in outline), which calls no handler and emits nothing
+-- one to the directory (WoT Discovery, "Things API", in outline) at the machine's moment, which calls no handler and
+-- emits nothing
 abbrev pub PerformsOnDirectory : PlainRequest → Done → Move
 PerformsOnDirectory q done s seen t =
-    (d : Contents) × DirectoryActs q done.outcome s.directory d × (done.emissions ≡ []) × Becomes (record s { directory = d }) [] seen t
+    (d : Entries) × DirectoryActs q s.moment done.outcome s.directory d × (done.emissions ≡ []) × Becomes (record s { directory = d }) [] seen t
 
 -- The directory is reached by HTTP alone: by its paths, which lead to no Thing.
 abbrev pub PerformsByHttp : Site → PlainRequest → Done → Move

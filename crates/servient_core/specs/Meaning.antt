@@ -70,12 +70,12 @@ HaveOneMeaning site m n =
 
 -- ---- the directory
 
--- A request to the directory that comes by HTTP changes the directory as that does it, calls no handler and leaves the
--- Things as they are.
+-- A request to the directory that comes by HTTP changes the directory as that does it at the machine's moment, calls no
+-- handler and leaves the Things as they are.
 abbrev pub AsksDirectoryAlone : Site → ℕ → PlainRequest → Type 0
 AsksDirectoryAlone site c q =
     (s t : State) (seen : List Sighting) → asks_directory (by_http c q) ≡ true → Handled site (by_http c q) s seen t
-    → (o : Outcome) × DirectoryActs q o s.directory t.directory × (calls_in seen ≡ []) × (t.thing ≡ s.thing)
+    → (o : Outcome) × DirectoryActs q s.moment o s.directory t.directory × (calls_in seen ≡ []) × (t.thing ≡ s.thing)
 
 -- One that comes by CoAP finds nothing there, and leaves the directory as it is.
 abbrev pub FindsNoDirectory : Site → Endpoint → PlainAsk → OpenAsk → Type 0

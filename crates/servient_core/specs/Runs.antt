@@ -1,5 +1,5 @@
 -- What holds of whole runs of the machine.
-use Rattle.std.specs.Prelude.{◌≡◌, ◌<◌, ◌≤◌, ◌+◌, ◌-◌, ◌^◌, ◌⊎◌, max, ℕ, List, [], ◌∷◌, ◌++◌, length, Some, slice_get}
+use Rattle.std.specs.Prelude.{◌≡◌, ◌<◌, ◌≤◌, ◌+◌, ◌-◌, ◌^◌, ◌⊎◌, max, ℕ, List, [], ◌∷◌, ◌++◌, length, Option, Some, slice_get}
 use Rattle.coap_msg.specs.declared.constants.TheConstants.{LONGEST_DATAGRAM}
 use Rattle.coap_exchange.specs.Admission.{Arrival}
 use Rattle.coap_bind.specs.Laws.{AreArrivals, Did}
@@ -39,14 +39,14 @@ pub record HasHistory (exchanges : ℕ) (took : List EventWithBytes) (t : State)
 -- The state after each run from the beginning has that of its events.
 abbrev pub EachRunHasAHistory : Type 0
 EachRunHasAHistory =
-    (site : Site) (exchanges : ℕ) (took : List EventWithBytes) (seen : List Sighting) (t : State)
-    → Run site took (start site exchanges) seen t → HasHistory exchanges took t
+    (site : Site) (exchanges : ℕ) (epoch : Option ℕ) (took : List EventWithBytes) (seen : List Sighting) (t : State)
+    → Run site took (start site exchanges epoch) seen t → HasHistory exchanges took t
 
 -- So has the state after serving, of the events that were taken.
 abbrev pub ServingHasAHistory : Type 0
 ServingHasAHistory =
-    (site : Site) (exchanges budget : ℕ) (result : Served) (seen : List Sighting) (t : State)
-    (serves : Serves site budget result (start site exchanges) seen t) → HasHistory exchanges serves.took t
+    (site : Site) (exchanges budget : ℕ) (epoch : Option ℕ) (result : Served) (seen : List Sighting) (t : State)
+    (serves : Serves site budget result (start site exchanges epoch) seen t) → HasHistory exchanges serves.took t
 
 -- ---- misses
 --

@@ -6,6 +6,7 @@ use Rattle.servient_outside.specs.declared.net.EventWithBytes.{EventWithBytes}
 use Rattle.servient_outside.specs.Network.{Happening, broke, next_event, break_count}
 use Rattle.thing_site.specs.declared.fault.ExposeFault.{ExposeFault}
 use Rattle.thing_site.specs.Exposing.{IsFirst}
+use Rattle.wot_registry.specs.Times.{last_moment}
 use Rattle.http_bind.specs.Slots.{StandsFor as ConnectionsStandFor, HasRoom}
 use Rattle.servient_core.specs.Trace.{Sighting, at_network}
 use Rattle.servient_core.specs.Machine.{Site, State, Run}
@@ -31,11 +32,13 @@ pub record StandsFor (kept : Layers) (s : State) : Type 0 where
   pub thing : s.thing ≡ kept.exposed.state
   pub directory : s.directory ≡ kept.directory
 
--- Between two events: no emission waits to be handed out, the exchanges are at no later moment, and each connection has
--- room for another piece. It is an invariant of `Servient`, so that `step` and `serve` ask only that the rack fits.
+-- Between two events: no emission waits to be handed out, the exchanges are at no later moment, the moment is one that a
+-- clock may give, and each connection has room for another piece. It is an invariant of `Servient`, so that `step` and
+-- `serve` ask only that the rack fits.
 pub record IsReady (kept : Layers) : Type 0 where
   pub pending : kept.exposed.pending ≡ []
   pub moment : kept.coap.exchanges.moment ≤ kept.moment
+  pub clock : kept.moment ≤ last_moment
   pub room : (c : ℕ) → HasRoom c kept.http
 
 -- the fault of exposing, or being out of memory

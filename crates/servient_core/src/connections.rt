@@ -142,6 +142,7 @@ impl Layers {
                 let outcome = perform_by_http(
                     &mut self.exposed,
                     &mut self.directory,
+                    self.moment,
                     rack,
                     &request,
                 );

@@ -6,6 +6,7 @@ ghost use Rattle.std.specs.List.{All};
 ghost use Rattle.thing_ops.specs.Requests.{plain_request};
 ghost use Rattle.thing_site.specs.Fits.{Fits};
 ghost use Rattle.thing_core.specs.Performing.{MakesAct};
+ghost use Rattle.wot_registry.specs.Times.{last_moment};
 ghost use Rattle.coap_opts.specs.PlainAsk.{plain_ask};
 ghost use Rattle.servient_core.specs.Machine.{observed_target};
 ghost use Rattle.servient_core.specs.Keeping.{IsSendable, MakesByHttp};
@@ -16,19 +17,21 @@ use thing_core::Exposed;
 use thing_handler::Handlers;
 use thing_ops::{Outcome, Request, route};
 
-/// Does what a request by HTTP asks. What it emits waits to be delivered.
+/// Does what a request by HTTP asks, at the machine's moment. What it emits waits to be delivered.
 pub fn perform_by_http<R: Handlers>(
     exposed: &mut Exposed,
     directory: &mut DirectoryServer,
+    moment: u64,
     rack: &mut R,
     request: &Request<'_>,
 ) -> Outcome
     requires pending { exposed.old.pending ≡ [] }
     requires fits { Fits exposed.old.site (R.slots rack.old) }
-    ensures { MakesByHttp exposed.old exposed.new directory.old directory.new (plain_request request.now) result (R.slots rack.old) (R.slots rack.new) }
+    requires bound { moment ≤ last_moment }
+    ensures { MakesByHttp exposed.old exposed.new directory.old directory.new moment (plain_request request.now) result (R.slots rack.old) (R.slots rack.new) }
 {
     if is_of_directory(route(&request.path)) {
-        return directory.perform(request);
+        return directory.perform(request, moment);
     }
     perform(exposed, rack, request)
 }

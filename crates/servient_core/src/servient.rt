@@ -1,6 +1,6 @@
 //! The servient of a plan, and what one event does.
 
-ghost use Rattle.std.specs.Prelude.{◌≡◌, ◌≤◌, ◌<◌, [], true, length, IfOk, IfErr, OnOk};
+ghost use Rattle.std.specs.Prelude.{◌≡◌, ◌≤◌, ◌<◌, [], true, length, IfOk, IfErr, IfSome, OnOk};
 ghost use Rattle.std.specs.List.{AllByRecursion};
 ghost use Rattle.servient_base.specs.Moves.{Refines};
 ghost use Rattle.tm_derive.specs.Segments.{is_plain_segment};
@@ -8,6 +8,7 @@ ghost use Rattle.wot_terms.specs.Faults.{IsValid};
 ghost use Rattle.thing_site.specs.Site.{site_of, expose_faults};
 ghost use Rattle.thing_site.specs.Exposing.{kinds_of};
 ghost use Rattle.thing_site.specs.Fits.{Fits};
+ghost use Rattle.wot_registry.specs.Dates.{last_millisecond};
 ghost use Rattle.servient_outside.specs.Network.{byte_count, IsEvent};
 ghost use Rattle.servient_core.specs.Trace.{Shows, outside};
 ghost use Rattle.core_links.specs.Links.{IsLinkText};
@@ -47,12 +48,13 @@ impl Model for Servient {
     ghost use Rattle.std.specs.Coded.{codes};
     ghost use Rattle.thing_core.specs.Kept.{kept_code};
     ghost use Rattle.wot_directory.specs.Contents.{contents_code};
+    ghost use Rattle.wot_registry.specs.Registry.{registered_code};
     ghost use Rattle.servient_core.specs.declared.layers.Layers.{Layers};
     ghost use Rattle.servient_core.specs.Serving.{IsReady};
 
     ghost Value = { Layers };
 
-    ghost coded = { Prim.hlevel (codes, kept_code, contents_code) };
+    ghost coded = { Prim.hlevel (codes, kept_code, contents_code, registered_code) };
 
     ghost view = { λ s. s.layers };
 
@@ -105,8 +107,9 @@ impl Servient {
         requires plain { AllByRecursion (λ t. is_plain_segment t.0 ≡ true) things }
         requires least { 16 ≤ plan.now.exchanges }
         requires most { plan.now.exchanges ≤ 65536 }
+        requires epoch { IfSome plan.now.epoch (λ e. e ≤ last_millisecond) }
         ensures site { IfOk result (λ s. s.exposed.site ≡ site_of plan.now.slots things) }
-        ensures start { IfOk result (λ s. StandsFor s (start s.exposed.site plan.now.exchanges)) }
+        ensures start { IfOk result (λ s. StandsFor s (start s.exposed.site plan.now.exchanges plan.now.epoch)) }
         // Its links are a link text, with a link to each Thing in order.
         ensures links { IfOk result (λ s. IsLinkText s.coap.links (links_to (segments_of s.exposed.site))) }
         ensures faultless { OnOk result (expose_faults (kinds_of (R.slots rack.now)) plan.now.slots things ≡ []) }
@@ -124,7 +127,7 @@ impl Servient {
             layers: Layers {
                 moment: 0,
                 exposed,
-                directory: DirectoryServer::new(alloc),
+                directory: DirectoryServer::new(alloc, plan.epoch),
                 coap,
                 http,
             },

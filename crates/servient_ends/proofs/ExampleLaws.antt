@@ -94,6 +94,7 @@ starts : (s : ClientState) → IsNew 0 s → IsBeginning [] 0 16 (beside s)
 starts s new = record {
   world = record { client = new; links = []; server = refl; asks = refl; sent = refl; acts = refl; emitted = refl; ids = refl; ends = refl; taken = refl };
   server = refl;
+  epoch = None;
   servient = refl;
 }
 
@@ -153,7 +154,7 @@ answers_it = record {
 }
 
 abbrev things : ThingState
-things = (start [] 16).thing
+things = (start [] 16 None).thing
 
 -- nothing is there
 acts_on_it : Acts [] (what_is_asked question).request (only outcome.NotFound) things [] things
@@ -169,14 +170,14 @@ abbrev reply_seen : List Sighting
 reply_seen = at_network (did (act.Datagram client_place answer_bytes)) ∷ []
 
 abbrev heard_state : State
-heard_state = record (start [] 16) { coap = admitting }
+heard_state = record (start [] 16 None) { coap = admitting }
 
 abbrev answered_state : State
-answered_state = record (start [] 16) { coap = answered_server }
+answered_state = record (start [] 16 None) { coap = answered_server }
 
-abbrev the_step : EventAndStep [] it_comes (start [] 16) (at_network (heard it_comes) ∷ reply_seen) answered_state
+abbrev the_step : EventAndStep [] it_comes (start [] 16 None) (at_network (heard it_comes) ∷ reply_seen) answered_state
 the_step = record {
-  mid = start [] 16;
+  mid = start [] 16 None;
   first = at_network (heard it_comes) ∷ [];
   second = reply_seen;
   one = record { next = refl; saw = refl };
@@ -255,15 +256,15 @@ the_step = record {
 abbrev answered_world : List (Option ℕ) → WorldState
 answered_world uses =
     with_notices things (notices_in the_step.other.mid the_step.other.second answered_state the_step.other.other)
-    (with_emissions (emitted_by_datagram [] client_place sent_bytes (start [] 16) the_step.other.first the_step.other.mid the_step.other.one)
+    (with_emissions (emitted_by_datagram [] client_place sent_bytes (start [] 16 None) the_step.other.first the_step.other.mid the_step.other.one)
     (with_sent (record (asked_world uses) {
       server = answered_server;
-      acts = acts_for (copy_of 0) (act_of [] client_place sent_bytes (start [] 16) the_step.other.first the_step.other.mid the_step.other.one);
-      ids = 0 + id_used (start [] 16).coap the_step.other.mid.coap;
-    }) server_place client_place (reply_to 0) (back_of [] client_place sent_bytes (start [] 16) the_step.other.first the_step.other.mid the_step.other.one)))
+      acts = acts_for (copy_of 0) (act_of [] client_place sent_bytes (start [] 16 None) the_step.other.first the_step.other.mid the_step.other.one);
+      ids = 0 + id_used (start [] 16 None).coap the_step.other.mid.coap;
+    }) server_place client_place (reply_to 0) (back_of [] client_place sent_bytes (start [] 16 None) the_step.other.first the_step.other.mid the_step.other.one)))
 
 abbrev asked_ends : List (Option ℕ) → EndsState
-asked_ends uses = record { world = asked_world uses; servient = start [] 16 }
+asked_ends uses = record { world = asked_world uses; servient = start [] 16 None }
 
 abbrev acted_ends : List (Option ℕ) → EndsState
 acted_ends uses = record { world = answered_world uses; servient = answered_state }

@@ -1,5 +1,5 @@
 -- Whoever watches, watches a target of the site.
-use Rattle.std.proofs.Common.{◌≡◌, ◌∙◌, ◌⊎◌, ◌<◌, ◌^◌, ℕ, Bool, true, false, cond, List, [], ◌∷◌, ◌++◌, inl, inr, refl, sym, ap, subst, arith}
+use Rattle.std.proofs.Common.{◌≡◌, ◌∙◌, ◌⊎◌, ◌<◌, ◌^◌, ℕ, Option, Bool, true, false, cond, List, [], ◌∷◌, ◌++◌, inl, inr, refl, sym, ap, subst, arith}
 use Rattle.std.specs.Prelude.{Option, Some, None, All}
 use Rattle.std.proofs.lemmas.List.Elements.{All-nil, All-push, All-contains}
 use Rattle.coap_msg.specs.declared.endpoint.Endpoint.{Endpoint}
@@ -27,8 +27,8 @@ pub record WatchesTargets (site : Site) (c : Server) : Type 0 where
 abbrev pub ActsOnTarget : Site → Option Acted → Type 0
 ActsOnTarget site act = (a : Acted) (n : ℕ) → act ≡ Some a → a.target ≡ Some n → IsTarget site n
 
-pub watches_at_start : (site : Site) (exchanges : ℕ) → WatchesTargets site (start site exchanges).coap
-watches_at_start site exchanges = record {
+pub watches_at_start : (site : Site) (exchanges : ℕ) (epoch : Option ℕ) → WatchesTargets site (start site exchanges epoch).coap
+watches_at_start site exchanges epoch = record {
   account = no_account;
   did = nothing_done _ refl;
   known = All-nil (λ (r : Registration). IsTarget site r.target);

@@ -264,19 +264,19 @@ all_turns site (m ∷ turns) p q all h =
     let rest = all_turns site turns all.0 q all.2 one.holds in
     record { moves = one.moves ++ rest.moves; plays = plays_both one.moves rest.moves p.world all.0.world q.world one.plays rest.plays; holds = rest.holds }
 
-holds_at_start : (site : Site) (exchanges : ℕ) (emitted : List Emission) (s : State) → emitted ≡ [] → s ≡ start site exchanges → HoldsOf site emitted s
-holds_at_start site exchanges emitted s none same = subst (λ (es : List Emission). HoldsOf site es s) (sym none) (subst (HoldsOf site []) (sym same) (record {
+holds_at_start : (site : Site) (exchanges : ℕ) (epoch : Option ℕ) (emitted : List Emission) (s : State) → emitted ≡ [] → s ≡ start site exchanges epoch → HoldsOf site emitted s
+holds_at_start site exchanges epoch emitted s none same = subst (λ (es : List Emission). HoldsOf site es s) (sym none) (subst (HoldsOf site []) (sym same) (record {
   counted = record { ids = omega arith; turns = omega arith };
   has = λ target is. is;
   says = say_nothing (emitters_of site);
-  watches = watches_at_start site exchanges;
+  watches = watches_at_start site exchanges epoch;
 }))
 
 begins : (site : Site) (first_id exchanges : ℕ) (p : EndsState) → IsBeginning site first_id exchanges p → Holds site p
 begins site first_id exchanges p is = record {
   server = is.server;
   moment = early p.servient.moment p.world.moment (ap (λ (x : State). x.moment) is.servient);
-  machine = holds_at_start site exchanges p.world.emitted p.servient is.world.emitted is.servient;
+  machine = holds_at_start site exchanges is.epoch p.world.emitted p.servient is.world.emitted is.servient;
 }
   where
     early : (a b : ℕ) → a ≡ 0 → a ≤ b

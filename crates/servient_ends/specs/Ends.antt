@@ -36,7 +36,8 @@ pub record EndsState : Type 0 where
 pub record IsBeginning (site : Site) (first_id exchanges : ℕ) (p : EndsState) : Type 0 where
   pub world : IsStart first_id exchanges MOST_WATCHERS p.world
   pub server : p.world.server ≡ p.servient.coap
-  pub servient : p.servient ≡ start site exchanges
+  pub epoch : Option ℕ
+  pub servient : p.servient ≡ start site exchanges epoch
 
 -- ---- what is read off a step
 

@@ -23,7 +23,7 @@ beside client = record {
     ends = [];
     taken = [];
   };
-  servient = start [] 16;
+  servient = start [] 16 None;
 }
 
 -- GET of the root

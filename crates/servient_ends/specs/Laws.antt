@@ -18,8 +18,8 @@ TurnsAreMoves =
 -- What the servient does meanwhile is a run of its machine, and what it sent in the world is what is seen of that run.
 abbrev pub ServientRuns : Type 0
 ServientRuns =
-    (site : Site) (first_id exchanges : ℕ) (turns : List Turn) (p q : EndsState) → IsBeginning site first_id exchanges p → TakesAll site turns p q
-    → (events : List EventWithBytes) × (seen : List Sighting) × Run site events (start site exchanges) seen q.servient
+    (site : Site) (first_id exchanges : ℕ) (turns : List Turn) (p q : EndsState) (begins : IsBeginning site first_id exchanges p) → TakesAll site turns p q
+    → (events : List EventWithBytes) × (seen : List Sighting) × Run site events (start site exchanges begins.epoch) seen q.servient
     × (sent_by_servient q.world.sent ≡ datagrams_in seen)
 
 -- For each ask the servient makes at most one act.

@@ -1,4 +1,4 @@
--- What a request does to the directory is determined, unless it is out of memory.
+-- What an act does to a directory whose entries have no times is determined, unless it is out of memory.
 use Rattle.std.proofs.Common.{◌≡◌, ◌<◌, ◌≤◌, ℕ, Bool, true, List, [], ◌∷◌, length, Option, Some, None, refl, sym, ap, ap₂, subst, ◌∙◌, arith, inl, inr}
 use Rattle.std.specs.Prelude.{◌≢◌, IsSome, is_some, slice_get}
 use Rattle.std.proofs.lemmas.Option.{same_Some}
@@ -11,38 +11,32 @@ use Rattle.wot_terms.specs.declared.fault.TdFault.{TdFault}
 use Rattle.thing_ops.specs.declared.outcome.Outcome.{Outcome}
 use Rattle.thing_ops.specs.declared.outcome.Outcome.TheVariants as outcome
 use Rattle.thing_ops.specs.Requests.{PlainRequest}
-use Rattle.thing_site.specs.Refusals.{Refusal, nothing_there, verb_not_taken, answer_not_acceptable, format_not_taken, body_not_as_wanted, value_too_large, refused_by_schema, condition_failed, no_invocation_left, IsFirst}
-use Rattle.thing_core.proofs.CompleteLaws.{none_is_first}
-use Rattle.thing_core.proofs.DeterminedLaws.{same_verbs}
 use Rattle.wot_directory.specs.Contents.{Contents, Entries, most_entries}
 use Rattle.wot_directory.specs.Directory.{id_of, IsFirstFault, HasRoom, with_entry, HasPutFault, Puts, IsLeastUnused, AreAllUsed, IsNextNumber, local_id, number_after, HasCreateFault, Creates, IsPatched, HasPatchFault, Patches, HasRemoveFault}
 use Rattle.wot_directory.specs.declared.fault.DirFault.{DirFault}
 use Rattle.wot_directory.specs.declared.fault.DirFault.TheVariants as fault
 use Rattle.directory_requests.specs.declared.act.DirectoryAct.{DirectoryAct}
 use Rattle.directory_requests.specs.declared.act.DirectoryAct.TheVariants as act
-use Rattle.directory_requests.specs.Asked.{id_in, refusals, Stands, IsAnsweredWith}
-use Rattle.directory_requests.specs.Requests.{outcome_of, put_outcome, CreatesEntry, PutsEntry, PatchesEntry, RemovesEntry, Performs, DirectoryActs, refuses, is_out_of_memory, performs}
+use Rattle.directory_requests.specs.Asked.{id_in}
+use Rattle.directory_requests.specs.Requests.{outcome_of, put_outcome, CreatesEntry, PutsEntry, PatchesEntry, RemovesEntry, Performs}
 
 -- one outcome and one directory
-record Same (o p : Outcome) (d e : Contents) : Type 0 where
-  outcome : o ≡ p
-  contents : d ≡ e
-
-same_outcome : {o p x : Outcome} (d e f : Contents) → o ≡ x → p ≡ x → e ≡ d → f ≡ d → Same o p e f
-same_outcome d e f a b c g = record { outcome = a ∙ sym b; contents = c ∙ sym g }
+pub record Same {X : Type 0} (o p : Outcome) (d e : X) : Type 0 where
+  pub outcome : o ≡ p
+  pub contents : d ≡ e
 
 -- ---- what can't hold together
 
-some_or_none : {A : Type 0} (o : Option A) → IsSome o → o ≡ None → ⊥
+pub some_or_none : {A : Type 0} (o : Option A) → IsSome o → o ≡ None → ⊥
 some_or_none {A} o some none = let there : is_some {T = A} None ≡ true = subst (λ (x : Option A). is_some x ≡ true) none some in absurd cc
 
-valid_or_not : (f : TdFault) (v : Json) → IsValid v → IsFirstFault f v → ⊥
+pub valid_or_not : (f : TdFault) (v : Json) → IsValid v → IsFirstFault f v → ⊥
 valid_or_not f v valid first = not_first (subst (λ (x : List (ℕ × List ℕ)). slice_get x 0 ≡ Some (f.number, f.pointer)) valid first)
   where
     not_first : slice_get {X = ℕ × List ℕ} [] 0 ≡ Some (f.number, f.pointer) → ⊥
     not_first e = cc
 
-first_number : (f g : TdFault) (v : Json) → IsFirstFault f v → IsFirstFault g v → f.number ≡ g.number
+pub first_number : (f g : TdFault) (v : Json) → IsFirstFault f v → IsFirstFault g v → f.number ≡ g.number
 first_number f g v a b = ap (λ (x : ℕ × List ℕ). x.0) (same_Some (f.number, f.pointer) (g.number, g.pointer) (sym a ∙ b))
 
 has_room : (id : List ℕ) (entries : Entries) → HasRoom id entries → member_named id entries ≡ None → most_entries ≤ length entries → ⊥
@@ -63,7 +57,7 @@ least_once first m n entries a b = omega (arith, lower, higher)
 used_or_not : (first n : ℕ) (entries : Entries) → AreAllUsed first entries → IsLeastUnused first entries n → ⊥
 used_or_not first n entries all least = some_or_none (member_named (local_id n) entries) (all n least.from_first least.to_last) least.unused
 
-next_once : (d : Contents) (m n : ℕ) → IsNextNumber d m → IsNextNumber d n → m ≡ n
+pub next_once : (d : Contents) (m n : ℕ) → IsNextNumber d m → IsNextNumber d n → m ≡ n
 next_once d m n (inl a) (inl b) = least_once d.next m n d.entries a b
 next_once d m n (inl a) (inr b) = absurd (used_or_not d.next m d.entries b.0 a)
 next_once d m n (inr a) (inl b) = absurd (used_or_not d.next n d.entries a.0 b)
@@ -71,10 +65,10 @@ next_once d m n (inr a) (inr b) = least_once 1 m n d.entries a.1 b.1
 
 -- ---- creating
 
-abbrev HadMemory : Outcome → Type 0
+abbrev pub HadMemory : Outcome → Type 0
 HadMemory o = o ≢ outcome.Memory
 
-create_fault_once : (f g : DirFault) (v : Json) (d : Contents) → HasCreateFault f v d → HasCreateFault g v d → HadMemory (outcome_of f) → HadMemory (outcome_of g) → outcome_of f ≡ outcome_of g
+pub create_fault_once : (f g : DirFault) (v : Json) (d : Contents) → HasCreateFault f v d → HasCreateFault g v d → HadMemory (outcome_of f) → HadMemory (outcome_of g) → outcome_of f ≡ outcome_of g
 create_fault_once fault.NoMemory g v d a b on_f on_g = absurd (on_f refl)
 create_fault_once f fault.NoMemory v d a b on_f on_g = absurd (on_g refl)
 create_fault_once fault.NotFound g v d a b on_f on_g = absurd a
@@ -91,7 +85,7 @@ create_fault_once fault.Full fault.HasId v d a b on_f on_g = absurd (some_or_non
 create_fault_once fault.Full (fault.Invalid g) v d a b on_f on_g = absurd (valid_or_not g v a.1 b.1)
 create_fault_once fault.Full fault.Full v d a b on_f on_g = refl
 
-created_or_not : (f : DirFault) (v : Json) (d : Contents) (id : List ℕ) (t : Contents) → Creates v d id t → HasCreateFault f v d → HadMemory (outcome_of f) → ⊥
+pub created_or_not : (f : DirFault) (v : Json) (d : Contents) (id : List ℕ) (t : Contents) → Creates v d id t → HasCreateFault f v d → HadMemory (outcome_of f) → ⊥
 created_or_not fault.NoMemory v d id t a b on_f = on_f refl
 created_or_not fault.NotFound v d id t a b on_f = b
 created_or_not fault.IdDiffers v d id t a b on_f = b
@@ -99,7 +93,7 @@ created_or_not fault.HasId v d id t a b on_f = some_or_none (id_of v) b a.may.na
 created_or_not (fault.Invalid f) v d id t a b on_f = valid_or_not f v a.may.valid b.1
 created_or_not fault.Full v d id t a b on_f = absurd (let few = a.may.room in omega (arith, few, b.2))
 
-creates_once : (v : Json) (o p : Outcome) (d t u : Contents) → HadMemory o → HadMemory p → CreatesEntry v o d t → CreatesEntry v p d u → Same o p t u
+pub creates_once : (v : Json) (o p : Outcome) (d t u : Contents) → HadMemory o → HadMemory p → CreatesEntry v o d t → CreatesEntry v p d u → Same o p t u
 creates_once v o p d t u on_o on_p (inl (id, a, is)) (inl (other, b, is')) =
     let number : a.number ≡ b.number = next_once d a.number b.number a.number_is b.number_is in record {
       outcome = is ∙ ap (λ (x : List ℕ). outcome.Created (Some x)) (a.id_is ∙ ap local_id number ∙ sym b.id_is) ∙ sym is';
@@ -114,7 +108,7 @@ creates_once v o p d t u on_o on_p (inr (f, a, is, after)) (inr (g, b, is', afte
 
 -- ---- putting
 
-put_fault_once : (f g : DirFault) (id : List ℕ) (v : Json) (d : Contents) → HasPutFault f id v d → HasPutFault g id v d → HadMemory (outcome_of f) → HadMemory (outcome_of g) → outcome_of f ≡ outcome_of g
+pub put_fault_once : (f g : DirFault) (id : List ℕ) (v : Json) (d : Contents) → HasPutFault f id v d → HasPutFault g id v d → HadMemory (outcome_of f) → HadMemory (outcome_of g) → outcome_of f ≡ outcome_of g
 put_fault_once fault.NoMemory g id v d a b on_f on_g = absurd (on_f refl)
 put_fault_once f fault.NoMemory id v d a b on_f on_g = absurd (on_g refl)
 put_fault_once fault.NotFound g id v d a b on_f on_g = absurd a
@@ -131,7 +125,7 @@ put_fault_once fault.Full (fault.Invalid g) id v d a b on_f on_g = absurd (valid
 put_fault_once fault.Full fault.IdDiffers id v d a b on_f on_g = absurd (b.1 a.1)
 put_fault_once fault.Full fault.Full id v d a b on_f on_g = refl
 
-put_or_not : (f : DirFault) (id : List ℕ) (v : Json) (d : Contents) (is_new : Bool) (t : Contents) → Puts id v d is_new t → HasPutFault f id v d → HadMemory (outcome_of f) → ⊥
+pub put_or_not : (f : DirFault) (id : List ℕ) (v : Json) (d : Contents) (is_new : Bool) (t : Contents) → Puts id v d is_new t → HasPutFault f id v d → HadMemory (outcome_of f) → ⊥
 put_or_not fault.NoMemory id v d is_new t a b on_f = on_f refl
 put_or_not fault.NotFound id v d is_new t a b on_f = b
 put_or_not fault.HasId id v d is_new t a b on_f = b
@@ -151,7 +145,7 @@ puts_once id v o p d t u on_o on_p (inr (f, a, is, after)) (inr (g, b, is', afte
 -- ---- patching
 
 -- two values under one id are one
-one_held : (id : List ℕ) (d : Contents) (v w : Json) → member_named id d.entries ≡ Some v → member_named id d.entries ≡ Some w → w ≡ v
+pub one_held : (id : List ℕ) (d : Contents) (v w : Json) → member_named id d.entries ≡ Some v → member_named id d.entries ≡ Some w → w ≡ v
 one_held id d v w a b = same_Some w v (sym b ∙ a)
 
 patch_fault_once : (f g : DirFault) (id : List ℕ) (v : Json) (d : Contents) → HasPatchFault f id v d → HasPatchFault g id v d → HadMemory (outcome_of f) → HadMemory (outcome_of g) → outcome_of f ≡ outcome_of g
@@ -200,7 +194,7 @@ patches_once id v o p d t u on_o on_p (inr (f, a, is, after)) (inr (g, b, is', a
 
 -- ---- removing
 
-only_not_found : (f : DirFault) (id : List ℕ) (d : Contents) → HasRemoveFault f id d → (f ≡ fault.NotFound) × (member_named id d.entries ≡ None)
+pub only_not_found : (f : DirFault) (id : List ℕ) (d : Contents) → HasRemoveFault f id d → (f ≡ fault.NotFound) × (member_named id d.entries ≡ None)
 only_not_found fault.NotFound id d a = (refl, a)
 only_not_found (fault.Invalid f) id d a = absurd a
 only_not_found fault.IdDiffers id d a = absurd a
@@ -217,10 +211,10 @@ removes_once id o p d t u (inr (f, a, is, after)) (inr (g, b, is', after')) =
 
 -- ---- acts
 
-same_value : (body : List ℕ) (v w : Json) → tree_of body ≡ Some v → tree_of body ≡ Some w → w ≡ v
+pub same_value : (body : List ℕ) (v w : Json) → tree_of body ≡ Some v → tree_of body ≡ Some w → w ≡ v
 same_value body v w a b = same_Some w v (sym b ∙ a)
 
-performed_once : (a : DirectoryAct) (q : PlainRequest) (o p : Outcome) (d t u : Contents) → HadMemory o → HadMemory p → Performs a q o d t → Performs a q p d u → Same o p t u
+pub performed_once : (a : DirectoryAct) (q : PlainRequest) (o p : Outcome) (d t u : Contents) → HadMemory o → HadMemory p → Performs a q o d t → Performs a q p d u → Same o p t u
 performed_once act.Lists q o p d t u on_o on_p a b = record { outcome = a.0 ∙ sym b.0; contents = a.1 ∙ sym b.1 }
 performed_once act.Creates q o p d t u on_o on_p (v, read, a) (w, read', b) =
     creates_once v o p d t u on_o on_p a (subst (λ (x : Json). CreatesEntry x p d u) (same_value q.body v w read read') b)
@@ -230,35 +224,3 @@ performed_once act.Puts q o p d t u on_o on_p (v, read, a) (w, read', b) =
 performed_once act.Patches q o p d t u on_o on_p (v, read, a) (w, read', b) =
     patches_once (id_in q.path) v o p d t u on_o on_p a (subst (λ (x : Json). PatchesEntry (id_in q.path) x p d u) (same_value q.body v w read read') b)
 performed_once act.Removes q o p d t u on_o on_p a b = removes_once (id_in q.path) o p d t u a b
-
--- ---- refusals
-
-one_answer : (r : Refusal) (q : PlainRequest) (o p : Outcome) → IsAnsweredWith r q o → IsAnsweredWith r q p → o ≡ p
-one_answer nothing_there q o p a b = a ∙ sym b
-one_answer verb_not_taken q o p a b = a.2 ∙ ap outcome.NotAllowed (same_verbs a.0 b.0 (a.1 ∙ sym b.1)) ∙ sym b.2
-one_answer answer_not_acceptable q o p a b = a ∙ sym b
-one_answer format_not_taken q o p a b = a ∙ sym b
-one_answer body_not_as_wanted q o p a b = a ∙ sym b
-one_answer value_too_large q o p a b = a ∙ sym b
-one_answer refused_by_schema q o p a b = a ∙ sym b
-one_answer condition_failed q o p a b = a ∙ sym b
-one_answer no_invocation_left q o p a b = a ∙ sym b
-
-one_refusal : (q : PlainRequest) (rs : List Refusal) (o p : Outcome) → IsFirst (λ r. Stands r q) (λ r. IsAnsweredWith r q) rs o → IsFirst (λ r. Stands r q) (λ r. IsAnsweredWith r q) rs p → o ≡ p
-one_refusal q [] o p a b = absurd a
-one_refusal q (r ∷ rs) o p (inl a) (inl b) = one_answer r q o p a.1 b.1
-one_refusal q (r ∷ rs) o p (inl a) (inr b) = absurd (b.0 a.0)
-one_refusal q (r ∷ rs) o p (inr a) (inl b) = absurd (a.0 b.0)
-one_refusal q (r ∷ rs) o p (inr a) (inr b) = one_refusal q rs o p a.1 b.1
-
--- ---- requests
-
-pub directory_determined : (q : PlainRequest) (o p : Outcome) (d t u : Contents) → o ≢ outcome.Memory → p ≢ outcome.Memory → DirectoryActs q o d t → DirectoryActs q p d u → (o ≡ p) × (t ≡ u)
-directory_determined q o p d t u on_o on_p (is_out_of_memory is after) other = absurd (on_o is)
-directory_determined q o p d t u on_o on_p one (is_out_of_memory is after) = absurd (on_p is)
-directory_determined q o p d t u on_o on_p (refuses a after) (refuses b after') = (one_refusal q refusals o p a b, after ∙ sym after')
-directory_determined q o p d t u on_o on_p (refuses a after) (performs x asked none b) = absurd (none_is_first (λ r. Stands r q) (λ r. IsAnsweredWith r q) refusals o a none)
-directory_determined q o p d t u on_o on_p (performs x asked none a) (refuses b after) = absurd (none_is_first (λ r. Stands r q) (λ r. IsAnsweredWith r q) refusals p b none)
-directory_determined q o p d t u on_o on_p (performs x asked none a) (performs y asked' none' b) =
-    let same = performed_once x q o p d t u on_o on_p a (subst (λ (z : DirectoryAct). Performs z q p d u) (same_Some y x (sym asked' ∙ asked)) b) in
-    (same.outcome, same.contents)

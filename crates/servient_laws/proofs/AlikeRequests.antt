@@ -15,7 +15,7 @@ use Rattle.thing_core.specs.State.{State as ThingState, Emission, last_after}
 use Rattle.thing_core.specs.Thing.{Done, Acts, Called, no_number, no_memory, gives, Calls, IsTaken, emission, IsPolled, PollsEvent}
 use Rattle.thing_core.specs.Determined.{AreAnsweredBy, HadMemory as WasAmple}
 use Rattle.thing_core.proofs.DeterminedLaws.{determined, answered_first, one_decision}
-use Rattle.wot_directory.specs.Contents.{Contents}
+use Rattle.directory_requests.specs.declared.server.Entries.{Entries}
 use Rattle.directory_requests.specs.Asked.{is_of_directory}
 use Rattle.directory_requests.specs.Requests.{DirectoryActs}
 use Rattle.servient_core.specs.Trace.{Sighting, at_handler, calls_in}
@@ -24,7 +24,7 @@ use Rattle.servient_core.proofs.PartLaws.{the_calls}
 use Rattle.servient_laws.specs.Determined.{HadMemory, Fits}
 use Rattle.servient_laws.proofs.AlikeStates.{Alike, Agree, AgreeAs, thing_changed, directory_changed, becomes_agree, passing_same}
 use Rattle.servient_laws.proofs.AlikeMoves.{deliveries_agree}
-use Rattle.servient_laws.proofs.AlikeDirectories.{directory_determined}
+use Rattle.servient_laws.proofs.AlikeDirectoryActs.{directory_determined}
 
 -- ---- calls
 
@@ -66,7 +66,8 @@ same_done x y e f = ap₂ (λ (o : Outcome) (es : List Emission). record { outco
 by_directory : (q : PlainRequest) (x y : Done) (s t u v : State) (a b : List Sighting) → Alike s t
     → PerformsOnDirectory q x s a u → PerformsOnDirectory q y t b v → WasAmple x → WasAmple y → (x ≡ y) × Agree a b u v
 by_directory q x y s t u v a b alike (d, p, none, at) (e, r, none', at') on_x on_y =
-    let same = directory_determined q x.outcome y.outcome s.directory d e on_x on_y p (subst (λ (z : Contents). DirectoryActs q y.outcome z e) (sym alike.directory) r) in
+    let same = directory_determined q s.moment x.outcome y.outcome s.directory d e on_x on_y p
+    (subst (λ (n : ℕ). DirectoryActs q n y.outcome s.directory e) (sym alike.moment) (subst (λ (z : Entries). DirectoryActs q t.moment y.outcome z e) (sym alike.directory) r)) in
     (same_done x y same.0 (none ∙ sym none'), becomes_agree (record s { directory = d }) (record t { directory = e }) u v [] [] a b (directory_changed s t d e alike same.1) refl at at')
 
 never : (b : Bool) → b ≡ true → b ≡ false → ⊥

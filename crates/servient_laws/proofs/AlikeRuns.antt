@@ -235,5 +235,5 @@ event_agrees answers site e =
     (λ s t u v a b alike p q on_a on_b. becomes_agree s t u v (at_network (heard e) ∷ []) (at_network (heard e) ∷ []) a b alike refl p q) (step_agrees answers site e)
 
 pub runs_are_determined : RunsAreDetermined
-runs_are_determined site exchanges took answers seen shown s t one other on_seen on_shown =
-    (each_agree answers (EventAndStep site) took (event_agrees answers site) (start site exchanges) (start site exchanges) s t seen shown (alike_self (start site exchanges)) one other on_seen on_shown).seen
+runs_are_determined site exchanges epoch took answers seen shown s t one other on_seen on_shown =
+    (each_agree answers (EventAndStep site) took (event_agrees answers site) (start site exchanges epoch) (start site exchanges epoch) s t seen shown (alike_self (start site exchanges epoch)) one other on_seen on_shown).seen

@@ -215,14 +215,14 @@ judge_tells held tree seen status (is_valid a e) = ended held seen status 0 e.1 
 judge_tells held tree seen status (is_refused number pointer a e) = ended held seen status 5 e.1 (omega arith, omega arith)
 judge_tells held tree seen status (judge_memory e) = ended held seen status 9 e.1 (omega arith, omega arith)
 
-run_tells : (held : Option (List HeldFile)) (budget : ℕ) (events : List EventWithBytes) (exchanges : ℕ) (site : Site) → Telling held (RunsScript budget events exchanges site)
-run_tells held budget events exchanges site seen status (is_whole ran end a b e) = ended held seen status 0 e.1 (omega arith, omega arith)
-run_tells held budget events exchanges site seen status (is_spent ran end a b e) = ended held seen status 8 e.1 (omega arith, omega arith)
-run_tells held budget events exchanges site seen status (run_memory ran end count b e) = ended held seen status 9 e.1 (omega arith, omega arith)
+run_tells : (held : Option (List HeldFile)) (budget : ℕ) (events : List EventWithBytes) (exchanges : ℕ) (epoch : Option ℕ) (site : Site) → Telling held (RunsScript budget events exchanges epoch site)
+run_tells held budget events exchanges epoch site seen status (is_whole ran end a b e) = ended held seen status 0 e.1 (omega arith, omega arith)
+run_tells held budget events exchanges epoch site seen status (is_spent ran end a b e) = ended held seen status 8 e.1 (omega arith, omega arith)
+run_tells held budget events exchanges epoch site seen status (run_memory ran end count b e) = ended held seen status 9 e.1 (omega arith, omega arith)
 
-storm_tells : (held : Option (List HeldFile)) (seed n exchanges : ℕ) (site : Site) → Telling held (RunsStorm seed n exchanges site)
-storm_tells held seed n exchanges site seen status (is_counted ran end a e) = ended held seen status 0 e.1 (omega arith, omega arith)
-storm_tells held seed n exchanges site seen status (storm_memory ran end count a e) = ended held seen status 9 e.1 (omega arith, omega arith)
+storm_tells : (held : Option (List HeldFile)) (seed n exchanges : ℕ) (epoch : Option ℕ) (site : Site) → Telling held (RunsStorm seed n exchanges epoch site)
+storm_tells held seed n exchanges epoch site seen status (is_counted ran end a e) = ended held seen status 0 e.1 (omega arith, omega arith)
+storm_tells held seed n exchanges epoch site seen status (storm_memory ran end count a e) = ended held seen status 9 e.1 (omega arith, omega arith)
 
 -- ---- the network
 
@@ -239,12 +239,12 @@ breaks_last (at_network (did act) ∷ a) rest = breaks_last a rest
 breaks_last (at_network (broke call) ∷ a) rest = omega arith
 breaks_last (at_handler call ∷ a) rest = breaks_last a rest
 
-serve_tells : (held : Option (List HeldFile)) (budget exchanges : ℕ) (site : Site) → Telling held (ServesEvents budget exchanges site)
-serve_tells held budget exchanges site seen status (has_served served.Stopped ran end serves e) = ended held seen status 0 e.1 (omega arith, omega arith)
-serve_tells held budget exchanges site seen status (has_served served.Failed ran end serves e) =
+serve_tells : (held : Option (List HeldFile)) (budget exchanges : ℕ) (epoch : Option ℕ) (site : Site) → Telling held (ServesEvents budget exchanges epoch site)
+serve_tells held budget exchanges epoch site seen status (has_served served.Stopped ran end serves e) = ended held seen status 0 e.1 (omega arith, omega arith)
+serve_tells held budget exchanges epoch site seen status (has_served served.Failed ran end serves e) =
     six_only held seen status (same_status status 6 e.1)
     (subst NetFails (sym (e.0 ∙ ap (λ (x : List Sighting). sees x ++ did_write network_line ∷ []) (serves.run.whole ∙ ap (λ (x : List Sighting). serves.run.first ++ x) serves.run.other.saw))) (breaks_last serves.run.first (did_write network_line ∷ [])))
-serve_tells held budget exchanges site seen status (has_served served.Spent ran end serves e) = ended held seen status 8 e.1 (omega arith, omega arith)
+serve_tells held budget exchanges epoch site seen status (has_served served.Spent ran end serves e) = ended held seen status 8 e.1 (omega arith, omega arith)
 
 breaks_among : (deeds : List operation.Deed) (rest : List Deed) → 1 ≤ break_count (operation.happened_in deeds) → NetFails (deeds_of deeds ++ rest)
 breaks_among [] rest breaks = absurd (omega (arith, breaks))
@@ -302,12 +302,12 @@ choose_tells held tree op name only seen status (choose_memory e) = ended held s
 does_tell : (held : Option (List HeldFile)) (kinds : List Kind) (command : Command) → Telling held (Does held kinds command)
 does_tell held kinds (Replay script plan events) =
     then_tells held (ReadsInputs held plan script) (RunsOn (plan_name plan) kinds events) (inputs_tell held plan script)
-    (λ (read : Inputs). then_tells held (Opens (plan_name plan) kinds read.planned) (RunsScript events read.events read.planned.plan.exchanges) (open_tells held (plan_name plan) kinds read.planned)
-    (run_tells held events read.events read.planned.plan.exchanges))
+    (λ (read : Inputs). then_tells held (Opens (plan_name plan) kinds read.planned) (RunsScript events read.events read.planned.plan.exchanges read.planned.plan.epoch) (open_tells held (plan_name plan) kinds read.planned)
+    (run_tells held events read.events read.planned.plan.exchanges read.planned.plan.epoch))
 does_tell held kinds (Serve plan events idle) =
     then_tells held (ReadsPlanned held plan) (ServesPlanned plan kinds events idle) (planned_tells held plan)
-    (λ (p : Planned). then_tells held (Opens plan kinds p) (λ site. AndThen (Listens (place_of p.plan (idle * 1000))) (λ _. ServesEvents events p.plan.exchanges site)) (open_tells held plan kinds p)
-    (λ site. then_tells held (Listens (place_of p.plan (idle * 1000))) (λ _. ServesEvents events p.plan.exchanges site) (listen_tells held (place_of p.plan (idle * 1000))) (λ _. serve_tells held events p.plan.exchanges site)))
+    (λ (p : Planned). then_tells held (Opens plan kinds p) (λ site. AndThen (Listens (place_of p.plan (idle * 1000))) (λ _. ServesEvents events p.plan.exchanges p.plan.epoch site)) (open_tells held plan kinds p)
+    (λ site. then_tells held (Listens (place_of p.plan (idle * 1000))) (λ _. ServesEvents events p.plan.exchanges p.plan.epoch site) (listen_tells held (place_of p.plan (idle * 1000))) (λ _. serve_tells held events p.plan.exchanges p.plan.epoch site)))
 does_tell held kinds (Check description) =
     then_tells held (ReadsFile held longest_json description) (Checks description) (file_tells held longest_json description)
     (λ content. then_tells held (ReadsTree description content) Judges (tree_tells held description content) (judge_tells held))
@@ -315,7 +315,7 @@ does_tell held kinds (Derive plan) =
     then_tells held (ReadsPlanned held plan) DerivesAndPrints (planned_tells held plan) (λ (p : Planned). then_tells held (Derives p) Prints (derive_tells held p) (print_tells held))
 does_tell held kinds (Storm seed events) =
     then_tells held TakesBuiltIn (λ (p : Planned). StormsOn kinds seed events (with_few_exchanges p)) (built_in_tells held)
-    (λ (p : Planned). then_tells held (Opens (plan_name None) kinds (with_few_exchanges p)) (RunsStorm seed events STORM_EXCHANGES) (open_tells held (plan_name None) kinds (with_few_exchanges p)) (storm_tells held seed events STORM_EXCHANGES))
+    (λ (p : Planned). then_tells held (Opens (plan_name None) kinds (with_few_exchanges p)) (RunsStorm seed events STORM_EXCHANGES p.plan.epoch) (open_tells held (plan_name None) kinds (with_few_exchanges p)) (storm_tells held seed events STORM_EXCHANGES p.plan.epoch))
 does_tell held kinds (Consume k) =
     then_tells held (ReadsDescription held k.description) (ConsumesBy held k)
     (then_tells held (ReadsFile held longest_json k.description) (DescriptionIn k.description) (file_tells held longest_json k.description)

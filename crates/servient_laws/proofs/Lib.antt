@@ -14,6 +14,8 @@ mod AlikeServers
 mod AlikeWatchers
 mod AlikeStreams
 mod AlikeDirectories
+mod AlikeRegistries
+mod AlikeDirectoryActs
 mod AlikeMoves
 mod AlikeRequests
 mod AlikeRuns

@@ -1,6 +1,6 @@
 -- What comes of a duplicate, and of a request that finds the table full.
 use Rattle.std.proofs.Common.{◌≡◌, ◌≤◌, ℕ, Bool, length, List, [], ◌∷◌, ◌++◌, max, true, false, refl, sym, ap, subst, ◌∙◌, arith, inl, inr}
-use Rattle.std.specs.Prelude.{◌⊎◌, Contains, filter, nat_lt, if◌then◌else◌}
+use Rattle.std.specs.Prelude.{◌⊎◌, Option, Contains, filter, nat_lt, if◌then◌else◌}
 use Rattle.std.specs.List.{list_any}
 use Rattle.std.proofs.lemmas.List.Elements.{filter_map-append, Contains-append_right}
 use Rattle.coap_msg.specs.declared.endpoint.Endpoint.{Endpoint}
@@ -96,10 +96,10 @@ pub record Known (exchanges : ℕ) (history : List Arrival) (s : State) : Type 0
   pub did : Did exchanges history s.coap
   pub moment : s.coap.exchanges.moment ≤ s.moment
 
-pub known : (v : Verdict) (site : Site) (exchanges : ℕ) (from : Endpoint) (m : CoapMessage) (s t : State) (e : EventWithBytes) (seen : List Sighting)
-    (comes : ComesTo v site exchanges from m s e seen t) → Known exchanges comes.history s
-known v site exchanges from m s t e seen comes =
-    let h : HasHistory exchanges comes.took s = each_run_has_a_history site exchanges comes.took comes.before s comes.run in record {
+pub known : (v : Verdict) (site : Site) (exchanges : ℕ) (epoch : Option ℕ) (from : Endpoint) (m : CoapMessage) (s t : State) (e : EventWithBytes) (seen : List Sighting)
+    (comes : ComesTo v site exchanges epoch from m s e seen t) → Known exchanges comes.history s
+known v site exchanges epoch from m s t e seen comes =
+    let h : HasHistory exchanges comes.took s = each_run_has_a_history site exchanges epoch comes.took comes.before s comes.run in record {
       did = subst (λ (x : List Arrival). Did exchanges x s.coap) (same_requests 0 comes.took h.history comes.history h.requests comes.requests) h.did;
       moment = h.moment;
     }
@@ -161,8 +161,8 @@ by_reply site exchanges watchers from m s t e seen p passed (inr (first, bytes, 
     }
 
 pub repeats_act_once : RepeatsActOnce
-repeats_act_once site exchanges from m s t e seen comes =
-    let k = known duplicate site exchanges from m s t e seen comes in
+repeats_act_once site exchanges epoch from m s t e seen comes =
+    let k = known duplicate site exchanges epoch from m s t e seen comes in
     let b = comes.brings in
     let now = moment_of s e in
     let past : s.coap.exchanges.moment ≤ max s.moment e.event.moment = omega (arith, k.moment) in
@@ -222,8 +222,8 @@ turned_away exchanges history from bytes now h s t m did past spells request is 
     differ e = cc
 
 pub full_tables_act_on_nothing : FullTablesActOnNothing
-full_tables_act_on_nothing site exchanges from m s t e seen comes =
-    let k = known refused site exchanges from m s t e seen comes in
+full_tables_act_on_nothing site exchanges epoch from m s t e seen comes =
+    let k = known refused site exchanges epoch from m s t e seen comes in
     let b = comes.brings in
     let past : s.coap.exchanges.moment ≤ max s.moment e.event.moment = omega (arith, k.moment) in
     let p = parts_of site from b.size e s t seen b.datagram b.short comes.step in

@@ -139,19 +139,19 @@ all_links P from path now szx text bodies all one = by (is_text_kept szx (length
 
 -- ---- what is known after a run
 
-pub record Past (site : Site) (exchanges : ℕ) (took : List EventWithBytes) (seen : List Sighting) (s : State) : Type 0 where
-  pub run : Run site took (start site exchanges) seen s
+pub record Past (site : Site) (exchanges : ℕ) (epoch : Option ℕ) (took : List EventWithBytes) (seen : List Sighting) (s : State) : Type 0 where
+  pub run : Run site took (start site exchanges epoch) seen s
   pub moment : s.moment ≡ moment_after 0 took
   pub calls : List Call
   pub parts : s.coap.parts ≡ parts_after [] calls
   pub blocks : AreBlocksFrom 0 took (blocks_among calls)
-  pub bodies : All (WasGiven site exchanges took seen) s.coap.bodies
+  pub bodies : All (WasGiven site exchanges epoch took seen) s.coap.bodies
   pub links : s.coap.links ≡ text_of_links (segments_of site)
 
 -- a body that was given in a run was given in a longer one
-given_longer : (site : Site) (exchanges : ℕ) (took es : List EventWithBytes) (seen shown : List Sighting) (b : Body) → WasGiven site exchanges took seen b
-    → WasGiven site exchanges (took ++ es) (seen ++ shown) b
-given_longer site exchanges took es seen shown b g = record {
+given_longer : (site : Site) (exchanges : ℕ) (epoch : Option ℕ) (took es : List EventWithBytes) (seen shown : List Sighting) (b : Body) → WasGiven site exchanges epoch took seen b
+    → WasGiven site exchanges epoch (took ++ es) (seen ++ shown) b
+given_longer site exchanges epoch took es seen shown b g = record {
   earlier = g.earlier;
   e = g.e;
   later = g.later ++ es;
@@ -183,10 +183,10 @@ acts_once site what ask e u middle t answer rest seen done a all ends =
     (subst (λ (x : List HandlerCall). Acts site what.request done u.thing x middle.thing) calls_are a.acts)
 
 -- a body that is given now
-given_now : (site : Site) (exchanges : ℕ) (took : List EventWithBytes) (seen shown : List Sighting) (from : Endpoint) (m : CoapMessage) (e : EventWithBytes) (s t : State) (done : Done) (b : Body)
-    → Run site took (start site exchanges) seen s → EventAndStep site e s shown t → Brings from m e → ActsOnce site (what_is_asked m).request done s shown t
-    → b ≡ body_of from (what_is_asked m).request.path (moment_of s e) done.outcome → WasGiven site exchanges (took ++ e ∷ []) (seen ++ shown) b
-given_now site exchanges took seen shown from m e s t done b run step brings once is = record {
+given_now : (site : Site) (exchanges : ℕ) (epoch : Option ℕ) (took : List EventWithBytes) (seen shown : List Sighting) (from : Endpoint) (m : CoapMessage) (e : EventWithBytes) (s t : State) (done : Done) (b : Body)
+    → Run site took (start site exchanges epoch) seen s → EventAndStep site e s shown t → Brings from m e → ActsOnce site (what_is_asked m).request done s shown t
+    → b ≡ body_of from (what_is_asked m).request.path (moment_of s e) done.outcome → WasGiven site exchanges epoch (took ++ e ∷ []) (seen ++ shown) b
+given_now site exchanges epoch took seen shown from m e s t done b run step brings once is = record {
   earlier = took;
   e = e;
   later = [];
@@ -207,10 +207,10 @@ given_now site exchanges took seen shown from m e s t done b run step brings onc
 }
 
 -- the links that are given now
-links_now : (site : Site) (exchanges : ℕ) (took : List EventWithBytes) (seen shown : List Sighting) (from : Endpoint) (m : CoapMessage) (e : EventWithBytes) (s t : State)
-    → Past site exchanges took seen s → EventAndStep site e s shown t → Brings from m e → asks_links m ≡ true
-    → WasGiven site exchanges (took ++ e ∷ []) (seen ++ shown) (record { from = from; path = (what_is_asked m).request.path; content = links_content s.coap.links; moment = moment_of s e })
-links_now site exchanges took seen shown from m e s t past step brings of_links = record {
+links_now : (site : Site) (exchanges : ℕ) (epoch : Option ℕ) (took : List EventWithBytes) (seen shown : List Sighting) (from : Endpoint) (m : CoapMessage) (e : EventWithBytes) (s t : State)
+    → Past site exchanges epoch took seen s → EventAndStep site e s shown t → Brings from m e → asks_links m ≡ true
+    → WasGiven site exchanges epoch (took ++ e ∷ []) (seen ++ shown) (record { from = from; path = (what_is_asked m).request.path; content = links_content s.coap.links; moment = moment_of s e })
+links_now site exchanges epoch took seen shown from m e s t past step brings of_links = record {
   earlier = took;
   e = e;
   later = [];
@@ -233,16 +233,16 @@ links_now site exchanges took seen shown from m e s t past step brings of_links 
 -- ---- an event more
 
 -- nothing comes to the parts and the bodies
-past_same : (site : Site) (exchanges : ℕ) (took : List EventWithBytes) (seen shown : List Sighting) (e : EventWithBytes) (s t : State) → Past site exchanges took seen s
-    → EventAndStep site e s shown t → SameBlocks (record s { moment = max s.moment e.event.moment }) t → Past site exchanges (took ++ e ∷ []) (seen ++ shown) t
-past_same site exchanges took seen shown e s t past step same = record {
-  run = each_more (EventAndStep site) took e (start site exchanges) s t seen shown past.run step;
+past_same : (site : Site) (exchanges : ℕ) (epoch : Option ℕ) (took : List EventWithBytes) (seen shown : List Sighting) (e : EventWithBytes) (s t : State) → Past site exchanges epoch took seen s
+    → EventAndStep site e s shown t → SameBlocks (record s { moment = max s.moment e.event.moment }) t → Past site exchanges epoch (took ++ e ∷ []) (seen ++ shown) t
+past_same site exchanges epoch took seen shown e s t past step same = record {
+  run = each_more (EventAndStep site) took e (start site exchanges epoch) s t seen shown past.run step;
   moment = same.moment ∙ (ap (λ (n : ℕ). max n e.event.moment) past.moment ∙ sym (moment_push 0 took e));
   calls = past.calls;
   parts = same.parts ∙ past.parts;
   blocks = row_stays 0 took (blocks_among past.calls) e past.blocks;
-  bodies = subst (All (WasGiven site exchanges (took ++ e ∷ []) (seen ++ shown))) (sym same.bodies)
-      (All-weaker (WasGiven site exchanges took seen) (WasGiven site exchanges (took ++ e ∷ []) (seen ++ shown)) (given_longer site exchanges took (e ∷ []) seen shown) s.coap.bodies past.bodies);
+  bodies = subst (All (WasGiven site exchanges epoch (took ++ e ∷ []) (seen ++ shown))) (sym same.bodies)
+      (All-weaker (WasGiven site exchanges epoch took seen) (WasGiven site exchanges epoch (took ++ e ∷ []) (seen ++ shown)) (given_longer site exchanges epoch took (e ∷ []) seen shown) s.coap.bodies past.bodies);
   links = same.links ∙ past.links;
 }
 
@@ -266,11 +266,11 @@ row_heard took calls more e now d at row (one_block m b spells request wants is)
     })))
 
 -- The bodies after a datagram was answered: those before, and one that was given now at most.
-record AfterAnswer (site : Site) (exchanges : ℕ) (took : List EventWithBytes) (seen : List Sighting) (server : Server) (middle : State) (now : ℕ) : Type 0 where
+record AfterAnswer (site : Site) (exchanges : ℕ) (epoch : Option ℕ) (took : List EventWithBytes) (seen : List Sighting) (server : Server) (middle : State) (now : ℕ) : Type 0 where
   parts : middle.coap.parts ≡ server.parts
   links : middle.coap.links ≡ server.links
   moment : middle.moment ≡ now
-  bodies : All (WasGiven site exchanges took seen) middle.coap.bodies
+  bodies : All (WasGiven site exchanges epoch took seen) middle.coap.bodies
 
 -- what is asked as it is gives a body at most
 one_given : (P : Body → Type 0) (now : ℕ) (m : CoapMessage) (slot : ℕ) (from : Endpoint) (o : Outcome) (bodies : List Body) → All P bodies
@@ -289,33 +289,33 @@ one_given P now m slot from o bodies all one = by (m.code == GET)
     by true = all_after P (blocks.Gives giving) from o bodies all (λ g is. subst GivesSo is one)
     by false = all
 
-answered_past : (site : Site) (exchanges : ℕ) (took : List EventWithBytes) (seen shown : List Sighting) (e : EventWithBytes) (s t : State) (past : Past site exchanges took seen s)
+answered_past : (site : Site) (exchanges : ℕ) (epoch : Option ℕ) (took : List EventWithBytes) (seen shown : List Sighting) (e : EventWithBytes) (s t : State) (past : Past site exchanges epoch took seen s)
     → EventAndStep site e s shown t → (d : BringsDatagram e) (p : Parts site d.from e.bytes e s shown t) → HearsBlocks d.from e.bytes (moment_of s e) s.coap p.server
-    → AsksFor d.from e.bytes (moment_of s e) p.what → AfterAnswer site exchanges (took ++ e ∷ []) (seen ++ shown) p.server p.middle (moment_of s e)
-answered_past site exchanges took seen shown e s t past step d p hears asks =
+    → AsksFor d.from e.bytes (moment_of s e) p.what → AfterAnswer site exchanges epoch (took ++ e ∷ []) (seen ++ shown) p.server p.middle (moment_of s e)
+answered_past site exchanges epoch took seen shown e s t past step d p hears asks =
     by_heard p.what refl asks
   where
     u : State
     u = record s { moment = moment_of s e; coap = p.server }
 
     Given : Body → Type 0
-    Given = WasGiven site exchanges (took ++ e ∷ []) (seen ++ shown)
+    Given = WasGiven site exchanges epoch (took ++ e ∷ []) (seen ++ shown)
 
     old : All Given s.coap.bodies
-    old = All-weaker (WasGiven site exchanges took seen) Given (given_longer site exchanges took (e ∷ []) seen shown) s.coap.bodies past.bodies
+    old = All-weaker (WasGiven site exchanges epoch took seen) Given (given_longer site exchanges epoch took (e ∷ []) seen shown) s.coap.bodies past.bodies
 
     heard_bodies : HearsBodies d.from e.bytes (moment_of s e) s.coap p.server → All Given p.server.bodies
     heard_bodies (same_bodies is) = subst (All Given) (sym is) old
     heard_bodies (links_kept m spells request of_links is) =
         subst (All Given) (sym is)
         (all_links Given d.from (what_is_asked m).request.path (moment_of s e) (size_asked (observing_in m) (what_is_asked m)) s.coap.links s.coap.bodies old
-        (links_now site exchanges took seen shown d.from m e s t past step
+        (links_now site exchanges epoch took seen shown d.from m e s t past step
         (record { size = d.size; datagram = d.datagram; short = d.short; spells = spells; request = request }) of_links))
 
     before : All Given p.server.bodies
     before = heard_bodies hears.bodies
 
-    same : SameBlocks u p.middle → AfterAnswer site exchanges (took ++ e ∷ []) (seen ++ shown) p.server p.middle (moment_of s e)
+    same : SameBlocks u p.middle → AfterAnswer site exchanges epoch (took ++ e ∷ []) (seen ++ shown) p.server p.middle (moment_of s e)
     same still = record { parts = still.parts; links = still.links; moment = still.moment; bodies = subst (All Given) (sym still.bodies) before }
 
     answers_as : (h : Heard) → p.what ≡ h → AnswersDatagram site d.from h u p.answer p.middle
@@ -323,74 +323,74 @@ answered_past site exchanges took seen shown e s t past step d p hears asks =
 
     after : (what : PlainAsk) (ask : OpenAsk) → AnswersDatagram site d.from (asked what ask) u p.answer p.middle
         → ((done : Done) → Answered site what ask done u p.answer p.middle → All Given (bodies_after ask.blocks ask.from done.outcome p.server.bodies))
-        → AfterAnswer site exchanges (took ++ e ∷ []) (seen ++ shown) p.server p.middle (moment_of s e)
+        → AfterAnswer site exchanges epoch (took ++ e ∷ []) (seen ++ shown) p.server p.middle (moment_of s e)
     after what ask answers given =
         let a = asked_is_answered site d.from what ask u p.middle p.answer answers in
         record { parts = a.parts; links = a.links; moment = a.moment; bodies = subst (All Given) (sym a.bodies) (given answers.0 a) }
 
-    by_heard : (h : Heard) → p.what ≡ h → AsksFor d.from e.bytes (moment_of s e) p.what → AfterAnswer site exchanges (took ++ e ∷ []) (seen ++ shown) p.server p.middle (moment_of s e)
+    by_heard : (h : Heard) → p.what ≡ h → AsksFor d.from e.bytes (moment_of s e) p.what → AfterAnswer site exchanges epoch (took ++ e ∷ []) (seen ++ shown) p.server p.middle (moment_of s e)
     by_heard ignored is asks = same (same_state u p.middle (answers_as ignored is).next)
     by_heard (answered_at_once bytes) is asks = same (same_state u p.middle (answers_as (answered_at_once bytes) is).next)
     by_heard (asked what ask) is (asks_nothing none) = absurd (none what ask is)
     by_heard (asked what ask) is (asks_act m slot spells request asks_it) =
         after (what_is_asked m) (opened_ask d.from (moment_of s e) m slot) (answers_as (asked (what_is_asked m) (opened_ask d.from (moment_of s e) m slot)) asks_it)
         (λ done a. one_given Given (moment_of s e) m slot d.from done.outcome p.server.bodies before
-        (given_now site exchanges took seen shown d.from m e s t done (body_of d.from (what_is_asked m).request.path (moment_of s e) done.outcome) past.run step
+        (given_now site exchanges epoch took seen shown d.from m e s t done (body_of d.from (what_is_asked m).request.path (moment_of s e) done.outcome) past.run step
         (record { size = d.size; datagram = d.datagram; short = d.short; spells = spells; request = request })
         (acts_once site (what_is_asked m) (opened_ask d.from (moment_of s e) m slot) e u p.middle t p.answer p.rest shown done a p.whole p.ends) refl))
     by_heard (asked what ask) is (asks_whole m slot b body asks_it) =
         after (with_whole_body body (what_is_asked m)) (joined_ask d.from m slot b) (answers_as (asked (with_whole_body body (what_is_asked m)) (joined_ask d.from m slot b)) asks_it)
         (λ done a. before)
 
-past_heard : (site : Site) (exchanges : ℕ) (took : List EventWithBytes) (seen shown : List Sighting) (e : EventWithBytes) (s t : State) → Past site exchanges took seen s
-    → EventAndStep site e s shown t → BringsDatagram e → Past site exchanges (took ++ e ∷ []) (seen ++ shown) t
-past_heard site exchanges took seen shown e s t past step d =
+past_heard : (site : Site) (exchanges : ℕ) (epoch : Option ℕ) (took : List EventWithBytes) (seen shown : List Sighting) (e : EventWithBytes) (s t : State) → Past site exchanges epoch took seen s
+    → EventAndStep site e s shown t → BringsDatagram e → Past site exchanges epoch (took ++ e ∷ []) (seen ++ shown) t
+past_heard site exchanges epoch took seen shown e s t past step d =
     let p = parts_of site d.from d.size e s t shown d.datagram d.short step in
     let hears = hears_blocks d.from e.bytes (moment_of s e) p.what s.coap p.server p.hears in
-    let after = answered_past site exchanges took seen shown e s t past step d p hears (hears_asks d.from e.bytes (moment_of s e) p.what s.coap p.server p.hears) in
+    let after = answered_past site exchanges epoch took seen shown e s t past step d p hears (hears_asks d.from e.bytes (moment_of s e) p.what s.coap p.server p.hears) in
     let ends = ends_same p.middle t p.rest p.ends in
     let at : moment_of s e ≡ max (moment_after 0 took) e.event.moment = ap (λ (n : ℕ). max n e.event.moment) past.moment in
     record {
-      run = each_more (EventAndStep site) took e (start site exchanges) s t seen shown past.run step;
+      run = each_more (EventAndStep site) took e (start site exchanges epoch) s t seen shown past.run step;
       moment = ends.moment ∙ (after.moment ∙ (at ∙ sym (moment_push 0 took e)));
       calls = past.calls ++ hears.calls;
       parts = ends.parts ∙ (after.parts ∙ (hears.parts ∙ (ap (λ (ps : List Part). parts_after ps hears.calls) past.parts ∙ sym (calls_append [] past.calls hears.calls))));
       blocks = row_heard took past.calls hears.calls e (moment_of s e) d at past.blocks hears.blocks;
-      bodies = subst (All (WasGiven site exchanges (took ++ e ∷ []) (seen ++ shown))) (sym ends.bodies) after.bodies;
+      bodies = subst (All (WasGiven site exchanges epoch (took ++ e ∷ []) (seen ++ shown))) (sym ends.bodies) after.bodies;
       links = ends.links ∙ (after.links ∙ (hears.links ∙ past.links));
     }
 
-past_event : (site : Site) (exchanges : ℕ) (took : List EventWithBytes) (seen shown : List Sighting) (e : EventWithBytes) (s t : State) → Past site exchanges took seen s
-    → EventAndStep site e s shown t → Past site exchanges (took ++ e ∷ []) (seen ++ shown) t
-past_event site exchanges took seen shown e s t past step = by (event_same site e s t shown step)
+past_event : (site : Site) (exchanges : ℕ) (epoch : Option ℕ) (took : List EventWithBytes) (seen shown : List Sighting) (e : EventWithBytes) (s t : State) → Past site exchanges epoch took seen s
+    → EventAndStep site e s shown t → Past site exchanges epoch (took ++ e ∷ []) (seen ++ shown) t
+past_event site exchanges epoch took seen shown e s t past step = by (event_same site e s t shown step)
   where
-    by : SameBlocks (record s { moment = max s.moment e.event.moment }) t ⊎ BringsDatagram e → Past site exchanges (took ++ e ∷ []) (seen ++ shown) t
-    by (inl same) = past_same site exchanges took seen shown e s t past step same
-    by (inr d) = past_heard site exchanges took seen shown e s t past step d
+    by : SameBlocks (record s { moment = max s.moment e.event.moment }) t ⊎ BringsDatagram e → Past site exchanges epoch (took ++ e ∷ []) (seen ++ shown) t
+    by (inl same) = past_same site exchanges epoch took seen shown e s t past step same
+    by (inr d) = past_heard site exchanges epoch took seen shown e s t past step d
 
 -- ---- runs
 
-past_events : (site : Site) (exchanges : ℕ) (took es : List EventWithBytes) (seen shown : List Sighting) (s t : State) → Past site exchanges took seen s → Run site es s shown t
-    → Past site exchanges (took ++ es) (seen ++ shown) t
-past_events site exchanges took [] seen shown s t past still =
-    subst (λ (x : State). Past site exchanges (took ++ []) (seen ++ shown) x) (sym still.next)
-    (subst (λ (x : List Sighting). Past site exchanges (took ++ []) (seen ++ x) s) (sym still.saw)
-    (subst (λ (x : List Sighting). Past site exchanges (took ++ []) x s) (sym (append-nil seen))
-    (subst (λ (x : List EventWithBytes). Past site exchanges x seen s) (sym (append-nil took)) past)))
-past_events site exchanges took (e ∷ es) seen shown s t past w =
-    let more = past_events site exchanges (took ++ e ∷ []) es (seen ++ w.first) w.second w.mid t (past_event site exchanges took seen w.first e s w.mid past w.one) w.other in
-    subst (λ (x : List EventWithBytes). Past site exchanges x (seen ++ shown) t) (append_assoc took (e ∷ []) es)
-    (subst (λ (x : List Sighting). Past site exchanges ((took ++ e ∷ []) ++ es) x t) (append_assoc seen w.first w.second ∙ ap (λ (x : List Sighting). seen ++ x) (sym w.whole)) more)
+past_events : (site : Site) (exchanges : ℕ) (epoch : Option ℕ) (took es : List EventWithBytes) (seen shown : List Sighting) (s t : State) → Past site exchanges epoch took seen s → Run site es s shown t
+    → Past site exchanges epoch (took ++ es) (seen ++ shown) t
+past_events site exchanges epoch took [] seen shown s t past still =
+    subst (λ (x : State). Past site exchanges epoch (took ++ []) (seen ++ shown) x) (sym still.next)
+    (subst (λ (x : List Sighting). Past site exchanges epoch (took ++ []) (seen ++ x) s) (sym still.saw)
+    (subst (λ (x : List Sighting). Past site exchanges epoch (took ++ []) x s) (sym (append-nil seen))
+    (subst (λ (x : List EventWithBytes). Past site exchanges epoch x seen s) (sym (append-nil took)) past)))
+past_events site exchanges epoch took (e ∷ es) seen shown s t past w =
+    let more = past_events site exchanges epoch (took ++ e ∷ []) es (seen ++ w.first) w.second w.mid t (past_event site exchanges epoch took seen w.first e s w.mid past w.one) w.other in
+    subst (λ (x : List EventWithBytes). Past site exchanges epoch x (seen ++ shown) t) (append_assoc took (e ∷ []) es)
+    (subst (λ (x : List Sighting). Past site exchanges epoch ((took ++ e ∷ []) ++ es) x t) (append_assoc seen w.first w.second ∙ ap (λ (x : List Sighting). seen ++ x) (sym w.whole)) more)
 
 -- what is known after each run from the start
-pub past_of : (site : Site) (exchanges : ℕ) (took : List EventWithBytes) (seen : List Sighting) (t : State) → Run site took (start site exchanges) seen t → Past site exchanges took seen t
-past_of site exchanges took seen t run =
-    past_events site exchanges [] took [] seen (start site exchanges) t (record {
+pub past_of : (site : Site) (exchanges : ℕ) (epoch : Option ℕ) (took : List EventWithBytes) (seen : List Sighting) (t : State) → Run site took (start site exchanges epoch) seen t → Past site exchanges epoch took seen t
+past_of site exchanges epoch took seen t run =
+    past_events site exchanges epoch [] took [] seen (start site exchanges epoch) t (record {
       run = record { next = refl; saw = refl };
       moment = refl;
       calls = [];
       parts = refl;
       blocks = refl;
-      bodies = All-nil (WasGiven site exchanges [] []);
+      bodies = All-nil (WasGiven site exchanges epoch [] []);
       links = refl;
     }) run

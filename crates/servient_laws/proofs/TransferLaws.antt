@@ -96,10 +96,10 @@ record Admits (site : Site) (exchanges : ℕ) (from : Endpoint) (m : CoapMessage
   parts : Parts site from e.bytes e s seen t
   read : IsRead from e.bytes (moment_of s e) m parts.what s.coap parts.server
 
-admits : (site : Site) (exchanges : ℕ) (from : Endpoint) (m : CoapMessage) (s t : State) (e : EventWithBytes) (seen : List Sighting)
-    → ComesTo is_admitted site exchanges from m s e seen t → Admits site exchanges from m s e seen t
-admits site exchanges from m s t e seen comes =
-    let k = known is_admitted site exchanges from m s t e seen comes in
+admits : (site : Site) (exchanges : ℕ) (epoch : Option ℕ) (from : Endpoint) (m : CoapMessage) (s t : State) (e : EventWithBytes) (seen : List Sighting)
+    → ComesTo is_admitted site exchanges epoch from m s e seen t → Admits site exchanges from m s e seen t
+admits site exchanges epoch from m s t e seen comes =
+    let k = known is_admitted site exchanges epoch from m s t e seen comes in
     let b = comes.brings in
     let past : s.coap.exchanges.moment ≤ max s.moment e.event.moment = omega (arith, k.moment) in
     let p = parts_of site from b.size e s t seen b.datagram b.short comes.step in
@@ -168,8 +168,8 @@ clash : (a b : Wanted) (m : CoapMessage) → wanted_in m ≡ a → wanted_in m �
 clash a b m one other = sym one ∙ other
 
 pub requests_act_once : RequestsActOnce
-requests_act_once site exchanges from m s t e seen comes fine wants other_path =
-    let a = admits site exchanges from m s t e seen comes in by a.parts a.read.slot a.read.server a.read.met a.read.reads
+requests_act_once site exchanges epoch from m s t e seen comes fine wants other_path =
+    let a = admits site exchanges epoch from m s t e seen comes in by a.parts a.read.slot a.read.server a.read.met a.read.reads
   where
     by : (p : Parts site from e.bytes e s seen t) (slot : ℕ) (u : Server) → IsMet from e.bytes (moment_of s e) m (Fresh slot) s.coap u → Reads from (moment_of s e) m slot p.what u p.server
         → IsRepliedTo (reply_of outcome.Memory) from m s e seen t
@@ -203,36 +203,36 @@ found_in P test (x ∷ xs) b all e = by (found_in P test xs b (All-tail P x xs a
 not_before : (n start : ℕ) → nat_lt start n ≡ false → n ≤ start
 not_before n start is = grind (arith, nat_tests)
 
-later_is : (site : Site) (exchanges : ℕ) (took : List EventWithBytes) (before : List Sighting) (from : Endpoint) (path : List (List ℕ)) (now : ℕ) (b : Block) (s : State)
-    → Past site exchanges took before s → (r : Reply) → r ≡ later_reply b (option_map (λ x. x.content) (body_for from path now s.coap.bodies))
-    → IsLaterBlock site exchanges took before from path now b s r
-later_is site exchanges took before from path now b s past r is = by (body_for from path now s.coap.bodies) refl is
+later_is : (site : Site) (exchanges : ℕ) (epoch : Option ℕ) (took : List EventWithBytes) (before : List Sighting) (from : Endpoint) (path : List (List ℕ)) (now : ℕ) (b : Block) (s : State)
+    → Past site exchanges epoch took before s → (r : Reply) → r ≡ later_reply b (option_map (λ x. x.content) (body_for from path now s.coap.bodies))
+    → IsLaterBlock site exchanges epoch took before from path now b s r
+later_is site exchanges epoch took before from path now b s past r is = by (body_for from path now s.coap.bodies) refl is
   where
     -- the body ends before the block, or it doesn't
     by_end : (x : Body) → body_for from path now s.coap.bodies ≡ Some x → (there : Bool) → nat_lt (block_start b) (length x.content.bytes) ≡ there
-        → r ≡ (if there then content_reply (portion_at b x.content.bytes) x.content else block_reply) → IsLaterBlock site exchanges took before from path now b s r
+        → r ≡ (if there then content_reply (portion_at b x.content.bytes) x.content else block_reply) → IsLaterBlock site exchanges epoch took before from path now b s r
     by_end x found true at is' =
-        let it = found_in (WasGiven site exchanges took before) (λ (y : Body). is_body_of from path y && lives now y.moment) s.coap.bodies x past.bodies found in
+        let it = found_in (WasGiven site exchanges epoch took before) (λ (y : Body). is_body_of from path y && lives now y.moment) s.coap.bodies x past.bodies found in
         let own = both (is_body_of from path x) (lives now x.moment) it.0 in
         let whose = own_is from path x own.0 in
         laws.part x it.1 whose.0 whose.1 own.1 is'
     by_end x found false at is' =
         laws.none (subst (λ (o : Option Body). IfSome o (λ y. length y.content.bytes ≤ block_start b)) (sym found) (not_before (length x.content.bytes) (block_start b) at)) is'
 
-    by : (o : Option Body) → body_for from path now s.coap.bodies ≡ o → r ≡ later_reply b (option_map (λ x. x.content) o) → IsLaterBlock site exchanges took before from path now b s r
+    by : (o : Option Body) → body_for from path now s.coap.bodies ≡ o → r ≡ later_reply b (option_map (λ x. x.content) o) → IsLaterBlock site exchanges epoch took before from path now b s r
     by None found is' = laws.none (subst (λ (o : Option Body). IfSome o (λ y. length y.content.bytes ≤ block_start b)) (sym found) tt) is'
     by (Some x) found is' = by_end x found (nat_lt (block_start b) (length x.content.bytes)) refl is'
 
 pub later_blocks_are_of_one_act : LaterBlocksAreOfOneAct
-later_blocks_are_of_one_act site exchanges from m b s t e seen comes fine wants =
-    let a = admits site exchanges from m s t e seen comes in by a.parts a.read.slot a.read.server a.read.met a.read.reads
+later_blocks_are_of_one_act site exchanges epoch from m b s t e seen comes fine wants =
+    let a = admits site exchanges epoch from m s t e seen comes in by a.parts a.read.slot a.read.server a.read.met a.read.reads
   where
-    past : Past site exchanges comes.took comes.before s
-    past = past_of site exchanges comes.took comes.before s comes.run
+    past : Past site exchanges epoch comes.took comes.before s
+    past = past_of site exchanges epoch comes.took comes.before s comes.run
 
     by : (p : Parts site from e.bytes e s seen t) (slot : ℕ) (u : Server) → IsMet from e.bytes (moment_of s e) m (Fresh slot) s.coap u → Reads from (moment_of s e) m slot p.what u p.server
         → (r : Reply) × IsRepliedTo r from m s e seen t
-        × IsLaterBlock site exchanges comes.took comes.before from (what_is_asked m).request.path (moment_of s e) b s r
+        × IsLaterBlock site exchanges epoch comes.took comes.before from (what_is_asked m).request.path (moment_of s e) b s r
     by p slot u met (replied r parts bytes (bad_option number fault con is same) replies h) = absurd (fault_free _ _ fine fault)
     by p slot u met (replied r parts bytes (bad_block fault is same) replies h) = absurd (fault_free _ _ fine fault)
     by p slot u met (replied r parts bytes (for_proxy fault is same) replies h) = absurd (fault_free _ _ fine fault)
@@ -245,7 +245,7 @@ later_blocks_are_of_one_act site exchanges from m b s t e seen comes fine wants 
         ∙ ap (λ (bs : List Body). later_reply b (option_map (λ y. y.content) (body_for from (what_is_asked m).request.path (moment_of s e) bs))) met.same_bodies in (
           r,
           (at_once site from m s t e seen p slot u r parts bytes met.same_id replies h).replied_to,
-          later_is site exchanges comes.took comes.before from (what_is_asked m).request.path (moment_of s e) b s past r kept,
+          later_is site exchanges epoch comes.took comes.before from (what_is_asked m).request.path (moment_of s e) b s past r kept,
         )
     by p slot u met (replied r parts bytes (joined c added none wants' adding is) replies h) = absurd (let no = clash (wanted.LaterBlock b) (wanted.Joining c) m wants wants' in cc)
     by p slot u met (replied r parts bytes (takes_no_other_verb none wants' links other is same) replies h) = absurd (let no = clash (wanted.LaterBlock b) wanted.Act m wants wants' in cc)
@@ -279,10 +279,10 @@ last_origin o n (b ∷ row) a is = last_origin o (n + length b.payload) row a is
 same_part : (p q : Part) (o : Option Part) → o ≡ Some p → o ≡ Some q → p ≡ q
 same_part p q o one other = let same : Some p ≡ Some q = sym one ∙ other in cc
 
-is_row : (site : Site) (exchanges : ℕ) (took : List EventWithBytes) (before : List Sighting) (s : State) (a : BlockArrival) (place : ℕ) (parts : List Part) (p : Part)
-    → Past site exchanges took before s → Complete place ≡ (after_block a (living a.moment s.coap.parts)).0 → parts ≡ (after_block a (living a.moment s.coap.parts)).1
+is_row : (site : Site) (exchanges : ℕ) (epoch : Option ℕ) (took : List EventWithBytes) (before : List Sighting) (s : State) (a : BlockArrival) (place : ℕ) (parts : List Part) (p : Part)
+    → Past site exchanges epoch took before s → Complete place ≡ (after_block a (living a.moment s.coap.parts)).0 → parts ≡ (after_block a (living a.moment s.coap.parts)).1
     → slice_get parts place ≡ Some p → IsRow took a p.bytes
-is_row site exchanges took before s a place parts p past answer_is parts_are there =
+is_row site exchanges epoch took before s a place parts p past answer_is parts_are there =
     let from_calls : (after_block a (living a.moment (parts_after [] past.calls))).0 ≡ Complete place =
     ap (λ (ps : List Part). (after_block a (living a.moment ps)).0) (sym past.parts) ∙ sym answer_is in
     let law = whole_bodies_are_rows past.calls a place from_calls in
@@ -296,16 +296,16 @@ is_row site exchanges took before s a place parts p past answer_is parts_are the
     }
 
 pub joined_bodies_act_once : JoinedBodiesActOnce
-joined_bodies_act_once site exchanges from m b s t e seen comes fine wants other_path =
-    let a = admits site exchanges from m s t e seen comes in (
+joined_bodies_act_once site exchanges epoch from m b s t e seen comes fine wants other_path =
+    let a = admits site exchanges epoch from m s t e seen comes in (
       (after_block (block_arrival from (moment_of s e) m b) (living (moment_of s e) s.coap.parts)).0,
       (after_block (block_arrival from (moment_of s e) m b) (living (moment_of s e) s.coap.parts)).1,
       record { answer_is = refl; parts_are = refl },
       by a.parts a.read.slot a.read.server a.read.met a.read.reads,
     )
   where
-    past : Past site exchanges comes.took comes.before s
-    past = past_of site exchanges comes.took comes.before s comes.run
+    past : Past site exchanges epoch comes.took comes.before s
+    past = past_of site exchanges epoch comes.took comes.before s comes.run
 
     arrived : BlockArrival
     arrived = block_arrival from (moment_of s e) m b
@@ -340,7 +340,7 @@ joined_bodies_act_once site exchanges from m b s t e seen comes fine wants other
         → p.what ≡ asked (with_whole_body body.bytes (what_is_asked m)) (joined_ask from m slot c) → p.server.parts ≡ remove parts place → Comes
     whole p slot u c place parts body same wants' adding there h left =
         let adds = of_block c u (Complete place) parts wants' same adding in
-        let row = is_row site exchanges comes.took comes.before s arrived place parts body past adds.answer_is adds.parts_are there in
+        let row = is_row site exchanges epoch comes.took comes.before s arrived place parts body past adds.answer_is adds.parts_are there in
         let done = acts_and_says site from s t e seen p (with_whole_body body.bytes (what_is_asked m)) (joined_ask from m slot c) h in
         laws.whole place row.row done.done (sym adds.answer_is) row.of_run row.in_order
         (subst (λ (bytes : List ℕ). ActsOnce site (with_whole_body bytes (what_is_asked m)).request done.done s seen t) row.bytes_are done.once)

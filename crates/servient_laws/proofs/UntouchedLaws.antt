@@ -184,14 +184,14 @@ listens_untaken place seen o (cannot_listen end) = ap (λ (ds : List Deed). even
 listens_untaken place seen o (place_memory end) = ap (λ (ds : List Deed). events_in (happened_in (sightings_in ds))) end.0
 listens_untaken place seen o (listen_memory end) = ap (λ (ds : List Deed). events_in (happened_in (sightings_in ds))) end.0
 
-events_settle : (budget exchanges : ℕ) (site : Site) → Settles (ServesEvents budget exchanges site)
-events_settle budget exchanges site seen o (has_served served.Stopped ran end serves out) = inr (0, out.1, inl refl)
-events_settle budget exchanges site seen o (has_served served.Failed ran end serves out) = inr (6, out.1, inr (inl refl))
-events_settle budget exchanges site seen o (has_served served.Spent ran end serves out) = inr (8, out.1, inr (inr (inl refl)))
+events_settle : (budget exchanges : ℕ) (epoch : Option ℕ) (site : Site) → Settles (ServesEvents budget exchanges epoch site)
+events_settle budget exchanges epoch site seen o (has_served served.Stopped ran end serves out) = inr (0, out.1, inl refl)
+events_settle budget exchanges epoch site seen o (has_served served.Failed ran end serves out) = inr (6, out.1, inr (inl refl))
+events_settle budget exchanges epoch site seen o (has_served served.Spent ran end serves out) = inr (8, out.1, inr (inr (inl refl)))
 
-listens_then : (place : Place) (budget exchanges : ℕ) (site : Site) → Settles (AndThen (Listens place) (λ _. ServesEvents budget exchanges site))
-listens_then place budget exchanges site seen o (ends_first status stage is) = inl (listens_untaken place seen (ends status) stage)
-listens_then place budget exchanges site seen o (goes_further (x, w)) = elim (events_settle budget exchanges site w.second o w.other) [
+listens_then : (place : Place) (budget exchanges : ℕ) (epoch : Option ℕ) (site : Site) → Settles (AndThen (Listens place) (λ _. ServesEvents budget exchanges epoch site))
+listens_then place budget exchanges epoch site seen o (ends_first status stage is) = inl (listens_untaken place seen (ends status) stage)
+listens_then place budget exchanges epoch site seen o (goes_further (x, w)) = elim (events_settle budget exchanges epoch site w.second o w.other) [
   | inl none ↦ inl (untaken_then w.first w.second seen w.whole (listens_untaken place w.first (goes_on x) w.one) none)
   | inr served ↦ inr served
 ]
@@ -199,9 +199,9 @@ listens_then place budget exchanges site seen o (goes_further (x, w)) = elim (ev
 serve_settles : (held : Option (List HeldFile)) (kinds : List Kind) (plan : List ℕ) (budget idle : ℕ) → Settles (Does held kinds (Serve plan budget idle))
 serve_settles held kinds plan budget idle =
     after_unseen (ReadsPlanned held plan) (ServesPlanned plan kinds budget idle) (planned_unseen held plan)
-    (λ p. after_unseen (Opens plan kinds p) (λ site. AndThen (Listens (place_of p.plan (idle * 1000))) (λ _. ServesEvents budget p.plan.exchanges site))
+    (λ p. after_unseen (Opens plan kinds p) (λ site. AndThen (Listens (place_of p.plan (idle * 1000))) (λ _. ServesEvents budget p.plan.exchanges p.plan.epoch site))
     (then_unseen (Derives p) (Exposes plan kinds p.plan.slots) (derived_unseen p) (exposed_unseen plan kinds p.plan.slots))
-    (λ site. listens_then (place_of p.plan (idle * 1000)) budget p.plan.exchanges site))
+    (λ site. listens_then (place_of p.plan (idle * 1000)) budget p.plan.exchanges p.plan.epoch site))
 
 abbrev ends_as : ℕ → Outcome (Unit {0})
 ends_as status = ends status

@@ -1,5 +1,5 @@
 -- What a run leaves open: whether there was memory, and nothing else.
-use Rattle.std.specs.Prelude.{◌≡◌, ℕ, List, Some, Bool}
+use Rattle.std.specs.Prelude.{◌≡◌, ℕ, List, Option, Some, Bool}
 use Rattle.std.specs.List.{AllByRecursion}
 use Rattle.coap_msg.specs.declared.endpoint.Endpoint.{Endpoint}
 use Rattle.coap_msg.specs.Grammar.{spelling}
@@ -40,5 +40,5 @@ pub record Fits (answers : ℕ → Answer) (seen : List Sighting) : Type 0 where
 -- there was memory enough, are seen alike: the same acts and the same calls, in the same order.
 abbrev pub RunsAreDetermined : Type 0
 RunsAreDetermined =
-    (site : Site) (exchanges : ℕ) (took : List EventWithBytes) (answers : ℕ → Answer) (seen shown : List Sighting) (s t : State)
-    → Run site took (start site exchanges) seen s → Run site took (start site exchanges) shown t → Fits answers seen → Fits answers shown → seen ≡ shown
+    (site : Site) (exchanges : ℕ) (epoch : Option ℕ) (took : List EventWithBytes) (answers : ℕ → Answer) (seen shown : List Sighting) (s t : State)
+    → Run site took (start site exchanges epoch) seen s → Run site took (start site exchanges epoch) shown t → Fits answers seen → Fits answers shown → seen ≡ shown

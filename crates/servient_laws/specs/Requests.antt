@@ -1,6 +1,6 @@
 -- What a run does with a CoAP request that is a duplicate, or that comes while as many exchanges live as may: it acts on
 -- nothing. Which requests were admitted is said of all that came in the run (coap_exchange/specs/Admission.antt).
-use Rattle.std.specs.Prelude.{◌≡◌, ◌⊎◌, ◌≤◌, ℕ, max, length, true, List, [], ◌∷◌, ◌++◌}
+use Rattle.std.specs.Prelude.{◌≡◌, ◌⊎◌, ◌≤◌, ℕ, max, length, true, Option, List, [], ◌∷◌, ◌++◌}
 use Rattle.coap_msg.specs.declared.endpoint.Endpoint.{Endpoint}
 use Rattle.coap_msg.specs.declared.message.RequestType.TheVariants.{Confirmable}
 use Rattle.coap_msg.specs.declared.constants.TheConstants.{LONGEST_DATAGRAM}
@@ -34,10 +34,10 @@ moment_of s e = max s.moment e.event.moment
 
 -- A run from the start, in which n exchanges may live, and then an event that brings a request, on which this is the
 -- verdict after all the requests that came before.
-pub record ComesTo (v : Verdict) (site : Site) (exchanges : ℕ) (from : Endpoint) (m : CoapMessage) (s : State) (e : EventWithBytes) (seen : List Sighting) (t : State) : Type 0 where
+pub record ComesTo (v : Verdict) (site : Site) (exchanges : ℕ) (epoch : Option ℕ) (from : Endpoint) (m : CoapMessage) (s : State) (e : EventWithBytes) (seen : List Sighting) (t : State) : Type 0 where
   pub took : List EventWithBytes
   pub before : List Sighting
-  pub run : Run site took (start site exchanges) before s
+  pub run : Run site took (start site exchanges epoch) before s
   pub history : List Arrival
   pub requests : AreRequestsFrom 0 took history
   pub brings : Brings from m e
@@ -87,11 +87,11 @@ pub record IsTurnedAway (from : Endpoint) (s : State) (e : EventWithBytes) (seen
 -- "A CoAP request repeated within its exchange lifetime acts once" (RFC 7252, section 4.5).
 abbrev pub RepeatsActOnce : Type 0
 RepeatsActOnce =
-    (site : Site) (exchanges : ℕ) (from : Endpoint) (m : CoapMessage) (s t : State) (e : EventWithBytes) (seen : List Sighting)
-    → ComesTo duplicate site exchanges from m s e seen t → ActsNoMore exchanges from m s e seen t
+    (site : Site) (exchanges : ℕ) (epoch : Option ℕ) (from : Endpoint) (m : CoapMessage) (s t : State) (e : EventWithBytes) (seen : List Sighting)
+    → ComesTo duplicate site exchanges epoch from m s e seen t → ActsNoMore exchanges from m s e seen t
 
 -- "A full exchange table acts on nothing."
 abbrev pub FullTablesActOnNothing : Type 0
 FullTablesActOnNothing =
-    (site : Site) (exchanges : ℕ) (from : Endpoint) (m : CoapMessage) (s t : State) (e : EventWithBytes) (seen : List Sighting)
-    → ComesTo refused site exchanges from m s e seen t → IsTurnedAway from s e seen t
+    (site : Site) (exchanges : ℕ) (epoch : Option ℕ) (from : Endpoint) (m : CoapMessage) (s t : State) (e : EventWithBytes) (seen : List Sighting)
+    → ComesTo refused site exchanges epoch from m s e seen t → IsTurnedAway from s e seen t

@@ -1,6 +1,6 @@
 -- What a run does with blocks (RFC 7959, sections 2.3 to 2.5): each block of a response is a part of what one act gave, or of
 -- the links to the Things, and the blocks of a request's body lead to one act where the last of them came, and else to none.
-use Rattle.std.specs.Prelude.{◌≡◌, ◌⊎◌, ◌≤◌, ℕ, max, true, false, IfSome, Some, List, [], ◌∷◌, ◌++◌, length}
+use Rattle.std.specs.Prelude.{◌≡◌, ◌⊎◌, ◌≤◌, ℕ, max, true, false, IfSome, Option, Some, List, [], ◌∷◌, ◌++◌, length}
 use Rattle.std.specs.List.{remove}
 use Rattle.coap_msg.specs.declared.block.Block.{Block}
 use Rattle.coap_msg.specs.declared.endpoint.Endpoint.{Endpoint}
@@ -50,7 +50,7 @@ pub data Gave (site : Site) (m : CoapMessage) (bytes : List ℕ) (s : State) (se
 
 -- In a run from the start an event brought a request of the body's endpoint for the body's path, which gave the body. It is
 -- kept since that moment.
-pub record WasGiven (site : Site) (exchanges : ℕ) (took : List EventWithBytes) (seen : List Sighting) (b : Body) : Type 0 where
+pub record WasGiven (site : Site) (exchanges : ℕ) (epoch : Option ℕ) (took : List EventWithBytes) (seen : List Sighting) (b : Body) : Type 0 where
   pub earlier : List EventWithBytes
   pub e : EventWithBytes
   pub later : List EventWithBytes
@@ -61,7 +61,7 @@ pub record WasGiven (site : Site) (exchanges : ℕ) (took : List EventWithBytes)
   pub trace : seen ≡ before ++ (during ++ after)
   pub s : State
   pub t : State
-  pub run : Run site earlier (start site exchanges) before s
+  pub run : Run site earlier (start site exchanges epoch) before s
   pub step : EventAndStep site e s during t
   pub m : CoapMessage
   pub brings : Brings b.from m e
@@ -72,12 +72,12 @@ pub record WasGiven (site : Site) (exchanges : ℕ) (took : List EventWithBytes)
 -- The reply to a request for a later block, at a moment: the part of a body, from the block's number times its size on, that
 -- was given to this endpoint for this path less than 247,000 ms before; or a refusal where none is kept, or it ends before;
 -- or out of memory.
-pub data IsLaterBlock (site : Site) (exchanges : ℕ) (took : List EventWithBytes) (seen : List Sighting) (from : Endpoint) (path : List (List ℕ)) (now : ℕ) (b : Block) (s : State) (r : Reply) : Type 0 where
-  part : (x : Body) → WasGiven site exchanges took seen x → x.from ≡ from → x.path ≡ path → lives now x.moment ≡ true
-      → r ≡ content_reply (portion_at b x.content.bytes) x.content → IsLaterBlock site exchanges took seen from path now b s r
+pub data IsLaterBlock (site : Site) (exchanges : ℕ) (epoch : Option ℕ) (took : List EventWithBytes) (seen : List Sighting) (from : Endpoint) (path : List (List ℕ)) (now : ℕ) (b : Block) (s : State) (r : Reply) : Type 0 where
+  part : (x : Body) → WasGiven site exchanges epoch took seen x → x.from ≡ from → x.path ≡ path → lives now x.moment ≡ true
+      → r ≡ content_reply (portion_at b x.content.bytes) x.content → IsLaterBlock site exchanges epoch took seen from path now b s r
   none : IfSome (body_for from path now s.coap.bodies) (λ x. length x.content.bytes ≤ block_start b) → r ≡ block_reply
-      → IsLaterBlock site exchanges took seen from path now b s r
-  no_memory : r ≡ reply_of outcome.Memory → IsLaterBlock site exchanges took seen from path now b s r
+      → IsLaterBlock site exchanges epoch took seen from path now b s r
+  no_memory : r ≡ reply_of outcome.Memory → IsLaterBlock site exchanges epoch took seen from path now b s r
 
 -- ---- blocks of a request
 
@@ -118,8 +118,8 @@ pub data ComesOfBlock (site : Site) (took : List EventWithBytes) (from : Endpoin
 -- sent; or it is out of memory, and makes none.
 abbrev pub RequestsActOnce : Type 0
 RequestsActOnce =
-    (site : Site) (exchanges : ℕ) (from : Endpoint) (m : CoapMessage) (s t : State) (e : EventWithBytes) (seen : List Sighting)
-    → ComesTo admitted site exchanges from m s e seen t → faults_of m.options ≡ [] → wanted_in m ≡ wanted.Act → asks_links m ≡ false
+    (site : Site) (exchanges : ℕ) (epoch : Option ℕ) (from : Endpoint) (m : CoapMessage) (s t : State) (e : EventWithBytes) (seen : List Sighting)
+    → ComesTo admitted site exchanges epoch from m s e seen t → faults_of m.options ≡ [] → wanted_in m ≡ wanted.Act → asks_links m ≡ false
     → IsRepliedTo (reply_of outcome.Memory) from m s e seen t
     ⊎ ((done : Done) × ActsOnce site (what_is_asked m).request done s seen t
     × SaysByCoap from (use_of (moment_of s e) m.code (observing_in m) (what_is_asked m)) done.outcome seen)
@@ -128,15 +128,15 @@ RequestsActOnce =
 -- made for it (RFC 7959, section 2.4).
 abbrev pub LaterBlocksAreOfOneAct : Type 0
 LaterBlocksAreOfOneAct =
-    (site : Site) (exchanges : ℕ) (from : Endpoint) (m : CoapMessage) (b : Block) (s t : State) (e : EventWithBytes) (seen : List Sighting)
-    (comes : ComesTo admitted site exchanges from m s e seen t) → faults_of m.options ≡ [] → wanted_in m ≡ wanted.LaterBlock b
+    (site : Site) (exchanges : ℕ) (epoch : Option ℕ) (from : Endpoint) (m : CoapMessage) (b : Block) (s t : State) (e : EventWithBytes) (seen : List Sighting)
+    (comes : ComesTo admitted site exchanges epoch from m s e seen t) → faults_of m.options ≡ [] → wanted_in m ≡ wanted.LaterBlock b
     → (r : Reply) × IsRepliedTo r from m s e seen t
-    × IsLaterBlock site exchanges comes.took comes.before from (what_is_asked m).request.path (moment_of s e) b s r
+    × IsLaterBlock site exchanges epoch comes.took comes.before from (what_is_asked m).request.path (moment_of s e) b s r
 
 -- The blocks of a request's body for another path than that of the links lead to one act once the last came, on their payloads joined, and each before it, and each
 -- that isn't taken, to none (RFC 7959, section 2.5).
 abbrev pub JoinedBodiesActOnce : Type 0
 JoinedBodiesActOnce =
-    (site : Site) (exchanges : ℕ) (from : Endpoint) (m : CoapMessage) (b : Block) (s t : State) (e : EventWithBytes) (seen : List Sighting)
-    (comes : ComesTo admitted site exchanges from m s e seen t) → faults_of m.options ≡ [] → wanted_in m ≡ wanted.Joining b → asks_links m ≡ false
+    (site : Site) (exchanges : ℕ) (epoch : Option ℕ) (from : Endpoint) (m : CoapMessage) (b : Block) (s t : State) (e : EventWithBytes) (seen : List Sighting)
+    (comes : ComesTo admitted site exchanges epoch from m s e seen t) → faults_of m.options ≡ [] → wanted_in m ≡ wanted.Joining b → asks_links m ≡ false
     → (added : Added) × (parts : List Part) × Adds from (moment_of s e) m b s.coap added parts × ComesOfBlock site comes.took from m b added parts s e seen t

@@ -37,4 +37,5 @@ built_in_plan = record {
   choices = [];
   slots = built_in_slots;
   exchanges = 1024;
+  epoch = None;
 }

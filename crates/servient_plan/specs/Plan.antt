@@ -1,7 +1,7 @@
 -- The plan: an object that says which Things a servient exposes, where, and with which handlers. Its format is the
 -- product's own; docs/PROFILE.md retells it. It is a table of rows, each a value or the pointer to its member, and the
 -- first row without a value is the fault: so a wrong entry of a list is a fault of the list, and one pass reads all.
-use Rattle.std.specs.Prelude.{◌≡◌, ◌≤◌, ℕ, pos, ◌==◌, ◌&&◌, ◌||◌, not, nat_le, nat_lt, Bool, true, false, List, [], ◌∷◌, ◌++◌, length, drop, codes, Option, Some, None, is_some, unwrap_or, option_map, option_and_then, Result, Ok, Err, if◌then◌else◌}
+use Rattle.std.specs.Prelude.{◌≡◌, ◌≤◌, ℕ, pos, ◌==◌, ◌&&◌, ◌||◌, not, nat_le, nat_lt, Bool, true, false, List, [], ◌∷◌, ◌++◌, length, drop, codes, Option, Some, None, is_some, IfSome, unwrap_or, option_map, option_and_then, Result, Ok, Err, if◌then◌else◌}
 use Rattle.std.specs.List.{list_all, starts_with}
 use Rattle.std.specs.Str.{bytes_eq}
 use Rattle.host_ports.specs.HostPorts.{point_in}
@@ -127,6 +127,15 @@ abbrev pub exchanges_in : Option Json → Option ℕ
 exchanges_in None = Some 1024
 exchanges_in (Some v) = number_within 16 65536 (Some v)
 
+-- when the clock began, in milliseconds after the start of 1970: up to the last one of the year 9999, and nothing where
+-- the member is absent
+abbrev pub last_epoch : ℕ
+last_epoch = 253_402_300_799_999
+
+abbrev pub epoch_in : Option Json → Option (Option ℕ)
+epoch_in None = Some None
+epoch_in (Some v) = option_map (λ epoch. Some epoch) (number_within 0 last_epoch (Some v))
+
 -- ---- the plan
 
 -- one row, and where it is not refused the next
@@ -170,6 +179,7 @@ plan_in ms =
     then_row (member_row (codes "instance") instance_in ms) (λ instance.
     then_row (member_row (codes "slots") (entries_in slot_entry) ms) (λ slots.
     then_row (member_row (codes "exchanges") exchanges_in ms) (λ exchanges.
+    then_row (member_row (codes "epoch") epoch_in ms) (λ epoch.
     Ok (record {
       frame = record { segment = names.segment; id = names.id; bases = names.bases; instance = instance };
       root = names.root;
@@ -178,7 +188,8 @@ plan_in ms =
       choices = lists.choices;
       slots = slots;
       exchanges = exchanges;
-    }))))))
+      epoch = epoch;
+    })))))))
 
 -- The plan that a value is, or the pointer to what it refuses first: the empty one where it is no object.
 abbrev pub is_object : Json → Bool
@@ -188,9 +199,9 @@ is_object v = false
 abbrev pub plan_of : Json → Result Plan (List ℕ)
 plan_of v = if is_object v then plan_in (members_under v) else Err []
 
--- as many exchanges may live as a server takes, and the segment of the root is plain
+-- as many exchanges may live as a server takes, the segment of the root is plain, and the clock began before the year 10000
 abbrev pub MayBeServed : Plan → Type 0
-MayBeServed plan = (16 ≤ plan.exchanges) × (plan.exchanges ≤ 65536) × (is_plain_segment plan.frame.segment ≡ true)
+MayBeServed plan = (16 ≤ plan.exchanges) × (plan.exchanges ≤ 65536) × (is_plain_segment plan.frame.segment ≡ true) × IfSome plan.epoch (λ epoch. epoch ≤ last_epoch)
 
 -- ---- where it listens
 

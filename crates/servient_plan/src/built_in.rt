@@ -2,6 +2,7 @@
 
 ghost use Rattle.std.specs.Prelude.{◌≡◌, ◌++◌, ◌∷◌, [], codes, IfOk, OnOk};
 ghost use Rattle.wot_json.specs.Meaning.{json_of};
+ghost use Rattle.servient_plan.specs.Plan.{MayBeServed};
 ghost use Rattle.servient_plan.specs.BuiltIn.{built_in_plan, built_in_model as model_of, built_in_slots};
 
 use crate::{ModelFiles, Plan};
@@ -19,7 +20,8 @@ const MODEL: &str =
 impl Plan {
     /// The plan of the built-in Thing.
     pub fn built_in(alloc: Global) -> Result<Plan, NoMemory>
-        ensures { IfOk result (λ plan. plan ≡ built_in_plan) }
+        ensures plan { IfOk result (λ plan. plan ≡ built_in_plan) }
+        ensures served { IfOk result MayBeServed }
     {
         let frame = frame(alloc)?;
         Ok(Plan {
@@ -30,6 +32,7 @@ impl Plan {
             choices: Choices::new(alloc),
             slots: slots(alloc)?,
             exchanges: 1024,
+            epoch: None,
         })
     }
 

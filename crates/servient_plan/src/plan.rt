@@ -9,7 +9,8 @@ ghost use Rattle.tm_derive.specs.Segments.{is_plain_segment};
 
 use crate::texts::{TextRow, base_point};
 use crate::values::{
-    bindings_row, choices_row, exchanges_row, instance_row, models_row, slots_row, text_row,
+    bindings_row, choices_row, epoch_row, exchanges_row, instance_row, models_row, slots_row,
+    text_row,
 };
 use servient_outside::Place;
 use std::alloc::{AllocError, Global};
@@ -39,6 +40,8 @@ pub struct Plan {
     pub slots: Slots,
     /// How many CoAP exchanges may live at a time.
     pub exchanges: u32,
+    /// When the clock began, in milliseconds after the start of 1970, where the plan says so.
+    pub epoch: Option<u64>,
 }
 
 /// What the first rows of the table read: who the root Thing is, where it is served, and the URL of its model.
@@ -154,6 +157,7 @@ impl Plan {
         let instance = instance_row(alloc, tree)?;
         let slots = slots_row(alloc, tree)?;
         let exchanges = exchanges_row(alloc, tree)?;
+        let epoch = epoch_row(alloc, tree)?;
         let frame = Frame {
             segment: names.segment,
             id: names.id,
@@ -168,6 +172,7 @@ impl Plan {
             choices: lists.choices,
             slots,
             exchanges,
+            epoch,
         })
     }
 

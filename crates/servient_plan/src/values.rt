@@ -1,6 +1,6 @@
 //! The members of a plan, each read as its row of the table says.
 
-ghost use Rattle.std.specs.Prelude.{◌≡◌, ◌≤◌, true, codes, option_and_then, option_map, Some, IfOk};
+ghost use Rattle.std.specs.Prelude.{◌≡◌, ◌≤◌, true, codes, option_and_then, option_map, Some, IfOk, IfSome};
 ghost use Rattle.wot_json.specs.Meaning.{json_of};
 ghost use Rattle.wot_json.specs.Tree.{elements_of};
 ghost use Rattle.wot_json.specs.Merge.{members_under};
@@ -27,6 +27,9 @@ const LEAST_EXCHANGES: u32 = 16;
 const MOST_EXCHANGES: u32 = 65_536;
 
 const USUAL_EXCHANGES: u32 = 1024;
+
+/// The latest beginning of the clock: the last millisecond of the year 9999.
+const LAST_EPOCH: u64 = 253_402_300_799_999;
 
 /// The text that a value is.
 fn text_in(value: Option<&Tree>) -> Option<&str>
@@ -342,4 +345,34 @@ pub(crate) fn exchanges_row(alloc: Global, tree: &Tree) -> Result<u32, PlanFault
     ensures few { IfOk result (λ n. (16 ≤ n) × (n ≤ 65536)) }
 {
     row(alloc, "exchanges", exchanges_in(tree.member("exchanges")))
+}
+
+/// When the clock began, which may be absent.
+fn epoch_in(value: Option<&Tree>) -> Option<Option<u64>>
+    ensures { result ≡ spec.epoch_in (option_map (λ t. json_of t.now) value.entry) }
+{
+    match value {
+        Some(tree) => epoch_of(tree),
+        None => Some(None),
+    }
+}
+
+fn epoch_of(tree: &Tree) -> Option<Option<u64>>
+    ensures { result ≡ spec.epoch_in (Some (json_of tree.now)) }
+{
+    match tree {
+        Tree::Int(number) => match u64::try_from(*number) {
+            Ok(epoch) if epoch <= LAST_EPOCH => Some(Some(epoch)),
+            _ => None,
+        },
+        _ => None,
+    }
+}
+
+/// The member `epoch`.
+pub(crate) fn epoch_row(alloc: Global, tree: &Tree) -> Result<Option<u64>, PlanFault>
+    ensures reads { Reads result (spec.member_row (codes "epoch") spec.epoch_in (members_under (json_of tree.now))) }
+    ensures early { IfOk result (λ epoch. IfSome epoch (λ e. e ≤ spec.last_epoch)) }
+{
+    row(alloc, "epoch", epoch_in(tree.member("epoch")))
 }

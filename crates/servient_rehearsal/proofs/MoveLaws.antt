@@ -31,13 +31,13 @@ use Rattle.servient_rehearsal.proofs.TakenLaws.{taken_as_sent}
 -- ---- the beginning
 
 -- nothing happened, with this client and a servient of this site
-abbrev beginning_of : Site → ℕ → ClientState → Played
-beginning_of site exchanges client = record {
+abbrev beginning_of : Site → ℕ → Option ℕ → ClientState → Played
+beginning_of site exchanges epoch client = record {
   ends = record {
     world = record {
       moment = 0;
       client = client;
-      server = (start site exchanges).coap;
+      server = (start site exchanges epoch).coap;
       asks = [];
       sent = [];
       acts = [];
@@ -46,21 +46,22 @@ beginning_of site exchanges client = record {
       ends = [];
       taken = [];
     };
-    servient = start site exchanges;
+    servient = start site exchanges epoch;
   };
   values = [];
 }
 
-begins : (site : Site) (exchanges : ℕ) (client : ClientState) → IsNew client.next_id client → IsBeginning site client.next_id exchanges (beginning_of site exchanges client).ends
-begins site exchanges client new = record {
+begins : (site : Site) (exchanges : ℕ) (epoch : Option ℕ) (client : ClientState) → IsNew client.next_id client → IsBeginning site client.next_id exchanges (beginning_of site exchanges epoch client).ends
+begins site exchanges epoch client new = record {
+  epoch = epoch;
   world = record { client = new; links = text_of_links (segments_of site); server = refl; asks = refl; sent = refl; acts = refl; emitted = refl; ids = refl; ends = refl; taken = refl };
   server = refl;
   servient = refl;
 }
 
-begins_noted : (servient : Layers) (exchanges : ℕ) (client : ClientState) (notes : Notes) → StandsFor servient (start servient.exposed.site exchanges) → noted_of notes.world ≡ nothing_noted → notes.registered ≡ 0
-    → AreNoted (kept servient client notes) (beginning_of servient.exposed.site exchanges client)
-begins_noted servient exchanges client notes stands noted registered = record {
+begins_noted : (servient : Layers) (exchanges : ℕ) (epoch : Option ℕ) (client : ClientState) (notes : Notes) → StandsFor servient (start servient.exposed.site exchanges epoch) → noted_of notes.world ≡ nothing_noted → notes.registered ≡ 0
+    → AreNoted (kept servient client notes) (beginning_of servient.exposed.site exchanges epoch client)
+begins_noted servient exchanges epoch client notes stands noted registered = record {
   left = record { servient = stands; client = refl };
   shown = record {
     moment = ap (λ (x : Noted). x.moment) noted;
@@ -110,16 +111,16 @@ ended_in_world ends k e x back has =
 few_asks : (w : World) (p : Played) → IsShown (noted_of w) p → length w.asks.items ≤ 65536 → length p.ends.world.asks ≤ 65536
 few_asks w p shown few = let count = ap length shown.asks ∙ as_many_shown 0 p.ends.world.asks in omega arith
 
-pub rehearsed : (servient after : Layers) (exchanges : ℕ) (client t : ClientState) (moves : List Move) (notes then_notes : Notes) (before shown : List Seen)
-    → StandsFor servient (start servient.exposed.site exchanges) → IsNew client.next_id client → noted_of notes.world ≡ nothing_noted → notes.registered ≡ 0
+pub rehearsed : (servient after : Layers) (exchanges : ℕ) (epoch : Option ℕ) (client t : ClientState) (moves : List Move) (notes then_notes : Notes) (before shown : List Seen)
+    → StandsFor servient (start servient.exposed.site exchanges epoch) → IsNew client.next_id client → noted_of notes.world ≡ nothing_noted → notes.registered ≡ 0
     → PlaysMoves servient.exposed.site moves (kept servient client notes) (kept after t then_notes) before shown
     → Rehearses servient.exposed.site moves servient after client t before shown then_notes.world
-rehearsed servient after exchanges client t moves notes then_notes before shown stands new noted registered plays =
+rehearsed servient after exchanges epoch client t moves notes then_notes before shown stands new noted registered plays =
     let site : Site = servient.exposed.site in
-    let from : Played = beginning_of servient.exposed.site exchanges client in
-    let a = plays (beginning_of servient.exposed.site exchanges client) (begins_noted servient exchanges client notes stands noted registered) in
+    let from : Played = beginning_of servient.exposed.site exchanges epoch client in
+    let a = plays (beginning_of servient.exposed.site exchanges epoch client) (begins_noted servient exchanges epoch client notes stands noted registered) in
     let to : Played = a.0 in
-    let begin : IsBeginning servient.exposed.site client.next_id exchanges (beginning_of servient.exposed.site exchanges client).ends = begins servient.exposed.site exchanges client new in
+    let begin : IsBeginning servient.exposed.site client.next_id exchanges (beginning_of servient.exposed.site exchanges epoch client).ends = begins servient.exposed.site exchanges epoch client new in
     let all = all_taken servient.exposed.site (map turn_of moves) from a.2.seen a.0 a.2.move in
     let few : length then_notes.world.asks.items ≤ 65536 → length a.0.ends.world.asks ≤ 65536 = few_asks then_notes.world a.0 a.1.shown in
     record {
@@ -156,20 +157,20 @@ rehearsed servient after exchanges client t moves notes then_notes before shown 
           servient_writes_one_act site client.next_id exchanges (map turn_of moves) from.ends a.0.ends code path szx x row begin all (few low) write are in_order no_other;
     }
 
-pub rehearsed_some : (servient after : Layers) (exchanges : ℕ) (client t : ClientState) (moves : List Move) (notes then_notes : Notes) (before shown : List Seen)
-    → StandsFor servient (start servient.exposed.site exchanges) → IsNew client.next_id client → noted_of notes.world ≡ nothing_noted → notes.registered ≡ 0
+pub rehearsed_some : (servient after : Layers) (exchanges : ℕ) (epoch : Option ℕ) (client t : ClientState) (moves : List Move) (notes then_notes : Notes) (before shown : List Seen)
+    → StandsFor servient (start servient.exposed.site exchanges epoch) → IsNew client.next_id client → noted_of notes.world ≡ nothing_noted → notes.registered ≡ 0
     → PlaysSomeMoves servient.exposed.site moves (kept servient client notes) (kept after t then_notes) before shown
     → RehearsesSome servient.exposed.site moves servient after client t before shown
-rehearsed_some servient after exchanges client t moves notes then_notes before shown stands new noted registered plays =
-    let a = plays (beginning_of servient.exposed.site exchanges client) (begins_noted servient exchanges client notes stands noted registered) in (
+rehearsed_some servient after exchanges epoch client t moves notes then_notes before shown stands new noted registered plays =
+    let a = plays (beginning_of servient.exposed.site exchanges epoch client) (begins_noted servient exchanges epoch client notes stands noted registered) in (
       a.0,
       a.1,
       a.2,
       record {
         first_id = client.next_id;
         exchanges = exchanges;
-        from = beginning_of servient.exposed.site exchanges client;
-        beginning = begins servient.exposed.site exchanges client new;
+        from = beginning_of servient.exposed.site exchanges epoch client;
+        beginning = begins servient.exposed.site exchanges epoch client new;
         servient_was = stands;
         client_was = refl;
         none_taken = refl;

@@ -24,7 +24,7 @@ use Rattle.servient_rehearsal.specs.Playing.{IsShown}
 
 -- a servient as it was made
 abbrev pub IsUnused : Layers → Type 0
-IsUnused servient = (exchanges : ℕ) × StandsFor servient (start servient.exposed.site exchanges)
+IsUnused servient = (exchanges : ℕ) × (epoch : Option ℕ) × StandsFor servient (start servient.exposed.site exchanges epoch)
 
 -- A run by these moves, from a new world which the real objects stood for, to one that they stand for as they are left. What the
 -- rack shows are the calls of handlers that are seen of it.

@@ -66,6 +66,7 @@ answer_of outcome.CallsUsed = both 503 (coap 5 03) (word (codes "calls"))
 answer_of (outcome.Invalid n) = http_alone 400 (numbered (codes "invalid ") n)
 answer_of outcome.IdDiffers = http_alone 400 (word (codes "differs"))
 answer_of outcome.HasId = http_alone 400 (word (codes "hasid"))
+answer_of outcome.BadTtl = http_alone 400 (word (codes "ttl"))
 answer_of outcome.DirectoryFull = http_alone 503 (word (codes "directory"))
 answer_of outcome.Memory = both 507 (coap 5 03) (word (codes "memory"))
 

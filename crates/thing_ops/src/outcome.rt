@@ -66,6 +66,8 @@ pub enum Outcome {
     IdDiffers,
     /// The description has an id, where the directory gives it one.
     HasId,
+    /// The registration information of the description is no object, or its time to live is none that is taken.
+    BadTtl,
     /// The directory has no room for another entry.
     DirectoryFull,
     /// Out of memory.

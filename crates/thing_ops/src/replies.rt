@@ -18,7 +18,11 @@ pub fn http_status(outcome: &Outcome) -> u16
         Outcome::Started(_, _) | Outcome::Created(_) => 201,
         Outcome::Empty | Outcome::Changed | Outcome::Deleted => 204,
         Outcome::NotModified(_) => 304,
-        Outcome::BadValue | Outcome::Invalid(_) | Outcome::IdDiffers | Outcome::HasId => 400,
+        Outcome::BadValue
+        | Outcome::Invalid(_)
+        | Outcome::IdDiffers
+        | Outcome::HasId
+        | Outcome::BadTtl => 400,
         Outcome::Refused(_) => 403,
         Outcome::NotFound => 404,
         Outcome::NotAllowed(_) => 405,
@@ -60,6 +64,7 @@ pub fn coap_code(outcome: &Outcome) -> u8
         | Outcome::Invalid(_)
         | Outcome::IdDiffers
         | Outcome::HasId
+        | Outcome::BadTtl
         | Outcome::DirectoryFull => unreachable!(),
     }
 }

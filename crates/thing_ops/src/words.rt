@@ -33,6 +33,7 @@ pub fn word(outcome: &Outcome, out: &mut [u8; LONGEST_WORD]) -> usize
         Outcome::Invalid(number) => put_numbered(out, b"invalid ", u16::from(*number)),
         Outcome::IdDiffers => put(out, 0, b"differs"),
         Outcome::HasId => put(out, 0, b"hasid"),
+        Outcome::BadTtl => put(out, 0, b"ttl"),
         Outcome::DirectoryFull => put(out, 0, b"directory"),
         Outcome::Memory => put(out, 0, b"memory"),
         Outcome::Content { .. }

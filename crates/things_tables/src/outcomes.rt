@@ -38,6 +38,7 @@ fn plain(word: &str) -> Outcome {
         "CallsUsed" => Outcome::CallsUsed,
         "IdDiffers" => Outcome::IdDiffers,
         "HasId" => Outcome::HasId,
+        "BadTtl" => Outcome::BadTtl,
         "DirectoryFull" => Outcome::DirectoryFull,
         _ => Outcome::Memory,
     }
@@ -110,6 +111,7 @@ fn code_of(outcome: &Outcome) -> Option<u8> {
         | Outcome::Invalid(_)
         | Outcome::IdDiffers
         | Outcome::HasId
+        | Outcome::BadTtl
         | Outcome::DirectoryFull => None,
         _ => Some(coap_code(outcome)),
     }

@@ -64,6 +64,13 @@ impl Registry {
         }
     }
 
+    /// Takes away what is over at the moment `now`, and does no more. The other calls do this first.
+    pub fn remove_expired(&mut self, now: u64)
+        ensures { self.new ≡ standing now self.old }
+    {
+        take_away_over(&mut self.directory, &mut self.times, now);
+    }
+
     /// Puts a description under the id that it has, and says whether that is a new one. Where that isn't done the
     /// description is given up, and all stays as it was but for what is over.
     pub fn put(&mut self, id: &str, tree: Tree, now: u64) -> Result<bool, RegFault>
@@ -72,7 +79,7 @@ impl Registry {
         ensures unchanged { OnErr result (self.new ≡ standing now self.old) }
         ensures fault { IfErr result (λ e. IsPutFault e id.now (json_of tree) (standing now self.old)) }
     {
-        self.go_on(now);
+        self.remove_expired(now);
         self.put_now(id, tree, now)
     }
 
@@ -84,7 +91,7 @@ impl Registry {
         ensures unchanged { OnErr result (self.new ≡ standing now self.old) }
         ensures fault { IfErr result (λ e. IsCreateFault e (json_of tree) (standing now self.old)) }
     {
-        self.go_on(now);
+        self.remove_expired(now);
         self.create_now(tree, now)
     }
 
@@ -96,7 +103,7 @@ impl Registry {
         ensures unchanged { OnErr result (self.new ≡ standing now self.old) }
         ensures fault { IfErr result (λ e. IsPatchFault e id.now (json_of patch.now) (standing now self.old)) }
     {
-        self.go_on(now);
+        self.remove_expired(now);
         self.patch_now(id, patch, now)
     }
 
@@ -106,7 +113,7 @@ impl Registry {
         ensures unchanged { OnErr result (self.new ≡ standing now self.old) }
         ensures fault { IfErr result (λ e. IsRemoveFault e id.now (standing now self.old)) }
     {
-        self.go_on(now);
+        self.remove_expired(now);
         self.remove_now(id)
     }
 
@@ -115,7 +122,7 @@ impl Registry {
         ensures ok { IfOk result (λ t. option_map json_of t ≡ shown_under id.now (standing now self.old)) }
         ensures left { self.new ≡ standing now self.old }
     {
-        self.go_on(now);
+        self.remove_expired(now);
         self.get_now(id)
     }
 
@@ -126,7 +133,7 @@ impl Registry {
         ensures left { self.new ≡ standing now self.old }
         ensures ordered { AreOrdered self.new.contents.entries }
     {
-        self.go_on(now);
+        self.remove_expired(now);
         self.list_now(offset, limit)
     }
 }
@@ -205,13 +212,6 @@ impl Registry {
         let copies = self.directory.copies(offset, limit)?;
         let trees = shown_trees(self.alloc, self.epoch, &self.times, &copies)?;
         text_of(self.alloc, &Tree::List(trees))
-    }
-
-    /// Moves on to the moment `now`: what is over then is taken away.
-    fn go_on(&mut self, now: u64)
-        ensures { self.new ≡ standing now self.old }
-    {
-        take_away_over(&mut self.directory, &mut self.times, now);
     }
 
     /// Puts a description, of which no more is judged, under an id for which there is room, from now on and with this

@@ -19,7 +19,7 @@ returns-in_err-servient g c = λ files.
     let e = c.in_err-servient.field-0.0 in
     let listens = Listens (place_of p.plan (q.idle * 1000)) in
     let error = err_from_is_err_and c.from_residual.result c.from_residual.ensures.1 in
-    rw (error.1, error.2) (error_ends (Opens q.plan.now (kinds_of slots) p) (λ site. AndThen listens (λ _. ServesEvents q.events p.plan.exchanges site)) b b e (c.in_err-servient.ensures.stage b))
+    rw (error.1, error.2) (error_ends (Opens q.plan.now (kinds_of slots) p) (λ site. AndThen listens (λ _. ServesEvents q.events p.plan.exchanges p.plan.epoch site)) b b e (c.in_err-servient.ensures.stage b))
 
 pub returns-in_err-listen : goal.returns-in_err-listen
 returns-in_err-listen g c = λ files.
@@ -32,8 +32,8 @@ returns-in_err-listen g c = λ files.
     let e = c.in_err-listen.field-0.0 in
     let listens = Listens (place_of p.plan (q.idle * 1000)) in
     let error = err_from_is_err_and c.from_residual-in_err-listen.result c.from_residual-in_err-listen.ensures.1 in
-    rw (error.1, error.2) (then_ends (Opens q.plan.now (kinds_of slots) p) (λ s. AndThen listens (λ _. ServesEvents q.events p.plan.exchanges s)) b b d site (Err e) (c.in_ok-servient.ensures.stage b)
-    (error_ends listens (λ _. ServesEvents q.events p.plan.exchanges site) b d e (c.in_err-listen.ensures files slots)))
+    rw (error.1, error.2) (then_ends (Opens q.plan.now (kinds_of slots) p) (λ s. AndThen listens (λ _. ServesEvents q.events p.plan.exchanges p.plan.epoch s)) b b d site (Err e) (c.in_ok-servient.ensures.stage b)
+    (error_ends listens (λ _. ServesEvents q.events p.plan.exchanges p.plan.epoch site) b d e (c.in_err-listen.ensures files slots)))
 
 pub returns : goal.returns
 returns g c = λ files.
@@ -46,6 +46,6 @@ returns g c = λ files.
     let site = c.in_ok-servient.servient.exposed.site in
     let r = c.serve_events.result in
     let listens = Listens (place_of p.plan (q.idle * 1000)) in
-    then_ends (Opens q.plan.now (kinds_of slots) p) (λ s. AndThen listens (λ _. ServesEvents q.events p.plan.exchanges s)) b b f site r (c.in_ok-servient.ensures.stage b)
-    (then_ends listens (λ _. ServesEvents q.events p.plan.exchanges site) b d f tt r (c.in_ok-listen.ensures files slots)
-    (c.serve_events.ensures files p.plan.exchanges c.in_ok-servient.ensures.start))
+    then_ends (Opens q.plan.now (kinds_of slots) p) (λ s. AndThen listens (λ _. ServesEvents q.events p.plan.exchanges p.plan.epoch s)) b b f site r (c.in_ok-servient.ensures.stage b)
+    (then_ends listens (λ _. ServesEvents q.events p.plan.exchanges p.plan.epoch site) b d f tt r (c.in_ok-listen.ensures files slots)
+    (c.serve_events.ensures files p.plan.exchanges p.plan.epoch c.in_ok-servient.ensures.start))

@@ -25,4 +25,4 @@ pub returns-in-Ok-clause-stage : goal.returns-in-Ok-clause-stage
 returns-in-Ok-clause-stage c = λ a.
     goes_quietly TakesBuiltIn a (planned c.in_ok-plan.plan c.add.new.self)
     (is_built_in refl (same_planned c.in_ok-plan.plan built_in_plan c.add.new.self c.new-library.result c.as_str.result.now built_in_url (json_of c.in_ok-model.model) built_in_model
-    c.in_ok-plan.ensures c.in-Ok.ensures.ok (c.as_str.ensures ∙ ap (λ (p : Plan). p.root) c.in_ok-plan.ensures) c.in_ok-model.ensures c.new-library.ensures))
+    c.in_ok-plan.ensures.plan c.in-Ok.ensures.ok (c.as_str.ensures ∙ ap (λ (p : Plan). p.root) c.in_ok-plan.ensures.plan) c.in_ok-model.ensures c.new-library.ensures))

@@ -13,7 +13,7 @@ returns-in_err-servient g c = λ files net.
     let slots = g.R.Handlers.slots c.args.rack.now in
     let a = around files (outside net slots) in
     let error = err_from_is_err_and c.from_residual.result c.from_residual.ensures.1 in
-    rw (error.1, error.2) (error_ends (Opens c.args.name.now (kinds_of slots) p) (RunsScript c.args.budget c.args.inputs.events p.plan.exchanges) a a c.in_err-servient.field-0.0 (c.in_err-servient.ensures.stage a))
+    rw (error.1, error.2) (error_ends (Opens c.args.name.now (kinds_of slots) p) (RunsScript c.args.budget c.args.inputs.events p.plan.exchanges p.plan.epoch) a a c.in_err-servient.field-0.0 (c.in_err-servient.ensures.stage a))
 
 pub returns : goal.returns
 returns g c = λ files net.
@@ -22,5 +22,5 @@ returns g c = λ files net.
     let a = around files (outside net slots) in
     let b = around files (outside net (g.R.Handlers.slots c.run_script.new.rack)) in
     let site = c.in_ok-servient.servient.exposed.site in
-    then_ends (Opens c.args.name.now (kinds_of slots) p) (RunsScript c.args.budget c.args.inputs.events p.plan.exchanges) a a b site c.run_script.result
-    (c.in_ok-servient.ensures.stage a) (c.run_script.ensures files net p.plan.exchanges c.in_ok-servient.ensures.start)
+    then_ends (Opens c.args.name.now (kinds_of slots) p) (RunsScript c.args.budget c.args.inputs.events p.plan.exchanges p.plan.epoch) a a b site c.run_script.result
+    (c.in_ok-servient.ensures.stage a) (c.run_script.ensures files net p.plan.exchanges p.plan.epoch c.in_ok-servient.ensures.start)

@@ -24,28 +24,28 @@ overflow_sub-after g c =
     omega (arith, c.turns_kept-before.ensures, c.turns_kept-after.ensures, turns_grew (g.R.Handlers.slots c.args.rack.now) (g.R.Handlers.slots c.serve-served.new.rack) (calls_in made.2.seen) made.2.shows.rack)
 
 pub returns-in_err-ending : goal.returns-in_err-ending
-returns-in_err-ending g c = λ files seen exchanges seed count storm stands.
+returns-in_err-ending g c = λ files seen exchanges epoch seed count storm stands.
     let before = g.R.Handlers.slots c.args.rack.now in
     let after = g.R.Handlers.slots c.serve-served.new.rack in
     let w = outside (net_seen c.args.net.now) before in
     let v = outside (net_seen c.serve-served.new.net) after in
     let site = c.args.servient.now.exposed.site in
-    let s = start site exchanges in
+    let s = start site exchanges epoch in
     let events = events_of seed count in
     let ran = run_of events c.args.load.events c.serve-served.result site s c.args.servient.now c.serve-served.new.servient w v stands c.serve-served.ensures.serves storm.script.ends storm.script.left in
     let first = run_first events c.args.load.events c.serve-served.result site s ran.0 ran.1 ran.2 in
     let error = err_from_is_err_and c.from_residual.result c.from_residual.ensures.1 in
-    rw (error.1, error.2) (calls_end (RunsStorm seed count exchanges site) files seen before after (calls_in ran.1) 9 memory_line memory_line ran.3.rack refl
+    rw (error.1, error.2) (calls_end (RunsStorm seed count exchanges epoch site) files seen before after (calls_in ran.1) 9 memory_line memory_line ran.3.rack refl
     (storm_memory ran.1 ran.0 (length ran.2.took) (subst (λ (es : List EventWithBytes). Run site (take (length ran.2.took) es) s ran.1 ran.0) (run_is seed count) first) (refl, refl)))
 
 pub returns : goal.returns
-returns g c = λ files seen exchanges seed count storm stands.
+returns g c = λ files seen exchanges epoch seed count storm stands.
     let before = g.R.Handlers.slots c.args.rack.now in
     let after = g.R.Handlers.slots c.serve-served.new.rack in
     let w = outside (net_seen c.args.net.now) before in
     let v = outside (net_seen c.serve-served.new.net) after in
     let site = c.args.servient.now.exposed.site in
-    let s = start site exchanges in
+    let s = start site exchanges epoch in
     let events = events_of seed count in
     let budget = c.args.load.events in
     let ran = run_of events budget served.Stopped site s c.args.servient.now c.serve-served.new.servient w v stands c.in-Stopped.ensures.serves storm.script.ends storm.script.left in
@@ -57,7 +57,7 @@ returns g c = λ files seen exchanges seed count storm stands.
     let made : turns ≡ length (turns_in (calls_in ran.1)) = omega (arith, c.turns_kept-before.ensures, c.turns_kept-after.ensures, turns_grew before after (calls_in ran.1) ran.3.rack) in
     let counts = counts_are seed count c.args.load.datagrams turns ran.1 (ran.2.hears ∙ whole) storm.datagrams made in
     let is = c.in_ok-ending.ensures (happened_in ran.1) known told in
-    rw is.0 (calls_end (RunsStorm seed count exchanges site) files seen before after (calls_in ran.1) 0 (storm_line (counts_in ran.1)) c.in_ok-ending.ending.text ran.3.rack (is.1 ∙ ap storm_line counts)
+    rw is.0 (calls_end (RunsStorm seed count exchanges epoch site) files seen before after (calls_in ran.1) 0 (storm_line (counts_in ran.1)) c.in_ok-ending.ending.text ran.3.rack (is.1 ∙ ap storm_line counts)
     (is_counted ran.1 ran.0 (subst (λ (es : List EventWithBytes). Run site es s ran.1 ran.0) whole ran.2.run) (refl, refl)))
 
 pub unreachable-requires : goal.unreachable-requires

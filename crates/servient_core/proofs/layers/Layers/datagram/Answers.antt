@@ -38,7 +38,7 @@ returns-in-Nothing g c =
     record {
       refines = heard_nothing c.args.self.now.exposed.site c.args.from c.args.bytes.now c.args.self.now c.datagram.new.self
           (outside (g.N.Net.seen c.args.net.now) (g.R.Handlers.slots c.args.rack.now)) heard.heard (omega (arith, c.if-bytes-gt-LONGEST_DATAGRAM.false)) heard.hears heard.tells.0;
-      ready = record { pending = c.requires.ready.pending; moment = c.in-Nothing.ensures.moment; room = c.requires.ready.room };
+      ready = record { pending = c.requires.ready.pending; moment = c.in-Nothing.ensures.moment; clock = c.requires.ready.clock; room = c.requires.ready.room };
       site = refl;
     }
 
@@ -51,7 +51,7 @@ returns-in-Send g c =
           (omega (arith, c.if-bytes-gt-LONGEST_DATAGRAM.false)) heard.hears heard.tells.1
           (subst (λ (sent : List ℕ). NetShows (g.N.Net.seen c.args.net.now) (g.N.Net.seen c.datagram-in-Send.new.self) (did (act.Datagram c.args.from sent) ∷ []))
           heard.tells.2.front c.datagram-in-Send.ensures);
-      ready = record { pending = c.requires.ready.pending; moment = c.in-Send.ensures.moment; room = c.requires.ready.room };
+      ready = record { pending = c.requires.ready.pending; moment = c.in-Send.ensures.moment; clock = c.requires.ready.clock; room = c.requires.ready.room };
       site = refl;
     }
 
@@ -73,6 +73,6 @@ returns-in-Ask g c =
           (subst (λ (sent : List ℕ). NetShows (g.N.Net.seen c.args.net.now) m (did (act.Datagram c.args.from sent) ∷ [])) replied.written.front c.datagram-in-Ask.ensures)
           (c.deliver.ensures.delivered after);
       ready = ready_after (record k { exposed = e; coap = c.answer-size.new.self }) c.deliver.new.self c.requires.ready.room
-          (omega (arith, c.answer-size.ensures.moment, c.in-Ask.ensures.moment)) c.deliver.ensures.only c.deliver.ensures.pending;
+          (omega (arith, c.answer-size.ensures.moment, c.in-Ask.ensures.moment)) c.requires.ready.clock c.deliver.ensures.only c.deliver.ensures.pending;
       site = c.deliver.ensures.only.site ∙ performed.site;
     }

@@ -18,6 +18,7 @@ returns-in-Opened g c =
       ready = record {
         pending = c.requires.ready.pending;
         moment = c.requires.ready.moment;
+        clock = c.requires.ready.clock;
         room = room_after c.in-Opened.c k.http c.opened.new.self c.requires.ready.room c.opened.ensures.others c.opened.ensures.room;
       };
       site = refl;
@@ -44,6 +45,7 @@ returns-in-Ended g c =
       ready = record {
         pending = c.requires.ready.pending;
         moment = c.requires.ready.moment;
+        clock = c.requires.ready.clock;
         room = room_after c.in-Ended.c k.http c.ended.new.self c.requires.ready.room c.ended.ensures.others c.ended.ensures.room;
       };
       site = refl;

@@ -17,6 +17,7 @@ returns g c =
       ready = record {
         pending = all.on.pending;
         moment = all.on.moment;
+        clock = all.on.clock;
         room = room_of_all c.args.c k.http c.take_all.new.self.http c.requires.ready.room
             (others_then c.args.c k.http c.bytes.new.self c.take_all.new.self.http (others_keep c.args.c k.http c.bytes.new.self c.bytes.ensures.others) all.left) all.room;
       };

@@ -22,7 +22,7 @@ returns-clause-polled g c =
 pub returns-clause-ready : goal.returns-clause-ready
 returns-clause-ready g c =
     let k = c.args.self.now in
-    ready_after (record k { exposed = c.poll_next.new.self }) c.deliver.new.self c.requires.ready.room c.requires.ready.moment c.deliver.ensures.only c.deliver.ensures.pending
+    ready_after (record k { exposed = c.poll_next.new.self }) c.deliver.new.self c.requires.ready.room c.requires.ready.moment c.requires.ready.clock c.deliver.ensures.only c.deliver.ensures.pending
 
 pub returns-clause-site : goal.returns-clause-site
 returns-clause-site g c =

@@ -92,6 +92,7 @@ returns-in-Ask-clause-on g c =
       connection = c.requires.on.connection;
       pending = c.deliver.ensures.pending;
       moment = omega (arith, c.requires.on.moment, only.moment, ap (λ (x : Table). x.moment) only.exchanges);
+      clock = omega (arith, c.requires.on.clock, only.moment);
       fits = subst (λ (site : Site). Fits site (g.R.Handlers.slots c.perform_by_http-outcome.new.rack)) (sym only.site) (made.fits c.requires.on.fits);
     }
 

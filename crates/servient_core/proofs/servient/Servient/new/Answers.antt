@@ -9,6 +9,7 @@ pub invariant_of-result : goal.invariant_of-result
 invariant_of-result g c = record {
   pending = ap (λ (k : Kept). k.pending) c.in-Ok.ensures.ok;
   moment = omega (arith, ap (λ (x : Server). x.exchanges.moment) c.in_ok-coap.ensures);
+  clock = omega arith;
   room = none_have_room c.in_ok-http.http c.in_ok-http.ensures;
 }
 
@@ -19,7 +20,7 @@ returns-clause-start g c =
     record {
       moment = refl;
       http = search (rules, c.in_ok-http.ensures);
-      coap = coap_starts c.args.plan.now.slots c.as_slice.result.now c.args.things c.in-Ok.exposed.site c.args.plan.now.exchanges c.in_ok-coap.coap c.as_slice.ensures site c.in_ok-coap.ensures;
+      coap = coap_starts c.args.plan.now.slots c.as_slice.result.now c.args.things c.in-Ok.exposed.site c.args.plan.now.exchanges c.args.plan.now.epoch c.in_ok-coap.coap c.as_slice.ensures site c.in_ok-coap.ensures;
       thing = search (rules, c.in-Ok.ensures.ok);
       directory = search rules;
     }
@@ -27,5 +28,5 @@ returns-clause-start g c =
 pub returns-clause-links : goal.returns-clause-links
 returns-clause-links g c =
     let site = ap (λ (k : Kept). k.site) c.in-Ok.ensures.ok in
-    let coap = coap_starts c.args.plan.now.slots c.as_slice.result.now c.args.things c.in-Ok.exposed.site c.args.plan.now.exchanges c.in_ok-coap.coap c.as_slice.ensures site c.in_ok-coap.ensures in
+    let coap = coap_starts c.args.plan.now.slots c.as_slice.result.now c.args.things c.in-Ok.exposed.site c.args.plan.now.exchanges c.args.plan.now.epoch c.in_ok-coap.coap c.as_slice.ensures site c.in_ok-coap.ensures in
     links_stand c.args.plan.now.slots c.args.things c.in-Ok.exposed.site c.in_ok-coap.coap.links site (sym (ap (λ (x : Server). x.links) coap)) c.requires.plain

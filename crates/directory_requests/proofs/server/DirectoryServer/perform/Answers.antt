@@ -1,0 +1,12 @@
+use Rattle.std.proofs.Common.{subst}
+use Rattle.thing_ops.specs.Requests.{plain_request}
+use Rattle.directory_requests.specs.declared.server.Entries.{Entries}
+use Rattle.directory_requests.specs.Requests.{standing_at, ActsOnStanding}
+use Rattle.directory_requests.proofs.TaskLaws.{refused}
+use Rattle.directory_requests.proofs.server.DirectoryServer.perform.Goals as goal
+
+pub returns-in-Err : goal.returns-in-Err
+returns-in-Err c =
+    subst (λ (x : Entries). ActsOnStanding (plain_request c.args.request.now) c.args.now c.in-Err.outcome (standing_at c.args.now x) c.remove_expired.new.self) c.self.view_is
+    (refused (plain_request c.args.request.now) c.args.now c.in-Err.outcome (standing_at c.args.now c.self.inside.entries) c.remove_expired.new.self c.in-Err.ensures.fault
+    c.remove_expired.ensures)

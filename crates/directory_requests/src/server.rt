@@ -1,0 +1,109 @@
+//! A directory that does what requests ask.
+
+ghost use Rattle.std.specs.Prelude.{◌≡◌, ◌≤◌, IfSome};
+ghost use Rattle.thing_ops.specs.Requests.{plain_request};
+ghost use Rattle.wot_registry.specs.Dates.{last_millisecond};
+ghost use Rattle.wot_registry.specs.Times.{last_moment};
+ghost use Rattle.directory_requests.specs.Requests.{no_entries, standing_at, ActsOnStanding};
+ghost use Rattle.directory_requests.specs.Judged.{IsJudged};
+
+use crate::judging::{Task, judge};
+use crate::performing::perform_task;
+use crate::registering::perform_task_at;
+use std::alloc::Global;
+use std::marker::Model;
+use thing_ops::{Outcome, Request};
+use wot_directory::Directory;
+use wot_registry::Registry;
+
+/// The entries of a directory.
+#[derive(Drop)]
+pub enum Entries {
+    /// Descriptions alone, since nobody says when the clock began.
+    Untimed(Directory),
+    /// Descriptions with registration information, which tells dates.
+    Timed(Registry),
+}
+
+/// A directory that does what requests ask. Contracts see its entries.
+#[derive(Drop)]
+pub struct DirectoryServer {
+    alloc: Global,
+    entries: Entries,
+}
+
+impl Model for DirectoryServer {
+    ghost use Rattle.std.specs.Coded.{codes};
+    ghost use Rattle.wot_directory.specs.Contents.{contents_code};
+    ghost use Rattle.wot_registry.specs.Registry.{registered_code};
+    ghost use Rattle.directory_requests.specs.declared.server.Entries.{Entries};
+
+    ghost Value = { Entries };
+
+    ghost coded = { Prim.hlevel (codes, contents_code, registered_code) };
+
+    ghost view = { λ s. s.entries };
+}
+
+impl DirectoryServer {
+    /// A directory without entries. Where it is known when the clock began, in milliseconds after the start of 1970,
+    /// its entries have times.
+    pub fn new(alloc: Global, epoch: Option<u64>) -> Self
+        requires { IfSome epoch (λ e. e ≤ last_millisecond) }
+        ensures { result ≡ no_entries epoch }
+    {
+        DirectoryServer {
+            alloc,
+            entries: Entries::new(alloc, epoch),
+        }
+    }
+
+    /// Does what a request asks at the moment `now`, once what is over then was taken away, and gives its outcome.
+    pub fn perform(&mut self, request: &Request<'_>, now: u64) -> Outcome
+        requires { now ≤ last_moment }
+        ensures { ActsOnStanding (plain_request request.now) now result (standing_at now self.old) self.new }
+    {
+        match judge(self.alloc, request) {
+            Ok(task) => self.entries.perform(self.alloc, task, request, now),
+            Err(outcome) => {
+                self.entries.remove_expired(now);
+                outcome
+            }
+        }
+    }
+}
+
+impl Entries {
+    /// No entries.
+    fn new(alloc: Global, epoch: Option<u64>) -> Self
+        requires { IfSome epoch (λ e. e ≤ last_millisecond) }
+        ensures { result ≡ no_entries epoch }
+    {
+        match epoch {
+            Some(epoch) => Entries::Timed(Registry::new(alloc, epoch)),
+            None => Entries::Untimed(Directory::new(alloc)),
+        }
+    }
+
+    /// Takes away what is over at the moment `now`.
+    fn remove_expired(&mut self, now: u64)
+        ensures { self.new ≡ standing_at now self.old }
+    {
+        match self {
+            Entries::Untimed(_) => {}
+            Entries::Timed(registry) => registry.remove_expired(now),
+        }
+    }
+
+    /// Does what is to be done of a request at the moment `now`, once what is over then was taken away.
+    fn perform(&mut self, alloc: Global, task: Task, request: &Request<'_>, now: u64) -> Outcome
+        requires judged { IsJudged (plain_request request.now) task }
+        requires bound { now ≤ last_moment }
+        ensures { ActsOnStanding (plain_request request.now) now result (standing_at now self.old) self.new }
+    {
+        match self {
+            Entries::Untimed(directory) => perform_task(alloc, directory, task, request),
+            Entries::Timed(registry) => perform_task_at(alloc, registry, task, request, now),
+        }
+    }
+}

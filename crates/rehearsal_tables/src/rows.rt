@@ -33,8 +33,7 @@ pub struct Row {
 
 /// Whether an ask could disturb a row that begins with `first`: one of its path, and of its code where it writes.
 fn disturbs(way: Way, first: &Step<'_>, other: &Step<'_>) -> bool {
-    first.path.as_slice() == other.path.as_slice()
-        && (way == Way::Read || first.code == other.code)
+    first.path.as_slice() == other.path.as_slice() && (way == Way::Read || first.code == other.code)
 }
 
 /// Whether an ask has the block of this number, of a row of this size.

@@ -258,15 +258,18 @@ led_asked from bytes now act back s v t a ask reply (admitted m slot u met (asks
     (ap (λ (x : OpenAsk). x.request) which) (ap (λ (x : OpenAsk). x.from) which) (ap (λ (x : OpenAsk). x.observing) which) (ap (λ (x : OpenAsk). x.blocks) which)
     (ap (λ (x : Server). x.next_id) same) (ap (λ (x : Server). x.links) same) (ap (λ (x : Server). x.watchers) same) answer is
     (is_acted_on_whole a b whole.bytes wants apart refl what code place refl)
-    (λ bodies parts_are. (record {
-      place = at;
-      parts = parts;
-      whole = whole;
-      comes = block_comes from now m b (Complete at) s u parts met.same_parts adds;
-      there = there;
-      after = parts_are ∙ ap (λ (x : Server). x.parts) same;
-      bodies = bodies ∙ (ap (λ (x : Server). x.bodies) same ∙ met.same_bodies);
-    }, ap (λ (x : PlainAsk). x.request.body) what))
+    (λ bodies parts_are. (
+      record {
+        place = at;
+        parts = parts;
+        whole = whole;
+        comes = block_comes from now m b (Complete at) s u parts met.same_parts adds;
+        there = there;
+        after = parts_are ∙ ap (λ (x : Server). x.parts) same;
+        bodies = bodies ∙ (ap (λ (x : Server). x.bodies) same ∙ met.same_bodies);
+      },
+      ap (λ (x : PlainAsk). x.request.body) what,
+    ))
 
 -- ---- all
 

@@ -187,9 +187,9 @@ first_read v x path szx z r = by_reason r.is.leads
             outcome_content a.outcome,
             refl,
             ap (given_to path) (take_next x.led r.for_it.place r.for_it.entry r.for_it.there)
-            ∙ (given_push path None (take r.for_it.place x.led) r.for_it.entry
-            ∙ (ap (λ (l : Led). given_by path l (given_to path (take r.for_it.place x.led))) same
-            ∙ act_given path a szx (given_to path (take r.for_it.place x.led)) use_for path_is (f.kept (ap says_more (sym block) ∙ more)))),
+                ∙ (given_push path None (take r.for_it.place x.led) r.for_it.entry
+                ∙ (ap (λ (l : Led). given_by path l (given_to path (take r.for_it.place x.led))) same
+                ∙ act_given path a szx (given_to path (take r.for_it.place x.led)) use_for path_is (f.kept (ap says_more (sym block) ∙ more)))),
           );
         }
 

@@ -117,8 +117,8 @@ still_given v x path szx n first row z w r less to_last well =
     ap (λ (k : ℕ). given_to path (take k x.led)) far
     ∙ given_still path x.led (suc a.place) (b.place - suc a.place) (omega arith) (λ q y from below at_q held. quiet path y.led held (λ c is path_is.
     let found = between v x (IsOfPath path) first row w.row_is a.place q b.place a.entry y b.entry a.there at_q b.there (omega arith) (omega arith) (omega arith) (omega arith)
-        (subst (EndsWell v.ends) (sym b.ask) well)
-        (λ e. sym (ap (λ (k : PlainAsk). k.request.path) (acted_on client_place e.now e.message v.server.links e.seen y.led y.reply c e.leads is).what) ∙ path_is) in
+    (subst (EndsWell v.ends) (sym b.ask) well)
+    (λ e. sym (ap (λ (k : PlainAsk). k.request.path) (acted_on client_place e.now e.message v.server.links e.seen y.led y.reply c e.leads is).what) ∙ path_is) in
     elim (one_of first row y.ask found.0) [
       | inl same ↦ absurd (let more = found.1 in omega arith)
       | inr rest ↦

@@ -213,8 +213,8 @@ blocks_join z n text y (w ∷ row) are =
     = drop-drop (size_of z) (n * size_of z) text ∙ (ap (λ (k : ℕ). drop k text) next ∙ rest.1) in (
       rest.0,
       sym (take-append-drop (size_of z) behind)
-      ∙ (ap (λ (l : List ℕ). l ++ drop (size_of z) behind) (sym are.0.part)
-      ∙ (ap (λ (l : List ℕ). y.payload ++ l) left ∙ sym (append_assoc y.payload (joined_payloads (w ∷ row)) rest.0))),
+          ∙ (ap (λ (l : List ℕ). l ++ drop (size_of z) behind) (sym are.0.part)
+          ∙ (ap (λ (l : List ℕ). y.payload ++ l) left ∙ sym (append_assoc y.payload (joined_payloads (w ∷ row)) rest.0))),
       rest.2,
     )
 
@@ -233,7 +233,7 @@ row_reads z text x (y ∷ row) (first_of_it same says) followed are =
     let left : drop (size_of z) text ≡ joined_payloads (y ∷ row) ++ rest.0 = ap (λ (k : ℕ). drop k text) (sym one) ∙ rest.1 in (
       rest.0,
       sym (take-append-drop (size_of z) text)
-      ∙ (ap (λ (l : List ℕ). l ++ drop (size_of z) text) (sym same)
-      ∙ (ap (λ (l : List ℕ). x.payload ++ l) left ∙ sym (append_assoc x.payload (joined_payloads (y ∷ row)) rest.0))),
+          ∙ (ap (λ (l : List ℕ). l ++ drop (size_of z) text) (sym same)
+          ∙ (ap (λ (l : List ℕ). x.payload ++ l) left ∙ sym (append_assoc x.payload (joined_payloads (y ∷ row)) rest.0))),
       rest.2,
     )

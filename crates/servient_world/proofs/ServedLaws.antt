@@ -145,8 +145,8 @@ exact_led w d k act back t n x copy messages past soon treats l right =
       fed = subst (λ (text : List ℕ). AreFed text (x.led ++ e ∷ [])) (sym l.links)
           (fed_push w.server.links x.led e x.fed (fed_for x.led w.moment l.message l.led w.server t leaves x.given x.joins));
       first = all_pairs_push (ComesFirst w.ends) x.led e x.first (λ i f within before y has same.
-      let is_end = All-contains (λ (z : AskEnd). IsEnd w.acts x.led z.ask z.end) w.ends y x.ended has in
-      ended_before w.acts x.led y.ask y.end is_end (subst (λ (a : ℕ). All (λ (z : Entry). z.ask ≢ a) x.led) (sym same) (last_once x.led e ledger.once)));
+          let is_end = All-contains (λ (z : AskEnd). IsEnd w.acts x.led z.ask z.end) w.ends y x.ended has in
+          ended_before w.acts x.led y.ask y.end is_end (subst (λ (a : ℕ). All (λ (z : Entry). z.ask ≢ a) x.led) (sym same) (last_once x.led e ledger.once)));
       kept = right.kept;
       said = said_sent mid (x.led ++ e ∷ []) server_place d.from (reply_to k) back (said_later w.asks w.acts (acts_for (copy_of k) act) x.led (e ∷ []) w.sent x.said)
           (All-weaker (IsReply w.asks (x.led ++ e ∷ []) k) (λ (bytes : List ℕ). IsSentBack w.asks (x.led ++ e ∷ []) k (record { moment = w.moment; from = server_place; to = d.from; bytes = bytes; purpose = reply_to k }))

@@ -116,7 +116,7 @@ still_joined v x code path n m first row z w left whole a b less from to_last we
     ap (λ (k : ℕ). part_of (origin_at code path) (take k x.led)) far
     ∙ part_still (origin_at code path) x.led (suc i.place) (j.place - suc i.place) (omega arith) (λ q y start below at_q held. quiet (origin_at code path) y.led held (λ c added is origin.
     let found = between v x (IsOfCodeAndPath code path) first row whole.row_is i.place q j.place i.entry y j.entry i.there at_q j.there (omega arith) (omega arith) (omega arith) (omega arith)
-        (subst (EndsWell v.ends) (sym j.ask) well_w) (λ e. joins_kind v code path y c added e is origin) in
+    (subst (EndsWell v.ends) (sym j.ask) well_w) (λ e. joins_kind v code path y c added e is origin) in
     elim (split y.ask found.0) [
       | inl low ↦ absurd (let more = found.1 in omega arith)
       | inr rest ↦ elim (one_of w left y.ask rest) [

@@ -1,4 +1,4 @@
-use Rattle.std.proofs.Common.{◌∙◌, sym, subst, ap}
+use Rattle.std.proofs.Common.{◌∙◌, sym, subst, ap, arith}
 use Rattle.servient_base.specs.Moves.{Refines}
 use Rattle.thing_site.specs.Fits.{Fits}
 use Rattle.thing_core.specs.Kept.{Kept}
@@ -30,3 +30,11 @@ returns-clause-fits g c =
     subst (λ (x : Site). Fits x v.slots) (sym (ap (λ (x : Kept). x.site) c.end_event.ensures.exposed ∙ c.follow.ensures.site))
     (fits_after (Follows k.exposed.site c.args.event.now.what c.args.bytes.now) (record k { moment = c.max-self-inside.result }) c.follow.new.self k.exposed.site w v
     c.follow.ensures.refines (subst (λ (x : Layers). Fits x.exposed.site w.slots) (sym c.self.view_is) c.requires.fits))
+
+pub follow-requires-clause-ready : goal.follow-requires-clause-ready
+follow-requires-clause-ready g c = record {
+  pending = c.self.invariant.pending;
+  moment = omega (arith, c.self.invariant.moment, c.max-self-inside.ensures);
+  clock = omega (arith, c.self.invariant.clock, c.max-self-inside.ensures, c.requires.event.moment);
+  room = c.self.invariant.room;
+}

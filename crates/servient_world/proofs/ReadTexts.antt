@@ -119,6 +119,7 @@ short_first path z moment outcome.CallsUsed fits short e = absurd (omega (arith,
 short_first path z moment (outcome.Invalid n) fits short e = absurd (omega (arith, e))
 short_first path z moment outcome.IdDiffers fits short e = absurd (omega (arith, e))
 short_first path z moment outcome.HasId fits short e = absurd (omega (arith, e))
+short_first path z moment outcome.BadTtl fits short e = absurd (omega (arith, e))
 short_first path z moment outcome.DirectoryFull fits short e = absurd (omega (arith, e))
 short_first path z moment outcome.Memory fits short e = absurd (omega (arith, e))
 

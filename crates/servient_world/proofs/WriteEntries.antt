@@ -124,6 +124,7 @@ act_code outcome.CallsUsed e = omega (arith, e)
 act_code (outcome.Invalid n) e = omega (arith, e)
 act_code outcome.IdDiffers e = omega (arith, e)
 act_code outcome.HasId e = omega (arith, e)
+act_code outcome.BadTtl e = omega (arith, e)
 act_code outcome.DirectoryFull e = omega (arith, e)
 act_code outcome.Memory e = omega (arith, e)
 

@@ -153,7 +153,6 @@ pub data ActsOnStanding (q : PlainRequest) (now : ℕ) (o : Outcome) (d t : Entr
   -- none holds, and the act is done
   performs : (a : DirectoryAct) → act_asked q ≡ Some a → IsUnrefused q → PerformsOn a q now o d t → ActsOnStanding q now o d t
 
--- The same where what is over isn't taken away yet: it goes first. Only where there was no memory to read the request
--- is the directory not asked at all. What is over is then left in it, which no later request finds.
+-- The same where what is over isn't taken away yet: it goes first.
 abbrev pub DirectoryActs : PlainRequest → ℕ → Outcome → Entries → Entries → Type 0
-DirectoryActs q now o d t = ActsOnStanding q now o (standing_at now d) t ⊎ ((o ≡ outcome.Memory) × (t ≡ d))
+DirectoryActs q now o d t = ActsOnStanding q now o (standing_at now d) t

@@ -16,6 +16,8 @@ use Rattle.thing_core.specs.Kept.{Kept}
 use Rattle.thing_ops.specs.Routes.{route_of}
 use Rattle.directory_requests.specs.Asked.{is_of_directory}
 use Rattle.directory_requests.specs.declared.server.Entries.{Entries}
+use Rattle.directory_requests.specs.Requests.{standing_at, is_out_of_memory}
+use Rattle.directory_requests.proofs.StandingLaws.{standing_later}
 use Rattle.http_bind.specs.Replying.{fault_word}
 use Rattle.http_bind.specs.Streams.{Streams, asks, wants_continue, is_faulty, interrupts, Takes, IsDry, Answers, Continues, Refuses, Ended, Closes, IsIdle, NoneIdle}
 use Rattle.http_bind.specs.Slots.{Held, Slots, Leads, StandsFor as ConnectionsStandFor, place_at, with_place, HasRoom}
@@ -108,11 +110,18 @@ unread : (site : Site) (q : PlainRequest) (k : Layers) (w : Outside) → Refines
 unread site q k w = either (is_of_directory (route_of q.path)) refl
   where
     either : (b : Bool) → is_of_directory (route_of q.path) ≡ b → Refines StandsFor Shows (PerformsByHttp site q (only outcome.Memory)) k k w w
-    either true is = λ s stands. (
-      s,
-      stands,
-      record { seen = []; move = inl (is, (s.directory, inr (refl, refl), refl, record { next = refl; saw = refl })); shows = shows_in_order.none w },
-    )
+    either true is = λ s stands.
+        let standing = standing_at s.moment s.directory in (
+          record s { directory = standing },
+          record {
+            moment = stands.moment;
+            http = stands.http;
+            coap = stands.coap;
+            thing = stands.thing;
+            directory = standing_later s.moment s.moment s.directory (omega arith) ∙ stands.directory;
+          },
+          record { seen = []; move = inl (is, (standing, is_out_of_memory refl refl, refl, record { next = refl; saw = refl })); shows = shows_in_order.none w },
+        )
     either false isnt = λ s stands. (
       s,
       stands,

@@ -1,5 +1,5 @@
 -- Moves of one part of a servient, and how they are put together.
-use Rattle.std.proofs.Common.{◌≡◌, ℕ, zero, suc, arith, ◌<◌, ◌≤◌, max, List, [], ◌∷◌, map, length, refl, sym, ap, subst, ◌∙◌, inl, inr}
+use Rattle.std.proofs.Common.{◌≡◌, ℕ, zero, suc, arith, ◌<◌, ◌≤◌, max, List, [], ◌∷◌, map, length, refl, sym, ap, ap₂, subst, ◌∙◌, inl, inr}
 use Rattle.std.specs.Prelude.{Option, Some, None, replicate}
 use Rattle.servient_base.specs.Moves.{Stays, Then, Passing, Each, Makes, Refines}
 use Rattle.servient_base.proofs.MovesLaws.{refines_then, refines_passing, refines_as, refines_stays}
@@ -17,7 +17,8 @@ use Rattle.thing_core.proofs.ThingLaws.{site_stays}
 use Rattle.thing_ops.specs.declared.outcome.Outcome.{Outcome}
 use Rattle.thing_ops.specs.Requests.{PlainRequest}
 use Rattle.directory_requests.specs.declared.server.Entries.{Entries}
-use Rattle.directory_requests.specs.Requests.{DirectoryActs}
+use Rattle.directory_requests.specs.Requests.{standing_at, ActsOnStanding, DirectoryActs}
+use Rattle.directory_requests.proofs.StandingLaws.{same_later}
 use Rattle.coap_opts.specs.Reading.{PlainAsk}
 use Rattle.coap_bind.specs.declared.head.OpenAsk.{OpenAsk}
 use Rattle.coap_bind.specs.declared.server.Server.{Server}
@@ -115,12 +116,13 @@ refines_directory : (q : PlainRequest) (done : Done) (k : Layers) (d : Entries) 
     → Refines StandsFor Shows (PerformsOnDirectory q done) k (record k { directory = d }) w w
 refines_directory q done k d w acts quiet = λ s stands. (
   record s { directory = d },
-  record { moment = stands.moment; http = stands.http; coap = stands.coap; thing = stands.thing; directory = refl },
+  record { moment = stands.moment; http = stands.http; coap = stands.coap; thing = stands.thing; directory = ap (λ (n : ℕ). standing_at n d) stands.moment },
   record {
     seen = [];
     move = (
       d,
-      subst (λ (n : ℕ). DirectoryActs q n done.outcome s.directory d) (sym stands.moment) (subst (λ (x : Entries). DirectoryActs q k.moment done.outcome x d) (sym stands.directory) acts),
+      subst (λ (n : ℕ). ActsOnStanding q n done.outcome (standing_at s.moment s.directory) d) (sym stands.moment)
+          (subst (λ (x : Entries). ActsOnStanding q k.moment done.outcome x d) (sym stands.directory) acts),
       quiet,
       record { next = refl; saw = refl },
     );
@@ -243,14 +245,18 @@ pub steps : (site : Site) (e : EventWithBytes) (k l m : Layers) (moment : ℕ) (
     → Refines StandsFor Shows (Follows site e.event.what e.bytes) (record k { moment = moment }) l w v → Refines StandsFor Shows EndsEvent l m v u
     → Refines StandsFor Shows (Step site e) k m w u
 steps site e k l m moment w v u greater follows ends = λ s stands.
-    let moved : StandsFor (record k { moment = moment }) (record s { moment = max s.moment e.event.moment }) = record {
-      moment = ap (λ (n : ℕ). max n e.event.moment) stands.moment ∙ sym greater;
+    let later = max s.moment e.event.moment in
+    let at : later ≡ moment = ap (λ (n : ℕ). max n e.event.moment) stands.moment ∙ sym greater in
+    let moved : StandsFor (record k { moment = moment }) (record s { moment = later }) = record {
+      moment = at;
       http = stands.http;
       coap = stands.coap;
       thing = stands.thing;
-      directory = stands.directory;
+      directory =
+          same_later s.moment k.moment later s.directory k.directory (omega arith) (omega (arith, stands.moment)) stands.directory
+          ∙ ap (λ (n : ℕ). standing_at n k.directory) at;
     } in
-    let a = then_moves (Follows site e.event.what e.bytes) EndsEvent (record k { moment = moment }) l m w v u follows ends (record s { moment = max s.moment e.event.moment }) moved in
+    let a = then_moves (Follows site e.event.what e.bytes) EndsEvent (record k { moment = moment }) l m w v u follows ends (record s { moment = later }) moved in
     (a.0, a.1, record { seen = a.2.seen; move = a.2.move; shows = a.2.shows })
 
 -- ---- streams that are stood for
@@ -287,7 +293,7 @@ refines_from P k l m w v moment http coap state directory p = λ s stands. p s (
   http = subst (λ (x : Slots). ConnectionsStandFor x s.http) (sym http) stands.http;
   coap = stands.coap ∙ sym coap;
   thing = stands.thing ∙ sym state;
-  directory = stands.directory ∙ sym directory;
+  directory = stands.directory ∙ sym (ap₂ standing_at moment directory);
 })
 
 -- a rack that fits before a move fits after it

@@ -7,6 +7,7 @@ use Rattle.servient_outside.specs.Network.{Happening, broke, next_event, break_c
 use Rattle.thing_site.specs.declared.fault.ExposeFault.{ExposeFault}
 use Rattle.thing_site.specs.Exposing.{IsFirst}
 use Rattle.wot_registry.specs.Times.{last_moment}
+use Rattle.directory_requests.specs.Requests.{standing_at}
 use Rattle.http_bind.specs.Slots.{StandsFor as ConnectionsStandFor, HasRoom}
 use Rattle.servient_core.specs.Trace.{Sighting, at_network}
 use Rattle.servient_core.specs.Machine.{Site, State, Run}
@@ -30,7 +31,8 @@ pub record StandsFor (kept : Layers) (s : State) : Type 0 where
   pub http : ConnectionsStandFor kept.http s.http
   pub coap : s.coap ≡ kept.coap
   pub thing : s.thing ≡ kept.exposed.state
-  pub directory : s.directory ≡ kept.directory
+  -- of the entries what stands, since what is over is taken away only at a request
+  pub directory : standing_at s.moment s.directory ≡ standing_at kept.moment kept.directory
 
 -- Between two events: no emission waits to be handed out, the exchanges are at no later moment, the moment is one that a
 -- clock may give, and each connection has room for another piece. It is an invariant of `Servient`, so that `step` and

@@ -64,6 +64,4 @@ acts_once q now o p d t u on_o on_p (performs x asked none a) (performs y asked'
 
 pub directory_determined : (q : PlainRequest) (now : ℕ) (o p : Outcome) (d t u : Entries) → o ≢ outcome.Memory → p ≢ outcome.Memory
     → DirectoryActs q now o d t → DirectoryActs q now p d u → (o ≡ p) × (t ≡ u)
-directory_determined q now o p d t u on_o on_p (inl a) (inl b) = acts_once q now o p (standing_at now d) t u on_o on_p a b
-directory_determined q now o p d t u on_o on_p (inr memory) other = absurd (on_o memory.0)
-directory_determined q now o p d t u on_o on_p (inl a) (inr memory) = absurd (on_p memory.0)
+directory_determined q now o p d t u on_o on_p a b = acts_once q now o p (standing_at now d) t u on_o on_p a b

@@ -14,7 +14,7 @@ returns-then-is_of_directory g c =
       pending = c.requires.pending;
       site = refl;
       fits = λ fits. fits;
-      move = inl (is, inl c.perform.ensures, refl, refl, refl);
+      move = inl (is, c.perform.ensures, refl, refl, refl);
     }
 
 pub returns : goal.returns

@@ -1,6 +1,7 @@
 use Rattle.std.proofs.Common.{ap, refl, sym, arith, rules}
 use Rattle.thing_core.specs.Kept.{Kept}
 use Rattle.coap_bind.specs.declared.server.Server.{Server}
+use Rattle.directory_requests.specs.Requests.{standing_at}
 use Rattle.servient_core.proofs.LinkLaws.{coap_starts, links_stand}
 use Rattle.servient_core.proofs.PartLaws.{none_have_room}
 use Rattle.servient_core.proofs.servient.Servient.new.Goals as goal
@@ -22,7 +23,7 @@ returns-clause-start g c =
       http = search (rules, c.in_ok-http.ensures);
       coap = coap_starts c.args.plan.now.slots c.as_slice.result.now c.args.things c.in-Ok.exposed.site c.args.plan.now.exchanges c.args.plan.now.epoch c.in_ok-coap.coap c.as_slice.ensures site c.in_ok-coap.ensures;
       thing = search (rules, c.in-Ok.ensures.ok);
-      directory = search rules;
+      directory = ap (standing_at 0) (search rules);
     }
 
 pub returns-clause-links : goal.returns-clause-links

@@ -4,7 +4,8 @@
 //! `put_bytes`, and `put_piece` where there may be no room, are how every writer of this repository fills a caller's
 //! slice: they take no memory and change nothing but the bytes that they write. `put_encoded` and `push_encoded` are
 //! how a segment is written into the path of a URL. `parse_decimal` is how every number that a person writes is read,
-//! and `join` how every text is joined to a URL.
+//! and `join` how every text is joined to a URL. `ConnectionId` and `Target` are the numbers by which the layers speak of
+//! connections and of what is observed.
 //!
 //! ```
 //! use servient_base::{join, parse_decimal, put_bytes, put_encoded, put_piece};
@@ -36,3 +37,9 @@ pub use writing::{put_bytes, put_piece};
 
 /// Out of memory. It is std's `AllocError` under the name that this product uses.
 pub type NoMemory = AllocError;
+
+/// The number of an HTTP connection, from 0 to 63. It is free again once the connection is closed.
+pub type ConnectionId = u32;
+
+/// The number of what may be observed, an observable property or an event: the slot of its handler.
+pub type Target = u32;

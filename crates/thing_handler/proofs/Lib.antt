@@ -1,3 +1,4 @@
+pub mod Forgetting
 pub mod JobLaws
 pub mod RackLaws
 mod Slots

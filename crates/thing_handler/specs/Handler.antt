@@ -17,6 +17,10 @@ pub record Seen : Type 0 where
 abbrev pub fresh_handler : Kind → Seen
 fresh_handler kind = record { kind = kind; turns = []; misses = 0 }
 
+-- a handler that forgot its turns: its kind and its count of misses are as they were
+abbrev pub forgotten : Seen → Seen
+forgotten h = record { kind = h.kind; turns = []; misses = h.misses }
+
 -- A call that is answered makes exactly one turn, of this number, call and answer, and leaves the count of misses as it
 -- was. A call that is out of memory makes no turn, and raises that count by exactly one, up to its last value, because
 -- a body that calls a handler again after a miss must be refused. The kind never changes.

@@ -48,7 +48,7 @@ impl Cell {
 
 impl Handler for Cell {
     ghost use Rattle.std.specs.Prelude.{◌≡◌, IfOk, OnOk, OnErr};
-    ghost use Rattle.thing_handler.specs.Handler.{AnswersCall};
+    ghost use Rattle.thing_handler.specs.Handler.{AnswersCall, forgotten};
     ghost use Rattle.thing_handler.specs.InMemory.{cell_answer, cell_after, cell_seen, value_in};
 
     ghost seen = { cell_seen };
@@ -79,5 +79,12 @@ impl Handler for Cell {
 
     fn turns(&self) -> &[Turn] {
         self.log.turns.as_slice()
+    }
+
+    fn forget(&mut self)
+        ensures seen { cell_seen self.new ≡ forgotten (cell_seen self.old) }
+        ensures value { value_in self.new ≡ value_in self.old }
+    {
+        self.log.forget();
     }
 }

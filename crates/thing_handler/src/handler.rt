@@ -62,7 +62,7 @@ pub struct Turn {
 /// A device, or a part of one, as the handler of one affordance.
 pub trait Handler: Drop {
     ghost use Rattle.std.specs.Prelude.{◌≡◌};
-    ghost use Rattle.thing_handler.specs.Handler.{Seen, AnswersCall};
+    ghost use Rattle.thing_handler.specs.Handler.{Seen, AnswersCall, forgotten};
 
     /// Its kind, its turns and how often it was out of memory.
     ghost seen: { Self → Seen };
@@ -78,6 +78,11 @@ pub trait Handler: Drop {
     /// The turns made so far, in order.
     fn turns(&self) -> &[Turn]
         ensures { result.now ≡ (seen self.now).turns };
+
+    /// Forgets the turns made so far, because a run may go on for ever and memory doesn't. Each device says besides that
+    /// what it answers later is as if it hadn't.
+    fn forget(&mut self)
+        ensures { seen self.new ≡ forgotten (seen self.old) };
 }
 
 impl Handler for Box<dyn Handler> {
@@ -93,5 +98,9 @@ impl Handler for Box<dyn Handler> {
 
     fn turns(&self) -> &[Turn] {
         (**self).turns()
+    }
+
+    fn forget(&mut self) {
+        (**self).forget();
     }
 }

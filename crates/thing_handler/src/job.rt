@@ -173,7 +173,7 @@ fn make(runs: &mut Vec<Run>, change: Change)
 
 impl Handler for Job {
     ghost use Rattle.std.specs.Prelude.{◌≡◌, IfOk, OnOk, OnErr};
-    ghost use Rattle.thing_handler.specs.Handler.{AnswersCall};
+    ghost use Rattle.thing_handler.specs.Handler.{AnswersCall, forgotten};
     ghost use Rattle.thing_handler.specs.InMemory.{job_answer, job_after, job_seen, length_of, runs_in};
 
     ghost seen = { job_seen };
@@ -203,5 +203,13 @@ impl Handler for Job {
 
     fn turns(&self) -> &[Turn] {
         self.log.turns.as_slice()
+    }
+
+    fn forget(&mut self)
+        ensures seen { job_seen self.new ≡ forgotten (job_seen self.old) }
+        ensures runs { runs_in self.new ≡ runs_in self.old }
+        ensures turns { length_of self.new ≡ length_of self.old }
+    {
+        self.log.forget();
     }
 }

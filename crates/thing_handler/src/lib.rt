@@ -41,3 +41,6 @@ pub use servient_base::NoMemory;
 pub use shipped::{SHIPPED_SLOTS, Shipped, shipped_in};
 pub use turn_log::{PreparedTurn, TurnLog};
 pub use wot_terms::Kind;
+
+/// The number of a handler's place in a rack, counted from 0.
+pub type Slot = u32;

@@ -75,7 +75,7 @@ const MOST_POLLS: u64 = 0x7fff_ffff_ffff_ffff;
 
 impl Handler for Pulse {
     ghost use Rattle.std.specs.Prelude.{◌≡◌, IfOk, OnOk, OnErr};
-    ghost use Rattle.thing_handler.specs.Handler.{AnswersCall};
+    ghost use Rattle.thing_handler.specs.Handler.{AnswersCall, forgotten};
     ghost use Rattle.thing_handler.specs.InMemory.{period_of, polls_of, pulse_answer, pulse_after, pulse_seen};
 
     ghost seen = { pulse_seen };
@@ -105,5 +105,13 @@ impl Handler for Pulse {
 
     fn turns(&self) -> &[Turn] {
         self.log.turns.as_slice()
+    }
+
+    fn forget(&mut self)
+        ensures seen { pulse_seen self.new ≡ forgotten (pulse_seen self.old) }
+        ensures polls { polls_of self.new ≡ polls_of self.old }
+        ensures period { period_of self.new ≡ period_of self.old }
+    {
+        self.log.forget();
     }
 }

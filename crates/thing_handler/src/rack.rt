@@ -17,8 +17,8 @@ pub struct Rack {
 /// What a rack does. The crates above take any rack by this trait, as a type parameter, because the check of the kit
 /// can't judge a function there that takes a rack of boxed handlers by reference.
 pub trait Handlers: Drop {
-    ghost use Rattle.std.specs.Prelude.{◌≡◌, ◌<◌, ◌^◌, List, length, slice_get, IfSome};
-    ghost use Rattle.thing_handler.specs.Handler.{Seen, CallsHandler};
+    ghost use Rattle.std.specs.Prelude.{◌≡◌, ◌<◌, ◌^◌, List, length, map, slice_get, IfSome};
+    ghost use Rattle.thing_handler.specs.Handler.{Seen, CallsHandler, forgotten};
 
     /// What is seen of each handler, in the order of their slots.
     ghost slots: { Self → List Seen };
@@ -44,6 +44,10 @@ pub trait Handlers: Drop {
     fn call(&mut self, slot: usize, number: u64, what: &CallKind) -> Result<Answer, NoMemory>
         requires { slot < length (slots self.old) }
         ensures { CallsHandler (slots self.old) (slots self.new) slot number what.now result };
+
+    /// Has each handler forget the turns that it made so far.
+    fn forget(&mut self)
+        ensures { slots self.new ≡ map forgotten (slots self.old) };
 }
 
 impl Rack {
@@ -75,5 +79,11 @@ impl Handlers for Rack {
 
     fn call(&mut self, slot: usize, number: u64, what: &CallKind) -> Result<Answer, NoMemory> {
         self.list[slot].call(self.alloc, number, what)
+    }
+
+    fn forget(&mut self) {
+        for handler in self.list.iter_mut() {
+            handler.forget();
+        }
     }
 }

@@ -49,7 +49,7 @@ impl Scripted {
 
 impl Handler for Scripted {
     ghost use Rattle.std.specs.Prelude.{◌≡◌, IfOk, OnOk, OnErr, drop};
-    ghost use Rattle.thing_handler.specs.Handler.{AnswersCall};
+    ghost use Rattle.thing_handler.specs.Handler.{AnswersCall, forgotten};
     ghost use Rattle.thing_handler.specs.InMemory.{answers_left, next_answer};
 
     ghost seen = { λ s. record { kind = s.kind; turns = s.log.turns.items; misses = s.log.misses } };
@@ -74,5 +74,12 @@ impl Handler for Scripted {
 
     fn turns(&self) -> &[Turn] {
         self.log.turns.as_slice()
+    }
+
+    fn forget(&mut self)
+        ensures seen { ⟦<Scripted as Handler>⟧.seen self.new ≡ forgotten (⟦<Scripted as Handler>⟧.seen self.old) }
+        ensures left { answers_left self.new ≡ answers_left self.old }
+    {
+        self.log.forget();
     }
 }

@@ -59,7 +59,7 @@ fn value_at(alloc: Global, slot: usize) -> Tree
 
 impl Handler for Shipped {
     ghost use Rattle.std.specs.Prelude.{◌≡◌, IfOk, OnOk, OnErr};
-    ghost use Rattle.thing_handler.specs.Handler.{AnswersCall};
+    ghost use Rattle.thing_handler.specs.Handler.{AnswersCall, forgotten};
     ghost use Rattle.thing_handler.specs.Shipped.{device_of, device_answer, device_after, shipped_seen};
 
     ghost seen = { shipped_seen };
@@ -90,6 +90,17 @@ impl Handler for Shipped {
             Shipped::Cell(cell) => cell.turns(),
             Shipped::Job(job) => job.turns(),
             Shipped::Pulse(pulse) => pulse.turns(),
+        }
+    }
+
+    fn forget(&mut self)
+        ensures seen { shipped_seen self.new ≡ forgotten (shipped_seen self.old) }
+        ensures device { device_of self.new ≡ device_of self.old }
+    {
+        match self {
+            Shipped::Cell(cell) => cell.forget(),
+            Shipped::Job(job) => job.forget(),
+            Shipped::Pulse(pulse) => pulse.forget(),
         }
     }
 }

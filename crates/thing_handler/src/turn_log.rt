@@ -1,12 +1,15 @@
 //! The turns that a handler made, and how often it was out of memory: what each handler keeps.
 
-ghost use Rattle.std.specs.Prelude.{◌≡◌, ◌<◌, [], ◌∷◌, ◌++◌, IfOk, OnOk, OnErr, vec_len, vec_capacity};
+ghost use Rattle.std.specs.Prelude.{◌≡◌, ◌<◌, ◌≤◌, [], ◌∷◌, ◌++◌, IfOk, OnOk, OnErr, vec_len, vec_capacity};
 ghost use Rattle.servient_base.specs.Count.{raised};
 
 use crate::{Answer, CallKind, Turn};
 use servient_base::NoMemory;
 use std::alloc::Global;
 use wot_json::{Tree, copy};
+
+/// The most turns for which a handler keeps room where it forgets them.
+const MOST_ROOM: usize = 8192;
 
 /// The turns of one handler, in order, and the count of calls that were out of memory.
 #[derive(Drop)]
@@ -91,6 +94,19 @@ impl TurnLog {
             what,
             answer,
         });
+    }
+
+    /// Forgets the turns. Room for more than `MOST_ROOM` of them is given back whole, because a run that forgets may
+    /// have had one busy hour.
+    pub fn forget(&mut self)
+        ensures turns { self.new.turns.items ≡ [] }
+        ensures misses { self.new.misses ≡ self.old.misses }
+        ensures room { vec_capacity self.new.turns ≤ MOST_ROOM }
+    {
+        self.turns.clear();
+        if self.turns.capacity() > MOST_ROOM {
+            self.turns.shrink_to(0);
+        }
     }
 
     /// Counts a call that was out of memory.

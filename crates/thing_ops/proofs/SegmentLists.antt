@@ -1,8 +1,11 @@
 -- How the segments of a path lie in their bytes.
-use Rattle.std.proofs.Common.{◌≡◌, ℕ, zero, suc, ◌+◌, ◌-◌, ◌<◌, ◌≤◌, List, [], ◌∷◌, ◌++◌, length, take, drop, get_or, slice_get, slice_range, Some, refl, ap, sym, ◌∙◌, arith, length-append, length-drop}
+use Rattle.std.proofs.Common.{◌≡◌, ℕ, zero, suc, ◌+◌, ◌-◌, ◌<◌, ◌≤◌, List, [], ◌∷◌, ◌++◌, length, take, drop, get_or, slice_get, slice_range, Some, None, ◌≢◌, refl, ap, sym, subst, ◌∙◌, arith, length-append, length-drop}
 use Rattle.std.proofs.lemmas.List.{take-append-le, drop-append-le}
 use Rattle.std.proofs.Math.Seq.{drop-append_seam, take-length}
-use Rattle.thing_ops.specs.Segments.{pieces, with_longer_last, AreEnds}
+use Rattle.thing_ops.specs.declared.routing.RouteKind.{RouteKind}
+use Rattle.thing_ops.specs.declared.routing.RouteKind.TheVariants as route
+use Rattle.thing_ops.specs.Routes.{route_of}
+use Rattle.thing_ops.specs.Segments.{pieces, with_longer_last, AreEnds, AreJudged}
 
 -- there are as many as there are ends
 pub length-pieces : (bytes : List ℕ) (start : ℕ) (ends : List ℕ) → length (pieces bytes start ends) ≡ length ends
@@ -90,3 +93,74 @@ last_longer bytes more start (first ∷ []) last end are to =
 last_longer bytes more start (first ∷ second ∷ ends) last end are to =
     ap (λ (piece : List ℕ). piece ∷ pieces (bytes ++ more) first ((second ∷ ends) ++ end ∷ [])) (range_stays bytes more start first are.0 (start_within first ((second ∷ ends) ++ last ∷ []) (length bytes) are.1))
     ∙ ap (λ (others : List (List ℕ)). slice_range bytes start first ∷ others) (last_longer bytes more first (second ∷ ends) last end are.1 to)
+
+-- a path of one segment, of two, of three and of four
+pub path_of_one : (path : List (List ℕ)) (first : List ℕ) → length path ≡ 1 → slice_get path 0 ≡ Some first → path ≡ first ∷ []
+path_of_one [] first long = absurd (omega arith)
+path_of_one (a ∷ []) first long = λ p. cc
+path_of_one (a ∷ b ∷ path) first long = absurd (omega arith)
+
+pub path_of_two : (path : List (List ℕ)) (first second : List ℕ) → length path ≡ 2 → slice_get path 0 ≡ Some first → slice_get path 1 ≡ Some second → path ≡ first ∷ second ∷ []
+path_of_two [] first second long = absurd (omega arith)
+path_of_two (a ∷ path) first second long = λ p q. cc (path_of_one path second (omega arith) q)
+
+pub path_of_three : (path : List (List ℕ)) (first second third : List ℕ) → length path ≡ 3 → slice_get path 0 ≡ Some first → slice_get path 1 ≡ Some second → slice_get path 2 ≡ Some third → path ≡ first ∷ second ∷ third ∷ []
+path_of_three [] first second third long = absurd (omega arith)
+path_of_three (a ∷ path) first second third long = λ p q r. cc (path_of_two path second third (omega arith) q r)
+
+pub path_of_four : (path : List (List ℕ)) (first second third fourth : List ℕ) → length path ≡ 4 → slice_get path 0 ≡ Some first → slice_get path 1 ≡ Some second → slice_get path 2 ≡ Some third → slice_get path 3 ≡ Some fourth → path ≡ first ∷ second ∷ third ∷ fourth ∷ []
+path_of_four [] first second third fourth long = absurd (omega arith)
+path_of_four (a ∷ path) first second third fourth long = λ p q r s. cc (path_of_three path second third fourth (omega arith) q r s)
+
+-- where a path of one segment leads
+pub leads_by_one : (kind : RouteKind) (path : List (List ℕ)) (first : List ℕ) → length path ≡ 1 → slice_get path 0 ≡ Some first → kind ≡ route_of (first ∷ []) → kind ≡ route_of path
+leads_by_one kind path first long is known = known ∙ ap (λ (p : List (List ℕ)). route_of p) (sym (path_of_one path first long is))
+
+-- where a path of three segments leads, which the second of them says
+pub leads_by_kind : (kind : RouteKind) (path : List (List ℕ)) (second : List ℕ) → length path ≡ 3 → slice_get path 1 ≡ Some second → ((thing name : List ℕ) → kind ≡ route_of (thing ∷ second ∷ name ∷ [])) → kind ≡ route_of path
+leads_by_kind kind [] second long = absurd (omega arith)
+leads_by_kind kind (a ∷ []) second long = absurd (omega arith)
+leads_by_kind kind (a ∷ b ∷ []) second long = absurd (omega arith)
+leads_by_kind kind (a ∷ b ∷ c ∷ []) second long = λ is known. let same : second ≡ b = cc in known a c ∙ ap (λ (s : List ℕ). route_of (a ∷ s ∷ c ∷ [])) same
+leads_by_kind kind (a ∷ b ∷ c ∷ d ∷ path) second long = absurd (omega arith)
+
+-- no path of no segments or of more than four leads anywhere
+pub leads_nowhere : (path : List (List ℕ)) → length path ≢ 1 → length path ≢ 2 → length path ≢ 3 → length path ≢ 4 → route_of path ≡ route.Nowhere
+leads_nowhere [] = λ a b c d. refl
+leads_nowhere (first ∷ []) = λ a b c d. absurd (a refl)
+leads_nowhere (first ∷ second ∷ []) = λ a b c d. absurd (b refl)
+leads_nowhere (first ∷ second ∷ third ∷ []) = λ a b c d. absurd (c refl)
+leads_nowhere (first ∷ second ∷ third ∷ fourth ∷ []) = λ a b c d. absurd (d refl)
+leads_nowhere (first ∷ second ∷ third ∷ fourth ∷ fifth ∷ path) = λ a b c d. refl
+
+-- a piece after the last one isn't there
+pub no_piece : (path : List (List ℕ)) (i : ℕ) → length path ≤ i → slice_get path i ≡ None
+no_piece [] i after = refl
+no_piece (piece ∷ path) zero after = absurd (omega arith)
+no_piece (piece ∷ path) (suc i) after = no_piece path i (omega arith)
+
+-- ends of the same bytes, as slices show them
+pub ends_same : (bytes shown places seen : List ℕ) → shown ≡ bytes → seen ≡ places → AreEnds 0 places (length bytes) → AreEnds 0 seen (length shown)
+ends_same bytes shown places seen b e are =
+    subst (λ (es : List ℕ). AreEnds 0 es (length shown)) (sym e) (subst (λ (bs : List ℕ). AreEnds 0 places (length bs)) (sym b) are)
+
+-- what a path leads to, judged by such slices
+pub judged_by : (kind : RouteKind) (bytes shown places seen : List ℕ) → shown ≡ bytes → seen ≡ places → AreEnds 0 places (length bytes) → kind ≡ route_of (pieces shown 0 seen) → AreJudged kind bytes places
+judged_by kind bytes shown places seen b e are is = record {
+  within = are;
+  judged = is ∙ ap (λ (bs : List ℕ). route_of (pieces bs 0 seen)) b ∙ ap (λ (es : List ℕ). route_of (pieces bytes 0 es)) e;
+}
+
+-- the ends after a segment more
+pub pushed_ends : (bytes segment ends : List ℕ) (end : ℕ) (whole places : List ℕ) → whole ≡ bytes ++ segment → places ≡ ends ++ end ∷ [] → end ≡ length whole → AreEnds 0 ends (length bytes) → AreEnds 0 places (length whole)
+pushed_ends bytes segment ends end whole places b e long are =
+    subst (λ (es : List ℕ). AreEnds 0 es (length whole)) (sym e)
+    (subst (λ (n : ℕ). AreEnds 0 (ends ++ end ∷ []) n) long
+    (ends_more 0 ends (length bytes) end are (omega (arith, long, ap (λ (bs : List ℕ). length bs) b, length-append bytes segment))))
+
+-- the ends after more bytes of the last segment
+pub longer_ends : (bytes more ends : List ℕ) (last end : ℕ) (whole places : List ℕ) → whole ≡ bytes ++ more → places ≡ ends ++ end ∷ [] → end ≡ length whole → AreEnds 0 (ends ++ last ∷ []) (length bytes) → AreEnds 0 places (length whole)
+longer_ends bytes more ends last end whole places b e long are =
+    subst (λ (es : List ℕ). AreEnds 0 es (length whole)) (sym e)
+    (subst (λ (n : ℕ). AreEnds 0 (ends ++ end ∷ []) n) long
+    (ends_later 0 ends last (length bytes) end are (omega (arith, long, ap (λ (bs : List ℕ). length bs) b, length-append bytes more))))

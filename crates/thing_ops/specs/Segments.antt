@@ -1,5 +1,7 @@
 -- The segments of a path, as they are kept: their bytes one after another, and where each of them ends.
-use Rattle.std.specs.Prelude.{◌≡◌, ◌≤◌, ℕ, List, [], ◌∷◌, ◌++◌, slice_range}
+use Rattle.std.specs.Prelude.{◌≡◌, ◌≤◌, ℕ, List, [], ◌∷◌, ◌++◌, length, slice_range}
+use Rattle.thing_ops.specs.Routes.{route_of}
+use Rattle.thing_ops.specs.declared.routing.RouteKind.{RouteKind}
 
 -- the pieces of these bytes from a place on, of which each begins where the one before it ends
 abbrev pub pieces : List ℕ → ℕ → List ℕ → List (List ℕ)
@@ -16,3 +18,8 @@ abbrev pub with_longer_last : List (List ℕ) → List ℕ → List (List ℕ)
 with_longer_last [] bytes = []
 with_longer_last (segment ∷ []) bytes = (segment ++ bytes) ∷ []
 with_longer_last (segment ∷ next ∷ segments) bytes = segment ∷ with_longer_last (next ∷ segments) bytes
+
+-- what is kept of a path: the ends of its segments, and what the path leads to
+pub record AreJudged (kind : RouteKind) (bytes places : List ℕ) : Type 0 where
+  pub within : AreEnds 0 places (length bytes)
+  pub judged : kind ≡ route_of (pieces bytes 0 places)

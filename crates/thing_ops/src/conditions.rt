@@ -21,15 +21,6 @@ impl Model for Versions {
 }
 
 impl Versions {
-    /// No version. It takes no memory.
-    pub fn new(alloc: Global) -> Self
-        ensures { result ≡ [] }
-    {
-        Versions {
-            numbers: Vec::new(alloc),
-        }
-    }
-
     /// Puts a version at the end.
     pub fn push(&mut self, version: u32) -> Result<(), NoMemory>
         ensures ok { OnOk result (self.new ≡ self.old ++ version ∷ []) }
@@ -65,7 +56,9 @@ impl Tags {
     {
         Tags {
             any: false,
-            list: Versions::new(alloc),
+            list: Versions {
+                numbers: Vec::new(alloc),
+            },
         }
     }
 
@@ -73,7 +66,7 @@ impl Tags {
     pub fn has(&self, version: u32) -> bool
         ensures { result ≡ has_version self.now version }
     {
-        self.any || self.list.as_slice().contains(&version)
+        self.any || self.list.numbers.contains(&version)
     }
 }
 
@@ -107,7 +100,11 @@ impl Conditions {
     pub fn fails(&self, version: u32) -> bool
         ensures { result ≡ fails_at self.now version }
     {
-        self.absent || self.misses(version)
+        self.absent
+            || match &self.if_match {
+                Some(tags) => !tags.has(version),
+                None => false,
+            }
     }
 
     /// The same of a request to write, whose sender mustn't have that version (RFC 9110, section 13.1.2).
@@ -115,19 +112,5 @@ impl Conditions {
         ensures { result ≡ fails_to_write_at self.now version }
     {
         self.fails(version) || self.known.has(version)
-    }
-}
-
-impl Conditions {
-    ghost use Rattle.thing_ops.specs.Conditions.{is_missed};
-
-    /// The version isn't among those of which it asks that the property's be one.
-    fn misses(&self, version: u32) -> bool
-        ensures { result ≡ is_missed self.now.if_match version }
-    {
-        match &self.if_match {
-            Some(tags) => !tags.has(version),
-            None => false,
-        }
     }
 }

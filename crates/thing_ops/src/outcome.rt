@@ -105,20 +105,12 @@ impl Outcome {
         ensures bound { IfSome result (λ n. n < 2 ^ 32) }
     {
         match self {
-            Outcome::Content { text: _, tag } => in_range(*tag),
+            Outcome::Content {
+                text: _,
+                tag: Some(tag),
+            } => Some(*tag),
             Outcome::NotModified(tag) => Some(*tag),
             _ => None,
         }
-    }
-}
-
-/// The same version. For the proof: its range is known once it is read.
-fn in_range(version: Option<u32>) -> Option<u32>
-    ensures same { result ≡ version }
-    ensures bound { IfSome result (λ n. n < 2 ^ 32) }
-{
-    match version {
-        Some(version) => Some(version),
-        None => None,
     }
 }

@@ -1,7 +1,7 @@
 //! The status of an outcome over HTTP and its code over CoAP, by the table in `specs/Outcomes.antt`.
 
-ghost use Rattle.std.specs.Prelude.{◌≡◌, ◌+◌, ◌*◌, ◌<◌, Some};
-ghost use Rattle.thing_ops.specs.Outcomes.{answer_of, coap, HasStatus, HasCode};
+ghost use Rattle.std.specs.Prelude.{◌≡◌, Some};
+ghost use Rattle.thing_ops.specs.Outcomes.{answer_of, HasStatus, HasCode};
 
 use crate::Outcome;
 
@@ -44,21 +44,21 @@ pub fn coap_code(outcome: &Outcome) -> u8
     ensures { (answer_of outcome.now).code ≡ Some result }
 {
     match outcome {
-        Outcome::Started(_, _) => code(2, 1),
-        Outcome::Deleted => code(2, 2),
-        Outcome::NotModified(_) => code(2, 3),
-        Outcome::Changed | Outcome::Output(_) => code(2, 4),
-        Outcome::Content { .. } | Outcome::Description(_, _) | Outcome::Empty => code(2, 5),
-        Outcome::BadValue => code(4, 0),
-        Outcome::Refused(_) => code(4, 3),
-        Outcome::NotFound | Outcome::Wait(_) => code(4, 4),
-        Outcome::NotAllowed(_) => code(4, 5),
-        Outcome::NotAcceptable => code(4, 6),
-        Outcome::PreconditionFailed => code(4, 12),
-        Outcome::TooLarge => code(4, 13),
-        Outcome::Format => code(4, 15),
-        Outcome::DeviceFault(_) | Outcome::BadAnswer => code(5, 0),
-        Outcome::InvocationsFull | Outcome::CallsUsed | Outcome::Memory => code(5, 3),
+        Outcome::Started(_, _) => 32 * 2 + 1,
+        Outcome::Deleted => 32 * 2 + 2,
+        Outcome::NotModified(_) => 32 * 2 + 3,
+        Outcome::Changed | Outcome::Output(_) => 32 * 2 + 4,
+        Outcome::Content { .. } | Outcome::Description(_, _) | Outcome::Empty => 32 * 2 + 5,
+        Outcome::BadValue => 32 * 4 + 0,
+        Outcome::Refused(_) => 32 * 4 + 3,
+        Outcome::NotFound | Outcome::Wait(_) => 32 * 4 + 4,
+        Outcome::NotAllowed(_) => 32 * 4 + 5,
+        Outcome::NotAcceptable => 32 * 4 + 6,
+        Outcome::PreconditionFailed => 32 * 4 + 12,
+        Outcome::TooLarge => 32 * 4 + 13,
+        Outcome::Format => 32 * 4 + 15,
+        Outcome::DeviceFault(_) | Outcome::BadAnswer => 32 * 5 + 0,
+        Outcome::InvocationsFull | Outcome::CallsUsed | Outcome::Memory => 32 * 5 + 3,
         Outcome::Created(_)
         | Outcome::Listed(_)
         | Outcome::Invalid(_)
@@ -67,12 +67,4 @@ pub fn coap_code(outcome: &Outcome) -> u8
         | Outcome::BadTtl
         | Outcome::DirectoryFull => unreachable!(),
     }
-}
-
-/// A code of this class and detail.
-fn code(class: u8, detail: u8) -> u8
-    requires { 32 * class + detail < 256 }
-    ensures { result ≡ coap class detail }
-{
-    32 * class + detail
 }

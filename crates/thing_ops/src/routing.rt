@@ -1,12 +1,30 @@
 //! What a path leads to, by the table of paths.
 
-ghost use Rattle.std.specs.Prelude.{◌≡◌, ◌∷◌, [], if◌then◌else◌};
-ghost use Rattle.std.specs.Str.{bytes_eq, is_utf8};
+ghost use Rattle.std.specs.Prelude.{◌≡◌, ◌∷◌, [], length, if◌then◌else◌};
+ghost use Rattle.std.specs.Str.{is_utf8};
 ghost use Rattle.std.specs.Str.Parse.{digits_value};
 ghost use Rattle.thing_ops.specs.Routes.{route_of, entry_id, invocation_id, number_of_id};
+ghost use Rattle.thing_ops.specs.Segments.{pieces, AreEnds};
 
-use crate::Segments;
+use crate::pieces::piece;
 use servient_base::parse_decimal;
+
+// The words of the table.
+const WELL_KNOWN: &[u8] = b".well-known";
+
+const WOT: &[u8] = b"wot";
+
+const THINGS: &[u8] = b"things";
+
+const PROPERTIES: &[u8] = b"properties";
+
+const ACTIONS: &[u8] = b"actions";
+
+const EVENTS: &[u8] = b"events";
+
+const OBSERVE: &[u8] = b"observe";
+
+const SUBSCRIBE: &[u8] = b"subscribe";
 
 /// What a path leads to, by its form alone: whether there is such a Thing, affordance, invocation or entry is not said
 /// here.
@@ -38,52 +56,51 @@ pub enum RouteKind {
     Nowhere,
 }
 
-/// What a path leads to. Where two rows of the table fit, the one that names the first segment counts.
-pub fn route(path: &Segments) -> RouteKind
-    ensures { result ≡ route_of path.now }
+/// What a path of these pieces leads to. Where two rows of the table fit, the one that names the first segment counts.
+pub(crate) fn route_of_pieces(bytes: &[u8], ends: &[usize]) -> RouteKind
+    requires { AreEnds 0 ends.now (length bytes.now) }
+    ensures { result ≡ route_of (pieces bytes.now 0 ends.now) }
 {
-    match path.len() {
-        1 => route_of_one(path.at(0)),
-        2 => route_of_two(path.at(0), path.at(1)),
-        3 => route_of_three(path.at(0), path.at(1), path.at(2)),
-        4 => route_of_four(path.at(0), path.at(1), path.at(2), path.at(3)),
+    match ends.len() {
+        1 => {
+            if piece(bytes, ends, 0) == THINGS {
+                RouteKind::Things
+            } else {
+                RouteKind::Thing
+            }
+        }
+        2 => route_of_two(piece(bytes, ends, 0), piece(bytes, ends, 1)),
+        3 => {
+            let kind = piece(bytes, ends, 1);
+            if kind == PROPERTIES {
+                RouteKind::Property
+            } else if kind == ACTIONS {
+                RouteKind::Action
+            } else if kind == EVENTS {
+                RouteKind::Event
+            } else {
+                RouteKind::Nowhere
+            }
+        }
+        4 => route_of_four(
+            piece(bytes, ends, 0),
+            piece(bytes, ends, 1),
+            piece(bytes, ends, 2),
+            piece(bytes, ends, 3),
+        ),
         _ => RouteKind::Nowhere,
-    }
-}
-
-fn route_of_one(thing: &[u8]) -> RouteKind
-    ensures { result ≡ route_of (thing.now ∷ []) }
-{
-    if is(thing, b"things") {
-        RouteKind::Things
-    } else {
-        RouteKind::Thing
     }
 }
 
 fn route_of_two(first: &[u8], second: &[u8]) -> RouteKind
     ensures { result ≡ route_of (first.now ∷ second.now ∷ []) }
 {
-    if is(first, b".well-known") && is(second, b"wot") {
+    if first == WELL_KNOWN && second == WOT {
         RouteKind::Root
-    } else if is(first, b"things") && is_entry_id(second) {
+    } else if first == THINGS && is_entry_id(second) {
         RouteKind::Entry
-    } else if is(second, b"properties") {
+    } else if second == PROPERTIES {
         RouteKind::All
-    } else {
-        RouteKind::Nowhere
-    }
-}
-
-fn route_of_three(thing: &[u8], kind: &[u8], name: &[u8]) -> RouteKind
-    ensures { result ≡ route_of (thing.now ∷ kind.now ∷ name.now ∷ []) }
-{
-    if is(kind, b"properties") {
-        RouteKind::Property
-    } else if is(kind, b"actions") {
-        RouteKind::Action
-    } else if is(kind, b"events") {
-        RouteKind::Event
     } else {
         RouteKind::Nowhere
     }
@@ -92,11 +109,11 @@ fn route_of_three(thing: &[u8], kind: &[u8], name: &[u8]) -> RouteKind
 fn route_of_four(thing: &[u8], kind: &[u8], name: &[u8], last: &[u8]) -> RouteKind
     ensures { result ≡ route_of (thing.now ∷ kind.now ∷ name.now ∷ last.now ∷ []) }
 {
-    if is(kind, b"properties") && is(last, b"observe") {
+    if kind == PROPERTIES && last == OBSERVE {
         RouteKind::Observe
-    } else if is(kind, b"events") && is(last, b"subscribe") {
+    } else if kind == EVENTS && last == SUBSCRIBE {
         RouteKind::Subscribe
-    } else if is(kind, b"actions") {
+    } else if kind == ACTIONS {
         route_of_invocation(last)
     } else {
         RouteKind::Nowhere
@@ -111,13 +128,6 @@ fn route_of_invocation(last: &[u8]) -> RouteKind
         Some(number) => RouteKind::Invocation(number),
         None => RouteKind::Nowhere,
     }
-}
-
-/// The segment is this word.
-fn is(segment: &[u8], word: &[u8]) -> bool
-    ensures { result ≡ bytes_eq segment.now word.now }
-{
-    segment == word
 }
 
 /// The segment may be the id of an entry in the directory.

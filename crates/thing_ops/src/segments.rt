@@ -1,8 +1,12 @@
 //! The segments of a path, in one buffer.
 
-ghost use Rattle.std.specs.Prelude.{◌≡◌, ◌++◌, ◌∷◌, ◌<◌, ◌≤◌, ◌↔◌, [], List, ℕ, length, option_map, slice_get, slice_index, slice_range, Some, IfOk, IsTrue, OnErr, OnOk};
-ghost use Rattle.thing_ops.specs.Segments.{pieces, with_longer_last, AreEnds};
+ghost use Rattle.std.specs.Prelude.{◌≡◌, ◌++◌, ◌∷◌, ◌<◌, ◌↔◌, [], List, ℕ, length, option_map, slice_get, IfOk, IsTrue, OnErr, OnOk};
+ghost use Rattle.thing_ops.specs.Routes.{route_of};
+ghost use Rattle.thing_ops.specs.Segments.{pieces, with_longer_last, AreJudged};
 
+use crate::RouteKind;
+use crate::pieces::piece;
+use crate::routing::route_of_pieces;
 use servient_base::NoMemory;
 use smallvec::SmallVec;
 use std::alloc::Global;
@@ -13,11 +17,13 @@ use std::marker::Model;
 const FEW: usize = 4;
 
 /// The segments of a path: any bytes each, percent-encoding already taken away (RFC 3986, sections 2.1 and 3.3).
-/// Contracts see the list of them. The bytes lie in one buffer, and the ends of the first four segments beside it.
+/// Contracts see the list of them. The bytes lie in one buffer, and the ends of the first four segments beside it. What
+/// the path leads to is judged whenever it changes, so that each layer that asks looks it up.
 #[derive(Debug, Drop)]
 pub struct Segments {
     bytes: Vec<u8>,
     ends: SmallVec<usize, FEW>,
+    route: RouteKind,
 }
 
 impl Model for Segments {
@@ -25,7 +31,7 @@ impl Model for Segments {
 
     ghost view = { λ s. pieces s.bytes.items 0 s.ends.items };
 
-    ghost invariant = { λ s. AreEnds 0 s.ends.items (length s.bytes.items) };
+    ghost invariant = { λ s. AreJudged s.route s.bytes.items s.ends.items };
 }
 
 impl Segments {
@@ -36,6 +42,7 @@ impl Segments {
         Segments {
             bytes: Vec::new(alloc),
             ends: SmallVec::new(alloc),
+            route: RouteKind::Nowhere,
         }
     }
 
@@ -47,6 +54,7 @@ impl Segments {
         Ok(Segments {
             bytes: Vec::with_capacity(alloc, bytes)?,
             ends: SmallVec::new(alloc),
+            route: RouteKind::Nowhere,
         })
     }
 
@@ -58,6 +66,7 @@ impl Segments {
         self.ends.reserve(1)?;
         self.bytes.extend_from_slice(segment)?;
         self.ends.push_reserved(self.bytes.len());
+        self.route = route_of_pieces(self.bytes.as_slice(), self.ends.as_slice());
         Ok(())
     }
 
@@ -72,6 +81,7 @@ impl Segments {
         let _fits = self.ends.len();
         let _ = self.ends.pop();
         self.ends.push_reserved(self.bytes.len());
+        self.route = route_of_pieces(self.bytes.as_slice(), self.ends.as_slice());
         Ok(())
     }
 
@@ -82,6 +92,7 @@ impl Segments {
         Ok(Segments {
             bytes: self.bytes.as_slice().to_vec(alloc)?,
             ends: SmallVec::from_slice(alloc, self.ends.as_slice())?,
+            route: self.route,
         })
     }
 
@@ -103,45 +114,17 @@ impl Segments {
     pub fn get(&self, index: usize) -> Option<&[u8]>
         ensures { option_map (λ s. s.now) result ≡ slice_get self.now index }
     {
-        if index < self.len() {
-            Some(self.at(index))
+        if index < self.ends.len() {
+            Some(piece(self.bytes.as_slice(), self.ends.as_slice(), index))
         } else {
             None
         }
     }
-
-    /// The segment with this number.
-    pub(crate) fn at(&self, index: usize) -> &[u8]
-        requires { index < length self.now }
-        ensures { slice_get self.now index ≡ Some result.now }
-    {
-        piece(self.bytes.as_slice(), self.ends.as_slice(), index)
-    }
 }
 
-/// The piece of these bytes with this number, by where each piece ends. It is for paths that are kept elsewhere in the
-/// way of this file.
-pub fn piece<'a>(bytes: &'a [u8], ends: &[usize], index: usize) -> &'a [u8]
-    requires within { index < length ends.now }
-    requires ends { AreEnds 0 ends.now (length bytes.now) }
-    ensures { slice_get (pieces bytes.now 0 ends.now) index ≡ Some result.now }
+/// What a path leads to. Where two rows of the table fit, the one that names the first segment counts.
+pub fn route(path: &Segments) -> RouteKind
+    ensures { result ≡ route_of path.now }
 {
-    range(bytes, start_of(ends, index), ends[index])
-}
-
-/// The bytes between two places.
-fn range(bytes: &[u8], start: usize, end: usize) -> &[u8]
-    requires ordered { start ≤ end }
-    requires within { end ≤ length bytes.now }
-    ensures { result.now ≡ slice_range bytes.now start end }
-{
-    &bytes[start..end]
-}
-
-/// Where the piece with this number begins.
-fn start_of(ends: &[usize], index: usize) -> usize
-    requires { index < length ends.now }
-    ensures { result ≡ slice_index (0 ∷ ends.now) index }
-{
-    if index == 0 { 0 } else { ends[index - 1] }
+    path.route
 }

@@ -8,7 +8,7 @@ use crate::Whole;
 use crate::kept_path::KeptPath;
 use crate::lifetime::lives;
 use crate::room::Room;
-use coap_msg::{Endpoint, is_same_endpoint};
+use coap_msg::{Code, Endpoint, is_same_endpoint};
 use servient_base::NoMemory;
 use std::alloc::Global;
 use std::marker::Model;
@@ -22,7 +22,7 @@ const LONGEST_BODY: usize = 65_536;
 pub struct BodyPlace {
     from: Endpoint,
     path: KeptPath,
-    code: u8,
+    code: Code,
     format: Option<u16>,
     tag: Option<u32>,
     bytes: Room<LONGEST_BODY>,

@@ -1,6 +1,6 @@
 //! Whose block it is.
 
-use coap_msg::Endpoint;
+use coap_msg::{Code, Endpoint};
 use thing_ops::Segments;
 
 /// What the requests for all blocks of one body have in common (RFC 7959, section 2.5).
@@ -9,7 +9,7 @@ pub struct Origin<'a> {
     /// Where they come from.
     pub from: Endpoint,
     /// Their code.
-    pub code: u8,
+    pub code: Code,
     /// Their path.
     pub path: &'a Segments,
 }

@@ -8,7 +8,7 @@ use crate::kept_path::KeptPath;
 use crate::lifetime::lives;
 use crate::origin::Origin;
 use crate::room::Room;
-use coap_msg::{Endpoint, is_same_endpoint};
+use coap_msg::{Code, Endpoint, is_same_endpoint};
 use servient_base::NoMemory;
 use std::alloc::Global;
 use std::marker::Model;
@@ -21,7 +21,7 @@ pub const LONGEST_REQUEST: usize = 16_384;
 #[derive(Drop)]
 pub struct PartPlace {
     from: Endpoint,
-    code: u8,
+    code: Code,
     path: KeptPath,
     bytes: Room<LONGEST_REQUEST>,
     moment: u64,

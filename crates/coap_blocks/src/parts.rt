@@ -9,7 +9,7 @@ ghost use Rattle.coap_blocks.specs.Parts.{is_bad, most_parts, origin_of, place_o
 use crate::origin::Origin;
 use crate::part_place::{LONGEST_REQUEST, PartPlace};
 use crate::{Added, NoMemory};
-use coap_msg::{Block, Endpoint};
+use coap_msg::{Block, Code, Endpoint};
 use std::alloc::Global;
 use std::marker::Model;
 use thing_ops::Segments;
@@ -62,7 +62,7 @@ impl Parts {
     pub fn add(
         &mut self,
         from: Endpoint,
-        code: u8,
+        code: Code,
         path: &Segments,
         block: Block,
         payload: &[u8],

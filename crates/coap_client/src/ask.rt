@@ -9,8 +9,8 @@ ghost use Rattle.coap_msg.specs.declared.constants.TheConstants.{LONGEST_SEGMENT
 ghost use Rattle.coap_client.specs.Asking.{MayAsk, asking_of, observe_option, format_option, block_option, both_blocks, options_for, message_for};
 
 use coap_msg::{
-    BLOCK1, BLOCK2, Block, CONTENT_FORMAT, LONGEST_MESSAGE, NoRoom, OBSERVE, Opts, Plain, Type4,
-    URI_PATH, encode, put_number, put_segment, write_block,
+    BLOCK1, BLOCK2, Block, CONTENT_FORMAT, Code, LONGEST_MESSAGE, NoRoom, OBSERVE, Opts, Plain,
+    Type4, URI_PATH, encode, put_number, put_segment, write_block,
 };
 use thing_ops::Segments;
 
@@ -18,7 +18,7 @@ use thing_ops::Segments;
 #[derive(Clone, Copy)]
 pub struct Ask<'a> {
     /// The code of the request (RFC 7252, section 12.1.1).
-    pub code: u8,
+    pub code: Code,
     /// The path.
     pub path: &'a Segments,
     /// To observe (true), or to observe no longer (false; RFC 7641, section 2).

@@ -6,7 +6,7 @@ ghost use Rattle.coap_msg.specs.declared.message.Type4.TheVariants.{Con, Non};
 use crate::bucket::bucket_of;
 use crate::entry::{Entry, list_of};
 use crate::slots::{FREE, all_free, no_entries, no_replies, slot_of};
-use crate::{Met, NoMemory};
+use crate::{ExchangeSlot, Met, NoMemory};
 use coap_msg::{BoundedBytes, Endpoint, LONGEST_MESSAGE, RequestType, Type4};
 use slot_lists::SlotLists;
 use std::alloc::Global;
@@ -93,7 +93,7 @@ impl Exchanges {
     }
 
     /// Keeps the reply to the request that got this slot.
-    pub fn keep(&mut self, slot: u32, reply: &[u8])
+    pub fn keep(&mut self, slot: ExchangeSlot, reply: &[u8])
         requires slot { IsAwaited slot self.old }
         requires length { length reply.now ≤ LONGEST_MESSAGE }
         ensures { self.new ≡ with_reply slot reply.now self.old }
@@ -102,7 +102,7 @@ impl Exchanges {
     }
 
     /// The reply that is kept in this slot.
-    pub fn reply(&self, slot: u32) -> &[u8]
+    pub fn reply(&self, slot: ExchangeSlot) -> &[u8]
         requires { HasReply slot self.now }
         ensures ok { HoldsReply slot result.now self.now }
         ensures bound { length result.now ≤ LONGEST_MESSAGE }
@@ -137,7 +137,7 @@ impl Exchanges {
 
     /// The slot of the oldest exchange of a kind, if it doesn't live at the moment `now`. As none lives longer than a
     /// later one of its kind, all live where that does.
-    fn oldest_over(&self, kind: RequestType, now: u64) -> Option<u32>
+    fn oldest_over(&self, kind: RequestType, now: u64) -> Option<ExchangeSlot>
         ensures { FindsOver now kind self.now result }
     {
         let slot = self.kinds.first(list_of(kind))?;
@@ -149,7 +149,7 @@ impl Exchanges {
     }
 
     /// Gives up the exchange in a slot.
-    fn give_up(&mut self, slot: u32)
+    fn give_up(&mut self, slot: ExchangeSlot)
         requires { (e : Exchange) × (exchange_in slot self.old ≡ Some e) }
         ensures { self.new ≡ without_exchange slot self.old }
     {
@@ -176,7 +176,7 @@ impl Exchanges {
 
     /// The slot of the reply to the exchange of this endpoint and message ID, where one was kept, if that exchange
     /// lives.
-    fn duplicated(&self, from: Endpoint, id: u16) -> Option<Option<u32>>
+    fn duplicated(&self, from: Endpoint, id: u16) -> Option<Option<ExchangeSlot>>
         ensures { (kind : RequestType) → FindsDuplicated self.now (record { moment = self.now.moment; from = from; id = id; kind = kind }) result }
     {
         let bucket = bucket_of(from, id, self.capacity);
@@ -188,7 +188,7 @@ impl Exchanges {
     }
 
     /// Makes an exchange of a request that came now and is no duplicate, and returns its slot, if there is room.
-    fn admit(&mut self, from: Endpoint, id: u16, kind: RequestType) -> Option<u32>
+    fn admit(&mut self, from: Endpoint, id: u16, kind: RequestType) -> Option<ExchangeSlot>
         requires { duplicated_exchange (record { moment = self.old.moment; from = from; id = id; kind = kind }) self.old ≡ None }
         ensures { Admits self.old (record { moment = self.old.moment; from = from; id = id; kind = kind }) result self.new }
     {

@@ -32,5 +32,5 @@ mod slots;
 
 pub use exchanges::Exchanges;
 pub use laws::{admitted_once, living_exchanges_differ, tables_follow_the_history};
-pub use met::Met;
+pub use met::{ExchangeSlot, Met};
 pub use servient_base::NoMemory;

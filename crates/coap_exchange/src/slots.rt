@@ -4,8 +4,8 @@ ghost use Rattle.std.specs.Prelude.{◌≡◌, ◌≤◌, ◌<◌, ◌+◌, [], 
 ghost use Rattle.slot_lists.specs.Lists.{list_at, Lists};
 ghost use Rattle.coap_exchange.specs.Slots.{entry_at, is_of, no_entry, once_below, times_in};
 
-use crate::NoMemory;
 use crate::entry::Entry;
+use crate::{ExchangeSlot, NoMemory};
 use coap_msg::{BoundedBytes, Endpoint, LONGEST_MESSAGE, RequestType};
 use slot_lists::SlotLists;
 use std::alloc::Global;
@@ -65,7 +65,7 @@ pub fn slot_of(
     entries: &[Entry],
     from: Endpoint,
     id: u16,
-) -> Option<u32>
+) -> Option<ExchangeSlot>
     requires bucket { bucket < length buckets.now.lists }
     requires entries { buckets.now.capacity ≤ length entries.now }
     ensures { result ≡ find (λ slot. is_of from id (entry_at entries.now slot)) (list_at bucket buckets.now) }

@@ -6,9 +6,10 @@ ghost use Rattle.std.specs.Prelude.{◌≡◌, ◌<◌};
 ghost use Rattle.coap_observe.specs.Buckets.{scattered, endpoint_bucket, target_bucket};
 
 use coap_msg::Endpoint;
+use servient_base::Target;
 
 /// The bucket of a target, of `count` buckets.
-pub fn target_bucket(target: u32, count: u32) -> u32
+pub fn target_bucket(target: Target, count: u32) -> u32
     requires { 0 < count }
     ensures bucket { result ≡ target_bucket count target }
     ensures within { result < count }

@@ -1,6 +1,7 @@
 //! What a registration comes to, and a notification that is to be sent.
 
 use coap_msg::{Endpoint, LONGEST_TOKEN};
+use servient_base::Target;
 
 /// What a registration comes to (RFC 7641, section 4.1).
 #[derive(Clone, Copy, Debug, PartialEq, Eq)]
@@ -23,7 +24,7 @@ pub struct Notice {
     /// How many bytes the token has.
     pub token_length: usize,
     /// The target whose last value it carries.
-    pub target: u32,
+    pub target: Target,
     /// Its message ID.
     pub id: u16,
     /// Its sequence number, the value of Observe.

@@ -7,7 +7,7 @@ use crate::walks::{
 };
 use crate::watcher::{Wanted, Watcher};
 use coap_msg::{Endpoint, LONGEST_TOKEN};
-use servient_base::NoMemory;
+use servient_base::{NoMemory, Target};
 use slot_lists::SlotLists;
 use std::alloc::Global;
 use std::marker::Model;
@@ -115,7 +115,7 @@ impl WatcherSlots {
     }
 
     /// Puts a watcher of this endpoint and token, for a target, behind the others. Whether there was room.
-    pub fn add(&mut self, from: Endpoint, token: &[u8], target: u32) -> bool
+    pub fn add(&mut self, from: Endpoint, token: &[u8], target: Target) -> bool
         requires { length token.now ≤ LONGEST_TOKEN }
         ensures { IsAdded (newcomer from token.now target) self.old result self.new }
     {
@@ -151,7 +151,7 @@ impl WatcherSlots {
 
     /// The watcher in a slot registers anew, for this target. It keeps its place among all, and moves to the list of
     /// the target's bucket.
-    pub fn replace(&mut self, slot: u32, target: u32)
+    pub fn replace(&mut self, slot: u32, target: Target)
         requires { IsUsed slot self.old }
         ensures { self.new ≡ with_change slot (replaced target) self.old }
     {
@@ -162,7 +162,7 @@ impl WatcherSlots {
     }
 
     /// The watchers of a target are to be notified.
-    pub fn mark(&mut self, target: u32)
+    pub fn mark(&mut self, target: Target)
         ensures { self.new ≡ with_changes (where_so (is_of_target target) marked) self.old }
     {
         let bucket = target_bucket(target, self.capacity);

@@ -10,6 +10,7 @@ ghost use Rattle.coap_observe.specs.Watching.{where_so, marked, is_of_target, is
 use crate::buckets::endpoint_bucket;
 use crate::watcher::{Wanted, Watcher};
 use coap_msg::Endpoint;
+use servient_base::Target;
 use slot_lists::SlotLists;
 
 /// The list, in the order of all, of the slots that have a watcher, in the order of registration.
@@ -145,7 +146,7 @@ pub fn next_due(order: &SlotLists, watchers: &[Watcher]) -> u64
 }
 
 /// The watchers of a list are to be notified, if they observe this target.
-pub fn mark(lists: &SlotLists, list: u32, watchers: &mut [Watcher], target: u32)
+pub fn mark(lists: &SlotLists, list: u32, watchers: &mut [Watcher], target: Target)
     requires list { list < length lists.now.lists }
     requires watchers { lists.now.capacity ≤ length watchers.old }
     ensures length { length watchers.new ≡ length watchers.old }

@@ -4,6 +4,7 @@ use crate::notice::Notice;
 use crate::notification::Notification;
 use crate::sequence::Sequence;
 use coap_msg::{BoundedBytes, Endpoint, LONGEST_TOKEN, is_same_endpoint};
+use servient_base::Target;
 
 /// Which watcher of an endpoint is looked for.
 #[derive(Clone, Copy)]
@@ -26,7 +27,7 @@ pub struct Watcher {
     /// The token of its registration.
     pub token: BoundedBytes<LONGEST_TOKEN>,
     /// What it observes.
-    pub target: u32,
+    pub target: Target,
     /// The last sequence number that was sent to it.
     pub sequence: Sequence,
     /// Whether its target has a value that wasn't sent to it yet.
@@ -42,7 +43,7 @@ impl Watcher {
     ghost use Rattle.coap_observe.specs.Watching.{where_so, newcomer, replaced, marked, acknowledged, is_of_target, is_from, is_pair, is_sent_as, is_busy, is_due, is_given_up, given_up_endpoint, next_sequence, resent, renewed, notified, IsNotice, IsSendable};
 
     /// One that registers.
-    pub fn new(from: Endpoint, token: &[u8], target: u32) -> Self
+    pub fn new(from: Endpoint, token: &[u8], target: Target) -> Self
         requires { length token.now ≤ LONGEST_TOKEN }
         ensures { result ≡ newcomer from token.now target }
     {
@@ -65,7 +66,7 @@ impl Watcher {
     }
 
     /// It registers anew, for this target.
-    pub fn replace(&mut self, target: u32)
+    pub fn replace(&mut self, target: Target)
         ensures { self.new ≡ replaced target self.old }
     {
         self.target = target;
@@ -75,7 +76,7 @@ impl Watcher {
     }
 
     /// It is to be notified, if it observes this target.
-    pub fn mark_if(&mut self, target: u32)
+    pub fn mark_if(&mut self, target: Target)
         ensures { self.new ≡ where_so (is_of_target target) marked self.old }
     {
         if self.target == target {

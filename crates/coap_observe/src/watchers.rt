@@ -5,7 +5,7 @@ use crate::sending::{give_up, send};
 use crate::slots::WatcherSlots;
 use crate::watcher::Wanted;
 use coap_msg::{Endpoint, LONGEST_TOKEN};
-use servient_base::NoMemory;
+use servient_base::{NoMemory, Target};
 use std::alloc::Global;
 use std::marker::Model;
 
@@ -50,7 +50,7 @@ impl Watchers {
     }
 
     /// Registers the watcher of this endpoint and token for a target (RFC 7641, section 4.1).
-    pub fn register(&mut self, from: Endpoint, token: &[u8], target: u32) -> Registered
+    pub fn register(&mut self, from: Endpoint, token: &[u8], target: Target) -> Registered
         requires { length token.now ≤ LONGEST_TOKEN }
         ensures ok { Registers from token.now target self.old result self.new }
         ensures bound { IfSome (sequence_of result) (λ n. n < 2 ^ 24) }
@@ -86,7 +86,7 @@ impl Watchers {
     }
 
     /// A target has a new value: its watchers are to be notified.
-    pub fn emit(&mut self, target: u32)
+    pub fn emit(&mut self, target: Target)
         ensures { self.new ≡ with_emission target self.old }
     {
         self.quiet_until = 0;
@@ -156,7 +156,7 @@ ghost use Rattle.coap_observe.specs.Places.{Place, IsAt, IsUsed, with_change};
 ghost use Rattle.coap_observe.specs.Watching.{next_sequence, replaced};
 
 /// The watcher in a slot registers anew, for this target. The sequence number that the response says.
-fn register_again(slots: &mut WatcherSlots, slot: u32, target: u32) -> u32
+fn register_again(slots: &mut WatcherSlots, slot: u32, target: Target) -> u32
     requires { IsUsed slot slots.old }
     ensures slots { slots.new ≡ with_change slot (replaced target) slots.old }
     ensures number { (p : Place) → IsAt slot p slots.old → result ≡ next_sequence p.watcher.sequence }

@@ -44,7 +44,7 @@ impl<D: DeviceFiles> FileAction<D> {
 
 impl<D: DeviceFiles> Handler for FileAction<D> {
     ghost use Rattle.std.specs.Prelude.{◌≡◌, IfOk, OnErr};
-    ghost use Rattle.thing_handler.specs.Handler.{AnswersCall};
+    ghost use Rattle.thing_handler.specs.Handler.{AnswersCall, forgotten};
     ghost use Rattle.file_devices.specs.Devices.{ActionAnswers};
     ghost use Rattle.file_devices.specs.Seen.{action_seen};
 
@@ -73,5 +73,14 @@ impl<D: DeviceFiles> Handler for FileAction<D> {
 
     fn turns(&self) -> &[Turn] {
         self.device.log.turns.as_slice()
+    }
+
+    fn forget(&mut self)
+        ensures seen { action_seen self.new ≡ forgotten (action_seen self.old) }
+        ensures files { self.new.device.files ≡ self.old.device.files }
+        ensures name { self.new.device.name ≡ self.old.device.name }
+        ensures notation { self.new.device.notation ≡ self.old.device.notation }
+    {
+        self.device.log.forget();
     }
 }

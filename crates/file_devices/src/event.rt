@@ -95,7 +95,7 @@ fn judge_found(
 
 impl<D: DeviceFiles> Handler for FileEvent<D> {
     ghost use Rattle.std.specs.Prelude.{◌≡◌, IfOk, OnErr};
-    ghost use Rattle.thing_handler.specs.Handler.{AnswersCall};
+    ghost use Rattle.thing_handler.specs.Handler.{AnswersCall, forgotten};
     ghost use Rattle.file_devices.specs.Devices.{EventAnswers};
     ghost use Rattle.file_devices.specs.Seen.{event_seen};
 
@@ -132,5 +132,15 @@ impl<D: DeviceFiles> Handler for FileEvent<D> {
 
     fn turns(&self) -> &[Turn] {
         self.device.log.turns.as_slice()
+    }
+
+    fn forget(&mut self)
+        ensures seen { event_seen self.new ≡ forgotten (event_seen self.old) }
+        ensures files { self.new.device.files ≡ self.old.device.files }
+        ensures name { self.new.device.name ≡ self.old.device.name }
+        ensures notation { self.new.device.notation ≡ self.old.device.notation }
+        ensures last { self.new.last ≡ self.old.last }
+    {
+        self.device.log.forget();
     }
 }

@@ -65,7 +65,7 @@ fn answer_to_read(found: Result<Tree, FileFault>) -> Answer
 
 impl<D: DeviceFiles> Handler for FileProperty<D> {
     ghost use Rattle.std.specs.Prelude.{◌≡◌, IfOk, OnErr};
-    ghost use Rattle.thing_handler.specs.Handler.{AnswersCall};
+    ghost use Rattle.thing_handler.specs.Handler.{AnswersCall, forgotten};
     ghost use Rattle.file_devices.specs.Devices.{PropertyAnswers};
     ghost use Rattle.file_devices.specs.Seen.{property_seen};
 
@@ -98,5 +98,14 @@ impl<D: DeviceFiles> Handler for FileProperty<D> {
 
     fn turns(&self) -> &[Turn] {
         self.device.log.turns.as_slice()
+    }
+
+    fn forget(&mut self)
+        ensures seen { property_seen self.new ≡ forgotten (property_seen self.old) }
+        ensures files { self.new.device.files ≡ self.old.device.files }
+        ensures name { self.new.device.name ≡ self.old.device.name }
+        ensures notation { self.new.device.notation ≡ self.old.device.notation }
+    {
+        self.device.log.forget();
     }
 }

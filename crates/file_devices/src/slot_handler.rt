@@ -92,4 +92,13 @@ impl<D: DeviceFiles> Handler for SlotHandler<D> {
             SlotHandler::Event(handler) => handler.turns(),
         }
     }
+
+    fn forget(&mut self) {
+        match self {
+            SlotHandler::Shipped(handler) => handler.forget(),
+            SlotHandler::Property(handler) => handler.forget(),
+            SlotHandler::Action(handler) => handler.forget(),
+            SlotHandler::Event(handler) => handler.forget(),
+        }
+    }
 }

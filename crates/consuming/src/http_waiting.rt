@@ -12,7 +12,7 @@ use crate::answers::{Verdict, receive};
 use crate::printing::close;
 use crate::waiting::Came;
 use crate::{Consumed, Outcome, Task};
-use servient_base::NoMemory;
+use servient_base::{ConnectionId, NoMemory};
 use servient_outside::{Out, What};
 use std::alloc::Global;
 use wot_json::Bytes;
@@ -24,7 +24,7 @@ const DEADLINE: u64 = 60_000;
 #[derive(Drop)]
 pub struct HttpWaiting {
     /// The number of the connection.
-    pub connection: u32,
+    pub connection: ConnectionId,
     /// The greatest moment so far, in milliseconds.
     pub moment: u64,
     /// All bytes that came on the connection.
@@ -33,7 +33,7 @@ pub struct HttpWaiting {
 
 impl HttpWaiting {
     /// Nothing came yet on this connection.
-    pub fn new(alloc: Global, connection: u32) -> Self
+    pub fn new(alloc: Global, connection: ConnectionId) -> Self
         ensures { result ≡ waiting_on connection }
     {
         HttpWaiting {

@@ -4,6 +4,7 @@ ghost use Rattle.std.specs.Prelude.{◌≤◌};
 
 use mio::net::{TcpListener, TcpStream};
 use mio::{Interest, Registry, Token};
+use servient_base::ConnectionId;
 use std::io::{self, ErrorKind};
 
 // The listener is asked this many times in one turn.
@@ -26,7 +27,12 @@ pub enum Accepted {
 /// The next connection, set up to be reported under a number. One that failed before it was taken, or that can't be set
 /// up, is a fault, and the next is taken. Any other error, as too many open files, is a fault that ends the turn: it
 /// would be the same for the next connection.
-pub fn accept(listener: &TcpListener, registry: &Registry, c: u32, faults: &mut u64) -> Accepted
+pub fn accept(
+    listener: &TcpListener,
+    registry: &Registry,
+    c: ConnectionId,
+    faults: &mut u64,
+) -> Accepted
     ensures { faults.old ≤ faults.new }
 {
     for _ in 0..ASKS {
@@ -55,7 +61,7 @@ fn is_of_one_connection(error: &io::Error) -> bool {
 }
 
 /// A connection that is reported under a number, and whose pieces aren't held back (TCP_NODELAY).
-pub fn set_up(stream: TcpStream, registry: &Registry, c: u32) -> io::Result<TcpStream> {
+pub fn set_up(stream: TcpStream, registry: &Registry, c: ConnectionId) -> io::Result<TcpStream> {
     let mut stream = stream;
     stream.set_nodelay(true)?;
     let both = Interest::READABLE | Interest::WRITABLE;

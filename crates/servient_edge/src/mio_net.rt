@@ -12,6 +12,7 @@ use crate::moments::Moments;
 use crate::sockets::Sockets;
 use crate::timing::{Due, Timing};
 use coap_msg::Endpoint;
+use servient_base::ConnectionId;
 use servient_outside::{Dialled, Event, Found, Listened, Net, Next, Place, What};
 use std::alloc::Global;
 use std::io::{self, ErrorKind};
@@ -321,7 +322,7 @@ impl<R: net::Net + Clock + Drop> Net for MioNet<R> {
     }
 
     /// It does nothing where there are no sockets yet.
-    fn send(&mut self, c: u32, head: &[u8], body: &[u8])
+    fn send(&mut self, c: ConnectionId, head: &[u8], body: &[u8])
         ensures shows { NetShows (counted_only self.old.faults) (counted_only self.new.faults) (did (act.Sent c (head.now ++ body.now)) ∷ []) }
         ensures number { c < 64 → ChangesOne SendsOn c (numbers_of self.old.sockets) (numbers_of self.new.sockets) }
     {
@@ -331,7 +332,7 @@ impl<R: net::Net + Clock + Drop> Net for MioNet<R> {
     }
 
     /// It does nothing where there are no sockets yet. Nothing comes of a connection that is closed.
-    fn close(&mut self, c: u32)
+    fn close(&mut self, c: ConnectionId)
         ensures shows { NetShows (counted_only self.old.faults) (counted_only self.new.faults) (did (act.Closed c) ∷ []) }
         ensures number { c < 64 → ChangesOne (λ before after. IsSilent after) c (numbers_of self.old.sockets) (numbers_of self.new.sockets) }
     {

@@ -5,6 +5,7 @@ ghost use Rattle.std.specs.Prelude.{◌≡◌, ◌<◌, ◌++◌, IfSome, None, 
 use crate::connection::Connection;
 use crate::number::Number;
 use crate::turns::{CONNECTIONS, Took};
+use servient_base::ConnectionId;
 use std::alloc::{AllocError, Global};
 
 /// All numbers.
@@ -28,7 +29,7 @@ impl Numbers {
     }
 
     /// The least number that is free.
-    pub fn free(&self) -> Option<u32>
+    pub fn free(&self) -> Option<ConnectionId>
         ensures bound { IfSome result (λ c. c < 64) }
         ensures free { IfSome result (λ c. standing_at c self.now ≡ vacant) }
     {
@@ -41,7 +42,7 @@ impl Numbers {
     }
 
     /// A number stands for this connection, which is open.
-    pub fn open(&mut self, c: u32, connection: Connection)
+    pub fn open(&mut self, c: ConnectionId, connection: Connection)
         requires bound { c < 64 }
         requires open { connection.closed ≡ None }
         ensures { ChangesAt (λ before after. after ≡ connected) c self.old self.new }
@@ -50,7 +51,7 @@ impl Numbers {
     }
 
     /// A turn of the connection of a number. One that has ended is none any more.
-    pub fn turn(&mut self, c: u32, buffer: &mut [u8], moment: u64) -> Took
+    pub fn turn(&mut self, c: ConnectionId, buffer: &mut [u8], moment: u64) -> Took
         requires bound { c < 64 }
         requires room { length buffer.old ≡ 4096 }
         ensures stands { ChangesAt (λ before after. TakesFrom before result after) c self.old self.new }
@@ -60,7 +61,7 @@ impl Numbers {
     }
 
     /// Sends on a connection, if it is open. Whether it can't send any more; then it is given up.
-    pub fn send(&mut self, c: u32, head: &[u8], body: &[u8]) -> bool
+    pub fn send(&mut self, c: ConnectionId, head: &[u8], body: &[u8]) -> bool
         requires { c < 64 }
         ensures stands { ChangesAt SendsOn c self.old self.new }
         ensures kept { SendsAt (number_at c self.old) (head.now ++ body.now) (number_at c self.new) }
@@ -69,7 +70,7 @@ impl Numbers {
     }
 
     /// Closes a connection. Whether its number is free now.
-    pub fn close(&mut self, c: u32, moment: u64) -> bool
+    pub fn close(&mut self, c: ConnectionId, moment: u64) -> bool
         requires { c < 64 }
         ensures { ChangesAt (λ before after. IsSilent after) c self.old self.new }
     {
@@ -87,7 +88,7 @@ impl Numbers {
     }
 
     /// Ends the connection of a number where it was closed and is over.
-    fn end_if_over(&mut self, c: u32, moment: u64)
+    fn end_if_over(&mut self, c: ConnectionId, moment: u64)
         requires { c < 64 }
         ensures { ChangesAt Settled c self.old self.new }
     {

@@ -14,6 +14,7 @@ use crate::turns::{CONNECTIONS, LISTENER, Took, Turns};
 use coap_msg::Endpoint;
 use mio::net::{TcpListener, UdpSocket};
 use mio::{Events, Interest, Poll, Token};
+use servient_base::ConnectionId;
 use servient_outside::What;
 use std::alloc::Global;
 use std::io::{self, ErrorKind};
@@ -111,7 +112,7 @@ impl Sockets {
     }
 
     /// Connects to an address, and answers the number of the connection.
-    pub fn dial<R: Net + Clock>(&mut self, rt: &R, address: SocketAddr) -> io::Result<u32>
+    pub fn dial<R: Net + Clock>(&mut self, rt: &R, address: SocketAddr) -> io::Result<ConnectionId>
         ensures { IfOk result (λ c. c < 64) }
     {
         let Some(c) = self.numbers.free() else {
@@ -226,7 +227,7 @@ impl Sockets {
     }
 
     /// A turn of a connection. Where its number is free then, whoever waits at the listener may have it.
-    fn read(&mut self, c: u32, buffer: &mut [u8], moment: u64) -> Option<What>
+    fn read(&mut self, c: ConnectionId, buffer: &mut [u8], moment: u64) -> Option<What>
         requires bounds { c < 64 }
         requires room { length buffer.old ≡ 4096 }
         ensures what { IfSome result MayCome }
@@ -254,7 +255,7 @@ impl Sockets {
     }
 
     /// Sends on a connection, if it is open. One that can't send any more is given up, and has a turn to say so.
-    pub fn send(&mut self, c: u32, head: &[u8], body: &[u8])
+    pub fn send(&mut self, c: ConnectionId, head: &[u8], body: &[u8])
         ensures { c < 64 → ChangesAt SendsOn c self.old.numbers self.new.numbers }
     {
         if c < CONNECTIONS as u32 && self.numbers.send(c, head, body) {
@@ -264,7 +265,7 @@ impl Sockets {
 
     /// Closes a connection. It has a turn then, since what its peer sent may wait; where its number is free, the
     /// listener has one.
-    pub fn close(&mut self, c: u32, moment: u64)
+    pub fn close(&mut self, c: ConnectionId, moment: u64)
         ensures { c < 64 → ChangesAt (λ before after. IsSilent after) c self.old.numbers self.new.numbers }
     {
         if c < CONNECTIONS as u32 {

@@ -7,6 +7,7 @@ use crate::mio_net::MioNet;
 use crate::sockets::Sockets;
 use crate::timing::Timing;
 use coap_msg::Endpoint;
+use servient_base::ConnectionId;
 use servient_outside::Place;
 use std::alloc::Global;
 use std::io::{self, ErrorKind};
@@ -68,7 +69,12 @@ impl<R: net::Net + Clock + Drop> MioNet<R> {
     }
 
     /// The number of a new connection to a host.
-    pub(crate) fn connect(&mut self, alloc: Global, host: &str, port: u16) -> io::Result<u32>
+    pub(crate) fn connect(
+        &mut self,
+        alloc: Global,
+        host: &str,
+        port: u16,
+    ) -> io::Result<ConnectionId>
         ensures number { IfOk result (λ c. c < 64) }
         ensures faults { self.new.faults ≡ self.old.faults }
     {

@@ -4,12 +4,12 @@ ghost use Rattle.std.specs.Prelude.{◌≡◌, ◌++◌, IfOk};
 
 use crate::{Act, Place};
 use coap_msg::Endpoint;
-use servient_base::NoMemory;
+use servient_base::{ConnectionId, NoMemory};
 use std::alloc::Global;
 use wot_json::{Bytes, Text};
 
 /// One piece and then another, sent on a connection.
-pub fn sent(alloc: Global, c: u32, head: &[u8], body: &[u8]) -> Result<Act, NoMemory>
+pub fn sent(alloc: Global, c: ConnectionId, head: &[u8], body: &[u8]) -> Result<Act, NoMemory>
     ensures { IfOk result (λ a. a ≡ Act.Sent c (head.now ++ body.now)) }
 {
     let mut bytes = Vec::from_slice(alloc, head)?;
@@ -41,7 +41,12 @@ pub fn listened(alloc: Global, place: &Place) -> Result<Act, NoMemory>
 }
 
 /// A host and a port that were dialled.
-pub fn dialled(alloc: Global, host: &str, port: u16, c: Option<u32>) -> Result<Act, NoMemory>
+pub fn dialled(
+    alloc: Global,
+    host: &str,
+    port: u16,
+    c: Option<ConnectionId>,
+) -> Result<Act, NoMemory>
     ensures { IfOk result (λ a. a ≡ Act.Dialled host.now port c) }
 {
     let host = Text::copy_of(alloc, host)?;

@@ -2,6 +2,7 @@
 
 use crate::Place;
 use coap_msg::Endpoint;
+use servient_base::ConnectionId;
 use std::alloc::Global;
 use wot_json::{Bytes, Text};
 
@@ -9,11 +10,11 @@ use wot_json::{Bytes, Text};
 #[derive(Clone, Copy, Debug, PartialEq, Eq)]
 pub enum What {
     /// A peer opened the connection of this number.
-    Opened(u32),
+    Opened(ConnectionId),
     /// This many bytes came on this connection: at least one, and at most 4,096.
-    Bytes(u32, usize),
+    Bytes(ConnectionId, usize),
     /// This connection has ended. Nothing more comes of it.
-    Ended(u32),
+    Ended(ConnectionId),
     /// A datagram from an endpoint, of this many bytes: at most 2,048.
     Datagram(Endpoint, usize),
     /// Nothing but that time goes by.
@@ -72,7 +73,7 @@ pub enum Listened {
 #[derive(Clone, Copy, Debug, PartialEq, Eq)]
 pub enum Dialled {
     /// The number of the connection.
-    Connected(u32),
+    Connected(ConnectionId),
     Failed,
     NoMemory,
 }
@@ -89,15 +90,15 @@ pub enum Found {
 #[derive(Debug, Drop)]
 pub enum Act {
     /// These bytes were sent on this connection.
-    Sent(u32, Bytes),
+    Sent(ConnectionId, Bytes),
     /// This connection was closed.
-    Closed(u32),
+    Closed(ConnectionId),
     /// These bytes were sent as one datagram.
     Datagram(Endpoint, Bytes),
     /// It was to listen here.
     Listened(Place),
     /// A host and a port were dialled. The connection, if it was answered.
-    Dialled(Text, u16, Option<u32>),
+    Dialled(Text, u16, Option<ConnectionId>),
     /// A host and a port were looked up. The endpoint, if it was answered.
     Looked(Text, u16, Option<Endpoint>),
 }
@@ -123,11 +124,11 @@ pub trait Net {
         ensures shows { NetShows (seen self.old) (seen self.new) (came result buffer.new ∷ []) };
 
     /// Sends `head` and then `body` on a connection. A real failure shows later, as the connection's end.
-    fn send(&mut self, c: u32, head: &[u8], body: &[u8])
+    fn send(&mut self, c: ConnectionId, head: &[u8], body: &[u8])
         ensures { NetShows (seen self.old) (seen self.new) (did (act.Sent c (head.now ++ body.now)) ∷ []) };
 
     /// Ends a connection, once all that was sent has gone. Nothing more comes of it.
-    fn close(&mut self, c: u32)
+    fn close(&mut self, c: ConnectionId)
         ensures { NetShows (seen self.old) (seen self.new) (did (act.Closed c) ∷ []) };
 
     /// Sends a datagram. A real failure shows later, as a datagram that never came.

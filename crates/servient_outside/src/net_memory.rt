@@ -12,7 +12,7 @@ use crate::{
     acts,
 };
 use coap_msg::Endpoint;
-use servient_base::NoMemory;
+use servient_base::{ConnectionId, NoMemory};
 use std::alloc::Global;
 use wot_json::Bytes;
 
@@ -29,7 +29,7 @@ pub struct NetMemory {
     stop_moment: u64,
     calls: CallCount,
     // How many connections were dialled.
-    connected: u32,
+    connected: ConnectionId,
     // How many calls of `next` came once the number of those after the last act was at its last value.
     uncounted: u64,
     faults: u64,
@@ -221,7 +221,7 @@ impl Net for NetMemory {
     }
 
     /// An act whose keeping is out of memory isn't kept, and counts as lost.
-    fn send(&mut self, c: u32, head: &[u8], body: &[u8])
+    fn send(&mut self, c: ConnectionId, head: &[u8], body: &[u8])
         ensures shows { NetShows (net_seen self.old) (net_seen self.new)
             (did (Act.Sent c (head.now ++ body.now)) ∷ []) }
 
@@ -232,7 +232,7 @@ impl Net for NetMemory {
     }
 
     /// As for `send`.
-    fn close(&mut self, c: u32)
+    fn close(&mut self, c: ConnectionId)
         ensures shows { NetShows (net_seen self.old) (net_seen self.new) (did (Act.Closed c) ∷ []) }
 
         ensures kept_or_counted { KeepsOrCounts self.old self.new (Act.Closed c) }

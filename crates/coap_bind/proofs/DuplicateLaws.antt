@@ -19,15 +19,14 @@ use Rattle.coap_exchange.specs.declared.met.Met.{Met}
 use Rattle.coap_exchange.specs.declared.met.Met.TheVariants.{Fresh, Repeat, Full}
 use Rattle.coap_exchange.proofs.HistoryLaws.{lives_before}
 use Rattle.coap_opts.specs.Reading.{asked as what_is_asked}
-use Rattle.coap_bind.specs.declared.head.OpenRequest.{OpenRequest}
-use Rattle.coap_bind.specs.declared.head.OpenAsk.{OpenAsk}
+use Rattle.coap_bind.specs.declared.pending.PendingReply.{PendingReply}
 use Rattle.coap_bind.specs.declared.server.Server.{Server}
 use Rattle.thing_ops.specs.declared.outcome.Outcome.{Outcome}
 use Rattle.coap_observe.specs.declared.notice.Notice.{Notice}
 use Rattle.coap_observe.specs.Watching.{Watching}
 use Rattle.coap_bind.specs.Blocks.{bodies_after}
-use Rattle.coap_bind.specs.Writing.{Reply}
-use Rattle.coap_bind.specs.Server.{start, Heard, answered_at_once, with_id_used, with_kept, with_watchers, with_emitted, with_links, with_notice_sent, with_report, Replies, Answers, is_request, duplicate_reply, arrival, IsMet, malformed, no_request, duplicate, full, with_parts, with_bodies, replied, bad_option_ignored, gives_links, links_given, observing_in, asks, asks_whole, opened, Reads, settled, admitted, Hears}
+use Rattle.coap_bind.specs.Writing.{Reply, ReplyHead, head_of, head_in}
+use Rattle.coap_bind.specs.Server.{start, Heard, answered_at_once, with_id_used, with_kept, with_watchers, with_emitted, with_links, with_notice_sent, with_report, Replies, Answers, is_request, duplicate_reply, arrival, IsMet, malformed, no_request, duplicate, full, with_parts, with_bodies, replied, bad_option_ignored, gives_links, links_given, observing_in, asks, asks_whole, Reads, settled, admitted, Hears}
 use Rattle.coap_bind.specs.Laws.{IsOpen, DidFrom, Did, nothing, heard_of, answered, emitted, sent, linked}
 use Rattle.coap_bind.specs.Duplicates.{may_keep, OnlyConfirmableAreKept, OnlyTimePassed, DuplicatesChangeNothing, IsRepliedTo, at_once, afterwards, repeated, DuplicatesGetTheFirstReply}
 use Rattle.coap_bind.proofs.HistoryLaws.{sent_stays, met_as_duplicate}
@@ -70,20 +69,20 @@ tidy_kept Confirmable slot bytes s e there is h = record {
 }
 tidy_kept NonConfirmable slot bytes s e there is h = h
 
-tidy_replies : (r : Reply) (request : OpenRequest) (bytes : List ℕ) (s t : Server) (e : Exchange) → Replies r request bytes s t
-    → exchange_in request.slot s.exchanges ≡ Some e → request.head.kind ≡ e.arrival.kind → Tidy s.exchanges → Tidy t.exchanges
-tidy_replies r request bytes s t e replies there is h =
-    subst (λ (x : Server). Tidy x.exchanges) (sym replies.after) (tidy_kept request.head.kind request.slot bytes s e there is h)
+tidy_replies : (r : Reply) (head : ReplyHead) (slot : ℕ) (bytes : List ℕ) (s t : Server) (e : Exchange) → Replies r head slot bytes s t
+    → exchange_in slot s.exchanges ≡ Some e → head.kind ≡ e.arrival.kind → Tidy s.exchanges → Tidy t.exchanges
+tidy_replies r head slot bytes s t e replies there is h =
+    subst (λ (x : Server). Tidy x.exchanges) (sym replies.after) (tidy_kept head.kind slot bytes s e there is h)
 
 tidy_same : (s t : Server) → t ≡ s → Tidy s.exchanges → Tidy t.exchanges
 tidy_same s t is h = subst (λ (x : Server). Tidy x.exchanges) (sym is) h
 
 tidy_reads : (from : Endpoint) (now : ℕ) (m : CoapMessage) (slot : ℕ) (heard : Heard) (s t : Server) (e : Exchange) → Reads from now m slot heard s t
     → exchange_in slot s.exchanges ≡ Some e → request_type m.kind ≡ e.arrival.kind → Tidy s.exchanges → Tidy t.exchanges
-tidy_reads from now m slot heard s t e (replied r parts bytes why replies is) there kind h = tidy_replies r (opened m slot) bytes (with_parts parts s) t e replies there kind h
+tidy_reads from now m slot heard s t e (replied r parts bytes why replies is) there kind h = tidy_replies r (head_of m) slot bytes (with_parts parts s) t e replies there kind h
 tidy_reads from now m slot heard s t e (bad_option_ignored number fault non is same) there kind h = tidy_same s t same h
 tidy_reads from now m slot heard s t e (gives_links bytes none act links get replies is) there kind h =
-    tidy_replies _ (opened m slot) bytes (links_given from now m.token (observing_in m) (what_is_asked m) s) t e replies there kind h
+    tidy_replies _ (head_of m) slot bytes (links_given from now m.token (observing_in m) (what_is_asked m) s) t e replies there kind h
 tidy_reads from now m slot heard s t e (asks none act apart is same) there kind h = tidy_same s t same h
 tidy_reads from now m slot heard s t e (asks_whole b place parts whole none joining apart adds found is same) there kind h = tidy_same (with_parts (remove parts place) s) t same h
 
@@ -102,12 +101,12 @@ tidy_hears from bytes now heard s t (admitted m slot u met reads) h =
     (tidy_meets now s.exchanges u.exchanges (arrival from now m) (Fresh slot) refl met.meets h)
 
 -- a server that is to reply to what was asked
-abbrev pub ready : OpenAsk → Outcome → Watching → Server → Server
+abbrev pub ready : PendingReply → Outcome → Watching → Server → Server
 ready ask o watchers s = with_bodies (bodies_after ask.blocks ask.from o s.bodies) (with_watchers watchers s)
 
-tidy_answers : (ask : OpenAsk) (o : Outcome) (target : Option ℕ) (bytes : List ℕ) (s t : Server) → IsOpen ask s → Answers ask o target bytes s t → Tidy s.exchanges → Tidy t.exchanges
+tidy_answers : (ask : PendingReply) (o : Outcome) (target : Option ℕ) (bytes : List ℕ) (s t : Server) → IsOpen ask s → Answers ask o target bytes s t → Tidy s.exchanges → Tidy t.exchanges
 tidy_answers ask o target bytes s t waiting answers h =
-    tidy_replies _ ask.request bytes (ready ask o answers.watchers s) t waiting.exchange answers.replies waiting.there waiting.kind h
+    tidy_replies _ (head_in ask) ask.slot bytes (ready ask o answers.watchers s) t waiting.exchange answers.replies waiting.there waiting.kind h
 
 pub sent_exchanges : (n : Option Notice) (s t : Server) → t ≡ with_notice_sent n s → t.exchanges ≡ s.exchanges
 sent_exchanges n s t is = ap (λ (x : Server). x.exchanges) is ∙ sent_stays n s
@@ -192,12 +191,12 @@ keeps_kept : (kind : RequestType) (other : ℕ) (bytes : List ℕ) (s : Server) 
 keeps_kept Confirmable other bytes s e slot request reply there waits is k = apart_at other bytes s e slot request reply (slot == other) refl there waits is k
 keeps_kept NonConfirmable other bytes s e slot request reply there waits is k = k
 
-keeps_replies : (r : Reply) (open_request : OpenRequest) (bytes : List ℕ) (s t : Server) (e : Exchange) (slot : ℕ) (request : Arrival) (reply : List ℕ) → Replies r open_request bytes s t
-    → exchange_in open_request.slot s.exchanges ≡ Some e → e.reply ≡ None → open_request.head.kind ≡ e.arrival.kind
+keeps_replies : (r : Reply) (head : ReplyHead) (at : ℕ) (bytes : List ℕ) (s t : Server) (e : Exchange) (slot : ℕ) (request : Arrival) (reply : List ℕ) → Replies r head at bytes s t
+    → exchange_in at s.exchanges ≡ Some e → e.reply ≡ None → head.kind ≡ e.arrival.kind
     → Keeps slot request (kept_reply request.kind reply) s.exchanges → Keeps slot request (kept_reply request.kind reply) t.exchanges
-keeps_replies r open_request bytes s t e slot request reply replies there waits is k =
+keeps_replies r head at bytes s t e slot request reply replies there waits is k =
     subst (λ (x : Server). Keeps slot request (kept_reply request.kind reply) x.exchanges) (sym replies.after)
-    (keeps_kept open_request.head.kind open_request.slot bytes s e slot request reply there waits is k)
+    (keeps_kept head.kind at bytes s e slot request reply there waits is k)
 
 keeps_same : (slot : ℕ) (request : Arrival) (reply : Option (List ℕ)) (t u : Table) → u ≡ t → Keeps slot request reply t → Keeps slot request reply u
 keeps_same slot request reply t u is k = subst (Keeps slot request reply) (sym is) k
@@ -206,10 +205,10 @@ keeps_reads : (from : Endpoint) (now : ℕ) (m : CoapMessage) (other : ℕ) (hea
     → exchange_in other s.exchanges ≡ Some e → e.reply ≡ None → request_type m.kind ≡ e.arrival.kind
     → Keeps slot request (kept_reply request.kind reply) s.exchanges → Keeps slot request (kept_reply request.kind reply) t.exchanges
 keeps_reads from now m other heard s t e slot request reply (replied r parts bytes why replies is) there waits kind k =
-    keeps_replies r (opened m other) bytes (with_parts parts s) t e slot request reply replies there waits kind k
+    keeps_replies r (head_of m) other bytes (with_parts parts s) t e slot request reply replies there waits kind k
 keeps_reads from now m other heard s t e slot request reply (bad_option_ignored number fault non is same) there waits kind k = keeps_same slot request _ s.exchanges t.exchanges (ap (λ (x : Server). x.exchanges) same) k
 keeps_reads from now m other heard s t e slot request reply (gives_links bytes none act links get replies is) there waits kind k =
-    keeps_replies _ (opened m other) bytes (links_given from now m.token (observing_in m) (what_is_asked m) s) t e slot request reply replies there waits kind k
+    keeps_replies _ (head_of m) other bytes (links_given from now m.token (observing_in m) (what_is_asked m) s) t e slot request reply replies there waits kind k
 keeps_reads from now m other heard s t e slot request reply (asks none act apart is same) there waits kind k = keeps_same slot request _ s.exchanges t.exchanges (ap (λ (x : Server). x.exchanges) same) k
 keeps_reads from now m other heard s t e slot request reply (asks_whole b place parts whole none joining apart adds found is same) there waits kind k =
     keeps_same slot request _ s.exchanges t.exchanges (ap (λ (x : Server). x.exchanges) same) k
@@ -246,8 +245,8 @@ keeps_from before history s now slot request reply (heard_of past new r t from b
     keeps_heard from bytes n now heard r t slot request reply hears (moment_of from bytes n heard r t hears) early alive
     (keeps_from before past r now slot request reply did (omega (arith, never_falls from bytes n heard r t hears later, early)) alive k)
 keeps_from before history s now slot request reply (answered past r t ask o target bytes did waiting answers) early alive k =
-    keeps_replies _ ask.request bytes (ready ask o answers.watchers r) t waiting.exchange slot request reply answers.replies waiting.there waiting.waits waiting.kind
-    (keeps_from before past r now slot request reply did (omega (arith, replies_moment _ ask.request bytes (ready ask o answers.watchers r) t answers.replies, early)) alive k)
+    keeps_replies _ (head_in ask) ask.slot bytes (ready ask o answers.watchers r) t waiting.exchange slot request reply answers.replies waiting.there waiting.waits waiting.kind
+    (keeps_from before past r now slot request reply did (omega (arith, replies_moment _ (head_in ask) ask.slot bytes (ready ask o answers.watchers r) t answers.replies, early)) alive k)
 keeps_from before history s now slot request reply (emitted past r t target did is) early alive k =
     let same : t.exchanges ≡ r.exchanges = ap (λ (x : Server). x.exchanges) is in
     keeps_same slot request _ r.exchanges t.exchanges same (keeps_from before past r now slot request reply did (moment_same r.exchanges t.exchanges now same early) alive k)
@@ -270,12 +269,12 @@ keeps_replied Confirmable slot bytes s e there waits is = record {
 }
 keeps_replied NonConfirmable slot bytes s e there waits is = record { exchange = e; there = there; arrival_is = refl; reply_is = waits ∙ ap (λ q. kept_reply q bytes) is }
 
-keeps_first : (r : Reply) (open_request : OpenRequest) (bytes : List ℕ) (s t : Server) (e : Exchange) → Replies r open_request bytes s t
-    → exchange_in open_request.slot s.exchanges ≡ Some e → e.reply ≡ None → open_request.head.kind ≡ e.arrival.kind
-    → Keeps open_request.slot e.arrival (kept_reply e.arrival.kind bytes) t.exchanges
-keeps_first r open_request bytes s t e replies there waits is =
-    subst (λ (x : Server). Keeps open_request.slot e.arrival (kept_reply e.arrival.kind bytes) x.exchanges) (sym replies.after)
-    (keeps_replied open_request.head.kind open_request.slot bytes s e there waits is)
+keeps_first : (r : Reply) (head : ReplyHead) (at : ℕ) (bytes : List ℕ) (s t : Server) (e : Exchange) → Replies r head at bytes s t
+    → exchange_in at s.exchanges ≡ Some e → e.reply ≡ None → head.kind ≡ e.arrival.kind
+    → Keeps at e.arrival (kept_reply e.arrival.kind bytes) t.exchanges
+keeps_first r head at bytes s t e replies there waits is =
+    subst (λ (x : Server). Keeps at e.arrival (kept_reply e.arrival.kind bytes) x.exchanges) (sym replies.after)
+    (keeps_replied head.kind at bytes s e there waits is)
 
 same_bytes : (a b : List ℕ) → answered_at_once a ≡ answered_at_once b → b ≡ a
 same_bytes a b is = cc
@@ -283,11 +282,11 @@ same_bytes a b is = cc
 keeps_first_read : (from : Endpoint) (now : ℕ) (m : CoapMessage) (slot : ℕ) (reply : List ℕ) (s t : Server) (e : Exchange) → Reads from now m slot (answered_at_once reply) s t
     → exchange_in slot s.exchanges ≡ Some e → e.reply ≡ None → request_type m.kind ≡ e.arrival.kind → Keeps slot e.arrival (kept_reply e.arrival.kind reply) t.exchanges
 keeps_first_read from now m slot reply s t e (replied r parts bytes why replies is) there waits kind =
-    subst (λ b. Keeps slot e.arrival (kept_reply e.arrival.kind b) t.exchanges) (same_bytes reply bytes is) (keeps_first r (opened m slot) bytes (with_parts parts s) t e replies there waits kind)
+    subst (λ b. Keeps slot e.arrival (kept_reply e.arrival.kind b) t.exchanges) (same_bytes reply bytes is) (keeps_first r (head_of m) slot bytes (with_parts parts s) t e replies there waits kind)
 keeps_first_read from now m slot reply s t e (bad_option_ignored number fault non is same) there waits kind = cc
 keeps_first_read from now m slot reply s t e (gives_links bytes none act links get replies is) there waits kind =
     subst (λ b. Keeps slot e.arrival (kept_reply e.arrival.kind b) t.exchanges) (same_bytes reply bytes is)
-    (keeps_first _ (opened m slot) bytes (links_given from now m.token (observing_in m) (what_is_asked m) s) t e replies there waits kind)
+    (keeps_first _ (head_of m) slot bytes (links_given from now m.token (observing_in m) (what_is_asked m) s) t e replies there waits kind)
 keeps_first_read from now m slot reply s t e (asks none act apart is same) there waits kind = cc
 keeps_first_read from now m slot reply s t e (asks_whole b place parts whole none joining apart adds found is same) there waits kind = cc
 
@@ -298,9 +297,9 @@ replied_keeps request reply s t (at_once from bytes now m slot u later met reads
       (keeps_first_read from now m slot reply u t (record { arrival = arrival from now m; slot = slot; reply = None }) reads (fresh_is_there from bytes now m slot s u met) refl refl),
 )
 replied_keeps request reply s t (afterwards ask o target waiting answers is) = (
-  ask.request.slot,
-  subst (λ a. Keeps ask.request.slot a (kept_reply a.kind reply) t.exchanges) (sym is)
-      (keeps_first _ ask.request reply (ready ask o answers.watchers s) t waiting.exchange answers.replies waiting.there waiting.waits waiting.kind),
+  ask.slot,
+  subst (λ a. Keeps ask.slot a (kept_reply a.kind reply) t.exchanges) (sym is)
+      (keeps_first _ (head_in ask) ask.slot reply (ready ask o answers.watchers s) t waiting.exchange answers.replies waiting.there waiting.waits waiting.kind),
 )
 
 tidy_replied : (request : Arrival) (reply : List ℕ) (s t : Server) → IsRepliedTo request reply s t → Tidy s.exchanges → Tidy t.exchanges

@@ -21,12 +21,11 @@ use Rattle.coap_exchange.specs.declared.met.Met.TheVariants.{Fresh, Repeat, Full
 use Rattle.coap_exchange.proofs.HistoryLaws.{tables_follow_the_history}
 use Rattle.coap_observe.specs.declared.notice.Notice.{Notice}
 use Rattle.coap_opts.specs.Reading.{PlainAsk, asked as what_is_asked}
-use Rattle.coap_bind.specs.declared.head.OpenRequest.{OpenRequest}
-use Rattle.coap_bind.specs.declared.head.OpenAsk.{OpenAsk}
+use Rattle.coap_bind.specs.declared.pending.PendingReply.{PendingReply}
 use Rattle.coap_bind.specs.declared.server.Server.{Server}
 use Rattle.coap_bind.specs.Blocks.{bodies_after}
-use Rattle.coap_bind.specs.Writing.{Reply}
-use Rattle.coap_bind.specs.Server.{start, Heard, asked, with_next_id, with_id_used, with_kept, with_watchers, with_emitted, with_links, with_notice_sent, with_report, Replies, is_request, replied_at_once, duplicate_reply, arrival, IsMet, malformed, no_request, duplicate, full, with_parts, with_bodies, replied, bad_option_ignored, gives_links, links_given, observing_in, asks, asks_whole, opened, Reads, settled, admitted, Hears}
+use Rattle.coap_bind.specs.Writing.{Reply, ReplyHead, head_of, head_in}
+use Rattle.coap_bind.specs.Server.{start, Heard, asked, with_next_id, with_id_used, with_kept, with_watchers, with_emitted, with_links, with_notice_sent, with_report, Replies, is_request, replied_at_once, duplicate_reply, arrival, IsMet, malformed, no_request, duplicate, full, with_parts, with_bodies, replied, bad_option_ignored, gives_links, links_given, observing_in, asks, asks_whole, Reads, settled, admitted, Hears}
 use Rattle.coap_bind.specs.Laws.{AreArrivals, DidFrom, Did, nothing, heard_of, answered, emitted, sent, linked, ExchangesAreOfTheHistory, DuplicatesAskNothing}
 
 -- ---- replies change no arrival
@@ -63,11 +62,11 @@ follows_kept capacity history NonConfirmable slot bytes s f = f
 follows_same : (capacity : ℕ) (history : List Arrival) (s t : Server) → t ≡ s → Follows capacity history s.exchanges → Follows capacity history t.exchanges
 follows_same capacity history s t is f = subst (λ (x : Server). Follows capacity history x.exchanges) (sym is) f
 
-follows_replies : (capacity : ℕ) (history : List Arrival) (r : Reply) (request : OpenRequest) (bytes : List ℕ) (s t : Server) → Replies r request bytes s t
+follows_replies : (capacity : ℕ) (history : List Arrival) (r : Reply) (head : ReplyHead) (slot : ℕ) (bytes : List ℕ) (s t : Server) → Replies r head slot bytes s t
     → Follows capacity history s.exchanges → Follows capacity history t.exchanges
-follows_replies capacity history r request bytes s t h f =
+follows_replies capacity history r head slot bytes s t h f =
     follows_same capacity history _ t h.after
-    (follows_kept capacity history request.head.kind request.slot bytes (with_id_used request.head.kind s) (follows_id capacity history request.head.kind s f))
+    (follows_kept capacity history head.kind slot bytes (with_id_used head.kind s) (follows_id capacity history head.kind s f))
 
 fresh_stays : (s : Server) (b : Bool) → (if b then with_next_id s else s).exchanges ≡ s.exchanges
 fresh_stays s true = refl
@@ -84,10 +83,10 @@ follows_sent capacity history n s f = subst (λ (t : Table). Follows capacity hi
 follows_reads : (capacity : ℕ) (history : List Arrival) (from : Endpoint) (now : ℕ) (m : CoapMessage) (slot : ℕ) (heard : Heard) (s t : Server) → Reads from now m slot heard s t
     → Follows capacity history s.exchanges → Follows capacity history t.exchanges
 follows_reads capacity history from now m slot heard s t (replied r parts bytes why replies h) f =
-    follows_replies capacity history r (opened m slot) bytes (with_parts parts s) t replies f
+    follows_replies capacity history r (head_of m) slot bytes (with_parts parts s) t replies f
 follows_reads capacity history from now m slot heard s t (bad_option_ignored number fault non h is) f = follows_same capacity history s t is f
 follows_reads capacity history from now m slot heard s t (gives_links bytes none act links get replies h) f =
-    follows_replies capacity history _ (opened m slot) bytes (links_given from now m.token (observing_in m) (what_is_asked m) s) t replies f
+    follows_replies capacity history _ (head_of m) slot bytes (links_given from now m.token (observing_in m) (what_is_asked m) s) t replies f
 follows_reads capacity history from now m slot heard s t (asks none act apart h is) f = follows_same capacity history s t is f
 follows_reads capacity history from now m slot heard s t (asks_whole b place parts whole none joining apart adds there h is) f =
     follows_same capacity history (with_parts (remove parts place) s) t is f
@@ -156,7 +155,7 @@ follows_from capacity watchers history s nothing = record { stands = refl; same 
 follows_from capacity watchers history s (heard_of before new r t from bytes now heard did later hears are) =
     follows_hears capacity before new r t from bytes now heard hears later are (follows_from capacity watchers before r did)
 follows_from capacity watchers history s (answered before r t ask o target bytes did open_ask answers) =
-    follows_replies capacity before _ ask.request bytes (with_bodies (bodies_after ask.blocks ask.from o r.bodies) (with_watchers answers.watchers r)) t answers.replies
+    follows_replies capacity before _ (head_in ask) ask.slot bytes (with_bodies (bodies_after ask.blocks ask.from o r.bodies) (with_watchers answers.watchers r)) t answers.replies
     (follows_from capacity watchers before r did)
 follows_from capacity watchers history s (emitted before r t target did is) =
     follows_same capacity before (with_emitted target r) t is (follows_from capacity watchers before r did)
@@ -174,11 +173,11 @@ exchanges_are_of_the_history capacity history s did = let f = follows capacity h
 
 -- ---- duplicates ask nothing
 
-pub not_replied : (what : PlainAsk) (ask : OpenAsk) (reply : Option CoapMessage) → asked what ask ≡ replied_at_once reply → ⊥
+pub not_replied : (what : PlainAsk) (ask : PendingReply) (reply : Option CoapMessage) → asked what ask ≡ replied_at_once reply → ⊥
 not_replied what ask None e = cc
 not_replied what ask (Some m) e = cc
 
-pub not_duplicate : (what : PlainAsk) (ask : OpenAsk) (kind : RequestType) (kept : Option (List ℕ)) → asked what ask ≡ duplicate_reply kind kept → ⊥
+pub not_duplicate : (what : PlainAsk) (ask : PendingReply) (kind : RequestType) (kept : Option (List ℕ)) → asked what ask ≡ duplicate_reply kind kept → ⊥
 not_duplicate what ask Confirmable (Some bytes) e = cc
 not_duplicate what ask Confirmable None e = cc
 not_duplicate what ask NonConfirmable kept e = cc

@@ -19,14 +19,13 @@ use Rattle.coap_msg.specs.Grammar.{CoapOption, CoapMessage, extended, option_spe
 use Rattle.thing_ops.specs.declared.outcome.Outcome.{Outcome}
 use Rattle.thing_ops.specs.declared.outcome.Outcome.TheVariants.{Started}
 use Rattle.thing_ops.specs.Outcomes.{payload_of, text_of, version_of}
-use Rattle.coap_bind.specs.declared.head.RequestHead.{RequestHead}
 use Rattle.coap_blocks.specs.Bodies.{longest_body}
 use Rattle.coap_bind.specs.declared.blocks.BlockOption.{BlockOption}
 use Rattle.coap_bind.specs.declared.blocks.BlockOption.TheVariants as option
 use Rattle.coap_bind.specs.declared.blocks.BlockUse.{BlockUse}
 use Rattle.coap_bind.specs.declared.blocks.BlockUse.TheVariants as blocks
 use Rattle.coap_bind.specs.Blocks.{IsUse, Portion, all_of, answer_reply, block_options, content_format, first_block, given_portion, is_in_blocks, is_representation, most_bytes, option_of, portion_at, portion_of, reply_with, with_block}
-use Rattle.coap_bind.specs.Writing.{place_of, text_format, format_options, etag_options, observe_options, observed, long_reply, coap_reply}
+use Rattle.coap_bind.specs.Writing.{place_of, text_format, format_options, etag_options, observe_options, observed, long_reply, coap_reply, ReplyHead, head_in}
 use Rattle.coap_bind.specs.declared.observing.Observing.{Observing}
 use Rattle.coap_bind.specs.declared.observing.Observing.TheVariants as observing
 use Rattle.coap_bind.specs.declared.observing.Effect.{Effect}
@@ -216,7 +215,7 @@ with_block_bound : (o : Outcome) (p : Portion) (n : ℕ) → rest_bound o n → 
 with_block_bound o p n bound l low =
     let a = bound l low in let b = block_length p.block l (segment_options LOCATION_PATH (place_of o) ++ format_options o) in omega arith
 
-part_length : (o : Outcome) (p : Portion) (observe : Option ℕ) (head : RequestHead) (next n : ℕ) → rest_bound o n
+part_length : (o : Outcome) (p : Portion) (observe : Option ℕ) (head : ReplyHead) (next n : ℕ) → rest_bound o n
     → length (spelling (coap_reply (observed observe (reply_with p o)) head next)) ≤ 21 + n + length head.token + length p.payload
 part_length o p observe head next n bound =
     let all = all_lengths head.token (options_spelling 0 (etag_options (version_of o) ++ (observe_options observe ++ rest_of o p))) (payload_spelling p.payload) in
@@ -225,7 +224,7 @@ part_length o p observe head next n bound =
     omega arith
 
 -- without a version and without Observe
-bare_length : (o : Outcome) (p : Portion) (observe : Option ℕ) (head : RequestHead) (next n : ℕ) → rest_bound o n → version_of o ≡ None → observe ≡ None
+bare_length : (o : Outcome) (p : Portion) (observe : Option ℕ) (head : ReplyHead) (next n : ℕ) → rest_bound o n → version_of o ≡ None → observe ≡ None
     → length (spelling (coap_reply (observed observe (reply_with p o)) head next)) ≤ 11 + n + length head.token + length p.payload
 bare_length o p observe head next n bound no_version no_observe =
     let os : List CoapOption = etag_options (version_of o) ++ (observe_options observe ++ rest_of o p) in
@@ -240,7 +239,7 @@ bare_length o p observe head next n bound no_version no_observe =
 abbrev pub IsShortFor : Outcome → List ℕ → Type 0
 IsShortFor o part = (length part ≤ LONGEST_PAYLOAD) × (length part ≤ length (payload_of o))
 
-part_fits : (o : Outcome) (p : Portion) (observe : Option ℕ) (head : RequestHead) (next : ℕ) → length head.token ≤ LONGEST_TOKEN → IsShortFor o p.payload
+part_fits : (o : Outcome) (p : Portion) (observe : Option ℕ) (head : ReplyHead) (next : ℕ) → length head.token ≤ LONGEST_TOKEN → IsShortFor o p.payload
     → (may_notify o ≡ false → observe ≡ None) → (place_of o ≡ []) ⊎ IsShortStart o
     → length (spelling (coap_reply (observed observe (reply_with p o)) head next)) ≤ LONGEST_MESSAGE
 part_fits o p observe head next token short unobserved (inl none) = let l = part_length o p observe head next 5 (no_place_bound o none) in let s = short.0 in omega arith
@@ -250,7 +249,7 @@ part_fits o p observe head next token short unobserved (inr start) =
     let s = short.1 in
     omega arith
 
-long_fits : (observe : Option ℕ) (head : RequestHead) (next : ℕ) → length head.token ≤ LONGEST_TOKEN
+long_fits : (observe : Option ℕ) (head : ReplyHead) (next : ℕ) → length head.token ≤ LONGEST_TOKEN
     → length (spelling (coap_reply (observed observe long_reply) head next)) ≤ LONGEST_MESSAGE
 long_fits observe head next token =
     let all = all_lengths head.token (options_spelling 0 (observe_options observe ++ [])) (payload_spelling long_reply.payload) in
@@ -299,7 +298,7 @@ portion_short (blocks.Gives g) o fits few = at (is_representation o) few
     at false some = (some, omega arith)
 portion_short (blocks.Joined b) o fits few = (few, omega arith)
 
-reply_at : (u : BlockUse) (o : Outcome) (observe : Option ℕ) (head : RequestHead) (next : ℕ) (b : Bool) → nat_lt (most_bytes u o) (length (payload_of o)) ≡ b
+reply_at : (u : BlockUse) (o : Outcome) (observe : Option ℕ) (head : ReplyHead) (next : ℕ) (b : Bool) → nat_lt (most_bytes u o) (length (payload_of o)) ≡ b
     → length head.token ≤ LONGEST_TOKEN → HasShortPlace o → IsUse u → (may_notify o ≡ false → observe ≡ None)
     → length (spelling (coap_reply (observed observe (if b then long_reply else reply_with (portion_of u o) o)) head next)) ≤ LONGEST_MESSAGE
 reply_at u o observe head next true e token place fits unobserved = long_fits observe head next token
@@ -325,8 +324,8 @@ no_sequence does from token old new observe (registers target r is did says) nev
 
 pub replies_fit : RepliesFit
 replies_fit ask o target s may place observe watchers watches =
-    reply_at ask.blocks o observe ask.request.head s.next_id (nat_lt (most_bytes ask.blocks o) (length (payload_of o))) refl may.token place may.blocks
-    (λ quiet. no_sequence (effect_of ask.observing o target) ask.from ask.request.head.token s.watchers watchers observe watches
+    reply_at ask.blocks o observe (head_in ask) s.next_id (nat_lt (most_bytes ask.blocks o) (length (payload_of o))) refl may.token place may.blocks
+    (λ quiet. no_sequence (effect_of ask.observing o target) ask.from ask.token s.watchers watchers observe watches
     (λ t. never_registers ask.observing o target t quiet))
 
 -- ---- which of both a reply is

@@ -15,7 +15,6 @@ use Rattle.coap_msg.specs.Opts.{segment_options}
 use Rattle.thing_ops.specs.declared.outcome.Outcome.{Outcome}
 use Rattle.thing_ops.specs.declared.outcome.Outcome.TheVariants as outcome
 use Rattle.thing_ops.specs.Outcomes.{HasCode, payload_of, text_of}
-use Rattle.coap_bind.specs.declared.head.RequestHead.{RequestHead}
 use Rattle.coap_bind.specs.declared.blocks.BlockOption.{BlockOption}
 use Rattle.coap_bind.specs.declared.blocks.BlockOption.TheVariants as option
 use Rattle.coap_bind.specs.declared.blocks.BlockUse.{BlockUse}
@@ -23,7 +22,7 @@ use Rattle.coap_blocks.specs.Bodies.{longest_body}
 use Rattle.coap_bind.specs.declared.links.TheConstants.{LINK_FORMAT, METHOD_NOT_ALLOWED}
 use Rattle.coap_bind.specs.Links.{links_content, links_reply, method_reply}
 use Rattle.coap_bind.specs.Blocks.{Portion, given_portion, content_format, content_reply, with_block, answer_reply, block_options, most_bytes, portion_of, reply_with}
-use Rattle.coap_bind.specs.Writing.{Reply, long_reply, whole_reply, place_of, text_format, format_options, etag_options, observe_options, reply_options, reply_id, coap_reply}
+use Rattle.coap_bind.specs.Writing.{Reply, long_reply, whole_reply, place_of, text_format, format_options, etag_options, observe_options, reply_options, reply_id, coap_reply, ReplyHead}
 use Rattle.coap_bind.specs.Laws.{HasShortPlace}
 use Rattle.coap_bind.specs.Messages.{RepliesAreMessages, LinksAreMessages, NotificationsAreMessages}
 use Rattle.coap_bind.proofs.LengthLaws.{block_alone, place_bound}
@@ -176,7 +175,7 @@ replies_are_messages o observe u head next code short id token counter =
     }
 
 -- a reply with a code of a response and options in order
-plain_message : (r : Reply) (head : RequestHead) (next : ℕ) → IsResponse r.code → AreInOrder 0 (reply_options r) → head.id < 2 ^ 16 → length head.token ≤ LONGEST_TOKEN → next < 2 ^ 16
+plain_message : (r : Reply) (head : ReplyHead) (next : ℕ) → IsResponse r.code → AreInOrder 0 (reply_options r) → head.id < 2 ^ 16 → length head.token ≤ LONGEST_TOKEN → next < 2 ^ 16
     → IsWellFormed (coap_reply r head next)
 plain_message r head next is order id token counter = record {
   code = let small = is.small in omega arith;
@@ -192,7 +191,7 @@ links_in_order b =
     subst (AreInOrder 0) (sym (block_alone b (content_format (Some LINK_FORMAT))))
     (record { order = omega arith; number = omega arith; value = let few = number_length LINK_FORMAT in omega arith }, block_in_order b 12 (omega arith))
 
-links_message_at : (long : Bool) (szx : Option ℕ) (text : List ℕ) (head : RequestHead) (next : ℕ) → head.id < 2 ^ 16 → length head.token ≤ LONGEST_TOKEN → next < 2 ^ 16
+links_message_at : (long : Bool) (szx : Option ℕ) (text : List ℕ) (head : ReplyHead) (next : ℕ) → head.id < 2 ^ 16 → length head.token ≤ LONGEST_TOKEN → next < 2 ^ 16
     → IsWellFormed (coap_reply (cond long long_reply (content_reply (given_portion szx text) (links_content text))) head next)
 links_message_at true szx text head next id token counter = plain_message long_reply head next (server_error 0 (omega arith)) tt id token counter
 links_message_at false szx text head next id token counter =

@@ -10,10 +10,9 @@ use Rattle.coap_exchange.specs.Table.{Table, at_moment, Meets}
 use Rattle.coap_exchange.specs.declared.met.Met.{Met}
 use Rattle.coap_exchange.specs.declared.met.Met.TheVariants.{Fresh, Repeat, Full}
 use Rattle.coap_opts.specs.Reading.{asked as what_is_asked}
-use Rattle.coap_bind.specs.declared.head.OpenRequest.{OpenRequest}
 use Rattle.coap_bind.specs.declared.server.Server.{Server}
-use Rattle.coap_bind.specs.Writing.{Reply}
-use Rattle.coap_bind.specs.Server.{Heard, arrival, with_id_used, with_kept, with_parts, Replies, Reads, replied, bad_option_ignored, gives_links, links_given, asks, asks_whole, observing_in, malformed, no_request, duplicate, full, Hears, settled, admitted, opened}
+use Rattle.coap_bind.specs.Writing.{Reply, ReplyHead, head_of}
+use Rattle.coap_bind.specs.Server.{Heard, arrival, with_id_used, with_kept, with_parts, Replies, Reads, replied, bad_option_ignored, gives_links, links_given, asks, asks_whole, observing_in, malformed, no_request, duplicate, full, Hears, settled, admitted}
 
 met_moment : (now : ℕ) (t u : Table) (a : Arrival) (met : Met) → Meets (at_moment now t) a met u → u.moment ≡ now
 met_moment now t u a (Fresh slot) is = ap (λ (x : Table). x.moment) is.1.2
@@ -29,15 +28,15 @@ kept_moment Confirmable slot bytes s = refl
 kept_moment NonConfirmable slot bytes s = refl
 
 -- a reply leaves it
-pub replies_moment : (r : Reply) (request : OpenRequest) (bytes : List ℕ) (s t : Server) → Replies r request bytes s t → t.exchanges.moment ≡ s.exchanges.moment
-replies_moment r request bytes s t is =
-    ap (λ (x : Server). x.exchanges.moment) is.after ∙ kept_moment request.head.kind request.slot bytes (with_id_used request.head.kind s) ∙ used_moment request.head.kind s
+pub replies_moment : (r : Reply) (head : ReplyHead) (slot : ℕ) (bytes : List ℕ) (s t : Server) → Replies r head slot bytes s t → t.exchanges.moment ≡ s.exchanges.moment
+replies_moment r head slot bytes s t is =
+    ap (λ (x : Server). x.exchanges.moment) is.after ∙ kept_moment head.kind slot bytes (with_id_used head.kind s) ∙ used_moment head.kind s
 
 pub reads_moment : (from : Endpoint) (now : ℕ) (m : CoapMessage) (slot : ℕ) (h : Heard) (s t : Server) → Reads from now m slot h s t → t.exchanges.moment ≡ s.exchanges.moment
-reads_moment from now m slot h s t (replied r parts bytes why replies is) = replies_moment r (opened m slot) bytes (with_parts parts s) t replies
+reads_moment from now m slot h s t (replied r parts bytes why replies is) = replies_moment r (head_of m) slot bytes (with_parts parts s) t replies
 reads_moment from now m slot h s t (bad_option_ignored number fault non is same) = ap (λ (x : Server). x.exchanges.moment) same
 reads_moment from now m slot h s t (gives_links bytes none act links get replies is) =
-    replies_moment _ (opened m slot) bytes (links_given from now m.token (observing_in m) (what_is_asked m) s) t replies
+    replies_moment _ (head_of m) slot bytes (links_given from now m.token (observing_in m) (what_is_asked m) s) t replies
 reads_moment from now m slot h s t (asks none act apart is same) = ap (λ (x : Server). x.exchanges.moment) same
 reads_moment from now m slot h s t (asks_whole b place parts whole none joining apart adds there is same) = ap (λ (x : Server). x.exchanges.moment) same
 

@@ -11,17 +11,17 @@ use Rattle.coap_msg.specs.Grammar.{CoapMessage}
 use Rattle.coap_msg.specs.Requests.{request_type}
 use Rattle.coap_exchange.specs.Table.{Exchange, exchange_in, at_moment}
 use Rattle.coap_opts.specs.Reading.{PlainAsk}
-use Rattle.coap_bind.specs.declared.head.OpenAsk.{OpenAsk}
+use Rattle.coap_bind.specs.declared.pending.PendingReply.{PendingReply}
 use Rattle.coap_bind.specs.declared.server.Server.{Server}
 use Rattle.coap_exchange.specs.declared.met.Met.TheVariants.{Fresh}
-use Rattle.coap_bind.specs.Server.{asked, IsMet, answered_at_once, arrival, malformed, no_request, duplicate, full, replied, bad_option_ignored, gives_links, asks, asks_whole, with_parts, opened_ask, joined_ask, Reads, settled, admitted}
+use Rattle.coap_bind.specs.Server.{asked, IsMet, answered_at_once, arrival, malformed, no_request, duplicate, full, replied, bad_option_ignored, gives_links, asks, asks_whole, with_parts, pending_of, pending_joined, Reads, settled, admitted}
 use Rattle.coap_bind.specs.Laws.{IsOpen, AsksAreOpen}
 use Rattle.coap_bind.proofs.HistoryLaws.{not_replied, not_duplicate}
 
 same_number : (n : ℕ) → (n == n) ≡ true
 same_number n = grind (arith, nat_tests)
 
-asks_at_once : (what : PlainAsk) (ask : OpenAsk) (bytes : List ℕ) → asked what ask ≡ answered_at_once bytes → ⊥
+asks_at_once : (what : PlainAsk) (ask : PendingReply) (bytes : List ℕ) → asked what ask ≡ answered_at_once bytes → ⊥
 asks_at_once what ask bytes e = cc
 
 last_found : (slot : ℕ) (es : List Exchange) (e : Exchange) → find (λ x. x.slot == slot) es ≡ None → (e.slot == slot) ≡ true
@@ -38,24 +38,24 @@ fresh_is_there from bytes now m slot s u met =
     ∙ last_found slot (at_moment now s.exchanges).exchanges (record { arrival = arrival from now m; slot = slot; reply = None }) met.meets.1.1 (same_number slot)
 
 -- what is asked of a request in a slot may be answered
-open_at : (ask other : OpenAsk) (s t u : Server) (e : Exchange) → ask ≡ other → t ≡ u → u.exchanges ≡ s.exchanges → exchange_in other.request.slot s.exchanges ≡ Some e → e.reply ≡ None
-    → other.request.head.kind ≡ e.arrival.kind → IsOpen ask t
+open_at : (ask other : PendingReply) (s t u : Server) (e : Exchange) → ask ≡ other → t ≡ u → u.exchanges ≡ s.exchanges → exchange_in other.slot s.exchanges ≡ Some e → e.reply ≡ None
+    → other.kind ≡ e.arrival.kind → IsOpen ask t
 open_at ask other s t u e same is exchanges there waits kind =
     subst (λ (x : Server). IsOpen ask x) (sym is)
-    (subst (λ (a : OpenAsk). IsOpen a u) (sym same)
-    (record { exchange = e; there = ap (exchange_in other.request.slot) exchanges ∙ there; waits = waits; kind = kind }))
+    (subst (λ (a : PendingReply). IsOpen a u) (sym same)
+    (record { exchange = e; there = ap (exchange_in other.slot) exchanges ∙ there; waits = waits; kind = kind }))
 
-reads_open : (from : Endpoint) (now : ℕ) (m : CoapMessage) (slot : ℕ) (what : PlainAsk) (ask : OpenAsk) (s t : Server) (e : Exchange) → Reads from now m slot (asked what ask) s t
+reads_open : (from : Endpoint) (now : ℕ) (m : CoapMessage) (slot : ℕ) (what : PlainAsk) (ask : PendingReply) (s t : Server) (e : Exchange) → Reads from now m slot (asked what ask) s t
     → exchange_in slot s.exchanges ≡ Some e → e.reply ≡ None → request_type m.kind ≡ e.arrival.kind → IsOpen ask t
 reads_open from now m slot what ask s t e (replied r parts bytes why replies h) there waits kind = absurd (asks_at_once what ask bytes h)
 reads_open from now m slot what ask s t e (bad_option_ignored number fault non h is) there waits kind = cc
 reads_open from now m slot what ask s t e (gives_links bytes none act links get replies h) there waits kind = absurd (asks_at_once what ask bytes h)
 reads_open from now m slot what ask s t e (asks none act apart h is) there waits kind =
-    let same : ask ≡ opened_ask from now m slot = cc in
-    open_at ask (opened_ask from now m slot) s t s e same is refl there waits kind
+    let same : ask ≡ pending_of from now m slot = cc in
+    open_at ask (pending_of from now m slot) s t s e same is refl there waits kind
 reads_open from now m slot what ask s t e (asks_whole b place parts whole none joining apart adds found h is) there waits kind =
-    let same : ask ≡ joined_ask from m slot b = cc in
-    open_at ask (joined_ask from m slot b) s t (with_parts (remove parts place) s) e same is refl there waits kind
+    let same : ask ≡ pending_joined from m slot b = cc in
+    open_at ask (pending_joined from m slot b) s t (with_parts (remove parts place) s) e same is refl there waits kind
 
 pub asks_are_open : AsksAreOpen
 asks_are_open from bytes now what ask s t (settled (malformed f fault h is)) = absurd (not_replied what ask _ h)

@@ -15,12 +15,11 @@ use Rattle.coap_exchange.specs.Admission.{Arrival, lives, is_duplicate_of, admit
 use Rattle.coap_exchange.specs.Table.{Exchange, Table, at_moment, exchange_in}
 use Rattle.coap_exchange.specs.declared.met.Met.TheVariants.{Fresh, Full}
 use Rattle.coap_opts.specs.Reading.{asked as what_is_asked}
-use Rattle.coap_bind.specs.declared.head.OpenRequest.{OpenRequest}
 use Rattle.coap_bind.specs.declared.server.Server.{Server}
-use Rattle.coap_bind.specs.Writing.{Reply}
-use Rattle.coap_bind.specs.Server.{start, Heard, ignored, answered_at_once, with_id_used, with_kept, with_watchers, Replies, Answers, is_request, duplicate_reply, arrival, IsMet, malformed, no_request, duplicate, full, with_parts, replied, bad_option_ignored, gives_links, links_given, observing_in, asks, asks_whole, opened, Reads, settled, admitted, Hears}
+use Rattle.coap_bind.specs.Writing.{Reply, ReplyHead, head_of, head_in}
+use Rattle.coap_bind.specs.Server.{start, Heard, ignored, answered_at_once, with_id_used, with_kept, with_watchers, Replies, Answers, is_request, duplicate_reply, arrival, IsMet, malformed, no_request, duplicate, full, with_parts, replied, bad_option_ignored, gives_links, links_given, observing_in, asks, asks_whole, Reads, settled, admitted, Hears}
 use Rattle.thing_ops.specs.declared.outcome.Outcome.{Outcome}
-use Rattle.coap_bind.specs.declared.head.OpenAsk.{OpenAsk}
+use Rattle.coap_bind.specs.declared.pending.PendingReply.{PendingReply}
 use Rattle.coap_bind.specs.Laws.{AreArrivals, IsOpen, DidFrom, nothing, heard_of, answered, emitted, sent, linked}
 use Rattle.coap_bind.specs.Duplicates.{may_keep, IsRepliedTo, at_once, afterwards, WasRepliedTo, OnlyTheFirstReplyIsRepeated}
 use Rattle.coap_bind.proofs.HistoryLaws.{met_as_duplicate}
@@ -51,10 +50,10 @@ kept_back : (kind : RequestType) (other slot : ℕ) (bytes reply : List ℕ) (s 
 kept_back Confirmable other slot bytes reply s e f there has found = was_kept other slot bytes reply s.exchanges e f there has (was_in slot other bytes s.exchanges.exchanges e found)
 kept_back NonConfirmable other slot bytes reply s e f there has found = inl found
 
-replies_back : (r : Reply) (request : OpenRequest) (bytes : List ℕ) (s t : Server) (slot : ℕ) (reply : List ℕ) (e f : Exchange) → Replies r request bytes s t
-    → exchange_in request.slot s.exchanges ≡ Some f → e.reply ≡ Some reply → exchange_in slot t.exchanges ≡ Some e → WasThere slot bytes f.arrival reply s.exchanges e
-replies_back r request bytes s t slot reply e f replies there has found =
-    kept_back request.head.kind request.slot slot bytes reply s e f there has (subst (λ (x : Server). exchange_in slot x.exchanges ≡ Some e) replies.after found)
+replies_back : (r : Reply) (head : ReplyHead) (at : ℕ) (bytes : List ℕ) (s t : Server) (slot : ℕ) (reply : List ℕ) (e f : Exchange) → Replies r head at bytes s t
+    → exchange_in at s.exchanges ≡ Some f → e.reply ≡ Some reply → exchange_in slot t.exchanges ≡ Some e → WasThere slot bytes f.arrival reply s.exchanges e
+replies_back r head at bytes s t slot reply e f replies there has found =
+    kept_back head.kind at slot bytes reply s e f there has (subst (λ (x : Server). exchange_in slot x.exchanges ≡ Some e) replies.after found)
 
 -- it was there before, or this request was replied to at once
 abbrev WasAnswered : ℕ → Heard → Arrival → List ℕ → Table → Exchange → Type 0
@@ -70,11 +69,11 @@ same_back slot e s t is found = subst (λ (x : Table). exchange_in slot x ≡ So
 reads_back : (from : Endpoint) (now : ℕ) (m : CoapMessage) (other : ℕ) (heard : Heard) (s t : Server) (slot : ℕ) (reply : List ℕ) (e f : Exchange) → Reads from now m other heard s t
     → exchange_in other s.exchanges ≡ Some f → e.reply ≡ Some reply → exchange_in slot t.exchanges ≡ Some e → WasAnswered slot heard f.arrival reply s.exchanges e
 reads_back from now m other heard s t slot reply e f (replied r parts bytes why replies is) there has found =
-    told slot heard bytes f.arrival reply s.exchanges e is (replies_back r (opened m other) bytes (with_parts parts s) t slot reply e f replies there has found)
+    told slot heard bytes f.arrival reply s.exchanges e is (replies_back r (head_of m) other bytes (with_parts parts s) t slot reply e f replies there has found)
 reads_back from now m other heard s t slot reply e f (bad_option_ignored number fault non is same) there has found = inl (same_back slot e s.exchanges t.exchanges (ap (λ (x : Server). x.exchanges) same) found)
 reads_back from now m other heard s t slot reply e f (gives_links bytes none act links get replies is) there has found =
     told slot heard bytes f.arrival reply s.exchanges e is
-    (replies_back _ (opened m other) bytes (links_given from now m.token (observing_in m) (what_is_asked m) s) t slot reply e f replies there has found)
+    (replies_back _ (head_of m) other bytes (links_given from now m.token (observing_in m) (what_is_asked m) s) t slot reply e f replies there has found)
 reads_back from now m other heard s t slot reply e f (asks none act apart is same) there has found = inl (same_back slot e s.exchanges t.exchanges (ap (λ (x : Server). x.exchanges) same) found)
 reads_back from now m other heard s t slot reply e f (asks_whole b place parts whole none joining apart adds at is same) there has found =
     inl (same_back slot e s.exchanges t.exchanges (ap (λ (x : Server). x.exchanges) same) found)
@@ -142,7 +141,7 @@ heard_was before past new r t from bytes now heard slot reply e did later hears 
     record { history = w.history; later = w.later ++ new; s = w.s; t = w.t; did = w.did; replied = w.replied; since = heard_of w.later new r t from bytes now heard w.since later hears are }
 heard_was before past new r t from bytes now heard slot reply e did later hears are (inr was) rest = now_replied before past e.arrival reply r t did was
 
-answered_was : (before : Server) (past : List Arrival) (r t : Server) (ask : OpenAsk) (o : Outcome) (target : Option ℕ) (bytes : List ℕ) (slot : ℕ) (reply : List ℕ) (e : Exchange) → DidFrom before past r
+answered_was : (before : Server) (past : List Arrival) (r t : Server) (ask : PendingReply) (o : Outcome) (target : Option ℕ) (bytes : List ℕ) (slot : ℕ) (reply : List ℕ) (e : Exchange) → DidFrom before past r
     → (waiting : IsOpen ask r) → Answers ask o target bytes r t → WasThere slot bytes waiting.exchange.arrival reply r.exchanges e
     → (exchange_in slot r.exchanges ≡ Some e → WasRepliedTo before e.arrival reply r) → WasRepliedTo before e.arrival reply t
 answered_was before past r t ask o target bytes slot reply e did waiting answers (inl found) rest =
@@ -159,7 +158,7 @@ was_replied before history t slot reply e (heard_of past new r u from bytes now 
     (λ there. was_replied before past r slot reply e did h none there has)
 was_replied before history t slot reply e (answered past r u ask o target bytes did waiting answers) h none found has =
     answered_was before past r u ask o target bytes slot reply e did waiting answers
-    (replies_back _ ask.request bytes (ready ask o answers.watchers r) u slot reply e waiting.exchange answers.replies waiting.there has found)
+    (replies_back _ (head_in ask) ask.slot bytes (ready ask o answers.watchers r) u slot reply e waiting.exchange answers.replies waiting.there has found)
     (λ there. was_replied before past r slot reply e did h none there has)
 was_replied before history t slot reply e (emitted past r u target did is) h none found has =
     let w = was_replied before past r slot reply e did h none (same_back slot e r.exchanges u.exchanges (ap (λ (x : Server). x.exchanges) is) found) has in

@@ -17,16 +17,15 @@ use Rattle.coap_observe.specs.declared.notice.Notice.{Notice}
 use Rattle.coap_opts.specs.Reading.{PlainAsk, asked as what_is_asked}
 use Rattle.coap_opts.specs.declared.fault.AskFault.{AskFault}
 use Rattle.coap_bind.specs.declared.blocks.Wanted.TheVariants as wanted
-use Rattle.coap_bind.specs.declared.head.OpenRequest.{OpenRequest}
 use Rattle.coap_bind.specs.declared.observing.Observing.{Observing}
 use Rattle.coap_bind.specs.declared.observing.Observing.TheVariants as observing
 use Rattle.coap_bind.specs.declared.server.Server.{Server}
 use Rattle.coap_bind.specs.Blocks.{added_reply, bodies_after, block2_of, wanted_by_get, wanted_by_body, wanted_of}
 use Rattle.coap_bind.specs.Laws.{DidFrom, nothing, heard_of, answered, emitted, sent, linked}
-use Rattle.coap_bind.specs.Server.{start, Heard, with_next_id, with_id_used, with_kept, with_watchers, with_bodies, with_parts, with_notice_sent, Replies, observing_in, wanted_in, block_arrival, Adds, IsAnsweredAtOnce, bad_option, bad_block, for_proxy, no_memory, later_block, joined, takes_no_other_verb, takes_no_body, Reads, replied, bad_option_ignored, asks_links, gives_links, links_given, asks, asks_whole, malformed, no_request, duplicate, full, settled, admitted, Hears, opened}
+use Rattle.coap_bind.specs.Server.{start, Heard, with_next_id, with_id_used, with_kept, with_watchers, with_bodies, with_parts, with_notice_sent, Replies, observing_in, wanted_in, block_arrival, Adds, IsAnsweredAtOnce, bad_option, bad_block, for_proxy, no_memory, later_block, joined, takes_no_other_verb, takes_no_body, Reads, replied, bad_option_ignored, asks_links, gives_links, links_given, asks, asks_whole, malformed, no_request, duplicate, full, settled, admitted, Hears}
 use Rattle.coap_bind.specs.Transfers.{NamesNoBlock, RequestsWithoutBlocksAct, AnswersLeaveTheParts, Spends, no_call, goes_on, spends, NoWholeBodyStays}
 use Rattle.thing_ops.specs.declared.outcome.Outcome.TheVariants.{Memory}
-use Rattle.coap_bind.specs.Writing.{Reply, reply_of}
+use Rattle.coap_bind.specs.Writing.{Reply, reply_of, ReplyHead, head_of, head_in}
 
 -- ---- what stays the same
 
@@ -38,8 +37,8 @@ kept_parts : (kind : RequestType) (slot : ℕ) (bytes : List ℕ) (s : Server) �
 kept_parts Confirmable slot bytes s = refl
 kept_parts NonConfirmable slot bytes s = refl
 
-replies_parts : (r : Reply) (request : OpenRequest) (bytes : List ℕ) (s t : Server) → Replies r request bytes s t → t.parts ≡ s.parts
-replies_parts r request bytes s t h = ap (λ (x : Server). x.parts) h.after ∙ kept_parts request.head.kind request.slot bytes s
+replies_parts : (r : Reply) (head : ReplyHead) (slot : ℕ) (bytes : List ℕ) (s t : Server) → Replies r head slot bytes s t → t.parts ≡ s.parts
+replies_parts r head slot bytes s t h = ap (λ (x : Server). x.parts) h.after ∙ kept_parts head.kind slot bytes s
 
 fresh_parts : (s : Server) (b : Bool) → (if b then with_next_id s else s).parts ≡ s.parts
 fresh_parts s true = refl
@@ -50,7 +49,7 @@ sent_parts None s = refl
 sent_parts (Some n) s = fresh_parts s n.fresh
 
 pub answers_leave_the_parts : AnswersLeaveTheParts
-answers_leave_the_parts ask o target bytes s t h = replies_parts _ ask.request bytes (with_bodies (bodies_after ask.blocks ask.from o s.bodies) (with_watchers h.watchers s)) t h.replies
+answers_leave_the_parts ask o target bytes s t h = replies_parts _ (head_in ask) ask.slot bytes (with_bodies (bodies_after ask.blocks ask.from o s.bodies) (with_watchers h.watchers s)) t h.replies
 
 -- ---- requests without blocks
 
@@ -84,7 +83,7 @@ requests_without_blocks_act from now m slot heard s t none faultless apart (repl
     inr (
       bytes,
       h,
-      subst (λ (ps : List Part). Replies (reply_of Memory) (opened m slot) bytes (with_parts ps s) t) same (subst (λ (x : Reply). Replies x (opened m slot) bytes (with_parts parts s) t) is replies),
+      subst (λ (ps : List Part). Replies (reply_of Memory) (head_of m) slot bytes (with_parts ps s) t) same (subst (λ (x : Reply). Replies x (head_of m) slot bytes (with_parts parts s) t) is replies),
     )
 requests_without_blocks_act from now m slot heard s t none faultless apart (replied r parts bytes (later_block b fine wants is same) replies h) =
     absurd (let act = no_block_wants m none in cc)
@@ -137,10 +136,10 @@ spent_at_once from now m r s parts (takes_no_body b place whole fine wants links
 
 spent_reads : (from : Endpoint) (now : ℕ) (m : CoapMessage) (slot : ℕ) (heard : Heard) (s t : Server) → Reads from now m slot heard s t → AreSpent s.parts → AreSpent t.parts
 spent_reads from now m slot heard s t (replied r parts bytes why replies is) h =
-    spent_same parts t.parts (replies_parts r (opened m slot) bytes (with_parts parts s) t replies) (spent_at_once from now m r s parts why h)
+    spent_same parts t.parts (replies_parts r (head_of m) slot bytes (with_parts parts s) t replies) (spent_at_once from now m r s parts why h)
 spent_reads from now m slot heard s t (bad_option_ignored number fault non is same) h = spent_same s.parts t.parts (ap (λ (x : Server). x.parts) same) h
 spent_reads from now m slot heard s t (gives_links bytes fine act links get replies is) h =
-    spent_same s.parts t.parts (replies_parts _ (opened m slot) bytes (links_given from now m.token (observing_in m) (what_is_asked m) s) t replies) h
+    spent_same s.parts t.parts (replies_parts _ (head_of m) slot bytes (links_given from now m.token (observing_in m) (what_is_asked m) s) t replies) h
 spent_reads from now m slot heard s t (asks fine act apart is same) h = spent_same s.parts t.parts (ap (λ (x : Server). x.parts) same) h
 spent_reads from now m slot heard s t (asks_whole b place parts whole fine wants apart adding there is same) h =
     spent_same (remove parts place) t.parts (ap (λ (x : Server). x.parts) same) (spent_whole from now m b s place parts adding h)

@@ -1,5 +1,5 @@
 -- What a request wants, and what comes of it.
-use Rattle.std.proofs.Common.{◌≡◌, ◌≤◌, ◌<◌, ◌∙◌, ℕ, Bool, true, false, List, length, remove, slice_get, Option, Some, None, refl, ap, sym, subst}
+use Rattle.std.proofs.Common.{◌≡◌, ◌≤◌, ◌<◌, ◌∙◌, ℕ, Bool, true, false, List, [], length, remove, slice_get, Option, Some, None, Result, Ok, Err, refl, ap, sym, subst}
 use Rattle.std.specs.Prelude.{◌==◌, ◌||◌, option_map, IfSome, if◌then◌else◌}
 use Rattle.coap_msg.specs.declared.block.Block.{Block}
 use Rattle.coap_msg.specs.declared.constants.TheConstants.{GET, POST, PUT}
@@ -8,258 +8,220 @@ use Rattle.coap_msg.specs.Blocks.{IsBlock}
 use Rattle.coap_msg.specs.Grammar.{CoapMessage}
 use Rattle.coap_blocks.specs.Bodies.{body_for}
 use Rattle.coap_blocks.specs.Paths.{largest_path, path_size}
-use Rattle.coap_blocks.specs.Parts.{Arrival, Part, living, longest_request, after_block, Gives}
+use Rattle.coap_blocks.specs.Parts.{Arrival, Part, living, after_block, Gives}
 use Rattle.coap_blocks.specs.declared.added.Added.{Added}
 use Rattle.coap_blocks.specs.declared.added.Added.TheVariants.{Complete}
 use Rattle.coap_exchange.specs.Table.{IsAwaited}
-use Rattle.coap_exchange.specs.declared.met.Met.TheVariants.{Fresh}
-use Rattle.coap_opts.specs.PlainAsk.{plain_ask}
-use Rattle.coap_opts.specs.Reading.{HasBlocks, PlainAsk, asked as what_is_asked}
+use Rattle.coap_opts.specs.Reading.{HasBlocks, PlainAsk, faults_of, asked as what_is_asked}
 use Rattle.thing_ops.specs.declared.outcome.Outcome.TheVariants.{Memory}
 use Rattle.coap_bind.specs.declared.blocks.BlockUse.TheVariants as use_of_blocks
 use Rattle.coap_bind.specs.declared.blocks.Wanted.{Wanted}
 use Rattle.coap_bind.specs.declared.blocks.Wanted.TheVariants as wanted
-use Rattle.coap_bind.specs.declared.head.Arrived.{Arrived}
-use Rattle.coap_bind.specs.declared.head.OpenAsk.{OpenAsk}
-use Rattle.coap_bind.specs.declared.head.OpenRequest.{OpenRequest}
-use Rattle.coap_bind.specs.declared.next.CoapNext.{CoapNext}
-use Rattle.coap_bind.specs.declared.next.CoapNext.TheVariants.{Nothing, Send, Ask}
+use Rattle.coap_bind.specs.declared.next.CoapNext.TheVariants.{Send}
+use Rattle.coap_bind.specs.declared.pending.PendingReply.{PendingReply}
 use Rattle.coap_bind.specs.declared.server.Server.{Server}
-use Rattle.coap_bind.specs.declared.settled.Read.{Read}
-use Rattle.coap_bind.specs.declared.settled.Read.TheVariants as read
 use Rattle.coap_bind.specs.declared.observing.Observing.{Observing}
 use Rattle.coap_bind.specs.declared.observing.Observing.TheVariants as observing
 use Rattle.coap_bind.specs.Blocks.{IsUse, added_reply, block2_of, later_reply, use_of, wanted_by_body, wanted_by_get, wanted_of}
 use Rattle.coap_bind.specs.Links.{is_links_path, size_asked, links_reply, method_reply}
+use Rattle.coap_bind.specs.Server.{answered_at_once, asked, observing_in, pending_of, pending_joined, wanted_in, with_parts, with_whole_body, block_arrival, Adds, Replies, no_memory, later_block, joined, takes_no_other_verb, takes_no_body, links_given, Reads, gives_links, asks, asks_whole}
 use Rattle.coap_bind.specs.Observing.{observing_of}
-use Rattle.coap_bind.specs.Server.{Heard, answered_at_once, asked, opened, observing_in, opened_ask, joined_ask, wanted_in, with_parts, with_whole_body, block_arrival, Adds, IsMet, no_memory, later_block, joined, takes_no_other_verb, takes_no_body, asks_links, links_given, Reads, gives_links, asks, asks_whole, admitted}
-use Rattle.coap_bind.specs.Settling.{AnswersLinks, gives, refuses, AsksWhole, HandsOut, HasWhole, IsOpenAfter, IsReadOf, ReadsAs}
-use Rattle.coap_bind.specs.Telling.{HearsAs, MayAnswer, RepliesAs, Tells, TicketIsOpen}
-use Rattle.coap_bind.specs.Writing.{Reply, reply_of}
+use Rattle.coap_bind.specs.Settling.{AnswersBlock, answered, for_links, whole, AnswersLinks, gives, refuses, HasWhole, IsAdded, IsReadOf, ReadsAs}
+use Rattle.coap_bind.specs.Telling.{MayAnswer, RepliesAs}
+use Rattle.coap_bind.specs.Writing.{Reply, reply_of, ReplyHead, head_of, head_in}
 use Rattle.coap_bind.proofs.ReadingLaws.{reads_replied}
-use Rattle.coap_bind.proofs.TellingLaws.{tells_nothing, tells_send}
+use Rattle.coap_bind.proofs.WholeLaws.{whole_is_short}
 
--- what a request wants, by its code and what it asks
-abbrev wanted_at : ℕ → PlainAsk → Wanted
-wanted_at code what = wanted_of code (observing_of code what.observe) what
-
-pub wanted_is : (arrived : Arrived) (request : OpenRequest) (what : PlainAsk) (m : CoapMessage) (w : Wanted) → IsReadOf arrived request what m → wanted_at arrived.code what ≡ w → wanted_in m ≡ w
-wanted_is arrived request what m w r is = sym (λ i. wanted_at (r.code i) (r.what_is i)) ∙ is
+pub wanted_is : (p : PendingReply) (code : ℕ) (what : PlainAsk) (m : CoapMessage) (w : Wanted) → IsReadOf p code what m → wanted_of code p.observing what ≡ w → wanted_in m ≡ w
+wanted_is p code what m w r is = sym (λ i. wanted_of (r.code_is i) (r.observing i) (r.what_is i)) ∙ is
 
 path_is : {a b : PlainAsk} → a ≡ b → (is : Bool) → is_links_path a.request.path ≡ is → is_links_path b.request.path ≡ is
 path_is {a} {b} same is h = subst (λ (x : PlainAsk). is_links_path x.request.path ≡ is) same h
 
--- what is open of a request that wants an act
-abbrev pub asked_open : Arrived → OpenRequest → PlainAsk → OpenAsk
-asked_open arrived request what = record {
-  request = request;
-  from = arrived.from;
-  observing = observing_of arrived.code what.observe;
-  blocks = use_of arrived.now arrived.code (observing_of arrived.code what.observe) what;
+-- a request that was read, once it is known what it wants of the watchers
+pub is_read : (p : PendingReply) (o : Observing) (what : PlainAsk) (m : CoapMessage) → head_in p ≡ head_of m → what ≡ what_is_asked m → faults_of m.options ≡ []
+    → o ≡ observing_of m.code what.observe → IsReadOf (record p { observing = o }) m.code what m
+is_read p o what m head what_is none is = record {
+  head = head;
+  observing = is ∙ ap (λ (x : PlainAsk). observing_of m.code x.observe) what_is;
+  code_is = refl;
+  what_is = what_is;
+  faultless = none;
 }
 
-pub treat_asks : (arrived : Arrived) (request : OpenRequest) (what : PlainAsk) (ticket : OpenAsk) (m : CoapMessage) (s : Server) → IsReadOf arrived request what m
-    → wanted_in m ≡ wanted.Act → is_links_path what.request.path ≡ false → ticket ≡ asked_open arrived request what → Reads arrived.from arrived.now m arrived.slot (asked what ticket) s s
-treat_asks arrived request what ticket m s r act apart is =
-    let which : ticket ≡ opened_ask arrived.from arrived.now m arrived.slot =
+-- what is pending of a request that wants an act
+abbrev pub asked_pending : PendingReply → ℕ → ℕ → PlainAsk → PendingReply
+asked_pending p now code what = record p { blocks = use_of now code p.observing what }
+
+pub treat_asks : (p : PendingReply) (now code : ℕ) (what : PlainAsk) (ticket : PendingReply) (m : CoapMessage) (s : Server) → IsReadOf p code what m
+    → wanted_in m ≡ wanted.Act → is_links_path what.request.path ≡ false → ticket ≡ asked_pending p now code what → Reads p.from now m p.slot (asked what ticket) s s
+treat_asks p now code what ticket m s r act apart is =
+    let which : ticket ≡ pending_of p.from now m p.slot =
     is ∙ (λ i. record {
-      request = r.request_is i;
-      from = arrived.from;
-      observing = observing_of (r.code i) (r.what_is i).observe;
-      blocks = use_of arrived.now (r.code i) (observing_of (r.code i) (r.what_is i).observe) (r.what_is i);
+      kind = (r.head i).kind;
+      id = (r.head i).id;
+      token = (r.head i).token;
+      slot = p.slot;
+      from = p.from;
+      observing = r.observing i;
+      blocks = use_of now (r.code_is i) (r.observing i) (r.what_is i);
     }) in
     asks r.faultless act (path_is r.what_is false apart) (λ i. asked (r.what_is i) (which i)) refl
 
-pub treat_out_of_memory : (arrived : Arrived) (request : OpenRequest) (what : PlainAsk) (m : CoapMessage) (n : ℕ) (old new : List ℕ) (s t : Server) → IsReadOf arrived request what m
-    → RepliesAs (reply_of Memory) request n old new s t → ReadsAs arrived.from arrived.now m arrived.slot (read.Done (Some n)) old new s t
-treat_out_of_memory arrived request what m n old new s t r h =
-    reads_replied arrived.from arrived.now m arrived.slot n (reply_of Memory) s.parts old new s t (no_memory r.faultless refl refl)
-    (subst (λ (x : OpenRequest). RepliesAs (reply_of Memory) x n old new s t) r.request_is h)
+pub treat_out_of_memory : (p : PendingReply) (now code : ℕ) (what : PlainAsk) (m : CoapMessage) (n : ℕ) (old new : List ℕ) (s t : Server) → IsReadOf p code what m
+    → RepliesAs (reply_of Memory) p n old new s t → ReadsAs p.from now m p.slot (Send n) old new s t
+treat_out_of_memory p now code what m n old new s t r h =
+    reads_replied p now m n (reply_of Memory) s.parts old new s t r.head (no_memory r.faultless refl refl) h
 
 -- ---- the links
 
--- a request with this code that asks this was replied to with the links
-abbrev LinksReplied : Arrived → ℕ → PlainAsk → OpenRequest → ℕ → List ℕ → List ℕ → Server → Server → Type 0
-LinksReplied arrived code a q n old new s t =
-    RepliesAs (links_reply (size_asked (observing_of code a.observe) a) s.links) q n old new
-    (links_given arrived.from arrived.now q.head.token (observing_of code a.observe) a s) t
+-- a request with this head that wants this of the watchers and asks this was replied to with the links
+abbrev LinksReplied : PendingReply → ℕ → Observing → PlainAsk → ReplyHead → List ℕ → Server → Server → Type 0
+LinksReplied p now o a head bytes s t =
+    Replies (links_reply (size_asked o a) s.links) head p.slot bytes (links_given p.from now head.token o a s) t
 
-pub treat_links : (arrived : Arrived) (request : OpenRequest) (what : PlainAsk) (m : CoapMessage) (n : ℕ) (old new : List ℕ) (s t : Server) → IsReadOf arrived request what m
-    → wanted_in m ≡ wanted.Act → is_links_path what.request.path ≡ true → AnswersLinks arrived request what n old new s t
-    → ReadsAs arrived.from arrived.now m arrived.slot (read.Done (Some n)) old new s t
-treat_links arrived request what m n old new s t r act links (gives get h) =
-    let F : ℕ → PlainAsk → OpenRequest → Type 0 = λ code a q. LinksReplied arrived code a q n old new s t in
-    let given : F m.code (what_is_asked m) (opened m arrived.slot)
-    = subst (λ (q : OpenRequest). F m.code (what_is_asked m) q) r.request_is
-    (subst (λ (a : PlainAsk). F m.code a request) r.what_is (subst (λ (code : ℕ). F code what request) r.code h)) in
-    (answered_at_once given.bytes, gives_links given.bytes r.faultless act (path_is r.what_is true links) (sym r.code ∙ get) given.replies refl, given.written)
-treat_links arrived request what m n old new s t r act links (refuses other h) =
-    reads_replied arrived.from arrived.now m arrived.slot n method_reply s.parts old new s t
-    (takes_no_other_verb r.faultless act (path_is r.what_is true links) (λ get. other (r.code ∙ get)) refl refl)
-    (subst (λ (x : OpenRequest). RepliesAs method_reply x n old new s t) r.request_is h)
+pub treat_links : (p : PendingReply) (now code : ℕ) (what : PlainAsk) (m : CoapMessage) (n : ℕ) (old new : List ℕ) (s t : Server) → IsReadOf p code what m
+    → wanted_in m ≡ wanted.Act → is_links_path what.request.path ≡ true → AnswersLinks p code now what n old new s t
+    → ReadsAs p.from now m p.slot (Send n) old new s t
+treat_links p now code what m n old new s t r act links (gives get h) =
+    let F : Observing → PlainAsk → ReplyHead → Type 0 = λ o a x. LinksReplied p now o a x h.bytes s t in
+    let given : F (observing_in m) (what_is_asked m) (head_of m)
+    = subst (λ (x : ReplyHead). F (observing_in m) (what_is_asked m) x) r.head
+    (subst (λ (a : PlainAsk). F (observing_in m) a (head_in p)) r.what_is (subst (λ (o : Observing). F o what (head_in p)) r.observing h.replies)) in
+    (answered_at_once h.bytes, gives_links h.bytes r.faultless act (path_is r.what_is true links) (sym r.code_is ∙ get) given refl, (h.bytes, refl, h.written))
+treat_links p now code what m n old new s t r act links (refuses other h) =
+    reads_replied p now m n method_reply s.parts old new s t r.head
+    (takes_no_other_verb r.faultless act (path_is r.what_is true links) (λ get. other (r.code_is ∙ get)) refl refl) h
 
 -- the reply to a request for a later block
-abbrev pub later_of : Arrived → Block → PlainAsk → Server → Reply
-later_of arrived b what s = later_reply b (option_map (λ x. x.content) (body_for arrived.from what.request.path arrived.now s.bodies))
+abbrev pub later_of : PendingReply → ℕ → Block → PlainAsk → Server → Reply
+later_of p now b what s = later_reply b (option_map (λ x. x.content) (body_for p.from what.request.path now s.bodies))
 
-pub treat_later : (arrived : Arrived) (request : OpenRequest) (what : PlainAsk) (m : CoapMessage) (b : Block) (n : ℕ) (old new : List ℕ) (s t : Server) → IsReadOf arrived request what m
-    → wanted_at arrived.code what ≡ wanted.LaterBlock b → RepliesAs (later_of arrived b what s) request n old new s t
-    → ReadsAs arrived.from arrived.now m arrived.slot (read.Done (Some n)) old new s t
-treat_later arrived request what m b n old new s t r later h =
-    reads_replied arrived.from arrived.now m arrived.slot n (later_of arrived b (what_is_asked m) s) s.parts old new s t
-    (later_block b r.faultless (wanted_is arrived request what m (wanted.LaterBlock b) r later) refl refl)
-    (subst (λ (x : OpenRequest). RepliesAs (later_of arrived b (what_is_asked m) s) x n old new s t) r.request_is
-    (subst (λ (x : PlainAsk). RepliesAs (later_of arrived b x s) request n old new s t) r.what_is h))
+pub treat_later : (p : PendingReply) (now code : ℕ) (what : PlainAsk) (m : CoapMessage) (b : Block) (n : ℕ) (old new : List ℕ) (s t : Server) → IsReadOf p code what m
+    → wanted_of code p.observing what ≡ wanted.LaterBlock b → RepliesAs (later_of p now b what s) p n old new s t
+    → ReadsAs p.from now m p.slot (Send n) old new s t
+treat_later p now code what m b n old new s t r later h =
+    reads_replied p now m n (later_of p now b (what_is_asked m) s) s.parts old new s t r.head
+    (later_block b r.faultless (wanted_is p code what m (wanted.LaterBlock b) r later) refl refl)
+    (subst (λ (x : PlainAsk). RepliesAs (later_of p now b x s) p n old new s t) r.what_is h)
 
 -- ---- joining
 
 -- a block as the parts have it
-abbrev pub block_of : Arrived → Block → PlainAsk → Arrival
-block_of arrived b what = record {
-  origin = record { from = arrived.from; code = arrived.code; path = what.request.path };
+abbrev pub block_of : PendingReply → ℕ → ℕ → Block → PlainAsk → Arrival
+block_of p now code b what = record {
+  origin = record { from = p.from; code = code; path = what.request.path };
   block = b;
   payload = what.request.body;
-  moment = arrived.now;
+  moment = now;
 }
 
-adds_of : (arrived : Arrived) (request : OpenRequest) (what : PlainAsk) (m : CoapMessage) (b : Block) (s : Server) (added : Added) (parts : List Part) → IsReadOf arrived request what m
-    → Gives (after_block (block_of arrived b what) (living arrived.now s.parts)) added parts → Adds arrived.from arrived.now m b s added parts
-adds_of arrived request what m b s added parts r gives_parts =
-    let same : block_of arrived b what ≡ block_arrival arrived.from arrived.now m b =
+-- what was added is the block of the request that was read
+pub added_of : (p : PendingReply) (now code : ℕ) (what : PlainAsk) (m : CoapMessage) (b : Block) (s : Server) (added : Added) (parts : List Part) → IsReadOf p code what m
+    → wanted_of code p.observing what ≡ wanted.Joining b → Gives (after_block (block_of p now code b what) (living now s.parts)) added parts
+    → IsAdded p now what m b added s (with_parts parts s)
+added_of p now code what m b s added parts r joining gives_parts =
+    let same : block_of p now code b what ≡ block_arrival p.from now m b =
     λ i. record {
-      origin = record { from = arrived.from; code = r.code i; path = (r.what_is i).request.path };
+      origin = record { from = p.from; code = r.code_is i; path = (r.what_is i).request.path };
       block = b;
       payload = (r.what_is i).request.body;
-      moment = arrived.now;
+      moment = now;
     } in
-    subst (λ (a : Arrival). Gives (after_block a (living arrived.now s.parts)) added parts) same gives_parts
+    record {
+      head = r.head;
+      observing = r.observing;
+      what_is = r.what_is;
+      faultless = r.faultless;
+      wanted = wanted_is p code what m (wanted.Joining b) r joining;
+      adds = subst (λ (a : Arrival). Gives (after_block a (living now s.parts)) added parts) same gives_parts;
+      after = refl;
+    }
 
-pub treat_added : (arrived : Arrived) (request : OpenRequest) (what : PlainAsk) (m : CoapMessage) (b : Block) (added : Added) (reply : Reply) (parts : List Part) (n : ℕ) (old new : List ℕ) (s t : Server)
-    → added_reply b added ≡ Some reply → Gives (after_block (block_of arrived b what) (living arrived.now s.parts)) added parts
-    → RepliesAs reply request n old new (with_parts parts s) t → IsReadOf arrived request what m → wanted_in m ≡ wanted.Joining b
-    → ReadsAs arrived.from arrived.now m arrived.slot (read.Done (Some n)) old new s t
-treat_added arrived request what m b added reply parts n old new s t is gives_parts h r joining =
-    reads_replied arrived.from arrived.now m arrived.slot n reply parts old new s t
-    (joined b added r.faultless joining (adds_of arrived request what m b s added parts r gives_parts) is)
-    (subst (λ (x : OpenRequest). RepliesAs reply x n old new (with_parts parts s) t) r.request_is h)
+-- what becomes whole is in its place, and short
+pub has_whole : (a : Arrival) (parts after : List Part) (added : Added) → Gives (after_block a parts) added after
+    → ((place : ℕ) → added ≡ Complete place → place < length after) → HasWhole added after
+has_whole a parts after added gives_parts within = λ place is.
+    (within place is, whole_is_short a parts after place (subst (λ (x : Added). Gives (after_block a parts) x after) is gives_parts))
+
+treat_added : (p : PendingReply) (now : ℕ) (what : PlainAsk) (m : CoapMessage) (b : Block) (added : Added) (reply : Reply) (n : ℕ) (old new : List ℕ) (s u t : Server)
+    → added_reply b added ≡ Some reply → RepliesAs reply p n old new u t → IsAdded p now what m b added s u
+    → ReadsAs p.from now m p.slot (Send n) old new s t
+treat_added p now what m b added reply n old new s u t is h r =
+    reads_replied p now m n reply u.parts old new s t r.head (joined b added r.faultless r.wanted r.adds is)
+    (subst (λ (x : Server). RepliesAs reply p n old new x t) r.after h)
 
 -- a body that is whole, for the links
-pub treat_no_body : (arrived : Arrived) (request : OpenRequest) (what : PlainAsk) (m : CoapMessage) (b : Block) (place : ℕ) (parts : List Part) (n : ℕ) (old new : List ℕ) (s t : Server)
-    → Gives (after_block (block_of arrived b what) (living arrived.now s.parts)) (Complete place) parts → is_links_path what.request.path ≡ true
-    → RepliesAs method_reply request n old new (with_parts (remove parts place) s) t → IsReadOf arrived request what m → wanted_in m ≡ wanted.Joining b
-    → ReadsAs arrived.from arrived.now m arrived.slot (read.Done (Some n)) old new s t
-treat_no_body arrived request what m b place parts n old new s t gives_parts links h r joining =
-    reads_replied arrived.from arrived.now m arrived.slot n method_reply (remove parts place) old new s t
-    (takes_no_body b place parts r.faultless joining (path_is r.what_is true links) (adds_of arrived request what m b s (Complete place) parts r gives_parts) refl refl)
-    (subst (λ (x : OpenRequest). RepliesAs method_reply x n old new (with_parts (remove parts place) s) t) r.request_is h)
+treat_no_body : (p : PendingReply) (now : ℕ) (what : PlainAsk) (m : CoapMessage) (b : Block) (place n : ℕ) (old new : List ℕ) (s u t : Server)
+    → is_links_path what.request.path ≡ true → RepliesAs method_reply p n old new (with_parts (remove u.parts place) u) t → IsAdded p now what m b (Complete place) s u
+    → ReadsAs p.from now m p.slot (Send n) old new s t
+treat_no_body p now what m b place n old new s u t links h r =
+    reads_replied p now m n method_reply (remove u.parts place) old new s t r.head
+    (takes_no_body b place u.parts r.faultless r.wanted (path_is r.what_is true links) r.adds refl refl)
+    (subst (λ (x : Server). RepliesAs method_reply p n old new (with_parts (remove u.parts place) x) t) r.after h)
 
--- what is open of a request that came in blocks
-abbrev pub whole_open : Arrived → OpenRequest → PlainAsk → Block → OpenAsk
-whole_open arrived request what b = record {
-  request = request;
-  from = arrived.from;
-  observing = observing_of arrived.code what.observe;
-  blocks = use_of_blocks.Joined b;
-}
+-- what is answered, in as many bytes
+pub treat_answered : (p : PendingReply) (now : ℕ) (what : PlainAsk) (m : CoapMessage) (b : Block) (added : Added) (n : ℕ) (answer : Result ℕ ℕ) (old new : List ℕ) (s u t : Server)
+    → AnswersBlock p what.request.path b added answer old new u t → answer ≡ Err n → IsAdded p now what m b added s u
+    → ReadsAs p.from now m p.slot (Send n) old new s t
+treat_answered p now what m b added n answer old new s u t (answered reply k is h said) err r =
+    let same : k ≡ n = cc in
+    subst (λ (x : ℕ). ReadsAs p.from now m p.slot (Send x) old new s t) same (treat_added p now what m b added reply k old new s u t is h r)
+treat_answered p now what m b added n answer old new s u t (for_links place k is links h said) err r =
+    let same : k ≡ n = cc in
+    subst (λ (x : ℕ). ReadsAs p.from now m p.slot (Send x) old new s t) same
+    (treat_no_body p now what m b place k old new s u t links h (subst (λ (x : Added). IsAdded p now what m b x s u) is r))
+treat_answered p now what m b added n answer old new s u t (whole place is apart same_bytes same said) err r = absurd (cc)
 
-pub treat_whole : (arrived : Arrived) (request : OpenRequest) (what : PlainAsk) (ticket : OpenAsk) (m : CoapMessage) (b : Block) (place : ℕ) (parts : List Part) (s : Server)
-    → Gives (after_block (block_of arrived b what) (living arrived.now s.parts)) (Complete place) parts → place < length parts
-    → IfSome (slice_get parts place) (λ p. length p.bytes ≤ longest_request) → is_links_path what.request.path ≡ false → ticket ≡ whole_open arrived request what b
-    → IsReadOf arrived request what m → wanted_in m ≡ wanted.Joining b → AsksWhole arrived.from arrived.now m arrived.slot what ticket place s (with_parts parts s)
-treat_whole arrived request what ticket m b place parts s gives_parts within short apart is r joining = record {
-  block = b;
-  parts = parts;
-  faultless = r.faultless;
-  wanted = joining;
-  apart = path_is r.what_is false apart;
-  adds = adds_of arrived request what m b s (Complete place) parts r gives_parts;
-  there = within;
-  short = short;
-  what_is = r.what_is;
-  ask_is = is ∙ (λ i. record {
-    request = r.request_is i;
-    from = arrived.from;
-    observing = observing_of (r.code i) (r.what_is i).observe;
-    blocks = use_of_blocks.Joined b;
-  });
-  after = refl;
-}
+-- what is found where a body is whole
+pub record IsWhole (path : List (List ℕ)) (added : Added) (place : ℕ) (old new : List ℕ) (s t : Server) : Type 0 where
+  pub added_is : added ≡ Complete place
+  pub apart : is_links_path path ≡ false
+  pub same_bytes : new ≡ old
+  pub same : t ≡ s
 
--- ---- what is handed out
+pub whole_found : (p : PendingReply) (path : List (List ℕ)) (b : Block) (added : Added) (place : ℕ) (answer : Result ℕ ℕ) (old new : List ℕ) (s t : Server)
+    → AnswersBlock p path b added answer old new s t → answer ≡ Ok place → IsWhole path added place old new s t
+whole_found p path b added place answer old new s t (answered reply k is h said) ok = absurd (cc)
+whole_found p path b added place answer old new s t (for_links at k is links h said) ok = absurd (cc)
+whole_found p path b added place answer old new s t (whole at is apart same_bytes same said) ok =
+    let one : at ≡ place = cc in
+    record { added_is = is ∙ ap Complete one; apart = apart; same_bytes = same_bytes; same = same }
 
-pub has_whole : (from : Endpoint) (now : ℕ) (m : CoapMessage) (slot : ℕ) (given : Read) (old new : List ℕ) (s t : Server) → ReadsAs from now m slot given old new s t → HasWhole given t.parts
-has_whole from now m slot (read.Done reply) old new s t h = tt
-has_whole from now m slot (read.Asks ask ticket) old new s t h = tt
-has_whole from now m slot (read.AsksWhole ask ticket place) old new s t h =
-    subst (λ (ps : List Part). (place < length ps) × IfSome (slice_get ps place) (λ p. length p.bytes ≤ longest_request)) (sym (ap (λ (x : Server). x.parts) h.0.after))
-    (h.0.there, h.0.short)
+-- the block that made it whole
+pub added_whole : (p : PendingReply) (now : ℕ) (what : PlainAsk) (m : CoapMessage) (b : Block) (added : Added) (place : ℕ) (old new : List ℕ) (s u v : Server)
+    → IsAdded p now what m b added s u → IsWhole what.request.path added place old new u v → IsAdded p now what m b (Complete place) s v
+added_whole p now what m b added place old new s u v r is =
+    subst (λ (x : Server). IsAdded p now what m b (Complete place) s x) (sym is.same) (subst (λ (x : Added). IsAdded p now what m b x s u) is.added_is r)
 
 -- the part whose bytes these are
 part_there : (o : Option Part) (bytes : List ℕ) → option_map (λ p. p.bytes) o ≡ Some bytes → (p : Part) × (o ≡ Some p) × (p.bytes ≡ bytes)
 part_there None bytes e = absurd cc
 part_there (Some p) bytes e = (p, refl, cc)
 
-reads_to : (from : Endpoint) (now : ℕ) (m : CoapMessage) (slot : ℕ) (h : Heard) (s t u : Server) → u ≡ t → Reads from now m slot h s t → Reads from now m slot h s u
-reads_to from now m slot h s t u same reads = subst (λ (x : Server). Reads from now m slot h s x) (sym same) reads
+-- what is pending of a request that came in blocks
+abbrev pub whole_pending : PendingReply → Block → PendingReply
+whole_pending p b = record p { blocks = use_of_blocks.Joined b }
 
-pub hears_read : (from : Endpoint) (bytes : List ℕ) (now : ℕ) (m : CoapMessage) (slot : ℕ) (given : Read) (next : CoapNext) (old new : List ℕ) (s u v t : Server) → IsMet from bytes now m (Fresh slot) s u
-    → ReadsAs from now m slot given old new u v → HandsOut given next v t → HearsAs from bytes now next old new s t
-hears_read from bytes now m slot (read.Done None) Nothing old new s u v t met r h = record {
-  heard = r.0;
-  hears = admitted m slot u met (reads_to from now m slot r.0 u v t h r.1);
-  tells = tells_nothing r.0 old new r.2;
-}
-hears_read from bytes now m slot (read.Done None) (Send n) old new s u v t met r h = absurd h
-hears_read from bytes now m slot (read.Done None) (Ask ask ticket) old new s u v t met r h = absurd h
-hears_read from bytes now m slot (read.Done (Some n)) Nothing old new s u v t met r h = absurd h
-hears_read from bytes now m slot (read.Done (Some n)) (Send k) old new s u v t met r h = record {
-  heard = r.0;
-  hears = admitted m slot u met (reads_to from now m slot r.0 u v t h.1 r.1);
-  tells = subst (λ (x : ℕ). Tells r.0 (Send x) old new) (sym h.0) (tells_send r.0 n old new r.2);
-}
-hears_read from bytes now m slot (read.Done (Some n)) (Ask ask ticket) old new s u v t met r h = absurd h
-hears_read from bytes now m slot (read.Asks ask ticket) Nothing old new s u v t met r h = absurd h
-hears_read from bytes now m slot (read.Asks ask ticket) (Send n) old new s u v t met r h = absurd h
-hears_read from bytes now m slot (read.Asks ask ticket) (Ask given spent) old new s u v t met r h = record {
-  heard = asked (plain_ask ask) ticket;
-  hears = admitted m slot u met (reads_to from now m slot (asked (plain_ask ask) ticket) u v t h.2 r.0);
-  tells = (λ i. asked (sym h.0 i) (sym h.1 i), r.1);
-}
-hears_read from bytes now m slot (read.AsksWhole ask ticket place) Nothing old new s u v t met r h = absurd h
-hears_read from bytes now m slot (read.AsksWhole ask ticket place) (Send n) old new s u v t met r h = absurd h
-hears_read from bytes now m slot (read.AsksWhole ask ticket place) (Ask given spent) old new s u v t met r h =
-    let w = r.0 in
-    let same : v.parts ≡ w.parts = ap (λ (x : Server). x.parts) w.after in
-    let there : option_map (λ p. p.bytes) (slice_get w.parts place) ≡ Some h.0 = ap (λ (ps : List Part). option_map (λ p. p.bytes) (slice_get ps place)) (sym same) ∙ h.1 in
-    let whole = part_there (slice_get w.parts place) h.0 there in
-    let after : t ≡ with_parts (remove w.parts place) u = h.4 ∙ (λ i. with_parts (remove (same i) place) (w.after i)) in
-    let what : with_whole_body whole.0.bytes (what_is_asked m) ≡ plain_ask given = (λ i. with_whole_body (whole.2 i) (sym w.what_is i)) ∙ sym h.2 in
-    let ask_is : joined_ask from m slot w.block ≡ spent = sym w.ask_is ∙ sym h.3 in
-    record {
-      heard = asked (with_whole_body whole.0.bytes (what_is_asked m)) (joined_ask from m slot w.block);
-      hears = admitted m slot u met (asks_whole w.block place w.parts whole.0 w.faultless w.wanted w.apart w.adds whole.1 refl after);
-      tells = (λ i. asked (what i) (ask_is i), r.1);
-    }
-
--- what was asked may be answered
-may_answer : (ask other : OpenAsk) (s t : Server) → other ≡ ask → t.exchanges ≡ s.exchanges → MayAnswer ask s → MayAnswer other t
-may_answer ask other s t same exchanges h =
-    let one : MayAnswer ask t = record { awaited = subst (λ x. IsAwaited ask.request.slot x) (sym exchanges) h.awaited; token = h.token; blocks = h.blocks } in
-    subst (λ (a : OpenAsk). MayAnswer a t) (sym same) one
-
-pub open_handed : (given : Read) (next : CoapNext) (s t : Server) → IsOpenAfter given s → HandsOut given next s t → TicketIsOpen next t
-open_handed (read.Done None) Nothing s t o h = tt
-open_handed (read.Done None) (Send n) s t o h = absurd h
-open_handed (read.Done None) (Ask ask ticket) s t o h = absurd h
-open_handed (read.Done (Some n)) Nothing s t o h = absurd h
-open_handed (read.Done (Some n)) (Send k) s t o h = tt
-open_handed (read.Done (Some n)) (Ask ask ticket) s t o h = absurd h
-open_handed (read.Asks ask ticket) Nothing s t o h = absurd h
-open_handed (read.Asks ask ticket) (Send n) s t o h = absurd h
-open_handed (read.Asks ask ticket) (Ask given spent) s t o h = may_answer ticket spent s t h.1 (ap (λ (x : Server). x.exchanges) h.2) o
-open_handed (read.AsksWhole ask ticket place) Nothing s t o h = absurd h
-open_handed (read.AsksWhole ask ticket place) (Send n) s t o h = absurd h
-open_handed (read.AsksWhole ask ticket place) (Ask given spent) s t o h = may_answer ticket spent s t h.3 (ap (λ (x : Server). x.exchanges) h.4) o
+pub treat_whole : (p : PendingReply) (now : ℕ) (what whole_ask : PlainAsk) (ticket : PendingReply) (m : CoapMessage) (b : Block) (place : ℕ) (bytes : List ℕ) (s u t : Server)
+    → is_links_path what.request.path ≡ false → ticket ≡ whole_pending p b → option_map (λ x. x.bytes) (slice_get u.parts place) ≡ Some bytes
+    → whole_ask ≡ with_whole_body bytes what → t ≡ with_parts (remove u.parts place) u → IsAdded p now what m b (Complete place) s u
+    → Reads p.from now m p.slot (asked whole_ask ticket) s t
+treat_whole p now what whole_ask ticket m b place bytes s u t apart is there whole_is after r =
+    let part = part_there (slice_get u.parts place) bytes there in
+    let which : ticket ≡ pending_joined p.from m p.slot b =
+    is ∙ (λ i. record {
+      kind = (r.head i).kind;
+      id = (r.head i).id;
+      token = (r.head i).token;
+      slot = p.slot;
+      from = p.from;
+      observing = r.observing i;
+      blocks = use_of_blocks.Joined b;
+    }) in
+    let what_of : whole_ask ≡ with_whole_body part.0.bytes (what_is_asked m) = whole_is ∙ (λ i. with_whole_body (sym part.2 i) (r.what_is i)) in
+    asks_whole b place u.parts part.0 r.faultless r.wanted (path_is r.what_is false apart) r.adds part.1
+    (λ i. asked (what_of i) (which i)) (after ∙ ap (λ (x : Server). with_parts (remove u.parts place) x) r.after)
 
 -- ---- the bounds of what is wanted
 
@@ -324,5 +286,5 @@ use_fits now code o a h short = by_test (code == GET)
     by_test false = tt
 
 -- what is open may be answered
-pub open_ticket : (ticket other : OpenAsk) (t : Server) → ticket ≡ other → IsAwaited other.request.slot t.exchanges → length other.request.head.token ≤ 8 → IsUse other.blocks → MayAnswer ticket t
-open_ticket ticket other t same awaited token fits = subst (λ (a : OpenAsk). MayAnswer a t) (sym same) (record { awaited = awaited; token = token; blocks = fits })
+pub open_ticket : (ticket other : PendingReply) (t : Server) → ticket ≡ other → IsAwaited other.slot t.exchanges → length other.token ≤ 8 → IsUse other.blocks → MayAnswer ticket t
+open_ticket ticket other t same awaited token fits = subst (λ (a : PendingReply). MayAnswer a t) (sym same) (record { awaited = awaited; token = token; blocks = fits })

@@ -21,17 +21,16 @@ use Rattle.coap_observe.specs.Watching.{Watching}
 use Rattle.coap_opts.specs.Reading.{PlainAsk, faults_of, asked as what_is_asked}
 use Rattle.coap_opts.specs.declared.fault.AskFault.{AskFault}
 use Rattle.thing_ops.specs.Outcomes.{HasCode}
-use Rattle.coap_bind.specs.declared.head.OpenAsk.{OpenAsk}
+use Rattle.coap_bind.specs.declared.pending.PendingReply.{PendingReply}
 use Rattle.coap_bind.specs.declared.server.Server.{Server}
 use Rattle.coap_blocks.specs.Parts.{Part}
 use Rattle.coap_bind.specs.declared.blocks.Wanted.TheVariants as wanted
-use Rattle.coap_bind.specs.declared.head.OpenRequest.{OpenRequest}
 use Rattle.coap_bind.specs.Blocks.{answer_reply}
 use Rattle.coap_bind.specs.Links.{links_reply, size_asked, watchers_with_links}
 use Rattle.coap_bind.specs.Observing.{effect_of, Watches}
 use Rattle.coap_bind.proofs.DuplicateLaws.{ready}
-use Rattle.coap_bind.specs.Writing.{Reply, observed, head_of, coap_reply}
-use Rattle.coap_bind.specs.Server.{Heard, ignored, answered_at_once, asked, with_id_used, with_kept, replied_at_once, Replies, is_request, arrival, IsMet, malformed, no_request as is_no_request, duplicate, full, IsAnsweredAtOnce, bad_option, bad_block, for_proxy, no_memory, later_block, joined, takes_no_other_verb, takes_no_body, replied, bad_option_ignored, gives_links, links_given, observing_in, asks, asks_whole, wanted_in, with_parts, with_whole_body, opened, opened_ask, joined_ask, settled, admitted, Hears, Answers}
+use Rattle.coap_bind.specs.Writing.{Reply, observed, ReplyHead, head_of, head_in, coap_reply}
+use Rattle.coap_bind.specs.Server.{Heard, ignored, answered_at_once, asked, with_id_used, with_kept, replied_at_once, Replies, is_request, arrival, IsMet, malformed, no_request as is_no_request, duplicate, full, IsAnsweredAtOnce, bad_option, bad_block, for_proxy, no_memory, later_block, joined, takes_no_other_verb, takes_no_body, replied, bad_option_ignored, gives_links, links_given, observing_in, asks, asks_whole, wanted_in, with_parts, with_whole_body, pending_of, pending_joined, settled, admitted, Hears, Answers}
 use Rattle.coap_bind.specs.Laws.{HasShortPlace}
 use Rattle.coap_bind.specs.Treating.{Acted, ignores, answers, acts, IsReplied, faulty, memory, of_blocks, of_links, no_method, acted, acted_on_whole, kept_for, sent_back, IsTreated, no_request, is_duplicate, finds_full, is_answered, is_ignored, AllAreTreated}
 use Rattle.coap_bind.proofs.HistoryLaws.{not_replied, not_duplicate}
@@ -98,7 +97,7 @@ what_in w ignored = w
 what_in w (answered_at_once bytes) = w
 what_in w (asked what ask) = what
 
-abbrev ask_in : OpenAsk → Heard → OpenAsk
+abbrev ask_in : PendingReply → Heard → PendingReply
 ask_in a ignored = a
 ask_in a (answered_at_once bytes) = a
 ask_in a (asked what ask) = ask
@@ -107,7 +106,7 @@ ask_in a (asked what ask) = ask
 
 -- a request that was admitted, and answered at once by a server that has changed, with these watchers
 treated_at_once : (from : Endpoint) (bytes : List ℕ) (now : ℕ) (act : Option Acted) (back : List (List ℕ)) (s v u t : Server) (m : CoapMessage) (slot : ℕ) (r : Reply) (reply : List ℕ) (w : Watching)
-    → IsMet from bytes now m (Fresh slot) s u → v.watchers ≡ w → v.exchanges ≡ u.exchanges → Replies r (opened m slot) reply v t
+    → IsMet from bytes now m (Fresh slot) s u → v.watchers ≡ w → v.exchanges ≡ u.exchanges → Replies r (head_of m) slot reply v t
     → (v.next_id ≡ u.next_id) → (t.watchers ≡ w → IsReplied from now m act r s.watchers t.watchers)
     → back ≡ reply ∷ [] → IsTreated from bytes now act back s t
 treated_at_once from bytes now act back s v u t m slot r reply w met watchers exchanges replies id why is =
@@ -137,7 +136,7 @@ why_replied from now m act r s parts none (takes_no_body b place whole faultless
 
 -- what is settled, and not asked for
 treated_settled : (from : Endpoint) (bytes : List ℕ) (now : ℕ) (h : Heard) (act : Option Acted) (back : List (List ℕ)) (s t : Server) → act ≡ None → back ≡ sent_back h
-    → Hears from bytes now h s t → ((what : PlainAsk) (ask : OpenAsk) → h ≡ asked what ask → ⊥) → IsTreated from bytes now act back s t
+    → Hears from bytes now h s t → ((what : PlainAsk) (ask : PendingReply) → h ≡ asked what ask → ⊥) → IsTreated from bytes now act back s t
 treated_settled from bytes now h act back s t none is (settled (malformed f fault e same)) unasked =
     no_request (λ m spells request. no_fault_of_message f m bytes spells fault) (λ m spells kind. absurd (no_fault_of_message f m bytes spells fault)) none
     (ap (λ (x : Server). x.exchanges) same) (inl (ap (λ (x : Server). x.watchers) same))
@@ -176,22 +175,23 @@ treated_settled from bytes now h act back s t none is (admitted m slot u met (as
 treated_settled from bytes now h act back s t none is (admitted m slot u met (asks_whole b place parts whole faultless wants apart adds there e same)) unasked = absurd (unasked _ _ e)
 
 -- a request that was asked, and answered
-treated_answered : (from : Endpoint) (bytes : List ℕ) (now : ℕ) (act : Option Acted) (back : List (List ℕ)) (s v u t : Server) (a : Acted) (m : CoapMessage) (slot : ℕ) (ask : OpenAsk) (reply : List ℕ)
-    → IsMet from bytes now m (Fresh slot) s u → v.watchers ≡ u.watchers → v.exchanges ≡ u.exchanges → v.next_id ≡ u.next_id → ask.request ≡ opened m slot
+treated_answered : (from : Endpoint) (bytes : List ℕ) (now : ℕ) (act : Option Acted) (back : List (List ℕ)) (s v u t : Server) (a : Acted) (m : CoapMessage) (slot : ℕ) (ask : PendingReply) (reply : List ℕ)
+    → IsMet from bytes now m (Fresh slot) s u → v.watchers ≡ u.watchers → v.exchanges ≡ u.exchanges → v.next_id ≡ u.next_id → head_in ask ≡ head_of m → ask.slot ≡ slot
     → Answers ask a.outcome a.target reply v t
     → ((observe : Option ℕ) → Watches (effect_of ask.observing a.outcome a.target) ask.from m.token s.watchers observe t.watchers
     → IsReplied from now m act (observed observe (answer_reply ask.blocks a.outcome)) s.watchers t.watchers)
     → back ≡ reply ∷ [] → IsTreated from bytes now act back s t
-treated_answered from bytes now act back s v u t a m slot ask reply met watchers exchanges id request answer why is =
+treated_answered from bytes now act back s v u t a m slot ask reply met watchers exchanges id head at answer why is =
     let r : Reply = observed answer.observe (answer_reply ask.blocks a.outcome) in
     let x : Server = ready ask a.outcome answer.watchers v in
-    let replies : Replies r (opened m slot) reply x t = subst (λ (q : OpenRequest). Replies r q reply x t) request answer.replies in
+    let replies : Replies r (head_of m) slot reply x t =
+    subst (λ (h : ReplyHead). Replies r h slot reply x t) head (subst (λ (k : ℕ). Replies r (head_in ask) k reply x t) at answer.replies) in
     let after_is : t.watchers ≡ answer.watchers = ap (λ (y : Server). y.watchers) replies.after ∙ kept_watchers (request_type m.kind) slot reply x in
     let W : List ℕ → Watching → Watching → Type 0 = λ token old new. Watches (effect_of ask.observing a.outcome a.target) ask.from token old answer.observe new in
     let watches : W m.token s.watchers t.watchers =
     subst (W m.token s.watchers) (sym after_is)
     (subst (λ (y : Watching). W m.token y answer.watchers) (watchers ∙ met.same_watchers)
-    (subst (λ (y : OpenRequest). W y.head.token v.watchers answer.watchers) request answer.watches)) in
+    (subst (λ (y : ReplyHead). W y.token v.watchers answer.watchers) head answer.watches)) in
     is_answered m slot r reply met.spells met.request met.meets.1.1
     (why answer.observe watches)
     (replies.bytes_are ∙ ap (λ (n : ℕ). spelling (coap_reply r (head_of m) n)) (id ∙ met.same_id)) is
@@ -201,21 +201,21 @@ treated_answered from bytes now act back s v u t a m slot ask reply met watchers
 -- what is asked of a request, and what waits for its answer
 answered_ask : (from : Endpoint) (bytes : List ℕ) (now : ℕ) (act : Option Acted) (back : List (List ℕ)) (s u v t : Server) (a : Acted) (m : CoapMessage) (slot : ℕ) (reply : List ℕ)
     → IsMet from bytes now m (Fresh slot) s u → wanted_in m ≡ wanted.Act → a.what ≡ what_is_asked m → HasCode a.outcome → HasShortPlace a.outcome → v ≡ u
-    → Answers (opened_ask from now m slot) a.outcome a.target reply v t → act ≡ Some a → back ≡ reply ∷ [] → IsTreated from bytes now act back s t
+    → Answers (pending_of from now m slot) a.outcome a.target reply v t → act ≡ Some a → back ≡ reply ∷ [] → IsTreated from bytes now act back s t
 answered_ask from bytes now act back s u v t a m slot reply met wants what code place same answer acted_is is =
-    treated_answered from bytes now act back s v u t a m slot (opened_ask from now m slot) reply met
-    (ap (λ (x : Server). x.watchers) same) (ap (λ (x : Server). x.exchanges) same) (ap (λ (x : Server). x.next_id) same) refl answer
+    treated_answered from bytes now act back s v u t a m slot (pending_of from now m slot) reply met
+    (ap (λ (x : Server). x.watchers) same) (ap (λ (x : Server). x.exchanges) same) (ap (λ (x : Server). x.next_id) same) refl refl answer
     (λ observe watches. acted a observe acted_is wants what code place watches refl) is
 
 answered_whole : (from : Endpoint) (bytes : List ℕ) (now : ℕ) (act : Option Acted) (back : List (List ℕ)) (s u v t : Server) (a : Acted) (m : CoapMessage) (slot : ℕ) (b : Block) (body reply : List ℕ) (parts : List Part)
     → IsMet from bytes now m (Fresh slot) s u → wanted_in m ≡ wanted.Joining b → a.what ≡ with_whole_body body (what_is_asked m) → HasCode a.outcome → HasShortPlace a.outcome → v ≡ with_parts parts u
-    → Answers (joined_ask from m slot b) a.outcome a.target reply v t → act ≡ Some a → back ≡ reply ∷ [] → IsTreated from bytes now act back s t
+    → Answers (pending_joined from m slot b) a.outcome a.target reply v t → act ≡ Some a → back ≡ reply ∷ [] → IsTreated from bytes now act back s t
 answered_whole from bytes now act back s u v t a m slot b body reply parts met wants what code place same answer acted_is is =
-    treated_answered from bytes now act back s v u t a m slot (joined_ask from m slot b) reply met
-    (ap (λ (x : Server). x.watchers) same) (ap (λ (x : Server). x.exchanges) same) (ap (λ (x : Server). x.next_id) same) refl answer
+    treated_answered from bytes now act back s v u t a m slot (pending_joined from m slot b) reply met
+    (ap (λ (x : Server). x.watchers) same) (ap (λ (x : Server). x.exchanges) same) (ap (λ (x : Server). x.next_id) same) refl refl answer
     (λ observe watches. acted_on_whole a observe b body acted_is wants what code place watches refl) is
 
-treated_asked : (from : Endpoint) (bytes : List ℕ) (now : ℕ) (act : Option Acted) (back : List (List ℕ)) (s v t : Server) (a : Acted) (ask : OpenAsk) (reply : List ℕ)
+treated_asked : (from : Endpoint) (bytes : List ℕ) (now : ℕ) (act : Option Acted) (back : List (List ℕ)) (s v t : Server) (a : Acted) (ask : PendingReply) (reply : List ℕ)
     → Hears from bytes now (asked a.what ask) s v → HasCode a.outcome → HasShortPlace a.outcome
     → Answers ask a.outcome a.target reply v t → act ≡ Some a → back ≡ reply ∷ [] → IsTreated from bytes now act back s t
 treated_asked from bytes now act back s v t a ask reply (settled (malformed f fault h same)) code place answer acted_is is = absurd (not_replied a.what ask _ h)
@@ -227,13 +227,13 @@ treated_asked from bytes now act back s v t a ask reply (admitted m slot u met (
 treated_asked from bytes now act back s v t a ask reply (admitted m slot u met (bad_option_ignored number fault non h same)) code place answer acted_is is = absurd (cc)
 treated_asked from bytes now act back s v t a ask reply (admitted m slot u met (gives_links b faultless wants links get replies h)) code place answer acted_is is = absurd (cc)
 treated_asked from bytes now act back s v t a ask reply (admitted m slot u met (asks faultless wants apart h same)) code place answer acted_is is =
-    let which : ask ≡ opened_ask from now m slot = ap (ask_in ask) h in
+    let which : ask ≡ pending_of from now m slot = ap (ask_in ask) h in
     answered_ask from bytes now act back s u v t a m slot reply met wants (ap (what_in a.what) h) code place same
-    (subst (λ (x : OpenAsk). Answers x a.outcome a.target reply v t) which answer) acted_is is
+    (subst (λ (x : PendingReply). Answers x a.outcome a.target reply v t) which answer) acted_is is
 treated_asked from bytes now act back s v t a ask reply (admitted m slot u met (asks_whole b at parts whole faultless wants apart adds there h same)) code place answer acted_is is =
-    let which : ask ≡ joined_ask from m slot b = ap (ask_in ask) h in
+    let which : ask ≡ pending_joined from m slot b = ap (ask_in ask) h in
     answered_whole from bytes now act back s u v t a m slot b whole.bytes reply (remove parts at) met wants (ap (what_in a.what) h) code place same
-    (subst (λ (x : OpenAsk). Answers x a.outcome a.target reply v t) which answer) acted_is is
+    (subst (λ (x : PendingReply). Answers x a.outcome a.target reply v t) which answer) acted_is is
 
 pub all_are_treated : AllAreTreated
 all_are_treated from bytes now act back s t (ignores hears none is) = treated_settled from bytes now ignored act back s t none is hears (λ what ask e. cc)

@@ -10,7 +10,7 @@ use Rattle.coap_exchange.specs.Admission.{Arrival, is_duplicate_of, admitted_amo
 use Rattle.coap_exchange.specs.Table.{at_moment}
 use Rattle.coap_exchange.specs.declared.met.Met.TheVariants.{Fresh}
 use Rattle.thing_ops.specs.declared.outcome.Outcome.{Outcome}
-use Rattle.coap_bind.specs.declared.head.OpenAsk.{OpenAsk}
+use Rattle.coap_bind.specs.declared.pending.PendingReply.{PendingReply}
 use Rattle.coap_bind.specs.declared.server.Server.{Server}
 use Rattle.coap_bind.specs.Server.{start, Heard, ignored, answered_at_once, is_request, arrival, IsMet, Reads, Hears, Answers}
 use Rattle.coap_bind.specs.Laws.{IsOpen, DidFrom, Did}
@@ -48,7 +48,7 @@ pub data IsRepliedTo (request : Arrival) (reply : List ℕ) (s t : Server) : Typ
   at_once : (from : Endpoint) (bytes : List ℕ) (now : ℕ) (m : CoapMessage) (slot : ℕ) (u : Server) → s.exchanges.moment ≤ now
       → IsMet from bytes now m (Fresh slot) s u → Reads from now m slot (answered_at_once reply) u t → request ≡ arrival from now m
       → IsRepliedTo request reply s t
-  afterwards : (ask : OpenAsk) (o : Outcome) (target : Option ℕ) (waiting : IsOpen ask s) → Answers ask o target reply s t
+  afterwards : (ask : PendingReply) (o : Outcome) (target : Option ℕ) (waiting : IsOpen ask s) → Answers ask o target reply s t
       → request ≡ waiting.exchange.arrival → IsRepliedTo request reply s t
 
 -- What a duplicate of this type is answered, where the request of this type was replied to in these bytes: the same, where both

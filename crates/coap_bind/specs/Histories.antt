@@ -4,7 +4,7 @@ use Rattle.coap_msg.specs.declared.endpoint.Endpoint.{Endpoint}
 use Rattle.coap_msg.specs.Grammar.{CoapMessage, Spells}
 use Rattle.coap_exchange.specs.Admission.{Arrival, admitted_among}
 use Rattle.coap_opts.specs.Reading.{PlainAsk}
-use Rattle.coap_bind.specs.declared.head.OpenAsk.{OpenAsk}
+use Rattle.coap_bind.specs.declared.pending.PendingReply.{PendingReply}
 use Rattle.coap_bind.specs.declared.server.Server.{Server}
 use Rattle.coap_bind.specs.Server.{is_request, arrival, Heard, asked, Hears}
 use Rattle.coap_bind.specs.Laws.{Did, AreArrivals}
@@ -19,7 +19,7 @@ HearingGoesOn =
 -- What is asked for is the request of its datagram, which is admitted now.
 abbrev pub AskedIsAdmitted : Type 0
 AskedIsAdmitted =
-    (capacity : ℕ) (history : List Arrival) (s t : Server) (from : Endpoint) (bytes : List ℕ) (now : ℕ) (what : PlainAsk) (ask : OpenAsk)
+    (capacity : ℕ) (history : List Arrival) (s t : Server) (from : Endpoint) (bytes : List ℕ) (now : ℕ) (what : PlainAsk) (ask : PendingReply)
     → Did capacity history s → s.exchanges.moment ≤ now → Hears from bytes now (asked what ask) s t
     → (m : CoapMessage) × Spells m bytes × (is_request m ≡ true)
     × (admitted_among capacity (history ++ arrival from now m ∷ []) ≡ admitted_among capacity history ++ arrival from now m ∷ [])

@@ -9,7 +9,7 @@ use Rattle.thing_ops.specs.declared.outcome.Outcome.{Outcome}
 use Rattle.thing_ops.specs.declared.outcome.Outcome.TheVariants.{Started}
 use Rattle.coap_observe.specs.declared.notice.Notice.{Notice}
 use Rattle.coap_opts.specs.Reading.{PlainAsk}
-use Rattle.coap_bind.specs.declared.head.OpenAsk.{OpenAsk}
+use Rattle.coap_bind.specs.declared.pending.PendingReply.{PendingReply}
 use Rattle.coap_bind.specs.declared.server.Server.{Server}
 use Rattle.coap_bind.specs.Telling.{HasRoom, MayAnswer}
 use Rattle.coap_bind.specs.Server.{start, is_request, arrival, Heard, asked, Hears, Answers, with_emitted, with_links, SendsNext}
@@ -21,11 +21,11 @@ AreArrivals from bytes now (a ∷ []) = (m : CoapMessage) × Spells m bytes × (
 AreArrivals from bytes now (a ∷ b ∷ more) = ⊥
 
 -- What was asked may be answered: its exchange has no reply yet, and the request is of the type that was admitted.
-pub record IsOpen (ask : OpenAsk) (s : Server) : Type 0 where
+pub record IsOpen (ask : PendingReply) (s : Server) : Type 0 where
   pub exchange : Exchange
-  pub there : exchange_in ask.request.slot s.exchanges ≡ Some exchange
+  pub there : exchange_in ask.slot s.exchanges ≡ Some exchange
   pub waits : exchange.reply ≡ None
-  pub kind : ask.request.head.kind ≡ exchange.arrival.kind
+  pub kind : ask.kind ≡ exchange.arrival.kind
 
 -- What a server did since it held this: the requests that came, in their order, and what it holds now.
 pub data DidFrom (before : Server) : List Arrival → Server → Type 0 where
@@ -35,7 +35,7 @@ pub data DidFrom (before : Server) : List Arrival → Server → Type 0 where
       → DidFrom before history s → s.exchanges.moment ≤ now → Hears from bytes now heard s t → AreArrivals from bytes now new
       → DidFrom before (history ++ new) t
   -- what was asked was answered
-  answered : (history : List Arrival) (s t : Server) (ask : OpenAsk) (o : Outcome) (target : Option ℕ) (bytes : List ℕ)
+  answered : (history : List Arrival) (s t : Server) (ask : PendingReply) (o : Outcome) (target : Option ℕ) (bytes : List ℕ)
       → DidFrom before history s → IsOpen ask s → Answers ask o target bytes s t → DidFrom before history t
   -- a target got a new value
   emitted : (history : List Arrival) (s t : Server) (target : ℕ) → DidFrom before history s → t ≡ with_emitted target s → DidFrom before history t
@@ -60,7 +60,7 @@ DuplicatesAskNothing =
     (capacity : ℕ) (history : List Arrival) (s t : Server) (from : Endpoint) (bytes : List ℕ) (now : ℕ) (m : CoapMessage) (earlier : Arrival)
     → Did capacity history s → s.exchanges.moment ≤ now → Spells m bytes → Contains (admitted_among capacity history) earlier
     → is_duplicate_of (arrival from now m) earlier ≡ true
-    → (what : PlainAsk) (ask : OpenAsk) → ¬ (Hears from bytes now (asked what ask) s t)
+    → (what : PlainAsk) (ask : PendingReply) → ¬ (Hears from bytes now (asked what ask) s t)
 
 -- The place of what was started has at most four segments, each of at most 255 bytes (section 5.10), and its status at
 -- most 100 bytes.
@@ -71,9 +71,9 @@ HasShortPlace _ = Unit {0}
 -- What a datagram asks may be answered at once.
 abbrev pub AsksAreOpen : Type 0
 AsksAreOpen =
-    (from : Endpoint) (bytes : List ℕ) (now : ℕ) (what : PlainAsk) (ask : OpenAsk) (s t : Server) → Hears from bytes now (asked what ask) s t → IsOpen ask t
+    (from : Endpoint) (bytes : List ℕ) (now : ℕ) (what : PlainAsk) (ask : PendingReply) (s t : Server) → Hears from bytes now (asked what ask) s t → IsOpen ask t
 
 -- A reply has at most 1,152 bytes (RFC 7252, section 4.6), with a tag and without, whatever the watchers are, in blocks
 -- and whole, unless the place of what was started is long.
 abbrev pub RepliesFit : Type 0
-RepliesFit = (ask : OpenAsk) (o : Outcome) (target : Option ℕ) (s : Server) → MayAnswer ask s → HasShortPlace o → HasRoom ask o target s
+RepliesFit = (ask : PendingReply) (o : Outcome) (target : Option ℕ) (s : Server) → MayAnswer ask s → HasShortPlace o → HasRoom ask o target s

@@ -39,9 +39,9 @@ use Rattle.thing_ops.specs.declared.outcome.Outcome.{Outcome}
 use Rattle.thing_ops.specs.declared.outcome.Outcome.TheVariants.{Memory}
 use Rattle.coap_opts.specs.Reading.{PlainAsk, faults_of, asked as what_is_asked}
 use Rattle.coap_opts.specs.declared.fault.AskFault.TheVariants as fault
-use Rattle.coap_bind.specs.declared.head.OpenRequest.{OpenRequest}
-use Rattle.coap_bind.specs.declared.head.OpenAsk.{OpenAsk}
+use Rattle.coap_bind.specs.declared.pending.PendingReply.{PendingReply}
 use Rattle.coap_bind.specs.declared.server.Server.{Server}
+use Rattle.coap_bind.specs.declared.blocks.BlockUse.{BlockUse}
 use Rattle.coap_bind.specs.declared.blocks.BlockUse.TheVariants as blocks
 use Rattle.coap_bind.specs.declared.blocks.Wanted.{Wanted}
 use Rattle.coap_bind.specs.declared.blocks.Wanted.TheVariants as wanted
@@ -49,7 +49,7 @@ use Rattle.coap_bind.specs.declared.observing.Observing.{Observing}
 use Rattle.coap_bind.specs.Blocks.{wanted_of, use_of, answer_reply, bodies_after, block_reply, later_reply, added_reply}
 use Rattle.coap_bind.specs.Links.{is_links_path, size_asked, links_reply, method_reply, watchers_with_links, bodies_with_links}
 use Rattle.coap_bind.specs.Observing.{observing_of, effect_of, Watches}
-use Rattle.coap_bind.specs.Writing.{Reply, full_reply, proxy_reply, option_reply, reply_of, observed, head_of, coap_reply}
+use Rattle.coap_bind.specs.Writing.{Reply, full_reply, proxy_reply, option_reply, reply_of, observed, ReplyHead, head_of, head_in, coap_reply}
 
 -- A server to which nothing came yet, in which so many exchanges may live and so many watchers may be. Its message IDs
 -- begin at 0 and not at a random number (docs/DECISIONS.md, "CoAP").
@@ -63,7 +63,7 @@ pub data Heard : Type 0 where
   -- these bytes are sent back at once
   answered_at_once : List ℕ → Heard
   -- this is asked for, and has to be answered
-  asked : PlainAsk → OpenAsk → Heard
+  asked : PlainAsk → PendingReply → Heard
 
 -- ---- replies
 
@@ -82,10 +82,10 @@ abbrev pub with_kept : RequestType → ℕ → List ℕ → Server → Server
 with_kept Confirmable slot bytes s = record s { exchanges = with_reply slot bytes s.exchanges }
 with_kept NonConfirmable slot bytes s = s
 
--- A request that was admitted is replied to in these bytes.
-pub record Replies (r : Reply) (request : OpenRequest) (bytes : List ℕ) (s t : Server) : Type 0 where
-  pub bytes_are : bytes ≡ spelling (coap_reply r request.head s.next_id)
-  pub after : t ≡ with_kept request.head.kind request.slot bytes (with_id_used request.head.kind s)
+-- A request that was admitted and got this slot is replied to in these bytes.
+pub record Replies (r : Reply) (head : ReplyHead) (slot : ℕ) (bytes : List ℕ) (s t : Server) : Type 0 where
+  pub bytes_are : bytes ≡ spelling (coap_reply r head s.next_id)
+  pub after : t ≡ with_kept head.kind slot bytes (with_id_used head.kind s)
 
 -- the server with these watchers
 abbrev pub with_watchers : Watching → Server → Server
@@ -105,11 +105,11 @@ with_links text s = record s { links = text }
 -- What was asked, of this target if it has one, has this outcome, and is answered in these bytes: first its sender is
 -- registered or deregistered, and a body that is given in blocks is kept; then the reply says the sequence number of a
 -- registration.
-pub record Answers (ask : OpenAsk) (o : Outcome) (target : Option ℕ) (bytes : List ℕ) (s t : Server) : Type 0 where
+pub record Answers (ask : PendingReply) (o : Outcome) (target : Option ℕ) (bytes : List ℕ) (s t : Server) : Type 0 where
   pub observe : Option ℕ
   pub watchers : Watching
-  pub watches : Watches (effect_of ask.observing o target) ask.from ask.request.head.token s.watchers observe watchers
-  pub replies : Replies (observed observe (answer_reply ask.blocks o)) ask.request bytes
+  pub watches : Watches (effect_of ask.observing o target) ask.from ask.token s.watchers observe watchers
+  pub replies : Replies (observed observe (answer_reply ask.blocks o)) (head_in ask) ask.slot bytes
       (with_bodies (bodies_after ask.blocks ask.from o s.bodies) (with_watchers watchers s)) t
 
 -- ---- notifications (RFC 7641)
@@ -208,29 +208,32 @@ pub data Settles (from : Endpoint) (bytes : List ℕ) (now : ℕ) (heard : Heard
 
 -- ---- datagrams that are admitted
 
--- a request that was admitted and got this slot
-abbrev pub opened : CoapMessage → ℕ → OpenRequest
-opened m slot = record { head = head_of m; slot = slot }
-
--- what it wants of the watchers, and of blocks
+-- what a request wants of the watchers, and of blocks
 abbrev pub observing_in : CoapMessage → Observing
 observing_in m = observing_of m.code (what_is_asked m).observe
 
 abbrev pub wanted_in : CoapMessage → Wanted
 wanted_in m = wanted_of m.code (observing_in m) (what_is_asked m)
 
--- what it asks, which came from an endpoint at a moment, until that is answered
-abbrev pub opened_ask : Endpoint → ℕ → CoapMessage → ℕ → OpenAsk
-opened_ask from now m slot = record {
-  request = opened m slot;
+-- what is kept for the reply to a request that came from an endpoint and got this slot, where blocks are this to the reply
+abbrev pub pending_with : BlockUse → Endpoint → CoapMessage → ℕ → PendingReply
+pending_with use_it from m slot = record {
+  kind = request_type m.kind;
+  id = m.id;
+  token = m.token;
+  slot = slot;
   from = from;
   observing = observing_in m;
-  blocks = use_of now m.code (observing_in m) (what_is_asked m);
+  blocks = use_it;
 }
 
+-- that for the reply to an act, which is asked for at a moment
+abbrev pub pending_of : Endpoint → ℕ → CoapMessage → ℕ → PendingReply
+pending_of from now m slot = pending_with (use_of now m.code (observing_in m) (what_is_asked m)) from m slot
+
 -- the same of a request that came in blocks, of which this is the last
-abbrev pub joined_ask : Endpoint → CoapMessage → ℕ → Block → OpenAsk
-joined_ask from m slot b = record { request = opened m slot; from = from; observing = observing_in m; blocks = blocks.Joined b }
+abbrev pub pending_joined : Endpoint → CoapMessage → ℕ → Block → PendingReply
+pending_joined from m slot b = pending_with (blocks.Joined b) from m slot
 
 -- a request with this body
 abbrev pub with_whole_body : List ℕ → PlainAsk → PlainAsk
@@ -290,22 +293,22 @@ pub data IsAnsweredAtOnce (from : Endpoint) (now : ℕ) (m : CoapMessage) (r : R
 pub data Reads (from : Endpoint) (now : ℕ) (m : CoapMessage) (slot : ℕ) (heard : Heard) (s t : Server) : Type 0 where
   -- it is answered at once
   replied : (r : Reply) (parts : List Part) (bytes : List ℕ) → IsAnsweredAtOnce from now m r s parts
-      → Replies r (opened m slot) bytes (with_parts parts s) t → heard ≡ answered_at_once bytes → Reads from now m slot heard s t
+      → Replies r (head_of m) slot bytes (with_parts parts s) t → heard ≡ answered_at_once bytes → Reads from now m slot heard s t
   -- a bad option of any other request than a Confirmable one: it is ignored; it was admitted, so a duplicate of it is one
   bad_option_ignored : (number : ℕ) → slice_get (faults_of m.options) 0 ≡ Some (fault.BadOption number) → request_type m.kind ≡ NonConfirmable
       → heard ≡ ignored → t ≡ s → Reads from now m slot heard s t
   -- it is a GET for the links, which are given
   gives_links : (bytes : List ℕ) → faults_of m.options ≡ [] → wanted_in m ≡ wanted.Act → asks_links m ≡ true → m.code ≡ GET
-      → Replies (links_reply (size_asked (observing_in m) (what_is_asked m)) s.links) (opened m slot) bytes
+      → Replies (links_reply (size_asked (observing_in m) (what_is_asked m)) s.links) (head_of m) slot bytes
       (links_given from now m.token (observing_in m) (what_is_asked m) s) t
       → heard ≡ answered_at_once bytes → Reads from now m slot heard s t
   -- it is asked
-  asks : faults_of m.options ≡ [] → wanted_in m ≡ wanted.Act → asks_links m ≡ false → heard ≡ asked (what_is_asked m) (opened_ask from now m slot) → t ≡ s
+  asks : faults_of m.options ≡ [] → wanted_in m ≡ wanted.Act → asks_links m ≡ false → heard ≡ asked (what_is_asked m) (pending_of from now m slot) → t ≡ s
       → Reads from now m slot heard s t
   -- it is the last block of a request, which is asked with the body that was joined; that leaves the parts
   asks_whole : (b : Block) (place : ℕ) (parts : List Part) (whole : Part) → faults_of m.options ≡ [] → wanted_in m ≡ wanted.Joining b → asks_links m ≡ false
       → Adds from now m b s (Complete place) parts → slice_get parts place ≡ Some whole
-      → heard ≡ asked (with_whole_body whole.bytes (what_is_asked m)) (joined_ask from m slot b) → t ≡ with_parts (remove parts place) s
+      → heard ≡ asked (with_whole_body whole.bytes (what_is_asked m)) (pending_joined from m slot b) → t ≡ with_parts (remove parts place) s
       → Reads from now m slot heard s t
 
 -- ---- any datagram

@@ -12,11 +12,10 @@ use Rattle.coap_observe.specs.Watching.{Watching}
 use Rattle.coap_opts.specs.PlainAsk.{plain_ask}
 use Rattle.coap_bind.specs.declared.next.CoapNext.{CoapNext}
 use Rattle.coap_bind.specs.declared.next.CoapNext.TheVariants.{Nothing, Send, Ask}
-use Rattle.coap_bind.specs.declared.head.OpenRequest.{OpenRequest}
-use Rattle.coap_bind.specs.declared.head.OpenAsk.{OpenAsk}
+use Rattle.coap_bind.specs.declared.pending.PendingReply.{PendingReply}
 use Rattle.coap_bind.specs.declared.server.Server.{Server}
 use Rattle.coap_bind.specs.Blocks.{IsUse, answer_reply}
-use Rattle.coap_bind.specs.Writing.{Reply, observed, coap_reply}
+use Rattle.coap_bind.specs.Writing.{Reply, observed, head_in, coap_reply}
 use Rattle.coap_bind.specs.Observing.{effect_of, Watches}
 use Rattle.coap_bind.specs.Server.{Heard, ignored, answered_at_once, asked, Replies, Answers, IsMet, Settles, Hears}
 
@@ -45,29 +44,29 @@ pub record IsAdmitted (from : Endpoint) (bytes : List ℕ) (now : ℕ) (s : Serv
   pub after : Server
   pub met : IsMet from bytes now message (Fresh slot) s after
 
--- A reply to a request was written, n bytes of it.
-pub record RepliesAs (r : Reply) (request : OpenRequest) (n : ℕ) (old new : List ℕ) (s t : Server) : Type 0 where
+-- A reply that was pending was written, n bytes of it.
+pub record RepliesAs (r : Reply) (pending : PendingReply) (n : ℕ) (old new : List ℕ) (s t : Server) : Type 0 where
   pub bytes : List ℕ
-  pub replies : Replies r request bytes s t
+  pub replies : Replies r (head_in pending) pending.slot bytes s t
   pub written : IsWritten bytes n old new
 
 -- What was asked was answered, in n bytes.
-pub record AnswersAs (ask : OpenAsk) (o : Outcome) (target : Option ℕ) (n : ℕ) (old new : List ℕ) (s t : Server) : Type 0 where
+pub record AnswersAs (ask : PendingReply) (o : Outcome) (target : Option ℕ) (n : ℕ) (old new : List ℕ) (s t : Server) : Type 0 where
   pub bytes : List ℕ
   pub answers : Answers ask o target bytes s t
   pub written : IsWritten bytes n old new
 
 -- The answer has room, whichever sequence number it says, if it says one.
-abbrev pub HasRoom : OpenAsk → Outcome → Option ℕ → Server → Type 0
+abbrev pub HasRoom : PendingReply → Outcome → Option ℕ → Server → Type 0
 HasRoom ask o target s =
-    (observe : Option ℕ) (watchers : Watching) → Watches (effect_of ask.observing o target) ask.from ask.request.head.token s.watchers observe watchers
-    → length (spelling (coap_reply (observed observe (answer_reply ask.blocks o)) ask.request.head s.next_id)) ≤ LONGEST_MESSAGE
+    (observe : Option ℕ) (watchers : Watching) → Watches (effect_of ask.observing o target) ask.from ask.token s.watchers observe watchers
+    → length (spelling (coap_reply (observed observe (answer_reply ask.blocks o)) (head_in ask) s.next_id)) ≤ LONGEST_MESSAGE
 
 -- what is asked may be answered: the exchange in the slot of the ticket waits for its reply, the token is one (RFC 7252,
 -- section 3), and the sizes of blocks are such as there are
-pub record MayAnswer (ask : OpenAsk) (s : Server) : Type 0 where
-  pub awaited : IsAwaited ask.request.slot s.exchanges
-  pub token : length ask.request.head.token ≤ LONGEST_TOKEN
+pub record MayAnswer (ask : PendingReply) (s : Server) : Type 0 where
+  pub awaited : IsAwaited ask.slot s.exchanges
+  pub token : length ask.token ≤ LONGEST_TOKEN
   pub blocks : IsUse ask.blocks
 
 abbrev pub TicketIsOpen : CoapNext → Server → Type 0

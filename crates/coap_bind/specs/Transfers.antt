@@ -10,11 +10,11 @@ use Rattle.coap_blocks.specs.declared.added.Added.TheVariants.{Complete}
 use Rattle.thing_ops.specs.declared.outcome.Outcome.{Outcome}
 use Rattle.thing_ops.specs.declared.outcome.Outcome.TheVariants.{Memory}
 use Rattle.coap_opts.specs.Reading.{faults_of, asked as what_is_asked}
-use Rattle.coap_bind.specs.declared.head.OpenAsk.{OpenAsk}
+use Rattle.coap_bind.specs.declared.pending.PendingReply.{PendingReply}
 use Rattle.coap_bind.specs.declared.server.Server.{Server}
 use Rattle.coap_bind.specs.Laws.{Did}
-use Rattle.coap_bind.specs.Server.{Heard, answered_at_once, asked, asks_links, opened, opened_ask, Replies, Reads, Answers}
-use Rattle.coap_bind.specs.Writing.{reply_of}
+use Rattle.coap_bind.specs.Server.{Heard, answered_at_once, asked, asks_links, pending_of, Replies, Reads, Answers}
+use Rattle.coap_bind.specs.Writing.{reply_of, head_of}
 
 -- a request names no block
 pub record NamesNoBlock (m : CoapMessage) : Type 0 where
@@ -27,12 +27,12 @@ abbrev pub RequestsWithoutBlocksAct : Type 0
 RequestsWithoutBlocksAct =
     (from : Endpoint) (now : ℕ) (m : CoapMessage) (slot : ℕ) (heard : Heard) (s t : Server) → NamesNoBlock m → faults_of m.options ≡ []
     → asks_links m ≡ false → Reads from now m slot heard s t
-    → ((heard ≡ asked (what_is_asked m) (opened_ask from now m slot)) × (t ≡ s))
-    ⊎ ((bytes : List ℕ) × (heard ≡ answered_at_once bytes) × Replies (reply_of Memory) (opened m slot) bytes s t)
+    → ((heard ≡ asked (what_is_asked m) (pending_of from now m slot)) × (t ≡ s))
+    ⊎ ((bytes : List ℕ) × (heard ≡ answered_at_once bytes) × Replies (reply_of Memory) (head_of m) slot bytes s t)
 
 -- An answer leaves the parts: also where the request is out of memory after its last block, which left them before.
 abbrev pub AnswersLeaveTheParts : Type 0
-AnswersLeaveTheParts = (ask : OpenAsk) (o : Outcome) (target : Option ℕ) (bytes : List ℕ) (s t : Server) → Answers ask o target bytes s t → t.parts ≡ s.parts
+AnswersLeaveTheParts = (ask : PendingReply) (o : Outcome) (target : Option ℕ) (bytes : List ℕ) (s t : Server) → Answers ask o target bytes s t → t.parts ≡ s.parts
 
 -- what becomes of a block isn't that a body is whole
 abbrev pub LeavesOpen : BlockArrival → List Part → Type 0

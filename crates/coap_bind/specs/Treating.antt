@@ -14,7 +14,7 @@ use Rattle.thing_ops.specs.declared.outcome.Outcome.TheVariants.{Memory}
 use Rattle.thing_ops.specs.Outcomes.{HasCode}
 use Rattle.coap_observe.specs.Watching.{Watching}
 use Rattle.coap_opts.specs.Reading.{PlainAsk, faults_of, asked as what_is_asked}
-use Rattle.coap_bind.specs.declared.head.OpenAsk.{OpenAsk}
+use Rattle.coap_bind.specs.declared.pending.PendingReply.{PendingReply}
 use Rattle.coap_bind.specs.declared.server.Server.{Server}
 use Rattle.coap_bind.specs.Writing.{Reply, full_reply, reply_of, observed, head_of, coap_reply}
 use Rattle.coap_bind.specs.declared.blocks.BlockUse.TheVariants.{Joined}
@@ -37,7 +37,7 @@ pub data Treats (from : Endpoint) (bytes : List ℕ) (now : ℕ) (act : Option A
   ignores : Hears from bytes now ignored s t → act ≡ None → back ≡ [] → Treats from bytes now act back s t
   answers : (reply : List ℕ) → Hears from bytes now (answered_at_once reply) s t → act ≡ None → back ≡ reply ∷ []
       → Treats from bytes now act back s t
-  acts : (a : Acted) (ask : OpenAsk) (reply : List ℕ) (u : Server) → Hears from bytes now (asked a.what ask) s u
+  acts : (a : Acted) (ask : PendingReply) (reply : List ℕ) (u : Server) → Hears from bytes now (asked a.what ask) s u
       → HasCode a.outcome → HasShortPlace a.outcome → Answers ask a.outcome a.target reply u t → act ≡ Some a → back ≡ reply ∷ []
       → Treats from bytes now act back s t
 

@@ -16,7 +16,7 @@ use Rattle.thing_ops.specs.declared.outcome.Outcome.{Outcome}
 use Rattle.thing_ops.specs.declared.outcome.Outcome.TheVariants as outcome
 use Rattle.thing_ops.specs.Outcomes.{coap, answer_of, payload_of, text_of, version_of}
 use Rattle.coap_observe.specs.declared.notice.Notice.{Notice}
-use Rattle.coap_bind.specs.declared.head.RequestHead.{RequestHead}
+use Rattle.coap_bind.specs.declared.pending.PendingReply.{PendingReply}
 
 -- ---- what a reply says
 
@@ -95,9 +95,19 @@ observed observe r = record r { options = observe_options observe ++ r.options }
 
 -- ---- the message
 
--- what a reply takes over from its request: how that was sent, the message ID and the token
-abbrev pub head_of : CoapMessage → RequestHead
+-- what a reply takes over from its request: how that was sent, its message ID and its token
+pub record ReplyHead : Type 0 where
+  pub kind : RequestType
+  pub id : ℕ
+  pub token : List ℕ
+
+-- that of the reply to a request
+abbrev pub head_of : CoapMessage → ReplyHead
 head_of m = record { kind = request_type m.kind; id = m.id; token = m.token }
+
+-- that of a reply which isn't sent yet
+abbrev pub head_in : PendingReply → ReplyHead
+head_in p = record { kind = p.kind; id = p.id; token = p.token }
 
 -- a Confirmable request is answered in its acknowledgement, any other by a Non-confirmable message
 -- (sections 5.2.1 and 5.2.3)
@@ -111,9 +121,9 @@ abbrev pub reply_id : RequestType → ℕ → ℕ → ℕ
 reply_id Confirmable id next = id
 reply_id NonConfirmable id next = next
 
--- The message that a reply is: to the request with this head, where this is the next message ID of the server. It has
+-- The message that a reply with this head is, where this is the next message ID of the server. It has
 -- the token of the request (section 5.3.1).
-abbrev pub coap_reply : Reply → RequestHead → ℕ → CoapMessage
+abbrev pub coap_reply : Reply → ReplyHead → ℕ → CoapMessage
 coap_reply r head next = record {
   kind = reply_kind head.kind;
   code = r.code;

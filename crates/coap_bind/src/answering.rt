@@ -1,9 +1,10 @@
 //! Replies to requests: those of outcomes, of which some register or deregister a watcher, and the server's own words.
 
 use crate::blocks::{BlockUse, Giving};
-use crate::head::{OpenAsk, OpenRequest, RequestHead};
+use crate::next::CoapNext;
 use crate::observing::{Effect, effect_of};
 use crate::options::text_format;
+use crate::pending::PendingReply;
 use crate::portion::{LONGEST_BODY, first_block, is_representation};
 use crate::server::Server;
 use crate::writing::{CONTENT, Said, put_outcome, put_word};
@@ -23,7 +24,7 @@ impl Server {
     ghost use Rattle.coap_bind.specs.Observing.{effect_of, Watches};
     ghost use Rattle.coap_bind.specs.Blocks.{IsUse, answer_reply, bodies_after};
     ghost use Rattle.coap_bind.specs.declared.blocks.BlockUse.TheVariants as blocks;
-    ghost use Rattle.coap_bind.specs.Writing.{word_reply, reply_of, observed, coap_reply};
+    ghost use Rattle.coap_bind.specs.Writing.{word_reply, observed, head_in, coap_reply};
     ghost use Rattle.coap_bind.specs.Server.{with_next_id, with_id_used, with_kept, with_watchers, with_bodies};
     ghost use Rattle.coap_msg.specs.Written.{IsWritten};
     ghost use Rattle.coap_bind.specs.Telling.{RepliesAs, AnswersAs, HasRoom};
@@ -32,36 +33,36 @@ impl Server {
     /// Answers what was asked of this target, if it has one, and returns how many bytes to send.
     pub fn answer(
         &mut self,
-        ask: &OpenAsk,
+        pending: &PendingReply,
         outcome: &Outcome,
         target: Option<u32>,
         out: &mut [u8; LONGEST_MESSAGE],
     ) -> usize
-        requires slot { IsAwaited ask.now.request.slot self.old.exchanges }
+        requires slot { IsAwaited pending.now.slot self.old.exchanges }
         requires code { HasCode outcome.now }
-        requires blocks { IsUse ask.now.blocks }
-        requires room { HasRoom ask.now outcome.now target self.old }
-        ensures { AnswersAs ask.now outcome.now target result out.old out.new self.old self.new }
+        requires blocks { IsUse pending.now.blocks }
+        requires room { HasRoom pending.now outcome.now target self.old }
+        ensures { AnswersAs pending.now outcome.now target result out.old out.new self.old self.new }
     {
-        let effect = effect_of(ask.observing, outcome, target);
-        let observe = self.watch(ask, effect);
-        self.keep_body(ask, outcome);
+        let effect = effect_of(pending.observing, outcome, target);
+        let observe = self.watch(pending, effect);
+        self.keep_body(pending, outcome);
         let said = Said {
             outcome,
             observe,
-            blocks: &ask.blocks,
+            blocks: &pending.blocks,
         };
-        self.reply(&ask.request, said, out)
+        self.reply(pending, said, out)
     }
 
     /// Keeps the payload of what was asked for the requests for its later blocks, where it has any.
-    fn keep_body(&mut self, ask: &OpenAsk, outcome: &Outcome)
-        requires { IsUse ask.now.blocks }
-        ensures { self.new ≡ with_bodies (bodies_after ask.now.blocks ask.now.from outcome.now self.old.bodies) self.old }
+    fn keep_body(&mut self, pending: &PendingReply, outcome: &Outcome)
+        requires { IsUse pending.now.blocks }
+        ensures { self.new ≡ with_bodies (bodies_after pending.now.blocks pending.now.from outcome.now self.old.bodies) self.old }
     {
-        match &ask.blocks {
+        match &pending.blocks {
             BlockUse::Whole => {}
-            BlockUse::Gives(giving) => self.keep_body_under(ask.from, giving, outcome),
+            BlockUse::Gives(giving) => self.keep_body_under(pending.from, giving, outcome),
             BlockUse::Joined(_) => {}
         }
     }
@@ -79,19 +80,19 @@ impl Server {
 
     /// Does this to the watchers, for the sender of what was asked: gives the sequence number that the response says,
     /// if it says one.
-    fn watch(&mut self, ask: &OpenAsk, effect: Effect) -> Option<u32>
-        ensures watches { Watches effect ask.now.from ask.now.request.head.token self.old.watchers result self.new.watchers }
+    fn watch(&mut self, pending: &PendingReply, effect: Effect) -> Option<u32>
+        ensures watches { Watches effect pending.now.from pending.now.token self.old.watchers result self.new.watchers }
         ensures same { self.new ≡ with_watchers self.new.watchers self.old }
     {
-        let token = ask.request.head.token.as_bytes();
+        let token = pending.token.as_bytes();
         match effect {
             Effect::Nothing => None,
             Effect::Cancels => {
-                let _found = self.watchers.cancel(ask.from, token);
+                let _found = self.watchers.cancel(pending.from, token);
                 None
             }
             Effect::Registers(target) => {
-                sequence_of(self.watchers.register(ask.from, token, target))
+                sequence_of(self.watchers.register(pending.from, token, target))
             }
         }
     }
@@ -99,79 +100,62 @@ impl Server {
     /// Replies to a request, and returns how many bytes to send.
     pub fn reply(
         &mut self,
-        request: &OpenRequest,
+        pending: &PendingReply,
         said: Said<'_>,
         out: &mut [u8; LONGEST_MESSAGE],
     ) -> usize
-        requires slot { IsAwaited request.now.slot self.old.exchanges }
+        requires slot { IsAwaited pending.now.slot self.old.exchanges }
         requires code { HasCode said.outcome.now }
         requires blocks { IsUse said.blocks.now }
         requires short { (said.observe ≡ None) ⊎ (length (payload_of said.outcome.now) ≤ LONGEST_PAYLOAD) }
-        requires room { length (spelling (coap_reply (observed said.observe (answer_reply said.blocks.now said.outcome.now)) request.now.head self.old.next_id)) ≤ LONGEST_MESSAGE }
-        ensures { RepliesAs (observed said.entry.observe (answer_reply said.entry.blocks.now said.entry.outcome.now)) request.now result out.old out.new self.old self.new }
+        requires room { length (spelling (coap_reply (observed said.observe (answer_reply said.blocks.now said.outcome.now)) (head_in pending.now) self.old.next_id)) ≤ LONGEST_MESSAGE }
+        ensures { RepliesAs (observed said.entry.observe (answer_reply said.entry.blocks.now said.entry.outcome.now)) pending.now result out.old out.new self.old self.new }
     {
-        let size = put_outcome(said, &request.head, self.next_id, out);
-        self.use_id(request.head.kind);
-        self.keep(request, &out[..size]);
+        let size = put_outcome(said, pending, self.next_id, out);
+        self.use_id(pending.kind);
+        self.keep(pending, &out[..size]);
         size
     }
 
     /// Answers a request that was admitted with a word, and returns how many bytes to send.
     pub fn refuse(
         &mut self,
-        request: &OpenRequest,
+        pending: &PendingReply,
         code: u8,
         word: &[u8],
         out: &mut [u8; LONGEST_MESSAGE],
     ) -> usize
-        requires slot { IsAwaited request.now.slot self.old.exchanges }
+        requires slot { IsAwaited pending.now.slot self.old.exchanges }
         requires code { (code / 32 ≡ 4) ⊎ (code / 32 ≡ 5) }
         requires word { length word.now ≤ 64 }
-        ensures { RepliesAs (word_reply code word.now) request.now result out.old out.new self.old self.new }
+        ensures { RepliesAs (word_reply code word.now) pending.now result out.old out.new self.old self.new }
     {
-        let size = self.send(code, word, &request.head, out);
-        self.keep(request, &out[..size]);
+        let size = put_word(code, word, pending, self.next_id, out);
+        self.use_id(pending.kind);
+        self.keep(pending, &out[..size]);
         size
     }
 
     /// Answers a request with a bad option, if it is answered.
     pub fn refuse_option(
         &mut self,
-        request: &OpenRequest,
+        pending: &PendingReply,
         number: u16,
         out: &mut [u8; LONGEST_MESSAGE],
-    ) -> Option<usize>
-        requires slot { IsAwaited request.now.slot self.old.exchanges }
-        ensures { RefusesOption request.now number result out.old out.new self.old self.new }
+    ) -> CoapNext<'static>
+        requires slot { IsAwaited pending.now.slot self.old.exchanges }
+        ensures { RefusesOption pending.now number result out.old out.new self.old self.new }
     {
-        match request.head.kind {
+        match pending.kind {
             RequestType::Confirmable => {
                 let mut buffer = Buffer::new();
                 let mut word = [0u8; 16];
                 let at = put_bytes(&mut word, 0, b"option ");
                 let at = put_bytes(&mut word, at, buffer.format(number).as_bytes());
-                Some(self.refuse(request, BAD_OPTION, &word[..at], out))
+                CoapNext::Send(self.refuse(pending, BAD_OPTION, &word[..at], out))
             }
-            RequestType::NonConfirmable => None,
+            RequestType::NonConfirmable => CoapNext::Nothing,
         }
-    }
-
-    /// Writes a reply that is a word, which isn't kept, and returns how many bytes to send.
-    pub fn send(
-        &mut self,
-        code: u8,
-        word: &[u8],
-        head: &RequestHead,
-        out: &mut [u8; LONGEST_MESSAGE],
-    ) -> usize
-        requires code { (code / 32 ≡ 4) ⊎ (code / 32 ≡ 5) }
-        requires word { length word.now ≤ 64 }
-        ensures bytes { IsWritten (spelling (coap_reply (word_reply code word.now) head.now self.old.next_id)) result out.old out.new }
-        ensures after { self.new ≡ with_id_used head.now.kind self.old }
-    {
-        let size = put_word(code, word, head, self.next_id, out);
-        self.use_id(head.kind);
-        size
     }
 
     /// Uses the next message ID.
@@ -192,13 +176,13 @@ impl Server {
     }
 
     /// Keeps a reply, where its request was confirmable.
-    pub fn keep(&mut self, request: &OpenRequest, reply: &[u8])
-        requires slot { IsAwaited request.now.slot self.old.exchanges }
+    pub fn keep(&mut self, pending: &PendingReply, reply: &[u8])
+        requires slot { IsAwaited pending.now.slot self.old.exchanges }
         requires length { length reply.now ≤ LONGEST_MESSAGE }
-        ensures { self.new ≡ with_kept request.now.head.kind request.now.slot reply.now self.old }
+        ensures { self.new ≡ with_kept pending.now.kind pending.now.slot reply.now self.old }
     {
-        match request.head.kind {
-            RequestType::Confirmable => self.exchanges.keep(request.slot, reply),
+        match pending.kind {
+            RequestType::Confirmable => self.exchanges.keep(pending.slot, reply),
             RequestType::NonConfirmable => {}
         }
     }

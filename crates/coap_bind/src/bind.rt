@@ -1,10 +1,9 @@
 //! The CoAP server: what a datagram asks for, the reply to it, and notifications.
 
 use crate::NoMemory;
-use crate::head::Arrived;
 use crate::next::{CoapNext, Ticket};
+use crate::pending::PendingReply;
 use crate::server::Server;
-use crate::settled::Settled;
 use crate::writing::put_notification;
 use coap_blocks::{Bodies, Parts};
 use coap_exchange::Exchanges;
@@ -103,17 +102,12 @@ impl CoapBind {
         ensures moment { self.new.exchanges.moment ≤ now }
     {
         match self.server.settle(from, bytes, now, out) {
-            Settled::Done(None) => CoapNext::Nothing,
-            Settled::Done(Some(size)) => CoapNext::Send(size),
-            Settled::Admitted(message, slot) => {
-                let arrived = Arrived {
-                    from,
-                    code: message.code,
-                    now,
-                    slot,
-                };
-                let read = self.server.read(self.alloc, arrived, &message, out);
-                self.server.hand_out(read, room)
+            Err(None) => CoapNext::Nothing,
+            Err(Some(size)) => CoapNext::Send(size),
+            Ok((message, slot)) => {
+                let pending = PendingReply::of(&message, from, slot);
+                self.server
+                    .read(self.alloc, pending, &message, now, out, room)
             }
         }
     }
@@ -130,14 +124,14 @@ impl CoapBind {
         target: Option<u32>,
         out: &mut [u8; LONGEST_MESSAGE],
     ) -> usize
-        requires ticket { IsAwaited ticket.request.slot self.old.exchanges }
+        requires ticket { IsAwaited ticket.slot self.old.exchanges }
         requires code { HasCode outcome.now }
         requires room { HasRoom ticket outcome.now target self.old }
         ensures ok { AnswersAs ticket outcome.now target result out.old out.new self.old self.new }
         ensures moment { self.new.exchanges.moment ≡ self.old.exchanges.moment }
     {
-        let ask = ticket.spend();
-        self.server.answer(&ask, outcome, target, out)
+        let pending = ticket.spend();
+        self.server.answer(&pending, outcome, target, out)
     }
 
     /// A target has a new value: its watchers are to be notified.

@@ -42,17 +42,16 @@
 mod answering;
 mod bind;
 mod blocks;
-mod head;
 mod joining;
 mod laws;
 mod links;
 mod next;
 mod observing;
 mod options;
+mod pending;
 mod portion;
 mod reading;
 mod server;
-mod settled;
 mod writing;
 
 pub use bind::CoapBind;

@@ -1,8 +1,8 @@
 //! The path of the links, and what a request for it is answered (RFC 6690, section 4; RFC 7252, section 7.2).
 
 use crate::blocks::size_asked;
-use crate::head::{Arrived, OpenRequest, RequestHead};
-use crate::observing::{Observing, observing_of};
+use crate::observing::Observing;
+use crate::pending::PendingReply;
 use crate::portion::{LONGEST_BODY, first_block, given_portion};
 use crate::server::Server;
 use crate::writing::{CONTENT, Told, put_told, put_word};
@@ -25,7 +25,6 @@ impl Server {
     ghost use Rattle.coap_opts.specs.PlainAsk.{plain_ask};
     ghost use Rattle.coap_opts.specs.Reading.{HasBlocks};
     ghost use Rattle.coap_bind.specs.Links.{bodies_with_links, links_reply, method_reply, size_asked, watchers_with_links};
-    ghost use Rattle.coap_bind.specs.Observing.{observing_of};
     ghost use Rattle.coap_bind.specs.Server.{links_given, with_bodies, with_parts, with_watchers};
     ghost use Rattle.coap_bind.specs.Settling.{AnswersLinks};
     ghost use Rattle.coap_bind.specs.Telling.{RepliesAs};
@@ -33,75 +32,70 @@ impl Server {
     /// Answers a request for the path of the links: a GET with their text, and any other verb that it can't be.
     pub fn answer_links(
         &mut self,
-        arrived: Arrived,
-        request: &OpenRequest,
+        pending: &PendingReply,
+        code: u8,
         ask: &CoapAsk<'_>,
+        now: u64,
         out: &mut [u8; LONGEST_MESSAGE],
     ) -> usize
-        requires token { length request.now.head.token ≤ 8 }
+        requires token { length pending.now.token ≤ 8 }
         requires blocks { HasBlocks (plain_ask ask.now) }
         requires path { path_size ask.now.request.path ≤ largest_path }
-        requires slot { IsAwaited request.now.slot self.old.exchanges }
-        ensures { AnswersLinks arrived request.now (plain_ask ask.now) result out.old out.new self.old self.new }
+        requires slot { IsAwaited pending.now.slot self.old.exchanges }
+        ensures { AnswersLinks pending.now code now (plain_ask ask.now) result out.old out.new self.old self.new }
     {
-        if arrived.code == GET {
-            self.give_links(arrived, request, ask, out)
+        if code == GET {
+            self.give_links(pending, ask, now, out)
         } else {
-            self.refuse(request, METHOD_NOT_ALLOWED, b"method", out)
+            self.refuse(pending, METHOD_NOT_ALLOWED, b"method", out)
         }
     }
 
     /// Answers the last block of a request to the path of the links, which has made the body at this place whole.
     pub fn refuse_whole(
         &mut self,
-        request: &OpenRequest,
+        pending: &PendingReply,
         place: u32,
         out: &mut [u8; LONGEST_MESSAGE],
     ) -> usize
         requires place { place < length self.old.parts }
-        requires token { length request.now.head.token ≤ 8 }
-        requires slot { IsAwaited request.now.slot self.old.exchanges }
-        ensures { RepliesAs method_reply request.now result out.old out.new (with_parts (remove self.old.parts place) self.old) self.new }
+        requires token { length pending.now.token ≤ 8 }
+        requires slot { IsAwaited pending.now.slot self.old.exchanges }
+        ensures { RepliesAs method_reply pending.now result out.old out.new (with_parts (remove self.old.parts place) self.old) self.new }
     {
         self.parts.clear(place);
-        self.refuse(request, METHOD_NOT_ALLOWED, b"method", out)
+        self.refuse(pending, METHOD_NOT_ALLOWED, b"method", out)
     }
 
     /// Gives the links to a GET.
     fn give_links(
         &mut self,
-        arrived: Arrived,
-        request: &OpenRequest,
+        pending: &PendingReply,
         ask: &CoapAsk<'_>,
+        now: u64,
         out: &mut [u8; LONGEST_MESSAGE],
     ) -> usize
-        requires token { length request.now.head.token ≤ 8 }
+        requires token { length pending.now.token ≤ 8 }
         requires blocks { HasBlocks (plain_ask ask.now) }
         requires path { path_size ask.now.request.path ≤ largest_path }
-        requires slot { IsAwaited request.now.slot self.old.exchanges }
-        ensures { RepliesAs (links_reply (size_asked (observing_of arrived.code (plain_ask ask.now).observe) (plain_ask ask.now)) self.old.links) request.now
-            result out.old out.new (links_given arrived.from arrived.now request.now.head.token (observing_of arrived.code (plain_ask ask.now).observe) (plain_ask ask.now) self.old) self.new }
+        requires slot { IsAwaited pending.now.slot self.old.exchanges }
+        ensures { RepliesAs (links_reply (size_asked pending.now.observing (plain_ask ask.now)) self.old.links) pending.now
+            result out.old out.new (links_given pending.now.from now pending.now.token pending.now.observing (plain_ask ask.now) self.old) self.new }
     {
-        let observing = observing_of(arrived.code, ask.observe);
-        self.note_links(arrived, request, observing, ask);
-        self.reply_links(request, size_asked(observing, ask), out)
+        self.note_links(pending, ask, now);
+        self.reply_links(pending, size_asked(pending.observing, ask), out)
     }
 
     /// Does to the watchers and to the bodies that are kept what a GET for the links does.
-    fn note_links(
-        &mut self,
-        arrived: Arrived,
-        request: &OpenRequest,
-        observing: Observing,
-        ask: &CoapAsk<'_>,
-    )
+    fn note_links(&mut self, pending: &PendingReply, ask: &CoapAsk<'_>, now: u64)
         requires blocks { HasBlocks (plain_ask ask.now) }
         requires path { path_size ask.now.request.path ≤ largest_path }
-        ensures { self.new ≡ links_given arrived.from arrived.now request.now.head.token observing (plain_ask ask.now) self.old }
+        ensures { self.new ≡ links_given pending.now.from now pending.now.token pending.now.observing (plain_ask ask.now) self.old }
     {
-        self.end_observation(observing, arrived.from, request.head.token.as_bytes());
+        let observing = pending.observing;
+        self.end_observation(observing, pending.from, pending.token.as_bytes());
         let path = &ask.request.path;
-        self.keep_links(arrived, path, size_asked(observing, ask));
+        self.keep_links(pending.from, path, size_asked(observing, ask), now);
     }
 
     /// Ends the observation of an endpoint with this token, where its request wants that.
@@ -118,33 +112,33 @@ impl Server {
     }
 
     /// Keeps the text of the links for the requests for its later blocks, where it has any.
-    fn keep_links(&mut self, arrived: Arrived, path: &Segments, szx: Option<u8>)
+    fn keep_links(&mut self, from: Endpoint, path: &Segments, szx: Option<u8>, now: u64)
         requires path { path_size path.now ≤ largest_path }
         requires size { IfSome szx (λ z. z ≤ 6) }
-        ensures { self.new ≡ with_bodies (bodies_with_links arrived.from path.now arrived.now szx self.old.links self.old.bodies) self.old }
+        ensures { self.new ≡ with_bodies (bodies_with_links from path.now now szx self.old.links self.old.bodies) self.old }
     {
         let text = self.links.as_slice();
         if is_text_kept(szx, text.len()) {
-            put_text(&mut self.bodies, arrived, path, text);
+            put_text(&mut self.bodies, from, path, text, now);
         }
     }
 
     /// Replies with the text of the links, or with its first block.
     fn reply_links(
         &mut self,
-        request: &OpenRequest,
+        pending: &PendingReply,
         szx: Option<u8>,
         out: &mut [u8; LONGEST_MESSAGE],
     ) -> usize
-        requires token { length request.now.head.token ≤ 8 }
+        requires token { length pending.now.token ≤ 8 }
         requires size { IfSome szx (λ z. z ≤ 6) }
-        requires slot { IsAwaited request.now.slot self.old.exchanges }
-        ensures { RepliesAs (links_reply szx self.old.links) request.now result out.old out.new self.old self.new }
+        requires slot { IsAwaited pending.now.slot self.old.exchanges }
+        ensures { RepliesAs (links_reply szx self.old.links) pending.now result out.old out.new self.old self.new }
     {
         let text = self.links.as_slice();
-        let size = put_links(text, szx, &request.head, self.next_id, out);
-        self.use_id(request.head.kind);
-        self.keep(request, &out[..size]);
+        let size = put_links(text, szx, pending, self.next_id, out);
+        self.use_id(pending.kind);
+        self.keep(pending, &out[..size]);
         size
     }
 }
@@ -156,7 +150,7 @@ ghost use Rattle.coap_msg.specs.Written.{IsWritten};
 ghost use Rattle.coap_blocks.specs.Bodies.{longest_body, with_body};
 ghost use Rattle.coap_blocks.specs.Paths.{largest_path, path_size};
 ghost use Rattle.coap_bind.specs.Links.{is_links_path, is_text_kept, links_content, links_reply};
-ghost use Rattle.coap_bind.specs.Writing.{coap_reply};
+ghost use Rattle.coap_bind.specs.Writing.{head_in, coap_reply};
 
 /// Whether a path is that of the links.
 pub fn is_links_path(path: &Segments) -> bool
@@ -197,10 +191,10 @@ fn is_text_kept(szx: Option<u8>, length: usize) -> bool
 }
 
 /// Keeps the text of links for an endpoint and a path.
-fn put_text(bodies: &mut Bodies, arrived: Arrived, path: &Segments, text: &[u8])
+fn put_text(bodies: &mut Bodies, from: Endpoint, path: &Segments, text: &[u8], now: u64)
     requires text { length text.now ≤ longest_body }
     requires path { path_size path.now ≤ largest_path }
-    ensures { bodies.new ≡ with_body (record { from = arrived.from; path = path.now; content = links_content text.now; moment = arrived.now }) bodies.old }
+    ensures { bodies.new ≡ with_body (record { from = from; path = path.now; content = links_content text.now; moment = now }) bodies.old }
 {
     let body = Whole {
         code: CONTENT,
@@ -208,22 +202,22 @@ fn put_text(bodies: &mut Bodies, arrived: Arrived, path: &Segments, text: &[u8])
         tag: None,
         bytes: text,
     };
-    bodies.put(arrived.from, path, &body, arrived.now);
+    bodies.put(from, path, &body, now);
 }
 
 /// Writes the reply to a GET for the links of this text, and returns how many bytes it has.
 fn put_links(
     text: &[u8],
     szx: Option<u8>,
-    head: &RequestHead,
+    pending: &PendingReply,
     next_id: u16,
     out: &mut [u8; LONGEST_MESSAGE],
 ) -> usize
     requires { IfSome szx (λ z. z ≤ 6) }
-    ensures { IsWritten (spelling (coap_reply (links_reply szx text.now) head.now next_id)) result out.old out.new }
+    ensures { IsWritten (spelling (coap_reply (links_reply szx text.now) (head_in pending.now) next_id)) result out.old out.new }
 {
     if text.len() > LONGEST_BODY {
-        return put_word(INTERNAL_SERVER_ERROR, b"long", head, next_id, out);
+        return put_word(INTERNAL_SERVER_ERROR, b"long", pending, next_id, out);
     }
     let told = Told {
         code: CONTENT,
@@ -231,5 +225,5 @@ fn put_links(
         format: Some(LINK_FORMAT),
         portion: given_portion(szx, text),
     };
-    put_told(told, head, next_id, out)
+    put_told(told, pending, next_id, out)
 }

@@ -1,6 +1,6 @@
 //! The server's answer to a datagram, and the ticket of a request that it hands out.
 
-use crate::head::OpenAsk;
+use crate::pending::PendingReply;
 use coap_opts::CoapAsk;
 use std::marker::Model;
 
@@ -15,42 +15,41 @@ pub enum CoapNext<'a> {
 }
 
 /// A request that was admitted and is to be answered, by `CoapBind::answer` alone: a ticket can't be dropped, copied or
-/// made elsewhere. Contracts see what the reply takes over from the request, the slot of its exchange, where it came
-/// from, what it wants of the watchers, and what blocks are to its reply (`OpenAsk`).
+/// made elsewhere. Contracts see the reply that is pending.
 pub struct Ticket {
-    ask: OpenAsk,
+    pending: PendingReply,
 }
 
 impl Model for Ticket {
-    ghost use Rattle.coap_bind.specs.declared.head.OpenAsk.{OpenAsk};
+    ghost use Rattle.coap_bind.specs.declared.pending.PendingReply.{PendingReply};
 
-    ghost Value = { OpenAsk };
+    ghost Value = { PendingReply };
 
     ghost use Rattle.coap_bind.specs.Blocks.{IsUse};
 
-    ghost view = { λ t. t.ask };
+    ghost view = { λ t. t.pending };
 
-    ghost invariant = { λ t. IsUse t.ask.blocks };
+    ghost invariant = { λ t. IsUse t.pending.blocks };
 }
 
 impl Ticket {
     ghost use Rattle.std.specs.Prelude.{◌≡◌};
     ghost use Rattle.coap_bind.specs.Blocks.{IsUse};
 
-    /// A ticket for this request.
-    pub(crate) fn of(ask: OpenAsk) -> Ticket
-        requires { IsUse ask.blocks }
-        ensures { result ≡ ask }
+    /// A ticket for this reply.
+    pub(crate) fn of(pending: PendingReply) -> Ticket
+        requires { IsUse pending.blocks }
+        ensures { result ≡ pending }
     {
-        Ticket { ask }
+        Ticket { pending }
     }
 
-    /// Spends the ticket: the request that it is for.
-    pub(crate) fn spend(self) -> OpenAsk
+    /// Spends the ticket: the reply that it is for.
+    pub(crate) fn spend(self) -> PendingReply
         ensures ok { result ≡ self }
         ensures blocks { IsUse result.blocks }
     {
-        let Ticket { ask } = self;
-        ask
+        let Ticket { pending } = self;
+        pending
     }
 }

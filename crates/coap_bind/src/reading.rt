@@ -1,14 +1,13 @@
 //! What is done with a request that was admitted: it is asked, or answered at once.
 
 use crate::blocks::{BlockUse, Giving, Wanted, size_asked, wanted_of};
-use crate::head::{Arrived, OpenAsk, OpenRequest, RequestHead};
-use crate::joining::BAD_REQUEST;
+use crate::joining::{BAD_REQUEST, with_body};
 use crate::links::is_links_path;
-use crate::next::Ticket;
+use crate::next::{CoapNext, Ticket};
 use crate::observing::{Observing, observing_of};
+use crate::pending::PendingReply;
 use crate::portion::portion_at;
 use crate::server::Server;
-use crate::settled::Read;
 use crate::writing::{CONTENT, Said, Told, put_told, put_word};
 use coap_blocks::Whole;
 use coap_msg::{Block, GET, LONGEST_MESSAGE, Message, PROXYING_NOT_SUPPORTED};
@@ -24,184 +23,161 @@ impl Server {
     ghost use Rattle.coap_msg.specs.declared.constants.TheConstants.{LONGEST_PAYLOAD};
     ghost use Rattle.coap_exchange.specs.Table.{IsAwaited};
     ghost use Rattle.coap_blocks.specs.Bodies.{body_for};
+    ghost use Rattle.coap_blocks.specs.Parts.{longest_request};
     ghost use Rattle.coap_blocks.specs.Paths.{largest_path, path_size};
     ghost use Rattle.coap_opts.specs.PlainAsk.{plain_ask};
     ghost use Rattle.coap_opts.specs.Reading.{HasBlocks, asked as what_is_asked};
     ghost use Rattle.thing_ops.specs.declared.outcome.Outcome.TheVariants.{Memory};
     ghost use Rattle.coap_bind.specs.declared.blocks.Wanted.TheVariants.{Act};
     ghost use Rattle.coap_bind.specs.Blocks.{later_reply};
-    ghost use Rattle.coap_bind.specs.Links.{is_links_path};
     ghost use Rattle.coap_bind.specs.Server.{is_request, wanted_in};
-    ghost use Rattle.coap_bind.specs.Settling.{IsOpenAfter, IsReadOf, ReadsAs, RefusesFault};
-    ghost use Rattle.coap_bind.specs.Telling.{RepliesAs};
-    ghost use Rattle.coap_bind.specs.Writing.{reply_of};
+    ghost use Rattle.coap_bind.specs.Settling.{IsReadOf, ReadsAs, RefusesFault};
+    ghost use Rattle.coap_bind.specs.Telling.{RepliesAs, TicketIsOpen};
+    ghost use Rattle.coap_bind.specs.Writing.{reply_of, head_of, head_in};
 
-    /// Reads a request that was admitted, and does what takes no act.
+    /// Reads a request that was admitted, and does what it wants.
     pub fn read<'a>(
         &mut self,
         alloc: Global,
-        arrived: Arrived,
+        pending: PendingReply,
         message: &Message<'a>,
+        now: u64,
         out: &mut [u8; LONGEST_MESSAGE],
-    ) -> Read<'a>
+        room: &'a mut [u8],
+    ) -> CoapNext<'a>
         requires request { is_request (message_of message.now) ≡ true }
-        requires code { arrived.code ≡ message.now.code }
-        requires token { length message.now.token.now ≤ 8 }
+        requires head { head_in pending ≡ head_of (message_of message.now) }
+        requires token { length pending.token ≤ 8 }
         requires path { path_size (what_is_asked (message_of message.now)).request.path ≤ largest_path }
-        requires slot { IsAwaited arrived.slot self.old.exchanges }
-        ensures ok { ReadsAs arrived.from arrived.now (message_of message.now) arrived.slot result out.old out.new self.old self.new }
-        ensures open { IsOpenAfter result self.new }
+        requires slot { IsAwaited pending.slot self.old.exchanges }
+        requires room { longest_request ≤ length room.old }
+        ensures ok { ReadsAs pending.from now (message_of message.now) pending.slot result out.old out.new self.old self.new }
+        ensures open { TicketIsOpen result self.new }
     {
-        let request = OpenRequest {
-            head: RequestHead::of(message),
-            slot: arrived.slot,
+        let ask = match request_of(alloc, message) {
+            Ok(ask) => ask,
+            Err(fault) => return self.refuse_fault(&pending, fault, out),
         };
-        match request_of(alloc, message) {
-            Ok(ask) => self.treat(alloc, arrived, request, ask, out),
-            Err(fault) => Read::Done(self.refuse_fault(&request, fault, out)),
+        let observing = observing_of(message.code, ask.observe);
+        let pending = PendingReply {
+            observing,
+            ..pending
+        };
+        match wanted_of(message.code, observing, &ask) {
+            Wanted::Act => self.ask(alloc, pending, message.code, ask, now, out),
+            Wanted::LaterBlock(block) => {
+                let path = &ask.request.path;
+                CoapNext::Send(self.give_later(&pending, path, block, now, out))
+            }
+            Wanted::Joining(block) => {
+                let path = &ask.request.path;
+                let body = ask.request.body;
+                let added = self
+                    .parts
+                    .add(pending.from, message.code, path, block, body, now);
+                match self.answer_block(&pending, path, block, added, out) {
+                    Ok(place) => {
+                        let pending = PendingReply {
+                            blocks: BlockUse::Joined(block),
+                            ..pending
+                        };
+                        let body = self.take_whole(place, room);
+                        CoapNext::Ask(with_body(ask, body), Ticket::of(pending))
+                    }
+                    Err(size) => CoapNext::Send(size),
+                }
+            }
         }
     }
 
     /// Answers a request that can't be read, if it is answered.
     fn refuse_fault(
         &mut self,
-        request: &OpenRequest,
+        pending: &PendingReply,
         fault: AskFault,
         out: &mut [u8; LONGEST_MESSAGE],
-    ) -> Option<usize>
-        requires token { length request.now.head.token ≤ 8 }
-        requires slot { IsAwaited request.now.slot self.old.exchanges }
-        ensures { RefusesFault request.now fault result out.old out.new self.old self.new }
+    ) -> CoapNext<'static>
+        requires token { length pending.now.token ≤ 8 }
+        requires slot { IsAwaited pending.now.slot self.old.exchanges }
+        ensures { RefusesFault pending.now fault result out.old out.new self.old self.new }
     {
         match fault {
-            AskFault::BadOption(number) => self.refuse_option(request, number, out),
-            AskFault::Proxy => Some(self.refuse(request, PROXYING_NOT_SUPPORTED, b"proxy", out)),
-            AskFault::Block => Some(self.refuse(request, BAD_REQUEST, b"block", out)),
-            AskFault::NoMemory => Some(self.refuse_out_of_memory(request, out)),
+            AskFault::BadOption(number) => self.refuse_option(pending, number, out),
+            AskFault::Proxy => {
+                CoapNext::Send(self.refuse(pending, PROXYING_NOT_SUPPORTED, b"proxy", out))
+            }
+            AskFault::Block => CoapNext::Send(self.refuse(pending, BAD_REQUEST, b"block", out)),
+            AskFault::NoMemory => CoapNext::Send(self.refuse_out_of_memory(pending, out)),
         }
     }
 
     /// Answers a request that the server is out of memory for.
     fn refuse_out_of_memory(
         &mut self,
-        request: &OpenRequest,
+        pending: &PendingReply,
         out: &mut [u8; LONGEST_MESSAGE],
     ) -> usize
-        requires token { length request.now.head.token ≤ 8 }
-        requires slot { IsAwaited request.now.slot self.old.exchanges }
-        ensures { RepliesAs (reply_of Memory) request.now result out.old out.new self.old self.new }
+        requires token { length pending.now.token ≤ 8 }
+        requires slot { IsAwaited pending.now.slot self.old.exchanges }
+        ensures { RepliesAs (reply_of Memory) pending.now result out.old out.new self.old self.new }
     {
         let said = Said {
             outcome: &Outcome::Memory,
             observe: None,
             blocks: &BlockUse::Whole,
         };
-        self.reply(request, said, out)
-    }
-
-    /// Does what a request wants with which nothing is wrong.
-    fn treat<'a>(
-        &mut self,
-        alloc: Global,
-        arrived: Arrived,
-        request: OpenRequest,
-        ask: CoapAsk<'a>,
-        out: &mut [u8; LONGEST_MESSAGE],
-    ) -> Read<'a>
-        requires token { length request.head.token ≤ 8 }
-        requires blocks { HasBlocks (plain_ask ask) }
-        requires path { path_size ask.request.path ≤ largest_path }
-        requires slot { IsAwaited request.slot self.old.exchanges }
-        ensures ok { (m : CoapMessage) → IsReadOf arrived request (plain_ask ask.entry) m →
-            ReadsAs arrived.from arrived.now m arrived.slot result out.old out.new self.old self.new }
-        ensures open { IsOpenAfter result self.new }
-    {
-        let observing = observing_of(arrived.code, ask.observe);
-        match wanted_of(arrived.code, observing, &ask) {
-            Wanted::Act => self.take_up(alloc, arrived, request, ask, out),
-            Wanted::LaterBlock(block) => {
-                let path = &ask.request.path;
-                Read::Done(Some(self.give_later(arrived, &request, path, block, out)))
-            }
-            Wanted::Joining(block) => self.join(arrived, request, ask, block, out),
-        }
+        self.reply(pending, said, out)
     }
 
     /// Asks a request that wants an act, unless it is for the links.
-    fn take_up<'a>(
-        &mut self,
-        alloc: Global,
-        arrived: Arrived,
-        request: OpenRequest,
-        ask: CoapAsk<'a>,
-        out: &mut [u8; LONGEST_MESSAGE],
-    ) -> Read<'a>
-        requires token { length request.head.token ≤ 8 }
-        requires blocks { HasBlocks (plain_ask ask) }
-        requires path { path_size ask.request.path ≤ largest_path }
-        requires slot { IsAwaited request.slot self.old.exchanges }
-        ensures ok { (m : CoapMessage) → IsReadOf arrived request (plain_ask ask.entry) m → wanted_in m ≡ Act →
-            ReadsAs arrived.from arrived.now m arrived.slot result out.old out.new self.old self.new }
-        ensures open { IsOpenAfter result self.new }
-    {
-        if is_links_path(&ask.request.path) {
-            return Read::Done(Some(self.answer_links(arrived, &request, &ask, out)));
-        }
-        self.ask(alloc, arrived, request, ask, out)
-    }
-
-    /// Asks a request that wants an act.
     fn ask<'a>(
         &mut self,
         alloc: Global,
-        arrived: Arrived,
-        request: OpenRequest,
+        pending: PendingReply,
+        code: u8,
         ask: CoapAsk<'a>,
+        now: u64,
         out: &mut [u8; LONGEST_MESSAGE],
-    ) -> Read<'a>
-        requires token { length request.head.token ≤ 8 }
+    ) -> CoapNext<'a>
+        requires token { length pending.token ≤ 8 }
         requires blocks { HasBlocks (plain_ask ask) }
         requires path { path_size ask.request.path ≤ largest_path }
-        requires apart { is_links_path ask.request.path ≡ false }
-        requires slot { IsAwaited request.slot self.old.exchanges }
-        ensures ok { (m : CoapMessage) → IsReadOf arrived request (plain_ask ask.entry) m → wanted_in m ≡ Act →
-            ReadsAs arrived.from arrived.now m arrived.slot result out.old out.new self.old self.new }
-        ensures open { IsOpenAfter result self.new }
+        requires slot { IsAwaited pending.slot self.old.exchanges }
+        ensures ok { (m : CoapMessage) → IsReadOf pending code (plain_ask ask.entry) m → wanted_in m ≡ Act →
+            ReadsAs pending.from now m pending.slot result out.old out.new self.old self.new }
+        ensures open { TicketIsOpen result self.new }
     {
-        let observing = observing_of(arrived.code, ask.observe);
-        match use_of(alloc, arrived, observing, &ask) {
+        if is_links_path(&ask.request.path) {
+            return CoapNext::Send(self.answer_links(&pending, code, &ask, now, out));
+        }
+        match use_of(alloc, code, pending.observing, &ask, now) {
             Ok(blocks) => {
-                let open = OpenAsk {
-                    request,
-                    from: arrived.from,
-                    observing,
-                    blocks,
-                };
-                Read::Asks(ask, Ticket::of(open))
+                let pending = PendingReply { blocks, ..pending };
+                CoapNext::Ask(ask, Ticket::of(pending))
             }
-            Err(_) => Read::Done(Some(self.refuse_out_of_memory(&request, out))),
+            Err(_) => CoapNext::Send(self.refuse_out_of_memory(&pending, out)),
         }
     }
 
     /// Gives a block after the first of a response that was given.
     fn give_later(
         &mut self,
-        arrived: Arrived,
-        request: &OpenRequest,
+        pending: &PendingReply,
         path: &Segments,
         block: Block,
+        now: u64,
         out: &mut [u8; LONGEST_MESSAGE],
     ) -> usize
-        requires token { length request.now.head.token ≤ 8 }
+        requires token { length pending.now.token ≤ 8 }
         requires block { IsBlock block }
-        requires slot { IsAwaited request.now.slot self.old.exchanges }
-        ensures { RepliesAs (later_reply block (option_map (λ b. b.content) (body_for arrived.from path.now arrived.now self.old.bodies))) request.now
+        requires slot { IsAwaited pending.now.slot self.old.exchanges }
+        ensures { RepliesAs (later_reply block (option_map (λ b. b.content) (body_for pending.now.from path.now now self.old.bodies))) pending.now
             result out.old out.new self.old self.new }
     {
-        let body = self.bodies.get(arrived.from, path, arrived.now);
-        let size = put_later(body, block, &request.head, self.next_id, out);
-        self.use_id(request.head.kind);
-        self.keep(request, &out[..size]);
+        let body = self.bodies.get(pending.from, path, now);
+        let size = put_later(body, block, pending, self.next_id, out);
+        self.use_id(pending.kind);
+        self.keep(pending, &out[..size]);
         size
     }
 }
@@ -213,24 +189,25 @@ ghost use Rattle.coap_msg.specs.Written.{IsWritten};
 ghost use Rattle.coap_blocks.specs.Bodies.{content_of};
 ghost use Rattle.coap_opts.specs.PlainAsk.{plain_ask};
 ghost use Rattle.coap_bind.specs.Blocks.{later_reply, use_of};
-ghost use Rattle.coap_bind.specs.Writing.{coap_reply};
+ghost use Rattle.coap_bind.specs.Writing.{head_in, coap_reply};
 
 /// What blocks are to the reply to what is asked.
 fn use_of(
     alloc: Global,
-    arrived: Arrived,
+    code: u8,
     observing: Observing,
     ask: &CoapAsk<'_>,
+    now: u64,
 ) -> Result<BlockUse, NoMemory>
-    ensures { IfOk result (λ u. u ≡ use_of arrived.now arrived.code observing (plain_ask ask.now)) }
+    ensures { IfOk result (λ u. u ≡ use_of now code observing (plain_ask ask.now)) }
 {
-    if arrived.code != GET {
+    if code != GET {
         return Ok(BlockUse::Whole);
     }
     Ok(BlockUse::Gives(Giving {
         path: ask.request.path.copied(alloc)?,
         szx: size_asked(observing, ask),
-        moment: arrived.now,
+        moment: now,
     }))
 }
 
@@ -238,16 +215,16 @@ fn use_of(
 fn put_later(
     body: Option<Whole<'_>>,
     block: Block,
-    head: &RequestHead,
+    pending: &PendingReply,
     next_id: u16,
     out: &mut [u8; LONGEST_MESSAGE],
 ) -> usize
     requires block { IsBlock block }
-    ensures { IsWritten (spelling (coap_reply (later_reply block (option_map content_of body.entry)) head.now next_id)) result out.old out.new }
+    ensures { IsWritten (spelling (coap_reply (later_reply block (option_map content_of body.entry)) (head_in pending.now) next_id)) result out.old out.new }
 {
     match body {
-        Some(body) => put_block_of(body, block, head, next_id, out),
-        None => put_word(BAD_REQUEST, b"block", head, next_id, out),
+        Some(body) => put_block_of(body, block, pending, next_id, out),
+        None => put_word(BAD_REQUEST, b"block", pending, next_id, out),
     }
 }
 
@@ -255,15 +232,15 @@ fn put_later(
 fn put_block_of(
     body: Whole<'_>,
     block: Block,
-    head: &RequestHead,
+    pending: &PendingReply,
     next_id: u16,
     out: &mut [u8; LONGEST_MESSAGE],
 ) -> usize
     requires block { IsBlock block }
-    ensures { IsWritten (spelling (coap_reply (later_reply block (Some (content_of body.entry))) head.now next_id)) result out.old out.new }
+    ensures { IsWritten (spelling (coap_reply (later_reply block (Some (content_of body.entry))) (head_in pending.now) next_id)) result out.old out.new }
 {
     if block.start() >= body.bytes.len() {
-        return put_word(BAD_REQUEST, b"block", head, next_id, out);
+        return put_word(BAD_REQUEST, b"block", pending, next_id, out);
     }
     let told = Told {
         code: CONTENT,
@@ -271,5 +248,5 @@ fn put_block_of(
         format: body.format,
         portion: portion_at(block, body.bytes),
     };
-    put_told(told, head, next_id, out)
+    put_told(told, pending, next_id, out)
 }

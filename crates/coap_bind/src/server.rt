@@ -4,13 +4,12 @@ ghost use Rattle.std.specs.Prelude.{◌≡◌, ◌≤◌, ◌&&◌, nat_lt, leng
 ghost use Rattle.coap_msg.specs.Written.{IsWritten};
 ghost use Rattle.coap_bind.specs.Server.{may_ask};
 
-use crate::head::RequestHead;
-use crate::settled::Settled;
+use crate::writing::{id_of_reply, kind_of_reply};
 use coap_blocks::{Bodies, Parts};
 use coap_exchange::{Exchanges, Met};
 use coap_msg::{
-    EMPTY, Endpoint, LONGEST_MESSAGE, Message, RequestType, SERVICE_UNAVAILABLE, Type4, decode,
-    put_empty_reply, put_rejection,
+    EMPTY, Endpoint, LONGEST_MESSAGE, LONGEST_TOKEN, Message, Opts, Plain, RequestType,
+    SERVICE_UNAVAILABLE, Type4, decode, encode, put_empty_reply, put_rejection,
 };
 use coap_observe::{Notice, Watchers};
 use servient_base::put_bytes;
@@ -36,41 +35,63 @@ pub struct Server {
 impl Server {
     ghost use Rattle.std.specs.Prelude.{◌≡◌, ◌<◌, ◌≤◌, ℕ, true, length, Some, option_map, IfSome};
     ghost use Rattle.coap_msg.specs.MessageOf.{message_of};
+    ghost use Rattle.coap_msg.specs.Grammar.{spelling};
+    ghost use Rattle.coap_msg.specs.Requests.{request_type};
     ghost use Rattle.coap_exchange.specs.Table.{Exchange, exchange_in, HasReply, IsAwaited};
     ghost use Rattle.coap_observe.specs.Unsent.{unsent};
     ghost use Rattle.coap_observe.specs.Watching.{IsSendable};
-    ghost use Rattle.coap_bind.specs.Server.{is_request, duplicate_reply, with_watchers, told_by_empty, with_report, with_notice_sent, SendsNext};
+    ghost use Rattle.coap_bind.specs.Server.{is_request, duplicate_reply, with_id_used, with_watchers, told_by_empty, with_report, with_notice_sent, SendsNext};
+    ghost use Rattle.coap_bind.specs.Writing.{full_reply, head_of, coap_reply};
     ghost use Rattle.coap_bind.specs.Settling.{TellsDone, SettlesOrAdmits};
 
-    /// Judges a datagram as far as that takes no memory.
+    /// Judges a datagram as far as that takes no memory: gives the request that was admitted and its slot, or else how
+    /// many bytes to send, if any.
     pub fn settle<'a>(
         &mut self,
         from: Endpoint,
         bytes: &'a [u8],
         now: u64,
         out: &mut [u8; LONGEST_MESSAGE],
-    ) -> Settled<'a>
+    ) -> Result<(Message<'a>, u32), Option<usize>>
         requires { self.old.exchanges.moment ≤ now }
         ensures { SettlesOrAdmits from bytes.now now result out.old out.new self.old self.new }
     {
         let message = match decode(bytes) {
             Ok(message) => message,
             // The first byte says whether there is a Reset, because a fault comes before anything else is known.
-            Err(_fault) => return Settled::Done(put_rejection(bytes, out)),
+            Err(_fault) => return Err(put_rejection(bytes, out)),
         };
         if !is_request(message.kind, message.code) {
             self.report(from, &message);
-            return Settled::Done(put_empty_reply(message.kind, message.id, false, out));
+            return Err(put_empty_reply(message.kind, message.id, false, out));
         }
         let kind = RequestType::of(message.kind);
         match self.exchanges.meet(from, message.id, message.kind, now) {
-            Met::Fresh(slot) => Settled::Admitted(message, slot),
-            Met::Repeat(kept) => Settled::Done(self.answer_duplicate(kind, kept, out)),
-            Met::Full => {
-                let head = RequestHead::of(&message);
-                Settled::Done(Some(self.send(SERVICE_UNAVAILABLE, b"full", &head, out)))
-            }
+            Met::Fresh(slot) => Ok((message, slot)),
+            Met::Repeat(kept) => Err(self.answer_duplicate(kind, kept, out)),
+            Met::Full => Err(Some(self.refuse_full(&message, out))),
         }
+    }
+
+    /// Answers a request for which the table has no room. The reply isn't kept.
+    fn refuse_full(&mut self, message: &Message<'_>, out: &mut [u8; LONGEST_MESSAGE]) -> usize
+        requires { length message.now.token.now ≤ LONGEST_TOKEN }
+        ensures bytes { IsWritten (spelling (coap_reply full_reply (head_of (message_of message.now)) self.old.next_id)) result out.old out.new }
+        ensures after { self.new ≡ with_id_used (request_type message.now.kind) self.old }
+    {
+        let kind = RequestType::of(message.kind);
+        let mut none = [];
+        let options = Opts::on(&mut none);
+        let reply = Plain {
+            kind: kind_of_reply(kind),
+            code: SERVICE_UNAVAILABLE,
+            id: id_of_reply(kind, message.id, self.next_id),
+            token: message.token,
+            options: &options,
+            payload: b"full",
+        };
+        self.use_id(kind);
+        encode(&reply, out).unwrap()
     }
 
     /// Takes what a message that is no request says of a notification.

@@ -6,12 +6,12 @@ ghost use Rattle.thing_ops.specs.Outcomes.{HasCode, payload_of};
 ghost use Rattle.coap_observe.specs.Watching.{IsSendable};
 ghost use Rattle.coap_bind.specs.Blocks.{IsUse, answer_reply, portion_of, reply_with};
 ghost use Rattle.coap_bind.specs.Portions.{HoldsBlock, portion_seen, told_reply};
-ghost use Rattle.coap_bind.specs.Writing.{word_reply, observed, coap_reply, reply_kind, reply_id, notification};
+ghost use Rattle.coap_bind.specs.Writing.{word_reply, observed, head_in, coap_reply, reply_kind, reply_id, notification};
 ghost use Rattle.coap_msg.specs.Written.{IsWritten};
 
 use crate::blocks::BlockUse;
-use crate::head::RequestHead;
 use crate::options::{put_block, put_content_options, put_notification_options, put_options};
+use crate::pending::PendingReply;
 use crate::portion::{Portion, most_bytes, portion_of};
 use coap_msg::{
     INTERNAL_SERVER_ERROR, LONGEST_MESSAGE, LONGEST_PAYLOAD, Opts, Plain, RequestType, Type4,
@@ -48,7 +48,7 @@ pub struct Told<'a> {
 }
 
 /// The type of a reply to a request of this type.
-fn kind_of_reply(kind: RequestType) -> Type4
+pub fn kind_of_reply(kind: RequestType) -> Type4
     ensures { result ≡ reply_kind kind }
 {
     match kind {
@@ -58,7 +58,7 @@ fn kind_of_reply(kind: RequestType) -> Type4
 }
 
 /// The message ID of a reply to a request of this type and ID.
-fn id_of_reply(kind: RequestType, id: u16, next: u16) -> u16
+pub fn id_of_reply(kind: RequestType, id: u16, next: u16) -> u16
     ensures { result ≡ reply_id kind id next }
 {
     match kind {
@@ -71,21 +71,21 @@ fn id_of_reply(kind: RequestType, id: u16, next: u16) -> u16
 pub fn put_word(
     code: u8,
     word: &[u8],
-    head: &RequestHead,
+    pending: &PendingReply,
     next_id: u16,
     out: &mut [u8; LONGEST_MESSAGE],
 ) -> usize
     requires code { (code / 32 ≡ 4) ⊎ (code / 32 ≡ 5) }
     requires word { length word.now ≤ 64 }
-    ensures { IsWritten (spelling (coap_reply (word_reply code word.now) head.now next_id)) result out.old out.new }
+    ensures { IsWritten (spelling (coap_reply (word_reply code word.now) (head_in pending.now) next_id)) result out.old out.new }
 {
     let mut none = [];
     let options = Opts::on(&mut none);
     let message = Plain {
-        kind: kind_of_reply(head.kind),
+        kind: kind_of_reply(pending.kind),
         code,
-        id: id_of_reply(head.kind, head.id, next_id),
-        token: head.token.as_bytes(),
+        id: id_of_reply(pending.kind, pending.id, next_id),
+        token: pending.token.as_bytes(),
         options: &options,
         payload: word,
     };
@@ -95,23 +95,23 @@ pub fn put_word(
 /// Writes a reply, with Observe where it says a sequence number, and returns how many bytes it has.
 pub fn put_outcome(
     said: Said<'_>,
-    head: &RequestHead,
+    pending: &PendingReply,
     next_id: u16,
     out: &mut [u8; LONGEST_MESSAGE],
 ) -> usize
     requires code { HasCode said.outcome.now }
     requires blocks { IsUse said.blocks.now }
     requires short { (said.observe ≡ None) ⊎ (length (payload_of said.outcome.now) ≤ LONGEST_PAYLOAD) }
-    requires room { length (spelling (coap_reply (observed said.observe (answer_reply said.blocks.now said.outcome.now)) head.now next_id)) ≤ LONGEST_MESSAGE }
-    ensures { IsWritten (spelling (coap_reply (observed said.entry.observe (answer_reply said.entry.blocks.now said.entry.outcome.now)) head.now next_id)) result out.old out.new }
+    requires room { length (spelling (coap_reply (observed said.observe (answer_reply said.blocks.now said.outcome.now)) (head_in pending.now) next_id)) ≤ LONGEST_MESSAGE }
+    ensures { IsWritten (spelling (coap_reply (observed said.entry.observe (answer_reply said.entry.blocks.now said.entry.outcome.now)) (head_in pending.now) next_id)) result out.old out.new }
 {
     let mut words = [0u8; LONGEST_WORD];
     let payload = payload_of(said.outcome, &mut words);
     if payload.len() > most_bytes(said.blocks, said.outcome) {
-        return put_word(INTERNAL_SERVER_ERROR, b"long", head, next_id, out);
+        return put_word(INTERNAL_SERVER_ERROR, b"long", pending, next_id, out);
     }
     let portion = portion_of(said.blocks, said.outcome, payload);
-    put_portion(said, portion, head, next_id, out)
+    put_portion(said, portion, pending, next_id, out)
 }
 
 /// The payload of an outcome; a word is written into the room for it.
@@ -126,24 +126,24 @@ fn payload_of<'a>(outcome: &'a Outcome, words: &'a mut [u8; LONGEST_WORD]) -> &'
 fn put_portion(
     said: Said<'_>,
     portion: Portion<'_>,
-    head: &RequestHead,
+    pending: &PendingReply,
     next_id: u16,
     out: &mut [u8; LONGEST_MESSAGE],
 ) -> usize
     requires code { HasCode said.outcome.now }
     requires block { HoldsBlock portion.block }
-    requires room { length (spelling (coap_reply (observed said.observe (reply_with (portion_seen portion) said.outcome.now)) head.now next_id)) ≤ LONGEST_MESSAGE }
-    ensures { IsWritten (spelling (coap_reply (observed said.entry.observe (reply_with (portion_seen portion.entry) said.entry.outcome.now)) head.now next_id)) result out.old out.new }
+    requires room { length (spelling (coap_reply (observed said.observe (reply_with (portion_seen portion) said.outcome.now)) (head_in pending.now) next_id)) ≤ LONGEST_MESSAGE }
+    ensures { IsWritten (spelling (coap_reply (observed said.entry.observe (reply_with (portion_seen portion.entry) said.entry.outcome.now)) (head_in pending.now) next_id)) result out.old out.new }
 {
     let mut room = [0u8; LONGEST_MESSAGE];
     let mut options = Opts::on(&mut room);
     put_options(said.observe, said.outcome, &mut options).unwrap();
     put_block(portion.block, &mut options).unwrap();
     let message = Plain {
-        kind: kind_of_reply(head.kind),
+        kind: kind_of_reply(pending.kind),
         code: coap_code(said.outcome),
-        id: id_of_reply(head.kind, head.id, next_id),
-        token: head.token.as_bytes(),
+        id: id_of_reply(pending.kind, pending.id, next_id),
+        token: pending.token.as_bytes(),
         options: &options,
         payload: portion.payload,
     };
@@ -153,24 +153,24 @@ fn put_portion(
 /// Writes a reply to a request that isn't acted on, and returns how many bytes it has.
 pub fn put_told(
     told: Told<'_>,
-    head: &RequestHead,
+    pending: &PendingReply,
     next_id: u16,
     out: &mut [u8; LONGEST_MESSAGE],
 ) -> usize
     requires code { told.code / 32 ≡ 2 }
     requires block { HoldsBlock told.portion.block }
     requires payload { length told.portion.payload.now ≤ LONGEST_PAYLOAD }
-    ensures { IsWritten (spelling (coap_reply (told_reply told.entry) head.now next_id)) result out.old out.new }
+    ensures { IsWritten (spelling (coap_reply (told_reply told.entry) (head_in pending.now) next_id)) result out.old out.new }
 {
     let mut room = [0u8; LONGEST_MESSAGE];
     let mut options = Opts::on(&mut room);
     put_content_options(told.version, told.format, &mut options).unwrap();
     put_block(told.portion.block, &mut options).unwrap();
     let message = Plain {
-        kind: kind_of_reply(head.kind),
+        kind: kind_of_reply(pending.kind),
         code: told.code,
-        id: id_of_reply(head.kind, head.id, next_id),
-        token: head.token.as_bytes(),
+        id: id_of_reply(pending.kind, pending.id, next_id),
+        token: pending.token.as_bytes(),
         options: &options,
         payload: told.portion.payload,
     };

@@ -19,7 +19,6 @@ use Rattle.coap_blocks.specs.Bodies.{Content}
 use Rattle.coap_blocks.specs.declared.added.Added.{Added}
 use Rattle.coap_blocks.specs.declared.added.Added.TheVariants as answer
 use Rattle.coap_opts.specs.Reading.{PlainAsk, asked as what_is_asked}
-use Rattle.coap_bind.specs.declared.head.RequestHead.{RequestHead}
 use Rattle.coap_bind.specs.declared.blocks.BlockOption.{BlockOption}
 use Rattle.coap_bind.specs.declared.blocks.BlockOption.TheVariants as option
 use Rattle.coap_bind.specs.declared.blocks.BlockUse.{BlockUse}
@@ -31,7 +30,7 @@ use Rattle.coap_bind.specs.declared.observing.Observing.TheVariants as observing
 use Rattle.coap_bind.specs.Blocks.{block2_of, wanted_by_get, wanted_by_body, use_of, with_block, content_format, content_reply, portion_at, later_reply, block_reply, continue_reply, added_reply, answer_reply}
 use Rattle.coap_bind.specs.Observing.{observing_at}
 use Rattle.coap_bind.specs.Server.{observing_in, wanted_in, with_whole_body}
-use Rattle.coap_bind.specs.Writing.{Reply, word_reply, etag_options, observe_options, reply_options, observed, coap_reply}
+use Rattle.coap_bind.specs.Writing.{Reply, word_reply, etag_options, observe_options, reply_options, observed, coap_reply, ReplyHead}
 use Rattle.coap_bind.proofs.MessageLaws.{IsResponse}
 use Rattle.servient_world.specs.Laws.{blocks_joined, blocks_by, blocks_for}
 use Rattle.servient_world.proofs.ReplyLaws.{id_at}
@@ -144,7 +143,7 @@ joined_as_asked m b body wants = joined_if (m.code == GET) (m.code == POST) (m.c
 
 -- ---- replies are messages
 
-response_message : (r : Reply) (head : RequestHead) (next : ℕ) → IsResponse r.code → AreInOrder 0 (reply_options r) → head.id < 2 ^ 16 → length head.token ≤ LONGEST_TOKEN → next < 2 ^ 16
+response_message : (r : Reply) (head : ReplyHead) (next : ℕ) → IsResponse r.code → AreInOrder 0 (reply_options r) → head.id < 2 ^ 16 → length head.token ≤ LONGEST_TOKEN → next < 2 ^ 16
     → IsWellFormed (coap_reply r head next)
 response_message r head next is order id token counter = record {
   code = let small = is.small in omega arith;
@@ -189,7 +188,7 @@ client_error n low = record { small = omega arith; class = inr (inl (omega arith
 server_error : (n : ℕ) → n < 32 → IsResponse (160 + n)
 server_error n low = record { small = omega arith; class = inr (inr (omega arith)) }
 
-pub later_message : (b : Block) (found : Option Content) (head : RequestHead) (next : ℕ) → head.id < 2 ^ 16 → length head.token ≤ LONGEST_TOKEN → next < 2 ^ 16
+pub later_message : (b : Block) (found : Option Content) (head : ReplyHead) (next : ℕ) → head.id < 2 ^ 16 → length head.token ≤ LONGEST_TOKEN → next < 2 ^ 16
     → IsWellFormed (coap_reply (later_reply b found) head next)
 later_message b None head next id token counter = response_message block_reply head next (client_error 0 (omega arith)) tt id token counter
 later_message b (Some c) head next id token counter = by_test (nat_lt (block_start b) (length c.bytes))
@@ -208,7 +207,7 @@ large_reply = word_reply (coap 4 13) (codes "body")
 abbrev pub blocks_reply : Reply
 blocks_reply = word_reply (coap 5 03) (codes "blocks")
 
-pub added_message : (b : Block) (added : Added) (r : Reply) (head : RequestHead) (next : ℕ) → added_reply b added ≡ Some r → head.id < 2 ^ 16 → length head.token ≤ LONGEST_TOKEN → next < 2 ^ 16
+pub added_message : (b : Block) (added : Added) (r : Reply) (head : ReplyHead) (next : ℕ) → added_reply b added ≡ Some r → head.id < 2 ^ 16 → length head.token ≤ LONGEST_TOKEN → next < 2 ^ 16
     → IsWellFormed (coap_reply r head next)
 added_message b added r head next is id token counter = by_answer added is
   where

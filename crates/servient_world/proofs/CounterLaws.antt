@@ -7,10 +7,9 @@ use Rattle.coap_msg.specs.Grammar.{CoapMessage}
 use Rattle.coap_msg.specs.Requests.{request_type}
 use Rattle.coap_observe.specs.declared.notice.Notice.{Notice}
 use Rattle.coap_opts.specs.Reading.{asked as what_is_asked}
-use Rattle.coap_bind.specs.declared.head.OpenRequest.{OpenRequest}
 use Rattle.coap_bind.specs.declared.server.Server.{Server}
-use Rattle.coap_bind.specs.Writing.{Reply}
-use Rattle.coap_bind.specs.Server.{Heard, with_next_id, with_id_used, with_kept, with_watchers, with_notice_sent, Replies, SendsNext, malformed, no_request, duplicate, full, with_parts, replied, bad_option_ignored, gives_links, links_given, observing_in, asks, asks_whole, opened, Reads, settled, admitted, Hears}
+use Rattle.coap_bind.specs.Writing.{Reply, ReplyHead, head_of, head_in}
+use Rattle.coap_bind.specs.Server.{Heard, with_next_id, with_id_used, with_kept, with_watchers, with_notice_sent, Replies, SendsNext, malformed, no_request, duplicate, full, with_parts, replied, bad_option_ignored, gives_links, links_given, observing_in, asks, asks_whole, Reads, settled, admitted, Hears}
 use Rattle.coap_bind.specs.Treating.{Acted, Treats, ignores, answers, acts}
 use Rattle.coap_bind.proofs.DuplicateLaws.{ready}
 use Rattle.servient_world.specs.World.{Receives, too_long, treated}
@@ -29,15 +28,15 @@ counter_kept : (kind : RequestType) (slot : ℕ) (bytes : List ℕ) (s : Server)
 counter_kept Confirmable slot bytes s h = h
 counter_kept NonConfirmable slot bytes s h = h
 
-counter_replies : (r : Reply) (request : OpenRequest) (bytes : List ℕ) (s t : Server) → Replies r request bytes s t → IsCounter s → IsCounter t
-counter_replies r request bytes s t replies h =
-    subst IsCounter (sym replies.after) (counter_kept request.head.kind request.slot bytes (with_id_used request.head.kind s) (counter_used request.head.kind s h))
+counter_replies : (r : Reply) (head : ReplyHead) (slot : ℕ) (bytes : List ℕ) (s t : Server) → Replies r head slot bytes s t → IsCounter s → IsCounter t
+counter_replies r head slot bytes s t replies h =
+    subst IsCounter (sym replies.after) (counter_kept head.kind slot bytes (with_id_used head.kind s) (counter_used head.kind s h))
 
 counter_reads : (from : Endpoint) (now : ℕ) (m : CoapMessage) (slot : ℕ) (heard : Heard) (s t : Server) → Reads from now m slot heard s t → IsCounter s → IsCounter t
-counter_reads from now m slot heard s t (replied r parts bytes why replies e) h = counter_replies r (opened m slot) bytes (with_parts parts s) t replies h
+counter_reads from now m slot heard s t (replied r parts bytes why replies e) h = counter_replies r (head_of m) slot bytes (with_parts parts s) t replies h
 counter_reads from now m slot heard s t (bad_option_ignored number fault non e same) h = subst IsCounter (sym same) h
 counter_reads from now m slot heard s t (gives_links bytes none act links get replies e) h =
-    counter_replies _ (opened m slot) bytes (links_given from now m.token (observing_in m) (what_is_asked m) s) t replies h
+    counter_replies _ (head_of m) slot bytes (links_given from now m.token (observing_in m) (what_is_asked m) s) t replies h
 counter_reads from now m slot heard s t (asks none act apart e same) h = subst IsCounter (sym same) h
 counter_reads from now m slot heard s t (asks_whole b place parts whole none joining apart adds there e same) h = subst IsCounter (sym same) h
 
@@ -54,7 +53,7 @@ counter_treats from bytes now act back s t (ignores hears none nothing) h = coun
 counter_treats from bytes now act back s t (answers reply hears none one) h = counter_hears from bytes now _ s t hears h
 counter_treats from bytes now act back s t (acts a ask reply u hears code place answer is one) h =
     let heard_it = counter_hears from bytes now _ s u hears h in
-    counter_replies _ ask.request reply (ready ask a.outcome answer.watchers u) t answer.replies heard_it
+    counter_replies _ (head_in ask) ask.slot reply (ready ask a.outcome answer.watchers u) t answer.replies heard_it
 
 pub counter_receives : (from : Endpoint) (bytes : List ℕ) (now : ℕ) (act : Option Acted) (back : List (List ℕ)) (s t : Server) → Receives from bytes now act back s t
     → s.next_id < 2 ^ 16 → t.next_id < 2 ^ 16

@@ -20,7 +20,7 @@ use Rattle.coap_client.specs.Exchange.{IsNew, at_moment, Asks, request_for, with
 use Rattle.coap_bind.specs.declared.server.Server.{Server}
 use Rattle.coap_bind.specs.Observing.{registers}
 use Rattle.coap_bind.specs.Writing.{Reply, reply_of, observed as observed_reply, coap_reply}
-use Rattle.coap_bind.specs.Server.{start as nothing_came, arrival, asked, asks, opened_ask, Hears, admitted, with_kept, with_id_used, with_watchers, Answers}
+use Rattle.coap_bind.specs.Server.{start as nothing_came, arrival, asked, asks, pending_of, Hears, admitted, with_kept, with_id_used, with_watchers, Answers}
 use Rattle.coap_bind.specs.Treating.{Acted, Treats, acts}
 use Rattle.servient_world.specs.World.{client_place, server_place, copy_of, reply_to, other, WorldState, IsStart, latest, end_by, taken_by, with_sent, ClientAsks, sends_ask, treated, Comes, to_client, to_server, PlaysAll}
 use Rattle.servient_world.specs.Examples.{world_of, observe_root, ask_that_comes, ask_and_reply, SomeoneActs, SomeoneTakesAValue}
@@ -142,7 +142,7 @@ answered_world uses =
     with_sent (record (asked_world uses) { server = answered_server; acts = record { ask = 0; acted = act_made } ∷ [] })
     server_place client_place (reply_to 0) (answer_bytes ∷ [])
 
-hears_it : Hears client_place (take (length question_bytes) question_bytes) 0 (asked (what_is_asked question) (opened_ask client_place 0 question 0)) (nothing_came 16 16) admitting
+hears_it : Hears client_place (take (length question_bytes) question_bytes) 0 (asked (what_is_asked question) (pending_of client_place 0 question 0)) (nothing_came 16 16) admitting
 hears_it = admitted question 0 admitting (record {
   spells = question_spells;
   request = refl;
@@ -154,7 +154,7 @@ hears_it = admitted question 0 admitting (record {
   same_links = refl;
 }) (asks refl refl refl refl refl)
 
-answers_it : Answers (opened_ask client_place 0 question 0) outcome.Empty (Some 0) answer_bytes admitting answered_server
+answers_it : Answers (pending_of client_place 0 question 0) outcome.Empty (Some 0) answer_bytes admitting answered_server
 answers_it = record {
   observe = Some 0;
   watchers = watching;
@@ -163,7 +163,7 @@ answers_it = record {
 }
 
 treats_it : Treats client_place (take (length question_bytes) question_bytes) 0 (Some act_made) (answer_bytes ∷ []) (nothing_came 16 16) answered_server
-treats_it = acts act_made (opened_ask client_place 0 question 0) answer_bytes admitting hears_it refl tt answers_it refl refl
+treats_it = acts act_made (pending_of client_place 0 question 0) answer_bytes admitting hears_it refl tt answers_it refl refl
 
 short_question : length (take (length question_bytes) question_bytes) ≤ 1280
 short_question = let size = question_length in let same = ap length question_taken in omega arith

@@ -13,11 +13,12 @@ use Rattle.coap_msg.proofs.Messages.{at_most_one_message}
 use Rattle.coap_exchange.specs.Admission.{Arrival, Verdict, admitted as is_admitted, duplicate as is_duplicate, refused as is_refused, verdict, after_verdict, with_arrival, admitted_after, lifetime, lives, is_duplicate_of, admitted_among}
 use Rattle.coap_client.specs.declared.outstanding.Outstanding.{Outstanding}
 use Rattle.coap_client.specs.Laws.{Did as ClientDid}
-use Rattle.coap_bind.specs.declared.head.OpenAsk.{OpenAsk}
+use Rattle.coap_bind.specs.declared.pending.PendingReply.{PendingReply}
 use Rattle.coap_bind.specs.declared.server.Server.{Server}
 use Rattle.coap_bind.specs.Server.{arrival, asked, Hears, Answers}
 use Rattle.coap_bind.specs.Laws.{Did as ServerDid, answered as server_answered}
 use Rattle.coap_bind.specs.Treating.{Acted, Treats, ignores, answers, acts}
+use Rattle.coap_bind.specs.Writing.{head_in}
 use Rattle.coap_bind.proofs.HistoryLaws.{duplicates_ask_nothing}
 use Rattle.coap_bind.proofs.OpenLaws.{asks_are_open}
 use Rattle.coap_bind.proofs.DuplicateLaws.{ready}
@@ -183,13 +184,13 @@ same_table capacity history s t e did =
     subst (λ (x : Server). ServerDid capacity (history ++ []) x) (sym e) (subst (λ (l : List Arrival). ServerDid capacity l s) (sym (append-nil history)) did)
 
 -- what was asked and is answered now
-pub answered_did : (capacity : ℕ) (history : List Arrival) (s u t : Server) (from : Endpoint) (bytes : List ℕ) (now : ℕ) (a : Acted) (ask : OpenAsk) (reply : List ℕ)
+pub answered_did : (capacity : ℕ) (history : List Arrival) (s u t : Server) (from : Endpoint) (bytes : List ℕ) (now : ℕ) (a : Acted) (ask : PendingReply) (reply : List ℕ)
     → Hears from bytes now (asked a.what ask) s u → ServerDid capacity history u → Answers ask a.outcome a.target reply u t → ServerDid capacity history t
 answered_did capacity history s u t from bytes now a ask reply hears did answer =
     (did.0, server_answered history u t ask a.outcome a.target reply did.1 (asks_are_open from bytes now a.what ask s u hears) answer)
 
-pub answered_moment : (ask : OpenAsk) (a : Acted) (reply : List ℕ) (u t : Server) → Answers ask a.outcome a.target reply u t → t.exchanges.moment ≡ u.exchanges.moment
-answered_moment ask a reply u t answer = replies_moment _ ask.request reply (ready ask a.outcome answer.watchers u) t answer.replies
+pub answered_moment : (ask : PendingReply) (a : Acted) (reply : List ℕ) (u t : Server) → Answers ask a.outcome a.target reply u t → t.exchanges.moment ≡ u.exchanges.moment
+answered_moment ask a reply u t answer = replies_moment _ (head_in ask) ask.slot reply (ready ask a.outcome answer.watchers u) t answer.replies
 
 -- tests
 pub is_below : (m n : ℕ) → m < n → nat_lt m n ≡ true
@@ -220,7 +221,7 @@ came_soon now d e = let first : nat_le (now - d.moment) MAX_LATENCY ≡ true = l
     left false c e = e
 
 -- an act on a copy of an ask is its first
-with_act : (capacity : ℕ) (w : WorldState) (d : Datagram) (k : ℕ) (act : Option Acted) (t u : Server) (a : Acted) (ask : OpenAsk) (reply : List ℕ)
+with_act : (capacity : ℕ) (w : WorldState) (d : Datagram) (k : ℕ) (act : Option Acted) (t u : Server) (a : Acted) (ask : PendingReply) (reply : List ℕ)
     → Holds capacity w → IsCopy w.asks d k → d.moment ≤ w.moment → w.moment - d.moment ≤ MAX_LATENCY
     → Hears d.from d.bytes w.moment (asked a.what ask) w.server u → Answers ask a.outcome a.target reply u t → act ≡ Some a
     → Served capacity w (copy_of k) act t
@@ -266,7 +267,7 @@ with_act capacity w d k act t u a ask reply h copy past soon hears answer is =
     }
 
 -- what was heard and answered, but not on a copy of an ask
-with_other : (capacity : ℕ) (w : WorldState) (d : Datagram) (p : Purpose) (act : Option Acted) (t u : Server) (a : Acted) (ask : OpenAsk) (reply : List ℕ)
+with_other : (capacity : ℕ) (w : WorldState) (d : Datagram) (p : Purpose) (act : Option Acted) (t u : Server) (a : Acted) (ask : PendingReply) (reply : List ℕ)
     → Holds capacity w → Hears d.from d.bytes w.moment (asked a.what ask) w.server u → Answers ask a.outcome a.target reply u t → acts_for p act ≡ []
     → Served capacity w p act t
 with_other capacity w d p act t u a ask reply h hears answer none =

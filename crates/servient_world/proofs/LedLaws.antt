@@ -19,8 +19,7 @@ use Rattle.thing_ops.specs.Outcomes.{HasCode}
 use Rattle.coap_opts.specs.declared.fault.AskFault.{AskFault}
 use Rattle.coap_opts.specs.Reading.{PlainAsk, faults_of, asked as what_is_asked}
 use Rattle.coap_observe.specs.Watching.{Watching}
-use Rattle.coap_bind.specs.declared.head.OpenAsk.{OpenAsk}
-use Rattle.coap_bind.specs.declared.head.OpenRequest.{OpenRequest}
+use Rattle.coap_bind.specs.declared.pending.PendingReply.{PendingReply}
 use Rattle.coap_bind.specs.declared.server.Server.{Server}
 use Rattle.coap_bind.specs.declared.blocks.BlockUse.{BlockUse}
 use Rattle.coap_bind.specs.declared.blocks.BlockUse.TheVariants.{Joined}
@@ -29,9 +28,9 @@ use Rattle.coap_bind.specs.Blocks.{use_of, answer_reply, bodies_after}
 use Rattle.coap_bind.specs.Links.{size_asked, links_reply, bodies_with_links}
 use Rattle.coap_bind.specs.Observing.{effect_of, Watches}
 use Rattle.coap_bind.specs.declared.observing.Observing.{Observing}
-use Rattle.coap_bind.specs.Writing.{Reply, full_reply, observed, head_of, coap_reply}
+use Rattle.coap_bind.specs.Writing.{Reply, full_reply, observed, head_of, coap_reply, ReplyHead, head_in}
 use Rattle.coap_bind.specs.Laws.{HasShortPlace}
-use Rattle.coap_bind.specs.Server.{Heard, ignored, answered_at_once, asked, with_id_used, with_kept, with_parts, with_bodies, with_watchers, with_whole_body, is_request, block_arrival, Adds, opened, opened_ask, joined_ask, observing_in, wanted_in, asks_links, links_given, Replies, IsMet, Settles, malformed, no_request, duplicate, full, bad_option, bad_block, for_proxy, no_memory, later_block, joined, takes_no_other_verb, takes_no_body, IsAnsweredAtOnce, replied, bad_option_ignored, gives_links, asks, asks_whole, settled, admitted, Hears, Answers}
+use Rattle.coap_bind.specs.Server.{Heard, ignored, answered_at_once, asked, with_id_used, with_kept, with_parts, with_bodies, with_watchers, with_whole_body, is_request, block_arrival, Adds, pending_of, pending_joined, observing_in, wanted_in, asks_links, links_given, Replies, IsMet, Settles, malformed, no_request, duplicate, full, bad_option, bad_block, for_proxy, no_memory, later_block, joined, takes_no_other_verb, takes_no_body, IsAnsweredAtOnce, replied, bad_option_ignored, gives_links, asks, asks_whole, settled, admitted, Hears, Answers}
 use Rattle.coap_bind.specs.Treating.{Acted, ignores, answers, acts, sent_back}
 use Rattle.coap_bind.proofs.HistoryLaws.{not_replied, not_duplicate}
 use Rattle.servient_world.specs.Led.{Led, to_refusal, to_no_memory, to_links, to_later_block, to_parts, to_act, to_act_on_whole, act_in, LeadsTo, is_refused, finds_no_memory, gets_links, gets_no_links, gets_block, is_joined, is_acted_on, is_acted_on_whole, SameBlocks, BlockComes, leaves_text, leaves_nothing, drops_body, Leaves, IsPassedOver, IsLed, AllAreLed}
@@ -49,8 +48,8 @@ reply_leaves : (kind : RequestType) (slot : ℕ) (bytes : List ℕ) (v : Server)
 reply_leaves Confirmable slot bytes v = record { bodies = refl; parts = refl; links = refl; watchers = refl }
 reply_leaves NonConfirmable slot bytes v = record { bodies = refl; parts = refl; links = refl; watchers = refl }
 
-replied_leaves : (r : Reply) (q : OpenRequest) (bytes : List ℕ) (v t : Server) → Replies r q bytes v t → Untouched v t
-replied_leaves r q bytes v t replies = subst (Untouched v) (sym replies.after) (reply_leaves q.head.kind q.slot bytes v)
+replied_leaves : (r : Reply) (head : ReplyHead) (slot : ℕ) (bytes : List ℕ) (v t : Server) → Replies r head slot bytes v t → Untouched v t
+replied_leaves r head slot bytes v t replies = subst (Untouched v) (sym replies.after) (reply_leaves head.kind slot bytes v)
 
 id_leaves : (kind : RequestType) (v : Server) → Untouched v (with_id_used kind v) × ((with_id_used kind v).exchanges ≡ v.exchanges)
 id_leaves Confirmable v = (record { bodies = refl; parts = refl; links = refl; watchers = refl }, refl)
@@ -64,7 +63,7 @@ what_in w ignored = w
 what_in w (answered_at_once bytes) = w
 what_in w (asked what ask) = what
 
-abbrev ask_in : OpenAsk → Heard → OpenAsk
+abbrev ask_in : PendingReply → Heard → PendingReply
 ask_in a ignored = a
 ask_in a (answered_at_once bytes) = a
 ask_in a (asked what ask) = ask
@@ -109,7 +108,7 @@ settled_over from bytes now h act s t none (full m u met e same) =
 
 -- a request that is admitted was replied to without an act
 led_so : (from : Endpoint) (bytes : List ℕ) (now : ℕ) (act : Option Acted) (back : List (List ℕ)) (s v u t : Server) (m : CoapMessage) (slot : ℕ) (led : Led) (r : Reply) (b : List ℕ)
-    → act ≡ None → act_in led ≡ None → IsMet from bytes now m (Fresh slot) s u → Replies r (opened m slot) b v t → v.next_id ≡ u.next_id → v.links ≡ u.links → back ≡ b ∷ []
+    → act ≡ None → act_in led ≡ None → IsMet from bytes now m (Fresh slot) s u → Replies r (head_of m) slot b v t → v.next_id ≡ u.next_id → v.links ≡ u.links → back ≡ b ∷ []
     → LeadsTo from now m s.links None led r → Leaves from now m led s t → IsLed from bytes now act back s t
 led_so from bytes now act back s v u t m slot led r b none no_act met replies id links is leads leaves = record {
   message = m;
@@ -124,14 +123,14 @@ led_so from bytes now act back s v u t m slot led r b none no_act met replies id
   act_is = none ∙ sym no_act;
   watches = λ a some. absurd (let wrong : None ≡ Some a = sym none ∙ some in cc);
   sent = inl (is ∙ ap (λ (x : List ℕ). x ∷ []) (replies.bytes_are ∙ ap (λ (n : ℕ). spelling (coap_reply r (head_of m) n)) (id ∙ met.same_id)));
-  links = (replied_leaves r (opened m slot) b v t replies).links ∙ (links ∙ met.same_links);
+  links = (replied_leaves r (head_of m) slot b v t replies).links ∙ (links ∙ met.same_links);
 }
 
 -- the reply was the only thing that was done, but for the parts
 left_with : (from : Endpoint) (bytes : List ℕ) (now : ℕ) (s u t : Server) (m : CoapMessage) (slot : ℕ) (r : Reply) (b : List ℕ) (parts : List Part)
-    → IsMet from bytes now m (Fresh slot) s u → Replies r (opened m slot) b (with_parts parts u) t → (t.bodies ≡ s.bodies) × (t.parts ≡ parts)
+    → IsMet from bytes now m (Fresh slot) s u → Replies r (head_of m) slot b (with_parts parts u) t → (t.bodies ≡ s.bodies) × (t.parts ≡ parts)
 left_with from bytes now s u t m slot r b parts met replies =
-    let left = replied_leaves r (opened m slot) b (with_parts parts u) t replies in (left.bodies ∙ met.same_bodies, left.parts)
+    let left = replied_leaves r (head_of m) slot b (with_parts parts u) t replies in (left.bodies ∙ met.same_bodies, left.parts)
 
 same_left : (s u t : Server) (parts : List Part) → (t.bodies ≡ s.bodies) × (t.parts ≡ parts) → parts ≡ u.parts → u.parts ≡ s.parts → SameBlocks s t
 same_left s u t parts left same stays = record { bodies = left.0; parts = left.1 ∙ (same ∙ stays) }
@@ -144,7 +143,7 @@ block_comes from now m b added s u parts same adds = record {
 }
 
 led_at_once : (from : Endpoint) (bytes : List ℕ) (now : ℕ) (act : Option Acted) (back : List (List ℕ)) (s u t : Server) (m : CoapMessage) (slot : ℕ) (r : Reply) (parts : List Part) (b : List ℕ)
-    → act ≡ None → IsMet from bytes now m (Fresh slot) s u → Replies r (opened m slot) b (with_parts parts u) t → back ≡ b ∷ [] → IsAnsweredAtOnce from now m r u parts
+    → act ≡ None → IsMet from bytes now m (Fresh slot) s u → Replies r (head_of m) slot b (with_parts parts u) t → back ≡ b ∷ [] → IsAnsweredAtOnce from now m r u parts
     → IsLed from bytes now act back s t
 led_at_once from bytes now act back s u t m slot r parts b none met replies is (bad_option number fault con says same) =
     led_so from bytes now act back s (with_parts parts u) u t m slot to_refusal r b none refl met replies refl refl is (is_refused (some_fault m _ fault) refl)
@@ -180,12 +179,12 @@ led_at_once from bytes now act back s u t m slot r parts b none met replies is (
 -- the links are given
 led_to_links : (from : Endpoint) (bytes : List ℕ) (now : ℕ) (act : Option Acted) (back : List (List ℕ)) (s u t : Server) (m : CoapMessage) (slot : ℕ) (b : List ℕ)
     → act ≡ None → IsMet from bytes now m (Fresh slot) s u → wanted_in m ≡ wanted.Act → asks_links m ≡ true
-    → Replies (links_reply (size_asked (observing_in m) (what_is_asked m)) u.links) (opened m slot) b (links_given from now m.token (observing_in m) (what_is_asked m) u) t
+    → Replies (links_reply (size_asked (observing_in m) (what_is_asked m)) u.links) (head_of m) slot b (links_given from now m.token (observing_in m) (what_is_asked m) u) t
     → back ≡ b ∷ [] → IsLed from bytes now act back s t
 led_to_links from bytes now act back s u t m slot b none met wants links replies is =
     let v : Server = links_given from now m.token (observing_in m) (what_is_asked m) u in
     let size : Option ℕ = size_asked (observing_in m) (what_is_asked m) in
-    let left = replied_leaves (links_reply size u.links) (opened m slot) b v t replies in
+    let left = replied_leaves (links_reply size u.links) (head_of m) slot b v t replies in
     let with_text : List ℕ → List Body → List Body = λ text bodies. bodies_with_links from (what_is_asked m).request.path now size text bodies in
     led_so from bytes now act back s v u t m slot to_links (links_reply size u.links) b none refl met replies refl refl is
     (gets_links wants links refl (ap (links_reply size) met.same_links))
@@ -194,16 +193,16 @@ led_to_links from bytes now act back s u t m slot b none met wants links replies
 -- ---- what is asked and answered
 
 -- a request that is admitted was acted on
-led_acted : (from : Endpoint) (bytes : List ℕ) (now : ℕ) (act : Option Acted) (back : List (List ℕ)) (s v u t : Server) (m : CoapMessage) (slot : ℕ) (led : Led) (a : Acted) (use_it : BlockUse) (ask : OpenAsk) (b : List ℕ)
-    → act ≡ Some a → act_in led ≡ Some a → IsMet from bytes now m (Fresh slot) s u → ask.request ≡ opened m slot → ask.from ≡ from → ask.observing ≡ observing_in m → ask.blocks ≡ use_it
+led_acted : (from : Endpoint) (bytes : List ℕ) (now : ℕ) (act : Option Acted) (back : List (List ℕ)) (s v u t : Server) (m : CoapMessage) (slot : ℕ) (led : Led) (a : Acted) (use_it : BlockUse) (ask : PendingReply) (b : List ℕ)
+    → act ≡ Some a → act_in led ≡ Some a → IsMet from bytes now m (Fresh slot) s u → head_in ask ≡ head_of m → ask.slot ≡ slot → ask.from ≡ from → ask.observing ≡ observing_in m → ask.blocks ≡ use_it
     → v.next_id ≡ u.next_id → v.links ≡ u.links → v.watchers ≡ u.watchers
     → (answer : Answers ask a.outcome a.target b v t) → back ≡ b ∷ []
     → LeadsTo from now m s.links answer.observe led (observed answer.observe (answer_reply use_it a.outcome))
     → (t.bodies ≡ bodies_after use_it from a.outcome v.bodies → t.parts ≡ v.parts → Leaves from now m led s t) → IsLed from bytes now act back s t
-led_acted from bytes now act back s v u t m slot led a use_it ask b acted_is same_act met request place observing blocks id links watchers answer is leads leaves =
+led_acted from bytes now act back s v u t m slot led a use_it ask b acted_is same_act met head at place observing blocks id links watchers answer is leads leaves =
     let x : Server = with_bodies (bodies_after ask.blocks ask.from a.outcome v.bodies) (with_watchers answer.watchers v) in
     let r : Reply = observed answer.observe (answer_reply ask.blocks a.outcome) in
-    let left = replied_leaves r ask.request b x t answer.replies in
+    let left = replied_leaves r (head_in ask) ask.slot b x t answer.replies in
     let says : r ≡ observed answer.observe (answer_reply use_it a.outcome) = ap (λ (k : BlockUse). observed answer.observe (answer_reply k a.outcome)) blocks in
     record {
       message = m;
@@ -221,17 +220,17 @@ led_acted from bytes now act back s v u t m slot led a use_it ask b acted_is sam
           subst (λ (y : Acted). Watches (effect_of (observing_in m) y.outcome y.target) from m.token s.watchers answer.observe t.watchers) one
           (subst (λ (y : Watching). Watches (effect_of (observing_in m) a.outcome a.target) from m.token s.watchers answer.observe y) (sym left.watchers)
           (subst (λ (y : Watching). Watches (effect_of (observing_in m) a.outcome a.target) from m.token y answer.observe answer.watchers) (watchers ∙ met.same_watchers)
-          (subst (λ (q : OpenRequest). Watches (effect_of (observing_in m) a.outcome a.target) from q.head.token v.watchers answer.observe answer.watchers) request
-          (subst (λ (p : Endpoint). Watches (effect_of (observing_in m) a.outcome a.target) p ask.request.head.token v.watchers answer.observe answer.watchers) place
-          (subst (λ (o : Observing). Watches (effect_of o a.outcome a.target) ask.from ask.request.head.token v.watchers answer.observe answer.watchers) observing answer.watches)))));
+          (subst (λ (q : ReplyHead). Watches (effect_of (observing_in m) a.outcome a.target) from q.token v.watchers answer.observe answer.watchers) head
+          (subst (λ (p : Endpoint). Watches (effect_of (observing_in m) a.outcome a.target) p ask.token v.watchers answer.observe answer.watchers) place
+          (subst (λ (o : Observing). Watches (effect_of o a.outcome a.target) ask.from ask.token v.watchers answer.observe answer.watchers) observing answer.watches)))));
       sent = inl (is ∙ ap (λ (y : List ℕ). y ∷ []) (answer.replies.bytes_are
-          ∙ (ap (λ (q : OpenRequest). spelling (coap_reply r q.head v.next_id)) request
+          ∙ (ap (λ (q : ReplyHead). spelling (coap_reply r q v.next_id)) head
           ∙ (ap (λ (y : Reply). spelling (coap_reply y (head_of m) v.next_id)) says
           ∙ ap (λ (n : ℕ). spelling (coap_reply (observed answer.observe (answer_reply use_it a.outcome)) (head_of m) n)) (id ∙ met.same_id)))));
       links = left.links ∙ (links ∙ met.same_links);
     }
 
-led_asked : (from : Endpoint) (bytes : List ℕ) (now : ℕ) (act : Option Acted) (back : List (List ℕ)) (s v t : Server) (a : Acted) (ask : OpenAsk) (reply : List ℕ)
+led_asked : (from : Endpoint) (bytes : List ℕ) (now : ℕ) (act : Option Acted) (back : List (List ℕ)) (s v t : Server) (a : Acted) (ask : PendingReply) (reply : List ℕ)
     → Hears from bytes now (asked a.what ask) s v → HasCode a.outcome → HasShortPlace a.outcome
     → Answers ask a.outcome a.target reply v t → act ≡ Some a → back ≡ reply ∷ [] → IsLed from bytes now act back s t
 led_asked from bytes now act back s v t a ask reply (settled (malformed f fault h same)) code place answer acted_is is = absurd (not_replied a.what ask _ h)
@@ -242,20 +241,20 @@ led_asked from bytes now act back s v t a ask reply (admitted m slot u met (repl
 led_asked from bytes now act back s v t a ask reply (admitted m slot u met (bad_option_ignored number fault non h same)) code place answer acted_is is = absurd (cc)
 led_asked from bytes now act back s v t a ask reply (admitted m slot u met (gives_links b faultless wants links get replies h)) code place answer acted_is is = absurd (cc)
 led_asked from bytes now act back s v t a ask reply (admitted m slot u met (asks faultless wants apart h same)) code place answer acted_is is =
-    let which : ask ≡ opened_ask from now m slot = ap (ask_in ask) h in
+    let which : ask ≡ pending_of from now m slot = ap (ask_in ask) h in
     let what : a.what ≡ what_is_asked m = ap (what_in a.what) h in
     let use_it : BlockUse = use_of now m.code (observing_in m) (what_is_asked m) in
     led_acted from bytes now act back s v u t m slot (to_act a) a use_it ask reply acted_is refl met
-    (ap (λ (x : OpenAsk). x.request) which) (ap (λ (x : OpenAsk). x.from) which) (ap (λ (x : OpenAsk). x.observing) which) (ap (λ (x : OpenAsk). x.blocks) which)
+    (ap head_in which) (ap (λ (x : PendingReply). x.slot) which) (ap (λ (x : PendingReply). x.from) which) (ap (λ (x : PendingReply). x.observing) which) (ap (λ (x : PendingReply). x.blocks) which)
     (ap (λ (x : Server). x.next_id) same) (ap (λ (x : Server). x.links) same) (ap (λ (x : Server). x.watchers) same) answer is
     (is_acted_on a wants apart refl what code place refl)
     (λ bodies parts. (bodies ∙ ap (bodies_after use_it from a.outcome) (ap (λ (x : Server). x.bodies) same ∙ met.same_bodies), parts ∙ (ap (λ (x : Server). x.parts) same ∙ met.same_parts)))
 led_asked from bytes now act back s v t a ask reply (admitted m slot u met (asks_whole b at parts whole faultless wants apart adds there h same)) code place answer acted_is is =
-    let which : ask ≡ joined_ask from m slot b = ap (ask_in ask) h in
+    let which : ask ≡ pending_joined from m slot b = ap (ask_in ask) h in
     let what : a.what ≡ with_whole_body whole.bytes (what_is_asked m) = ap (what_in a.what) h in
     let arrival = block_arrival from now m b in
     led_acted from bytes now act back s v u t m slot (to_act_on_whole arrival a) a (Joined b) ask reply acted_is refl met
-    (ap (λ (x : OpenAsk). x.request) which) (ap (λ (x : OpenAsk). x.from) which) (ap (λ (x : OpenAsk). x.observing) which) (ap (λ (x : OpenAsk). x.blocks) which)
+    (ap head_in which) (ap (λ (x : PendingReply). x.slot) which) (ap (λ (x : PendingReply). x.from) which) (ap (λ (x : PendingReply). x.observing) which) (ap (λ (x : PendingReply). x.blocks) which)
     (ap (λ (x : Server). x.next_id) same) (ap (λ (x : Server). x.links) same) (ap (λ (x : Server). x.watchers) same) answer is
     (is_acted_on_whole a b whole.bytes wants apart refl what code place refl)
     (λ bodies parts_are. (
@@ -274,7 +273,7 @@ led_asked from bytes now act back s v t a ask reply (admitted m slot u met (asks
 -- ---- all
 
 led_unasked : (from : Endpoint) (bytes : List ℕ) (now : ℕ) (h : Heard) (act : Option Acted) (back : List (List ℕ)) (s t : Server) → act ≡ None → back ≡ sent_back h
-    → Hears from bytes now h s t → ((what : PlainAsk) (ask : OpenAsk) → h ≡ asked what ask → ⊥) → IsPassedOver bytes now act s t ⊎ IsLed from bytes now act back s t
+    → Hears from bytes now h s t → ((what : PlainAsk) (ask : PendingReply) → h ≡ asked what ask → ⊥) → IsPassedOver bytes now act s t ⊎ IsLed from bytes now act back s t
 led_unasked from bytes now h act back s t none is (settled settles) unasked = inl (settled_over from bytes now h act s t none settles)
 led_unasked from bytes now h act back s t none is (admitted m slot u met (replied r parts b why replies e)) unasked =
     inr (led_at_once from bytes now act back s u t m slot r parts b none met replies (is ∙ ap sent_back e) why)

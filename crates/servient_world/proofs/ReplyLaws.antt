@@ -14,14 +14,13 @@ use Rattle.thing_ops.specs.declared.outcome.Outcome.{Outcome}
 use Rattle.thing_ops.specs.Outcomes.{payload_of, text_of}
 use Rattle.coap_client.specs.Answers.{number_within, sequence_of}
 use Rattle.coap_observe.specs.declared.notice.Notice.{Notice}
-use Rattle.coap_bind.specs.declared.head.RequestHead.{RequestHead}
 use Rattle.coap_bind.specs.declared.blocks.BlockOption.{BlockOption}
 use Rattle.coap_bind.specs.declared.blocks.BlockOption.TheVariants as option
 use Rattle.coap_bind.specs.declared.blocks.BlockUse.{BlockUse}
 use Rattle.coap_blocks.specs.Bodies.{longest_body}
 use Rattle.coap_bind.specs.Links.{links_content, links_reply}
 use Rattle.coap_bind.specs.Blocks.{content_format, content_reply, given_portion, with_block, option_of, portion_of, most_bytes, reply_with, answer_reply}
-use Rattle.coap_bind.specs.Writing.{Reply, full_reply, long_reply, whole_reply, reply_of, place_of, text_format, format_options, etag_options, reply_options, observed, reply_id, coap_reply, notification}
+use Rattle.coap_bind.specs.Writing.{Reply, full_reply, long_reply, whole_reply, reply_of, place_of, text_format, format_options, etag_options, reply_options, observed, reply_id, coap_reply, notification, ReplyHead}
 
 -- ---- numbers
 
@@ -109,7 +108,7 @@ pub id_at : (kind : RequestType) (id next : ℕ) → id < 2 ^ 16 → next < 2 ^ 
 id_at Confirmable id next mine its = mine
 id_at NonConfirmable id next mine its = its
 
-pub full_is_message : (head : RequestHead) (next : ℕ) → head.id < 2 ^ 16 → length head.token ≤ 8 → next < 2 ^ 16 → IsWellFormed (coap_reply full_reply head next)
+pub full_is_message : (head : ReplyHead) (next : ℕ) → head.id < 2 ^ 16 → length head.token ≤ 8 → next < 2 ^ 16 → IsWellFormed (coap_reply full_reply head next)
 full_is_message head next id token counter = record {
   code = omega arith;
   class = inr (inr (inr refl));

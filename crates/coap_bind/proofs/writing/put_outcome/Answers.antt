@@ -3,7 +3,7 @@ use Rattle.std.proofs.Common.{List, ℕ, sym, ap, subst, arith, length}
 use Rattle.coap_msg.specs.Grammar.{spelling}
 use Rattle.coap_msg.specs.Written.{IsWritten}
 use Rattle.coap_bind.specs.Blocks.{Portion, reply_with}
-use Rattle.coap_bind.specs.Writing.{Reply, observed, coap_reply}
+use Rattle.coap_bind.specs.Writing.{Reply, observed, head_in, coap_reply}
 use Rattle.coap_bind.proofs.LengthLaws.{answer_is}
 use Rattle.coap_bind.proofs.writing.put_outcome.Goals as goal
 
@@ -11,6 +11,6 @@ pub returns : goal.returns
 returns c =
     let u = c.args.said.blocks.now in
     let o = c.args.said.outcome.now in
-    let R : Reply → Type 0 = λ r. IsWritten (spelling (coap_reply (observed c.args.said.observe r) c.args.head.now c.args.next_id)) c.put_portion.result c.args.out.now c.put_portion.new.out in
+    let R : Reply → Type 0 = λ r. IsWritten (spelling (coap_reply (observed c.args.said.observe r) (head_in c.args.pending.now) c.args.next_id)) c.put_portion.result c.args.out.now c.put_portion.new.out in
     let P : Portion → Type 0 = λ p. R (reply_with p o) in
     subst R (sym (answer_is u o (omega (arith, c.if-payload-most_bytes.false, c.most_bytes.ensures, ap (λ (x : List ℕ). length x) c.payload_of-payload.ensures)))) (subst P c.portion_of-portion.ensures.ok c.put_portion.ensures)

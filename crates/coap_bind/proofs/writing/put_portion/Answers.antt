@@ -16,7 +16,7 @@ put_options-requires-clause-segments c =
     let tag = etag_options (version_of o) in
     let observe = observe_options c.args.said.observe in
     let rest = segment_options LOCATION_PATH (place_of o) ++ format_options o in
-    let all = all_lengths c.args.head.now.token (options_spelling 0 (tag ++ (observe ++ with_block c.args.portion.block rest))) (payload_spelling c.args.portion.payload.now) in
+    let all = all_lengths c.args.pending.now.token (options_spelling 0 (tag ++ (observe ++ with_block c.args.portion.block rest))) (payload_spelling c.args.portion.payload.now) in
     let short = without_block c.args.portion.block tag observe rest LONGEST_MESSAGE (omega (arith, c.requires.room)) in
     All-weaker (λ (s : List ℕ). length s ≤ LONGEST_MESSAGE) (λ (s : List ℕ). length s ≤ largest_number) (λ s h. omega arith) (place_of o)
     (segments_behind LONGEST_MESSAGE tag observe (place_of o) (format_options o) short)
@@ -27,7 +27,7 @@ unwrap-requires c =
     let tag = etag_options (version_of o) in
     let observe = observe_options c.args.said.observe in
     let rest = segment_options LOCATION_PATH (place_of o) ++ format_options o in
-    let all = all_lengths c.args.head.now.token (options_spelling 0 (tag ++ (observe ++ with_block c.args.portion.block rest))) (payload_spelling c.args.portion.payload.now) in
+    let all = all_lengths c.args.pending.now.token (options_spelling 0 (tag ++ (observe ++ with_block c.args.portion.block rest))) (payload_spelling c.args.portion.payload.now) in
     let short = without_block c.args.portion.block tag observe rest LONGEST_MESSAGE (omega (arith, c.requires.room)) in
     let F : WrittenOptions → Type 0 = λ w. length (options_spelling 0 (w.list ++ (tag ++ (observe ++ rest)))) ≤ w.room in
     let room : F (record { list = []; room = 1152 }) = short in

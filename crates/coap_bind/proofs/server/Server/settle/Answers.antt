@@ -2,14 +2,10 @@
 use Rattle.std.proofs.Common.{◌≡◌, ◌∙◌, sym, subst, refl, Some}
 use Rattle.coap_msg.specs.MessageOf.{message_of}
 use Rattle.coap_msg.specs.declared.message.RequestType.{RequestType}
-use Rattle.coap_msg.specs.Grammar.{spelling}
 use Rattle.coap_msg.specs.Requests.{request_type}
-use Rattle.coap_msg.specs.Written.{IsWritten}
 use Rattle.coap_exchange.specs.Table.{Table, exchange_in}
-use Rattle.coap_bind.specs.declared.head.RequestHead.{RequestHead}
 use Rattle.coap_bind.specs.declared.server.Server.{Server}
-use Rattle.coap_bind.specs.Writing.{full_reply, coap_reply}
-use Rattle.coap_bind.specs.Server.{duplicate_reply, with_id_used, malformed, no_request, duplicate, full}
+use Rattle.coap_bind.specs.Server.{duplicate_reply, malformed, no_request, duplicate, full}
 use Rattle.coap_bind.specs.Settling.{TellsDone}
 use Rattle.coap_bind.proofs.TellingLaws.{tells_reply}
 use Rattle.coap_bind.proofs.server.Server.settle.Goals as goal
@@ -39,12 +35,10 @@ returns-in-Repeat c =
 
 pub returns-in-Full : goal.returns-in-Full
 returns-in-Full c =
-    let u : Server = record { exchanges = c.meet.new.self; watchers = c.args.self.now.watchers; next_id = c.args.self.now.next_id; bodies = c.args.self.now.bodies; parts = c.args.self.now.parts; links = c.args.self.now.links } in
-    let P : RequestHead → Type 0 = λ h. IsWritten (spelling (coap_reply full_reply h c.args.self.now.next_id)) c.send.result c.args.out.now c.send.new.out in
-    let Q : RequestHead → Type 0 = λ h. c.send.new.self ≡ with_id_used h.kind u in (
+    let u : Server = record { exchanges = c.meet.new.self; watchers = c.args.self.now.watchers; next_id = c.args.self.now.next_id; bodies = c.args.self.now.bodies; parts = c.args.self.now.parts; links = c.args.self.now.links } in (
       _,
       full (message_of c.in-Ok.message) u
           (record { spells = c.in-Ok.ensures.ok; request = sym c.is_request.ensures ∙ c.if-not-is_request.false; meets = c.in-Full.ensures.met; same_watchers = refl; same_id = refl; same_bodies = refl; same_parts = refl; same_links = refl })
-          refl (subst Q c.of-head.ensures c.send.ensures.after),
-      subst P c.of-head.ensures c.send.ensures.bytes,
+          refl c.refuse_full.ensures.after,
+      c.refuse_full.ensures.bytes,
     )

@@ -21,7 +21,7 @@ use Rattle.directory_requests.specs.declared.server.Entries.{Entries}
 use Rattle.directory_requests.specs.Asked.{is_of_directory}
 use Rattle.directory_requests.specs.Requests.{DirectoryActs}
 use Rattle.coap_opts.specs.Reading.{PlainAsk}
-use Rattle.coap_bind.specs.declared.head.OpenAsk.{OpenAsk}
+use Rattle.coap_bind.specs.declared.pending.PendingReply.{PendingReply}
 use Rattle.servient_outside.specs.declared.net.Act.{Act}
 use Rattle.servient_outside.specs.declared.net.Act.TheVariants as act
 use Rattle.servient_outside.specs.Network.{did}
@@ -196,7 +196,7 @@ nothing_found site q done s calls t is (refuses o (inr later) answers) = absurd 
 nothing_found site q done s calls t is (has_no_memory answers) = inr (ap (λ (d : Done). d.outcome) answers.0)
 nothing_found site q done s calls t is (performs act inputs none asked given move) = absurd (none.0 (no_place q.path site s.invocations is))
 
-pub finds_no_directory : (site : Site) (from : Endpoint) (ask : PlainAsk) (request : OpenAsk) → FindsNoDirectory site from ask request
+pub finds_no_directory : (site : Site) (from : Endpoint) (ask : PlainAsk) (request : PendingReply) → FindsNoDirectory site from ask request
 finds_no_directory site from ask request done s t seen is both =
     let found = nothing_found site ask.request done s.thing both.one.1 both.one.0 is both.one.2 in
     let quiet = rest_quiet site (by_coap from ask request) done both.mid t both.second both.other in

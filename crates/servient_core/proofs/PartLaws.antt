@@ -20,7 +20,7 @@ use Rattle.directory_requests.specs.declared.server.Entries.{Entries}
 use Rattle.directory_requests.specs.Requests.{standing_at, ActsOnStanding, DirectoryActs}
 use Rattle.directory_requests.proofs.StandingLaws.{same_later}
 use Rattle.coap_opts.specs.Reading.{PlainAsk}
-use Rattle.coap_bind.specs.declared.head.OpenAsk.{OpenAsk}
+use Rattle.coap_bind.specs.declared.pending.PendingReply.{PendingReply}
 use Rattle.coap_bind.specs.declared.server.Server.{Server}
 use Rattle.coap_bind.specs.Server.{Heard, ignored, answered_at_once, asked, Hears, Answers}
 use Rattle.http_bind.specs.Streams.{Connection, Streams, none_open}
@@ -192,7 +192,7 @@ heard_at_once site from bytes sent k c n m slots h short hears is shows =
     (refines_act (record k { coap = c }) n m slots (act.Datagram from sent) shows))
 
 -- what was asked is answered
-answers_ask : (site : Site) (from : Endpoint) (ask : PlainAsk) (request : OpenAsk) (sent : List ℕ) (k : Layers) (c : Server) (done : Done) (n m : NetSeen) (slots : List Seen)
+answers_ask : (site : Site) (from : Endpoint) (ask : PlainAsk) (request : PendingReply) (sent : List ℕ) (k : Layers) (c : Server) (done : Done) (n m : NetSeen) (slots : List Seen)
     → Answers request done.outcome (observed_target site k.exposed.state ask) sent k.coap c → NetShows n m (did (act.Datagram from sent) ∷ [])
     → Refines StandsFor Shows (AnswersAsk site from ask request done) k (record k { coap = c }) (outside n slots) (outside m slots)
 answers_ask site from ask request sent k c done n m slots answers shows = λ s stands.
@@ -211,7 +211,7 @@ answers_ask site from ask request sent k c done n m slots answers shows = λ s s
     )
 
 -- what is asked is done and answered, and what is emitted is delivered
-responds_asked : (site : Site) (from : Endpoint) (ask : PlainAsk) (request : OpenAsk) (sent : List ℕ) (k l : Layers) (e : Kept) (c : Server) (done : Done) (n m : NetSeen) (before after : List Seen) (v : Outside)
+responds_asked : (site : Site) (from : Endpoint) (ask : PlainAsk) (request : PendingReply) (sent : List ℕ) (k l : Layers) (e : Kept) (c : Server) (done : Done) (n m : NetSeen) (before after : List Seen) (v : Outside)
     → Makes RackShows (Acts site ask.request done) k.exposed.state e.state before after
     → Answers request done.outcome (observed_target site e.state ask) sent k.coap c → NetShows n m (did (act.Datagram from sent) ∷ [])
     → Refines StandsFor Shows (DeliversEach done.emissions) (record k { exposed = e; coap = c }) l (outside m after) v
@@ -223,7 +223,7 @@ responds_asked site from ask request sent k l e c done n m before after v made a
     (then_moves (AnswersAsk site from ask request done) (DeliversEach done.emissions) (record k { exposed = e }) (record k { exposed = e; coap = c }) l (outside n after) (outside m after) v
     (answers_ask site from ask request sent (record k { exposed = e }) c done n m after answers shows) delivers)
 
-pub heard_asked : (site : Site) (from : Endpoint) (bytes sent : List ℕ) (ask : PlainAsk) (request : OpenAsk) (o : Outcome) (k l : Layers) (e : Kept) (b c : Server)
+pub heard_asked : (site : Site) (from : Endpoint) (bytes sent : List ℕ) (ask : PlainAsk) (request : PendingReply) (o : Outcome) (k l : Layers) (e : Kept) (b c : Server)
     (n m : NetSeen) (before after : List Seen) (v : Outside) (h : Heard) (made : MakesAct k.exposed e ask.request o before after) → length bytes ≤ LONGEST_DATAGRAM → Hears from bytes k.moment h k.coap b
     → h ≡ asked ask request → k.exposed.site ≡ site → Answers request o (observed_target e.site e.state ask) sent b c → NetShows n m (did (act.Datagram from sent) ∷ [])
     → Refines StandsFor Shows (Each Delivers e.pending) (record k { exposed = e; coap = c }) l (outside m after) v

@@ -14,9 +14,9 @@ use Rattle.coap_opts.specs.declared.fault.AskFault.{AskFault}
 use Rattle.coap_opts.specs.declared.fault.AskFault.TheVariants as fault
 use Rattle.coap_opts.specs.Table.{may_stand}
 use Rattle.coap_opts.specs.Reading.{PlainAsk, fault_of, and_then_these, faults_after, faults_of, values_under, asked as what_is_asked}
-use Rattle.coap_bind.specs.declared.head.OpenAsk.{OpenAsk}
+use Rattle.coap_bind.specs.declared.pending.PendingReply.{PendingReply}
 use Rattle.coap_bind.specs.declared.server.Server.{Server}
-use Rattle.coap_bind.specs.Server.{Heard, ignored, answered_at_once, asked, replied_at_once, duplicate_reply, opened_ask, joined_ask, with_whole_body, Settles, malformed, no_request, duplicate, full, Reads, replied, bad_option_ignored, gives_links, asks, asks_whole, Hears, settled, admitted}
+use Rattle.coap_bind.specs.Server.{Heard, ignored, answered_at_once, asked, replied_at_once, duplicate_reply, pending_of, pending_joined, with_whole_body, Settles, malformed, no_request, duplicate, full, Reads, replied, bad_option_ignored, gives_links, asks, asks_whole, Hears, settled, admitted}
 
 abbrev IsShort : List ℕ → Type 0
 IsShort segment = length segment ≤ 255
@@ -83,15 +83,15 @@ reads_short : (from : Endpoint) (now : ℕ) (m : CoapMessage) (slot : ℕ) (hear
 reads_short from now m slot heard s t (replied r parts bytes why replies is) = heard_as heard (answered_at_once bytes) is tt
 reads_short from now m slot heard s t (bad_option_ignored number first non is same) = heard_as heard ignored is tt
 reads_short from now m slot heard s t (gives_links bytes none act links get replies is) = heard_as heard (answered_at_once bytes) is tt
-reads_short from now m slot heard s t (asks none act apart is same) = heard_as heard (asked (what_is_asked m) (opened_ask from now m slot)) is (asked_path_short m.options none)
+reads_short from now m slot heard s t (asks none act apart is same) = heard_as heard (asked (what_is_asked m) (pending_of from now m slot)) is (asked_path_short m.options none)
 reads_short from now m slot heard s t (asks_whole b place parts whole none joining apart adds there is same) =
-    heard_as heard (asked (with_whole_body whole.bytes (what_is_asked m)) (joined_ask from m slot b)) is (asked_path_short m.options none)
+    heard_as heard (asked (with_whole_body whole.bytes (what_is_asked m)) (pending_joined from m slot b)) is (asked_path_short m.options none)
 
 hears_short : (from : Endpoint) (bytes : List ℕ) (now : ℕ) (heard : Heard) (s t : Server) → Hears from bytes now heard s t → IsShortHeard heard
 hears_short from bytes now heard s t (settled settles) = settles_short from bytes now heard s t settles
 hears_short from bytes now heard s t (admitted m slot u met reads) = reads_short from now m slot heard u t reads
 
 -- What is asked for by a datagram has a path of segments of at most 255 bytes.
-pub asked_short : (from : Endpoint) (bytes : List ℕ) (now : ℕ) (heard : Heard) (s t : Server) (ask : PlainAsk) (request : OpenAsk)
+pub asked_short : (from : Endpoint) (bytes : List ℕ) (now : ℕ) (heard : Heard) (s t : Server) (ask : PlainAsk) (request : PendingReply)
     → Hears from bytes now heard s t → heard ≡ asked ask request → All (λ segment. length segment ≤ 255) ask.request.path
 asked_short from bytes now heard s t ask request hears is = subst (λ (x : Heard). IsShortHeard x) is (hears_short from bytes now heard s t hears)

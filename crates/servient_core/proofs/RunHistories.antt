@@ -10,12 +10,13 @@ use Rattle.coap_msg.proofs.FaultLaws.{no_fault_of_message}
 use Rattle.coap_exchange.specs.Admission.{Arrival}
 use Rattle.coap_exchange.specs.declared.met.Met.{Met}
 use Rattle.coap_exchange.specs.declared.met.Met.TheVariants.{Fresh, Repeat, Full}
-use Rattle.coap_bind.specs.declared.head.OpenAsk.{OpenAsk}
+use Rattle.coap_bind.specs.declared.pending.PendingReply.{PendingReply}
 use Rattle.coap_bind.specs.declared.server.Server.{Server}
 use Rattle.coap_bind.specs.Server.{start as nothing_came, Heard, ignored, answered_at_once, asked, arrival, is_request, with_watchers, IsMet, malformed, no_request, duplicate, full, Hears, settled, admitted, Answers, SendsNext}
 use Rattle.coap_opts.specs.Reading.{PlainAsk}
 use Rattle.coap_observe.specs.declared.notice.Notice.{Notice}
 use Rattle.coap_bind.specs.Laws.{AreArrivals, IsOpen, Did, nothing, heard_of, answered, emitted, sent, linked}
+use Rattle.coap_bind.specs.Writing.{head_in}
 use Rattle.coap_bind.proofs.HistoryLaws.{sent_stays}
 use Rattle.coap_exchange.specs.Table.{Table}
 use Rattle.coap_bind.proofs.OpenLaws.{asks_are_open}
@@ -81,12 +82,12 @@ thing_stays : (k : ℕ) (history : List Arrival) (now : ℕ) (s t : State) (x : 
     → Holds k history now s → Holds k history now t
 thing_stays k history now s t x shown seen b = stays k history now s t (ap (λ (y : State). y.coap) b.next) (ap (λ (y : State). y.moment) b.next)
 
-answers_holds : (k : ℕ) (history : List Arrival) (now : ℕ) (request : OpenAsk) (o : Outcome) (target : Option ℕ) (bytes : List ℕ) (s t : State) (seen : List Sighting)
+answers_holds : (k : ℕ) (history : List Arrival) (now : ℕ) (request : PendingReply) (o : Outcome) (target : Option ℕ) (bytes : List ℕ) (s t : State) (seen : List Sighting)
     → IsOpen request s.coap → OnCoap (λ moment. Answers request o target bytes) s seen t → Holds k history now s → Holds k history now t
 answers_holds k history now request o target bytes s t seen open_ask on h =
     becomes k history now (record s { coap = on.0 }) t on.2.next (record {
       did = (h.did.0, answered history s.coap on.0 request o target bytes h.did.1 open_ask on.1);
-      early = omega (arith, replies_moment _ request.request bytes (ready request o on.1.watchers s.coap) on.0 on.1.replies, h.early);
+      early = omega (arith, replies_moment _ (head_in request) request.slot bytes (ready request o on.1.watchers s.coap) on.0 on.1.replies, h.early);
       at = h.at;
     })
 
@@ -131,7 +132,7 @@ delivers_each_holds k history now emissions s t seen each h =
 -- ---- answers
 
 responds_holds : (k : ℕ) (history : List Arrival) (now : ℕ) (site : Site) (from : Endpoint) (heard : Heard) (s t : State) (seen : List Sighting) → AnswersDatagram site from heard s seen t
-    → ((ask : PlainAsk) (request : OpenAsk) → heard ≡ asked ask request → IsOpen request s.coap) → Holds k history now s → Holds k history now t
+    → ((ask : PlainAsk) (request : PendingReply) → heard ≡ asked ask request → IsOpen request s.coap) → Holds k history now s → Holds k history now t
 responds_holds k history now site from ignored s t seen stays opens h = becomes k history now s t stays.next h
 responds_holds k history now site from (answered_at_once bytes) s t seen does opens h = becomes k history now s t does.next h
 responds_holds k history now site from (asked ask request) s t seen is opens h =

@@ -27,7 +27,7 @@ use Rattle.directory_requests.specs.declared.server.Entries.{Entries}
 use Rattle.directory_requests.specs.Requests.{no_entries, DirectoryActs}
 use Rattle.coap_observe.specs.declared.notice.Notice.{Notice}
 use Rattle.coap_opts.specs.Reading.{PlainAsk}
-use Rattle.coap_bind.specs.declared.head.OpenAsk.{OpenAsk}
+use Rattle.coap_bind.specs.declared.pending.PendingReply.{PendingReply}
 use Rattle.coap_bind.specs.declared.server.Server.{Server}
 use Rattle.servient_core.specs.declared.capacity.TheConstants.{MOST_WATCHERS}
 use Rattle.coap_bind.specs.Server.{start as nothing_came, Heard, ignored, answered_at_once, asked, Hears, Answers, with_emitted, with_links, SendsNext}
@@ -149,7 +149,7 @@ abbrev pub observed_target : Site → ThingState → PlainAsk → Option ℕ
 observed_target site thing ask = elim ask.observe as (λ _. Option ℕ) [ None ↦ None | Some n ↦ target_of ask.request.path site thing.invocations ]
 
 -- what was asked is answered by this outcome
-abbrev pub AnswersAsk : Site → Endpoint → PlainAsk → OpenAsk → Done → Move
+abbrev pub AnswersAsk : Site → Endpoint → PlainAsk → PendingReply → Done → Move
 AnswersAsk site from ask request done s =
     Passing (λ bytes. OnCoap (λ now. Answers request done.outcome (observed_target site s.thing ask) bytes)) (λ bytes. Does (act.Datagram from bytes ∷ [])) s
 

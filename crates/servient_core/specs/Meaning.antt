@@ -12,7 +12,7 @@ use Rattle.thing_core.specs.Determined.{AreAnsweredBy, HadMemory}
 use Rattle.directory_requests.specs.Asked.{is_of_directory}
 use Rattle.directory_requests.specs.Requests.{DirectoryActs}
 use Rattle.coap_opts.specs.Reading.{PlainAsk}
-use Rattle.coap_bind.specs.declared.head.OpenAsk.{OpenAsk}
+use Rattle.coap_bind.specs.declared.pending.PendingReply.{PendingReply}
 use Rattle.coap_bind.specs.Server.{asked}
 use Rattle.http_bind.specs.Streams.{asks}
 use Rattle.servient_core.specs.Trace.{Sighting, calls_in}
@@ -22,7 +22,7 @@ use Rattle.servient_core.specs.Machine.{Site, State, Move, Performs, PerformsByH
 -- HTTP on a connection. A CoAP message for the links is none, since it is answered at once and asks for nothing: so what
 -- follows isn't said of that path.
 pub data Message : Type 0 where
-  by_coap : Endpoint → PlainAsk → OpenAsk → Message
+  by_coap : Endpoint → PlainAsk → PendingReply → Message
   by_http : ℕ → PlainRequest → Message
 
 -- the request as which it was read
@@ -78,7 +78,7 @@ AsksDirectoryAlone site c q =
     → (o : Outcome) × DirectoryActs q s.moment o s.directory t.directory × (calls_in seen ≡ []) × (t.thing ≡ s.thing)
 
 -- One that comes by CoAP finds nothing there, and leaves the directory as it is.
-abbrev pub FindsNoDirectory : Site → Endpoint → PlainAsk → OpenAsk → Type 0
+abbrev pub FindsNoDirectory : Site → Endpoint → PlainAsk → PendingReply → Type 0
 FindsNoDirectory site from ask request =
     (done : Done) (s t : State) (seen : List Sighting) → asks_directory (by_coap from ask request) ≡ true → ComesTo site (by_coap from ask request) done s seen t
     → ((done.outcome ≡ outcome.NotFound) ⊎ (done.outcome ≡ outcome.Memory)) × (t.directory ≡ s.directory)

@@ -3,7 +3,7 @@
 ghost use Rattle.std.specs.Prelude.{◌≡◌, ◌↔◌, ℕ, List};
 ghost use Rattle.coap_msg.specs.declared.endpoint.Endpoint.{Endpoint};
 ghost use Rattle.coap_opts.specs.Reading.{PlainAsk};
-ghost use Rattle.coap_bind.specs.declared.head.OpenAsk.{OpenAsk};
+ghost use Rattle.coap_bind.specs.declared.pending.PendingReply.{PendingReply};
 ghost use Rattle.thing_ops.specs.Requests.{PlainRequest};
 ghost use Rattle.thing_handler.specs.Turns.{AreNumberedFrom, turns_in};
 ghost use Rattle.servient_outside.specs.Network.{break_count};
@@ -60,7 +60,7 @@ pub fn one_meaning()
 /// and nothing of the Things, and what comes by CoAP finds nothing at its paths.
 pub fn directory_is_apart()
     ensures http { (site : Site) → (c : ℕ) → (q : PlainRequest) → AsksDirectoryAlone site c q }
-    ensures coap { (site : Site) → (from : Endpoint) → (ask : PlainAsk) → (request : OpenAsk) → FindsNoDirectory site from ask request }
+    ensures coap { (site : Site) → (from : Endpoint) → (ask : PlainAsk) → (request : PendingReply) → FindsNoDirectory site from ask request }
 {}
 
 /// Each state of a run from the beginning has a history, which are the requests in the events of that run; so

@@ -20,7 +20,7 @@ use Rattle.coap_client.specs.Exchange.{IsNew, Asks, request_for, with_request}
 use Rattle.coap_bind.specs.declared.server.Server.{Server}
 use Rattle.coap_bind.specs.Observing.{leaves}
 use Rattle.coap_bind.specs.Writing.{reply_of, coap_reply}
-use Rattle.coap_bind.specs.Server.{start as nothing_came, arrival, asked, asks, opened_ask, Hears, admitted, with_kept, with_id_used, Answers, SendsNext}
+use Rattle.coap_bind.specs.Server.{start as nothing_came, arrival, asked, asks, pending_of, Hears, admitted, with_kept, with_id_used, Answers, SendsNext}
 use Rattle.servient_outside.specs.declared.net.What.TheVariants as what
 use Rattle.servient_outside.specs.declared.net.EventWithBytes.{EventWithBytes}
 use Rattle.servient_outside.specs.declared.net.Act.TheVariants as act
@@ -133,7 +133,7 @@ admitting = record { exchanges = with_exchange (arrival client_place 0 question)
 abbrev answered_server : Server
 answered_server = with_kept Confirmable 0 answer_bytes (with_id_used Confirmable admitting)
 
-hears_it : Hears client_place sent_bytes 0 (asked (what_is_asked question) (opened_ask client_place 0 question 0)) (nothing_came 16 MOST_WATCHERS) admitting
+hears_it : Hears client_place sent_bytes 0 (asked (what_is_asked question) (pending_of client_place 0 question 0)) (nothing_came 16 MOST_WATCHERS) admitting
 hears_it = admitted question 0 admitting (record {
   spells = question_spells;
   request = refl;
@@ -145,7 +145,7 @@ hears_it = admitted question 0 admitting (record {
   same_links = refl;
 }) (asks refl refl refl refl refl)
 
-answers_it : Answers (opened_ask client_place 0 question 0) outcome.NotFound None answer_bytes admitting answered_server
+answers_it : Answers (pending_of client_place 0 question 0) outcome.NotFound None answer_bytes admitting answered_server
 answers_it = record {
   observe = None;
   watchers = (nothing_came 16 MOST_WATCHERS).watchers;
@@ -188,7 +188,7 @@ the_step = record {
     one = inr (
       short_question,
       (
-        asked (what_is_asked question) (opened_ask client_place 0 question 0),
+        asked (what_is_asked question) (pending_of client_place 0 question 0),
         record {
           mid = heard_state;
           first = [];

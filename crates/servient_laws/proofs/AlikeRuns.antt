@@ -13,7 +13,7 @@ use Rattle.thing_core.specs.State.{State as ThingState}
 use Rattle.thing_core.specs.Thing.{Done}
 use Rattle.thing_core.specs.Determined.{HadMemory as WasAmple}
 use Rattle.coap_opts.specs.Reading.{PlainAsk}
-use Rattle.coap_bind.specs.declared.head.OpenAsk.{OpenAsk}
+use Rattle.coap_bind.specs.declared.pending.PendingReply.{PendingReply}
 use Rattle.coap_bind.specs.declared.observing.Observing.{Observing}
 use Rattle.coap_bind.specs.declared.observing.Observing.TheVariants as observing
 use Rattle.coap_bind.specs.declared.observing.Effect.{Effect}
@@ -23,7 +23,7 @@ use Rattle.coap_bind.specs.Observing.{effect_of, Watches, leaves, cancels, regis
 use Rattle.coap_bind.specs.declared.blocks.BlockUse.{BlockUse}
 use Rattle.coap_bind.specs.declared.blocks.BlockUse.TheVariants as blocks
 use Rattle.coap_bind.specs.Blocks.{answer_reply}
-use Rattle.coap_bind.specs.Writing.{Reply, reply_of, observed, coap_reply}
+use Rattle.coap_bind.specs.Writing.{Reply, reply_of, observed, coap_reply, head_in}
 use Rattle.coap_bind.specs.Server.{Heard, ignored, answered_at_once, asked, Hears, Answers}
 use Rattle.coap_observe.specs.Watching.{Watching}
 use Rattle.http_bind.specs.Streams.{Streams, Taken, asks, wants_continue, is_faulty, interrupts, Opened, Ended, Lengthened, Takes, IsDry, Answers as AnswersRequest, lets_wait, sends_reply, Continues, Refuses}
@@ -69,22 +69,22 @@ memory_is_whole (blocks.Gives g) = refl
 memory_is_whole (blocks.Joined b) = refl
 
 -- an answer that isn't the one for want of memory was of a request that wasn't out of it
-ask_is_ample : (answers : ℕ → Answer) (site : Site) (from : Endpoint) (ask : PlainAsk) (r : OpenAsk) (done : Done) (s u : State) (a : List Sighting) → AnswersAsk site from ask r done s a u → Fits answers a
+ask_is_ample : (answers : ℕ → Answer) (site : Site) (from : Endpoint) (ask : PlainAsk) (r : PendingReply) (done : Done) (s u : State) (a : List Sighting) → AnswersAsk site from ask r done s a u → Fits answers a
     → WasAmple done
 ask_is_ample answers site from ask r done s u a (bytes, w) fits memory =
     let of_memory : Answers r outcome.Memory (observed_target site s.thing ask) bytes s.coap w.one.0 =
     subst (λ (o : Outcome). Answers r o (observed_target site s.thing ask) bytes s.coap w.one.0) memory w.one.1 in
     let none : of_memory.observe ≡ None =
-    no_number (effect_of r.observing outcome.Memory (observed_target site s.thing ask)) r.from r.request.head.token s.coap.watchers of_memory.watchers of_memory.observe
+    no_number (effect_of r.observing outcome.Memory (observed_target site s.thing ask)) r.from r.token s.coap.watchers of_memory.watchers of_memory.observe
     (no_effect r.observing (observed_target site s.thing ask)) of_memory.watches in
-    let is : bytes ≡ spelling (coap_reply (reply_of outcome.Memory) r.request.head s.coap.next_id) =
+    let is : bytes ≡ spelling (coap_reply (reply_of outcome.Memory) (head_in r) s.coap.next_id) =
     of_memory.replies.bytes_are
-    ∙ ap (λ (o : Option ℕ). spelling (coap_reply (observed o (answer_reply r.blocks outcome.Memory)) r.request.head s.coap.next_id)) none
-    ∙ ap (λ (x : Reply). spelling (coap_reply (observed None x) r.request.head s.coap.next_id)) (memory_is_whole r.blocks) in
+    ∙ ap (λ (o : Option ℕ). spelling (coap_reply (observed o (answer_reply r.blocks outcome.Memory)) (head_in r) s.coap.next_id)) none
+    ∙ ap (λ (x : Reply). spelling (coap_reply (observed None x) (head_in r) s.coap.next_id)) (memory_is_whole r.blocks) in
     told answers (act.Datagram from bytes) [] w.second w.other.saw (fits_rest answers w.first w.second a w.whole fits)
-    (by_coap from r.request.head s.coap.next_id (ap (λ (x : List ℕ). act.Datagram from x) is))
+    (by_coap from (head_in r) s.coap.next_id (ap (λ (x : List ℕ). act.Datagram from x) is))
 
-answer_agrees : (site : Site) (from : Endpoint) (ask : PlainAsk) (r q : OpenAsk) (done : Done) (s t u v : State) (a b : List Sighting) → Alike s t → SameAsk r q s.coap t.coap
+answer_agrees : (site : Site) (from : Endpoint) (ask : PlainAsk) (r q : PendingReply) (done : Done) (s t u v : State) (a b : List Sighting) → Alike s t → SameAsk r q s.coap t.coap
     → AnswersAsk site from ask r done s a u → AnswersAsk site from ask q done t b v → Agree a b u v
 answer_agrees site from ask r q done s t u v a b alike same (x, w) (y, z) =
     let there : Answers q done.outcome (observed_target site s.thing ask) y t.coap z.one.0 =
@@ -98,7 +98,7 @@ answer_agrees site from ask r q done s t u v a b alike same (x, w) (y, z) =
     joined w.first z.first w.second z.second a b w.mid z.mid u v first second w.whole z.whole
 
 -- a request is performed, answered and delivered
-asked_agrees : (answers : ℕ → Answer) (site : Site) (from : Endpoint) (ask : PlainAsk) (r q : OpenAsk) (s t u v : State) (a b : List Sighting) → Alike s t → SameAsk r q s.coap t.coap
+asked_agrees : (answers : ℕ → Answer) (site : Site) (from : Endpoint) (ask : PlainAsk) (r q : PendingReply) (s t u v : State) (a b : List Sighting) → Alike s t → SameAsk r q s.coap t.coap
     → AnswersDatagram site from (asked ask r) s a u → AnswersDatagram site from (asked ask q) t b v → Fits answers a → Fits answers b → Agree a b u v
 asked_agrees answers site from ask r q s t u v a b alike same (x, p) (y, w) on_a on_b =
     let a_two = fits_rest answers p.first p.second a p.whole on_a in

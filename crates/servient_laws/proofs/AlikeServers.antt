@@ -28,17 +28,15 @@ use Rattle.coap_opts.specs.declared.fault.AskFault.{AskFault}
 use Rattle.coap_opts.specs.declared.fault.AskFault.TheVariants.{BadOption, Proxy}
 use Rattle.coap_opts.specs.declared.fault.AskFault.TheVariants as fault
 use Rattle.thing_ops.specs.declared.outcome.Outcome.TheVariants.{Memory}
-use Rattle.coap_bind.specs.declared.head.RequestHead.{RequestHead}
-use Rattle.coap_bind.specs.declared.head.OpenRequest.{OpenRequest}
-use Rattle.coap_bind.specs.declared.head.OpenAsk.{OpenAsk}
+use Rattle.coap_bind.specs.declared.pending.PendingReply.{PendingReply}
 use Rattle.coap_bind.specs.declared.server.Server.{Server}
 use Rattle.coap_bind.specs.declared.blocks.BlockUse.TheVariants as blocks
 use Rattle.coap_bind.specs.declared.blocks.Wanted.{Wanted}
 use Rattle.coap_bind.specs.declared.blocks.Wanted.TheVariants.{Act, LaterBlock, Joining}
 use Rattle.coap_bind.specs.Blocks.{block_reply, later_reply, added_reply}
 use Rattle.coap_bind.specs.Links.{size_asked, links_reply, method_reply, watchers_with_links, bodies_with_links}
-use Rattle.coap_bind.specs.Writing.{Reply, full_reply, proxy_reply, option_reply, reply_of, head_of, coap_reply}
-use Rattle.coap_bind.specs.Server.{Heard, ignored, answered_at_once, asked, with_id_used, with_kept, Replies, told_by, with_report, replied_at_once, is_request, duplicate_reply, arrival, IsMet, malformed, no_request, duplicate, full, opened, observing_in, wanted_in, opened_ask, joined_ask, with_whole_body, block_arrival, Adds, with_parts, IsAnsweredAtOnce, bad_option, bad_block, for_proxy, no_memory, later_block, joined, takes_no_other_verb, takes_no_body, asks_links, links_given, Reads, replied, bad_option_ignored, gives_links, asks, asks_whole, Hears, settled, admitted}
+use Rattle.coap_bind.specs.Writing.{Reply, full_reply, proxy_reply, option_reply, reply_of, head_of, coap_reply, ReplyHead, head_in}
+use Rattle.coap_bind.specs.Server.{Heard, ignored, answered_at_once, asked, with_id_used, with_kept, Replies, told_by, with_report, replied_at_once, is_request, duplicate_reply, arrival, IsMet, malformed, no_request, duplicate, full, observing_in, wanted_in, pending_of, pending_joined, with_whole_body, block_arrival, Adds, with_parts, IsAnsweredAtOnce, bad_option, bad_block, for_proxy, no_memory, later_block, joined, takes_no_other_verb, takes_no_body, asks_links, links_given, Reads, replied, bad_option_ignored, gives_links, asks, asks_whole, Hears, settled, admitted}
 use Rattle.servient_laws.proofs.AlikeStates.{SameTable, SameServer}
 use Rattle.servient_laws.proofs.AlikeTables.{same_at_moment, same_reply, IsLast, MetAlike, met_alike, same_with_reply}
 
@@ -63,24 +61,24 @@ same_kept Confirmable slot other bytes s t same l k = record {
 }
 same_kept NonConfirmable slot other bytes s t same l k = same_id_used NonConfirmable s t same
 
-pub same_replies : (r : Reply) (p q : OpenRequest) (a b : List ℕ) (s t u v : Server) → SameServer s t → p.head ≡ q.head → IsLast p.slot s.exchanges → IsLast q.slot t.exchanges
-    → Replies r p a s u → Replies r q b t v → (a ≡ b) × SameServer u v
-same_replies r p q a b s t u v same head l k one other =
-    let bytes : a ≡ b = one.bytes_are ∙ ap₂ (λ (h : RequestHead) (n : ℕ). spelling (coap_reply r h n)) head same.next ∙ sym other.bytes_are in
-    let after : v ≡ with_kept p.head.kind q.slot a (with_id_used p.head.kind t) =
-    other.after ∙ ap₂ (λ (h : RequestHead) (x : List ℕ). with_kept h.kind q.slot x (with_id_used h.kind t)) (sym head) (sym bytes) in
-    (bytes, moved (with_kept p.head.kind p.slot a (with_id_used p.head.kind s)) (with_kept p.head.kind q.slot a (with_id_used p.head.kind t)) u v one.after after (same_kept p.head.kind p.slot q.slot a s t same l k))
+pub same_replies : (r : Reply) (p : ReplyHead) (slot : ℕ) (q : ReplyHead) (other : ℕ) (a b : List ℕ) (s t u v : Server) → SameServer s t → p ≡ q → IsLast slot s.exchanges → IsLast other t.exchanges
+    → Replies r p slot a s u → Replies r q other b t v → (a ≡ b) × SameServer u v
+same_replies r p slot q other a b s t u v same head l k one two =
+    let bytes : a ≡ b = one.bytes_are ∙ ap₂ (λ (h : ReplyHead) (n : ℕ). spelling (coap_reply r h n)) head same.next ∙ sym two.bytes_are in
+    let after : v ≡ with_kept p.kind other a (with_id_used p.kind t) =
+    two.after ∙ ap₂ (λ (h : ReplyHead) (x : List ℕ). with_kept h.kind other x (with_id_used h.kind t)) (sym head) (sym bytes) in
+    (bytes, moved (with_kept p.kind slot a (with_id_used p.kind s)) (with_kept p.kind other a (with_id_used p.kind t)) u v one.after after (same_kept p.kind slot other a s t same l k))
 
 -- ---- what is heard
 
 -- two requests that are to be answered, but for their slots, which are those of the exchanges admitted last
-pub record SameAsk (one other : OpenAsk) (s t : Server) : Type 0 where
-  pub head : one.request.head ≡ other.request.head
+pub record SameAsk (one other : PendingReply) (s t : Server) : Type 0 where
+  pub head : head_in one ≡ head_in other
   pub from : one.from ≡ other.from
   pub observing : one.observing ≡ other.observing
   pub blocks : one.blocks ≡ other.blocks
-  pub last : IsLast one.request.slot s.exchanges
-  pub last_too : IsLast other.request.slot t.exchanges
+  pub last : IsLast one.slot s.exchanges
+  pub last_too : IsLast other.slot t.exchanges
 
 abbrev pub SameHeard : Heard → Heard → Server → Server → Type 0
 SameHeard ignored ignored s t = Unit {0}
@@ -113,7 +111,7 @@ repeated NonConfirmable o = tt
 
 -- it isn't a reply that says that memory was wanting
 abbrev pub IsAmple : Heard → Type 0
-IsAmple h = (head : RequestHead) (id : ℕ) → h ≡ answered_at_once (spelling (coap_reply (reply_of Memory) head id)) → ⊥
+IsAmple h = (head : ReplyHead) (id : ℕ) → h ≡ answered_at_once (spelling (coap_reply (reply_of Memory) head id)) → ⊥
 
 first_fault : (fs : List AskFault) (f : AskFault) → slice_get fs 0 ≡ Some f → fs ≡ [] → ⊥
 first_fault fs f is none = not_first (subst (λ (x : List AskFault). slice_get x 0 ≡ Some f) none is)
@@ -300,15 +298,15 @@ same_whole from now m b s t place other parts rest whole body same adds there ad
     (ap (λ (x : AsWhole). x.whole) is, ap (λ (x : AsWhole). x.left) is)
 
 -- two that are asked
-asked_alike : (h k : Heard) (one other : PlainAsk) (request ask : OpenAsk) (u v : Server) → h ≡ asked one request → k ≡ asked other ask → one ≡ other → SameAsk request ask u v
+asked_alike : (h k : Heard) (one other : PlainAsk) (request ask : PendingReply) (u v : Server) → h ≡ asked one request → k ≡ asked other ask → one ≡ other → SameAsk request ask u v
     → SameHeard h k u v
 asked_alike h k one other request ask u v is is' same slots =
     subst (λ (x : Heard). SameHeard h x u v) (sym is') (subst (λ (x : Heard). SameHeard x (asked other ask) u v) (sym is) (same, slots))
 
 -- the reply isn't the one for want of memory
-reply_is_ample : (h : Heard) (r : Reply) (p : OpenRequest) (a : List ℕ) (s u : Server) → IsAmple h → Replies r p a s u → h ≡ answered_at_once a → r ≡ reply_of Memory → ⊥
-reply_is_ample h r p a s u ample replies is memory =
-    ample p.head s.next_id (is ∙ ap answered_at_once (replies.bytes_are ∙ ap (λ (x : Reply). spelling (coap_reply x p.head s.next_id)) memory))
+reply_is_ample : (h : Heard) (r : Reply) (p : ReplyHead) (slot : ℕ) (a : List ℕ) (s u : Server) → IsAmple h → Replies r p slot a s u → h ≡ answered_at_once a → r ≡ reply_of Memory → ⊥
+reply_is_ample h r p slot a s u ample replies is memory =
+    ample p s.next_id (is ∙ ap answered_at_once (replies.bytes_are ∙ ap (λ (x : Reply). spelling (coap_reply x p s.next_id)) memory))
 
 same_joined : (a b : Block) → Joining a ≡ Joining b → a ≡ b
 same_joined a b e = cc
@@ -319,21 +317,21 @@ both_paths m is isnt = cc
 same_reads : (from : Endpoint) (now : ℕ) (m : CoapMessage) (slot other : ℕ) (h k : Heard) (s t u v : Server) → SameServer s t → IsLast slot s.exchanges → IsLast other t.exchanges
     → IsAmple h → IsAmple k → Reads from now m slot h s u → Reads from now m other k t v → SameHeard h k u v × SameServer u v
 same_reads from now m slot other h k s t u v same l n on_h on_k (replied r parts a why replies is) (replied q rest b why' replies' is') =
-    let one = answered_by from now m r s parts (reply_is_ample h r (opened m slot) a (with_parts parts s) u on_h replies is) why in
-    let two = answered_by from now m q t rest (reply_is_ample k q (opened m other) b (with_parts rest t) v on_k replies' is') why' in
+    let one = answered_by from now m r s parts (reply_is_ample h r (head_of m) slot a (with_parts parts s) u on_h replies is) why in
+    let two = answered_by from now m q t rest (reply_is_ample k q (head_of m) other b (with_parts rest t) v on_k replies' is') why' in
     let said : both_of r parts ≡ both_of q rest = same_Some (both_of r parts) (both_of q rest) (sym one ∙ at_once_alike from now m s t same ∙ two) in
     let reply : q ≡ r = sym (ap (λ (x : AtOnce). x.0) said) in
     let servers : SameServer (with_parts parts s) (with_parts rest t)
     = record { table = same.table; watchers = same.watchers; next = same.next; bodies = same.bodies; parts = ap (λ (x : AtOnce). x.1) said; links = same.links } in
-    let both = same_replies r (opened m slot) (opened m other) a b (with_parts parts s) (with_parts rest t) u v servers refl l n replies
-    (subst (λ (x : Reply). Replies x (opened m other) b (with_parts rest t) v) reply replies') in
+    let both = same_replies r (head_of m) slot (head_of m) other a b (with_parts parts s) (with_parts rest t) u v servers refl l n replies
+    (subst (λ (x : Reply). Replies x (head_of m) other b (with_parts rest t) v) reply replies') in
     (heard_as (answered_at_once b) h k u v tt (is ∙ ap answered_at_once both.0) is', both.1)
 same_reads from now m slot other h k s t u v same l n on_h on_k (replied r parts a why replies is) (bad_option_ignored number first non is' after') =
     absurd (not_ignored from now m r s parts number why first non)
 same_reads from now m slot other h k s t u v same l n on_h on_k (replied r parts a why replies is) (asks none acts apart is' after') =
-    absurd (not_asked from now m r s parts (reply_is_ample h r (opened m slot) a (with_parts parts s) u on_h replies is) why none acts (asked_silent m s.parts apart))
+    absurd (not_asked from now m r s parts (reply_is_ample h r (head_of m) slot a (with_parts parts s) u on_h replies is) why none acts (asked_silent m s.parts apart))
 same_reads from now m slot other h k s t u v same l n on_h on_k (replied r parts a why replies is) (asks_whole b place rest whole none joins apart adds there is' after') =
-    absurd (not_whole from now m r s parts rest b place (reply_is_ample h r (opened m slot) a (with_parts parts s) u on_h replies is) why none joins apart
+    absurd (not_whole from now m r s parts rest b place (reply_is_ample h r (head_of m) slot a (with_parts parts s) u on_h replies is) why none joins apart
     (subst (λ (ps : List Part). Adds from now m b (with_parts ps s) (added.Complete place) rest) (sym same.parts) adds))
 same_reads from now m slot other h k s t u v same l n on_h on_k (bad_option_ignored number first non is after) (replied q rest b why' replies' is') =
     absurd (not_ignored from now m q t rest number why' first non)
@@ -344,11 +342,11 @@ same_reads from now m slot other h k s t u v same l n on_h on_k (bad_option_igno
 same_reads from now m slot other h k s t u v same l n on_h on_k (bad_option_ignored number first non is after) (asks_whole b place rest whole none joins apart adds there is' after') =
     absurd (first_fault (faults_of m.options) (BadOption number) first none)
 same_reads from now m slot other h k s t u v same l n on_h on_k (asks none acts apart is after) (replied q rest b why' replies' is') =
-    absurd (not_asked from now m q t rest (reply_is_ample k q (opened m other) b (with_parts rest t) v on_k replies' is') why' none acts (asked_silent m t.parts apart))
+    absurd (not_asked from now m q t rest (reply_is_ample k q (head_of m) other b (with_parts rest t) v on_k replies' is') why' none acts (asked_silent m t.parts apart))
 same_reads from now m slot other h k s t u v same l n on_h on_k (asks none acts apart is after) (bad_option_ignored number' first' non' is' after') =
     absurd (first_fault (faults_of m.options) (BadOption number') first' none)
 same_reads from now m slot other h k s t u v same l n on_h on_k (asks none acts apart is after) (asks none' acts' apart' is' after') = (
-  asked_alike h k (what_is_asked m) (what_is_asked m) (opened_ask from now m slot) (opened_ask from now m other) u v is is' refl (record {
+  asked_alike h k (what_is_asked m) (what_is_asked m) (pending_of from now m slot) (pending_of from now m other) u v is is' refl (record {
     head = refl;
     from = refl;
     observing = refl;
@@ -361,7 +359,7 @@ same_reads from now m slot other h k s t u v same l n on_h on_k (asks none acts 
 same_reads from now m slot other h k s t u v same l n on_h on_k (asks none acts apart is after) (asks_whole b place rest whole none' joins apart' adds there is' after') =
     absurd (let apart : Act ≡ Joining b = sym acts ∙ joins in cc)
 same_reads from now m slot other h k s t u v same l n on_h on_k (asks_whole b place parts whole none joins apart adds there is after) (replied q rest c why' replies' is') =
-    absurd (not_whole from now m q t rest parts b place (reply_is_ample k q (opened m other) c (with_parts rest t) v on_k replies' is') why' none joins apart
+    absurd (not_whole from now m q t rest parts b place (reply_is_ample k q (head_of m) other c (with_parts rest t) v on_k replies' is') why' none joins apart
     (subst (λ (ps : List Part). Adds from now m b (with_parts ps t) (added.Complete place) parts) same.parts adds))
 same_reads from now m slot other h k s t u v same l n on_h on_k (asks_whole b place parts whole none joins apart adds there is after) (bad_option_ignored number' first' non' is' after') =
     absurd (first_fault (faults_of m.options) (BadOption number') first' none)
@@ -371,7 +369,7 @@ same_reads from now m slot other h k s t u v same l n on_h on_k (asks_whole b pl
     let one : b' ≡ b = same_joined b' b (sym joins' ∙ joins) in
     let both = same_whole from now m b s t place place' parts rest whole body same adds there
     (subst (λ (x : Block). Adds from now m x t (added.Complete place') rest) one adds') there' in (
-      asked_alike h k (with_whole_body whole.bytes (what_is_asked m)) (with_whole_body body.bytes (what_is_asked m)) (joined_ask from m slot b) (joined_ask from m other b') u v is is'
+      asked_alike h k (with_whole_body whole.bytes (what_is_asked m)) (with_whole_body body.bytes (what_is_asked m)) (pending_joined from m slot b) (pending_joined from m other b') u v is is'
           (ap (λ (p : Part). with_whole_body p.bytes (what_is_asked m)) both.0) (record {
             head = refl;
             from = refl;
@@ -394,12 +392,12 @@ same_reads from now m slot other h k s t u v same l n on_h on_k (gives_links a n
       parts = same.parts;
       links = same.links;
     } in
-    let both = same_replies (links_reply size s.links) (opened m slot) (opened m other) a b (links_given from now m.token (observing_in m) (what_is_asked m) s)
+    let both = same_replies (links_reply size s.links) (head_of m) slot (head_of m) other a b (links_given from now m.token (observing_in m) (what_is_asked m) s)
     (links_given from now m.token (observing_in m) (what_is_asked m) t) u v servers refl l n replies
-    (subst (λ (x : List ℕ). Replies (links_reply size x) (opened m other) b (links_given from now m.token (observing_in m) (what_is_asked m) t) v) (sym same.links) replies') in
+    (subst (λ (x : List ℕ). Replies (links_reply size x) (head_of m) other b (links_given from now m.token (observing_in m) (what_is_asked m) t) v) (sym same.links) replies') in
     (heard_as (answered_at_once b) h k u v tt (is ∙ ap answered_at_once both.0) is', both.1)
 same_reads from now m slot other h k s t u v same l n on_h on_k (gives_links a none acts links get replies is) (replied q rest b why' replies' is') =
-    absurd (not_asked from now m q t rest (reply_is_ample k q (opened m other) b (with_parts rest t) v on_k replies' is') why' none acts (given_silent m t.parts links get))
+    absurd (not_asked from now m q t rest (reply_is_ample k q (head_of m) other b (with_parts rest t) v on_k replies' is') why' none acts (given_silent m t.parts links get))
 same_reads from now m slot other h k s t u v same l n on_h on_k (gives_links a none acts links get replies is) (bad_option_ignored number' first' non' is' after') =
     absurd (first_fault (faults_of m.options) (BadOption number') first' none)
 same_reads from now m slot other h k s t u v same l n on_h on_k (gives_links a none acts links get replies is) (asks none' acts' apart' is' after') =
@@ -407,7 +405,7 @@ same_reads from now m slot other h k s t u v same l n on_h on_k (gives_links a n
 same_reads from now m slot other h k s t u v same l n on_h on_k (gives_links a none acts links get replies is) (asks_whole b place rest whole none' joins apart' adds there is' after') =
     absurd (both_paths m links apart')
 same_reads from now m slot other h k s t u v same l n on_h on_k (replied r parts a why replies is) (gives_links b none acts links get replies' is') =
-    absurd (not_asked from now m r s parts (reply_is_ample h r (opened m slot) a (with_parts parts s) u on_h replies is) why none acts (given_silent m s.parts links get))
+    absurd (not_asked from now m r s parts (reply_is_ample h r (head_of m) slot a (with_parts parts s) u on_h replies is) why none acts (given_silent m s.parts links get))
 same_reads from now m slot other h k s t u v same l n on_h on_k (bad_option_ignored number first non is after) (gives_links b none acts links get replies' is') =
     absurd (first_fault (faults_of m.options) (BadOption number) first none)
 same_reads from now m slot other h k s t u v same l n on_h on_k (asks none acts apart is after) (gives_links b none' acts' links get replies' is') = absurd (both_paths m links apart)

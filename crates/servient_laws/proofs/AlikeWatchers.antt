@@ -18,15 +18,14 @@ use Rattle.thing_ops.specs.declared.outcome.Outcome.{Outcome}
 use Rattle.coap_bind.specs.declared.observing.Observing.{Observing}
 use Rattle.coap_bind.specs.declared.observing.Effect.{Effect}
 use Rattle.coap_bind.specs.declared.observing.Effect.TheVariants as effect
-use Rattle.coap_bind.specs.declared.head.RequestHead.{RequestHead}
-use Rattle.coap_bind.specs.declared.head.OpenAsk.{OpenAsk}
+use Rattle.coap_bind.specs.declared.pending.PendingReply.{PendingReply}
 use Rattle.coap_bind.specs.declared.server.Server.{Server}
 use Rattle.coap_bind.specs.Observing.{effect_of, Watches, leaves, cancels, registers}
 use Rattle.coap_bind.specs.declared.blocks.BlockUse.{BlockUse}
 use Rattle.coap_bind.specs.Blocks.{answer_reply, bodies_after}
 use Rattle.coap_bind.proofs.DuplicateLaws.{ready}
 use Rattle.coap_blocks.specs.Bodies.{Body}
-use Rattle.coap_bind.specs.Writing.{observed, observe_options, notification}
+use Rattle.coap_bind.specs.Writing.{observed, observe_options, notification, ReplyHead, head_in}
 use Rattle.coap_bind.specs.Server.{Replies, Answers, with_watchers, with_next_id, with_notice_sent, with_emitted, SendsNext}
 use Rattle.coap_observe.specs.Watching.{with_emission}
 use Rattle.servient_laws.proofs.AlikeStates.{SameServer}
@@ -63,15 +62,15 @@ watched_once does from token old u v o p (registers n r is a b) (registers m q i
     (b ∙ ap sequence_of both.0 ∙ sym d, both.1)
 
 -- what was asked is answered in the same bytes
-pub same_answers : (one other : OpenAsk) (o : Outcome) (target : Option ℕ) (a b : List ℕ) (s t u v : Server) → SameServer s t → SameAsk one other s t
+pub same_answers : (one other : PendingReply) (o : Outcome) (target : Option ℕ) (a b : List ℕ) (s t u v : Server) → SameServer s t → SameAsk one other s t
     → Answers one o target a s u → Answers other o target b t v → (a ≡ b) × SameServer u v
 same_answers one other o target a b s t u v same_servers ask p q =
-    let there : Watches (effect_of one.observing o target) one.from one.request.head.token s.watchers q.observe q.watchers =
-    subst (λ (w : Watching). Watches (effect_of one.observing o target) one.from one.request.head.token w q.observe q.watchers) (sym same_servers.watchers)
-    (subst (λ (h : RequestHead). Watches (effect_of one.observing o target) one.from h.token t.watchers q.observe q.watchers) (sym ask.head)
-    (subst (λ (e : Endpoint). Watches (effect_of one.observing o target) e other.request.head.token t.watchers q.observe q.watchers) (sym ask.from)
-    (subst (λ (x : Observing). Watches (effect_of x o target) other.from other.request.head.token t.watchers q.observe q.watchers) (sym ask.observing) q.watches))) in
-    let once = watched_once (effect_of one.observing o target) one.from one.request.head.token s.watchers p.watchers q.watchers p.observe q.observe p.watches there in
+    let there : Watches (effect_of one.observing o target) one.from one.token s.watchers q.observe q.watchers =
+    subst (λ (w : Watching). Watches (effect_of one.observing o target) one.from one.token w q.observe q.watchers) (sym same_servers.watchers)
+    (subst (λ (h : ReplyHead). Watches (effect_of one.observing o target) one.from h.token t.watchers q.observe q.watchers) (sym ask.head)
+    (subst (λ (e : Endpoint). Watches (effect_of one.observing o target) e other.token t.watchers q.observe q.watchers) (sym ask.from)
+    (subst (λ (x : Observing). Watches (effect_of x o target) other.from other.token t.watchers q.observe q.watchers) (sym ask.observing) q.watches))) in
+    let once = watched_once (effect_of one.observing o target) one.from one.token s.watchers p.watchers q.watchers p.observe q.observe p.watches there in
     let servers : SameServer (ready one o p.watchers s) (ready other o q.watchers t) = record {
       table = same_servers.table;
       watchers = once.1;
@@ -80,9 +79,9 @@ same_answers one other o target a b s t u v same_servers ask p q =
       parts = same_servers.parts;
       links = same_servers.links;
     } in
-    same_replies (observed p.observe (answer_reply one.blocks o)) one.request other.request a b (ready one o p.watchers s) (ready other o q.watchers t) u v servers ask.head ask.last ask.last_too
-    p.replies (subst (λ (x : Option ℕ). Replies (observed x (answer_reply one.blocks o)) other.request b (ready other o q.watchers t) v) (sym once.0)
-    (subst (λ (x : BlockUse). Replies (observed q.observe (answer_reply x o)) other.request b (ready other o q.watchers t) v) (sym ask.blocks) q.replies))
+    same_replies (observed p.observe (answer_reply one.blocks o)) (head_in one) one.slot (head_in other) other.slot a b (ready one o p.watchers s) (ready other o q.watchers t) u v servers ask.head ask.last ask.last_too
+    p.replies (subst (λ (x : Option ℕ). Replies (observed x (answer_reply one.blocks o)) (head_in other) other.slot b (ready other o q.watchers t) v) (sym once.0)
+    (subst (λ (x : BlockUse). Replies (observed q.observe (answer_reply x o)) (head_in other) other.slot b (ready other o q.watchers t) v) (sym ask.blocks) q.replies))
 
 -- the watchers of a target are marked
 pub same_emitted : (target : ℕ) (s t : Server) → SameServer s t → SameServer (with_emitted target s) (with_emitted target t)

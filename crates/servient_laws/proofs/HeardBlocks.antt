@@ -15,13 +15,12 @@ use Rattle.coap_blocks.specs.Laws.{Call, adds, clears, blocks_among, parts_after
 use Rattle.coap_blocks.specs.Parts.{Arrival as BlockArrival, Part}
 use Rattle.coap_opts.specs.Reading.{PlainAsk, asked as what_is_asked}
 use Rattle.coap_bind.specs.declared.blocks.Wanted.TheVariants as wanted
-use Rattle.coap_bind.specs.declared.head.OpenAsk.{OpenAsk}
-use Rattle.coap_bind.specs.declared.head.OpenRequest.{OpenRequest}
+use Rattle.coap_bind.specs.declared.pending.PendingReply.{PendingReply}
 use Rattle.coap_bind.specs.declared.server.Server.{Server}
 use Rattle.coap_bind.specs.Blocks.{answer_reply, bodies_after}
 use Rattle.coap_bind.specs.Links.{size_asked, bodies_with_links}
-use Rattle.coap_bind.specs.Server.{Heard, asked, is_request, with_id_used, with_kept, with_watchers, with_bodies, with_parts, Replies, Answers, wanted_in, opened, opened_ask, joined_ask, with_whole_body, block_arrival, Adds, IsAnsweredAtOnce, bad_option, bad_block, for_proxy, no_memory, later_block, joined, takes_no_other_verb, takes_no_body, Reads, replied, bad_option_ignored, asks_links, gives_links, links_given, observing_in, asks, asks_whole as reads_whole, malformed, no_request, duplicate, full, settled, admitted, Hears, answered_at_once, ignored}
-use Rattle.coap_bind.specs.Writing.{Reply, observed}
+use Rattle.coap_bind.specs.Server.{Heard, asked, is_request, with_id_used, with_kept, with_watchers, with_bodies, with_parts, Replies, Answers, wanted_in, pending_of, pending_joined, with_whole_body, block_arrival, Adds, IsAnsweredAtOnce, bad_option, bad_block, for_proxy, no_memory, later_block, joined, takes_no_other_verb, takes_no_body, Reads, replied, bad_option_ignored, asks_links, gives_links, links_given, observing_in, asks, asks_whole as reads_whole, malformed, no_request, duplicate, full, settled, admitted, Hears, answered_at_once, ignored}
+use Rattle.coap_bind.specs.Writing.{Reply, observed, ReplyHead, head_of, head_in}
 use Rattle.coap_bind.proofs.HistoryLaws.{not_replied, not_duplicate}
 use Rattle.thing_ops.specs.declared.outcome.Outcome.{Outcome}
 use Rattle.thing_handler.specs.Turns.{HandlerCall}
@@ -47,17 +46,17 @@ kept_blocks Confirmable slot bytes s = (refl, refl, refl)
 kept_blocks NonConfirmable slot bytes s = (refl, refl, refl)
 
 -- a reply leaves them
-pub replies_blocks : (r : Reply) (request : OpenRequest) (bytes : List ℕ) (s t : Server) → Replies r request bytes s t
+pub replies_blocks : (r : Reply) (head : ReplyHead) (slot : ℕ) (bytes : List ℕ) (s t : Server) → Replies r head slot bytes s t
     → (t.parts ≡ s.parts) × (t.bodies ≡ s.bodies) × (t.links ≡ s.links)
-replies_blocks r request bytes s t h =
-    let kept = kept_blocks request.head.kind request.slot bytes s in
+replies_blocks r head slot bytes s t h =
+    let kept = kept_blocks head.kind slot bytes s in
     (ap (λ (x : Server). x.parts) h.after ∙ kept.0, ap (λ (x : Server). x.bodies) h.after ∙ kept.1, ap (λ (x : Server). x.links) h.after ∙ kept.2)
 
 -- an answer keeps a body that is given in blocks
-answers_blocks : (ask : OpenAsk) (o : Outcome) (target : Option ℕ) (bytes : List ℕ) (s t : Server) → Answers ask o target bytes s t
+answers_blocks : (ask : PendingReply) (o : Outcome) (target : Option ℕ) (bytes : List ℕ) (s t : Server) → Answers ask o target bytes s t
     → (t.parts ≡ s.parts) × (t.bodies ≡ bodies_after ask.blocks ask.from o s.bodies) × (t.links ≡ s.links)
 answers_blocks ask o target bytes s t h =
-    replies_blocks (observed h.observe (answer_reply ask.blocks o)) ask.request bytes (with_bodies (bodies_after ask.blocks ask.from o s.bodies) (with_watchers h.watchers s)) t h.replies
+    replies_blocks (observed h.observe (answer_reply ask.blocks o)) (head_in ask) ask.slot bytes (with_bodies (bodies_after ask.blocks ask.from o s.bodies) (with_watchers h.watchers s)) t h.replies
 
 -- ---- what is heard
 
@@ -111,12 +110,12 @@ at_once_blocks from bytes now m r s t parts spells request (takes_no_body b plac
 reads_blocks : (from : Endpoint) (bytes : List ℕ) (now : ℕ) (m : CoapMessage) (slot : ℕ) (h : Heard) (s t : Server) → Spells m bytes → is_request m ≡ true
     → Reads from now m slot h s t → HearsBlocks from bytes now s t
 reads_blocks from bytes now m slot h s t spells request (replied r parts sent why replies is) =
-    let leaves = replies_blocks r (opened m slot) sent (with_parts parts s) t replies in
+    let leaves = replies_blocks r (head_of m) slot sent (with_parts parts s) t replies in
     at_once_blocks from bytes now m r s t parts spells request why leaves.0 leaves.1 leaves.2
 reads_blocks from bytes now m slot h s t spells request (bad_option_ignored number fault non is same) =
     unheard from bytes now s t (ap (λ (x : Server). x.parts) same) (ap (λ (x : Server). x.bodies) same) (ap (λ (x : Server). x.links) same)
 reads_blocks from bytes now m slot h s t spells request (gives_links sent fine act of_links get replies is) =
-    let leaves = replies_blocks _ (opened m slot) sent (links_given from now m.token (observing_in m) (what_is_asked m) s) t replies in
+    let leaves = replies_blocks _ (head_of m) slot sent (links_given from now m.token (observing_in m) (what_is_asked m) s) t replies in
     record { calls = []; parts = leaves.0; blocks = no_block refl; bodies = links_kept m spells request of_links leaves.1; links = leaves.2 }
 reads_blocks from bytes now m slot h s t spells request (asks fine act apart is same) =
     unheard from bytes now s t (ap (λ (x : Server). x.parts) same) (ap (λ (x : Server). x.bodies) same) (ap (λ (x : Server). x.links) same)
@@ -161,15 +160,15 @@ hears_blocks from bytes now h s t (admitted m slot u met reads) =
 
 -- nothing, or the request of a datagram as it is, or with a body that was joined
 pub data AsksFor (from : Endpoint) (bytes : List ℕ) (now : ℕ) (h : Heard) : Type 0 where
-  asks_nothing : ((what : PlainAsk) (ask : OpenAsk) → h ≡ asked what ask → ⊥) → AsksFor from bytes now h
-  asks_act : (m : CoapMessage) (slot : ℕ) → Spells m bytes → is_request m ≡ true → h ≡ asked (what_is_asked m) (opened_ask from now m slot) → AsksFor from bytes now h
-  asks_whole : (m : CoapMessage) (slot : ℕ) (b : Block) (body : List ℕ) → h ≡ asked (with_whole_body body (what_is_asked m)) (joined_ask from m slot b)
+  asks_nothing : ((what : PlainAsk) (ask : PendingReply) → h ≡ asked what ask → ⊥) → AsksFor from bytes now h
+  asks_act : (m : CoapMessage) (slot : ℕ) → Spells m bytes → is_request m ≡ true → h ≡ asked (what_is_asked m) (pending_of from now m slot) → AsksFor from bytes now h
+  asks_whole : (m : CoapMessage) (slot : ℕ) (b : Block) (body : List ℕ) → h ≡ asked (with_whole_body body (what_is_asked m)) (pending_joined from m slot b)
       → AsksFor from bytes now h
 
-at_once_asks : (bytes : List ℕ) (what : PlainAsk) (ask : OpenAsk) → answered_at_once bytes ≡ asked what ask → ⊥
+at_once_asks : (bytes : List ℕ) (what : PlainAsk) (ask : PendingReply) → answered_at_once bytes ≡ asked what ask → ⊥
 at_once_asks bytes what ask is = absurd cc
 
-ignored_asks : (what : PlainAsk) (ask : OpenAsk) → ignored ≡ asked what ask → ⊥
+ignored_asks : (what : PlainAsk) (ask : PendingReply) → ignored ≡ asked what ask → ⊥
 ignored_asks what ask is = absurd cc
 
 reads_asks : (from : Endpoint) (bytes : List ℕ) (now : ℕ) (m : CoapMessage) (slot : ℕ) (h : Heard) (s t : Server) → Spells m bytes → is_request m ≡ true
@@ -191,14 +190,14 @@ hears_asks from bytes now h s t (admitted m slot u met reads) = reads_asks from 
 -- ---- what is answered
 
 -- one act is made on it, the parts are as they were, and of the bodies one may be new
-pub record Answered (site : Site) (what : PlainAsk) (ask : OpenAsk) (done : Done) (s : State) (seen : List Sighting) (t : State) : Type 0 where
+pub record Answered (site : Site) (what : PlainAsk) (ask : PendingReply) (done : Done) (s : State) (seen : List Sighting) (t : State) : Type 0 where
   pub acts : Acts site what.request done s.thing (calls_in seen) t.thing
   pub parts : t.coap.parts ≡ s.coap.parts
   pub links : t.coap.links ≡ s.coap.links
   pub moment : t.moment ≡ s.moment
   pub bodies : t.coap.bodies ≡ bodies_after ask.blocks ask.from done.outcome s.coap.bodies
 
-pub asked_is_answered : (site : Site) (from : Endpoint) (what : PlainAsk) (ask : OpenAsk) (s t : State) (seen : List Sighting)
+pub asked_is_answered : (site : Site) (from : Endpoint) (what : PlainAsk) (ask : PendingReply) (s t : State) (seen : List Sighting)
     (answers : AnswersDatagram site from (asked what ask) s seen t) → Answered site what ask answers.0 s seen t
 asked_is_answered site from what ask s t seen (done, w) =
     let written = w.other.one.1 in

@@ -15,14 +15,14 @@ use Rattle.thing_ops.specs.Outcomes.{answer_of, payload_of, text_of, version_of}
 use Rattle.thing_core.specs.Thing.{Done}
 use Rattle.coap_opts.specs.Reading.{PlainAsk, values_under}
 use Rattle.coap_opts.proofs.FirstValues.{values_first}
-use Rattle.coap_bind.specs.declared.head.OpenAsk.{OpenAsk}
+use Rattle.coap_bind.specs.declared.pending.PendingReply.{PendingReply}
 use Rattle.coap_bind.specs.declared.blocks.BlockUse.{BlockUse}
 use Rattle.coap_bind.specs.declared.blocks.BlockUse.TheVariants as blocks
 use Rattle.coap_bind.specs.declared.blocks.BlockOption.{BlockOption}
 use Rattle.coap_bind.specs.declared.blocks.BlockOption.TheVariants as option
 use Rattle.coap_blocks.specs.Bodies.{longest_body}
 use Rattle.coap_bind.specs.Blocks.{is_representation, given_portion, all_of, portion_of, most_bytes, answer_reply, with_block, option_of}
-use Rattle.coap_bind.specs.Writing.{place_of, text_format, format_options, etag_options, observe_options, reply_options, whole_reply, observed, coap_reply}
+use Rattle.coap_bind.specs.Writing.{place_of, text_format, format_options, etag_options, observe_options, reply_options, whole_reply, observed, coap_reply, head_in}
 use Rattle.http_wire.specs.Writing.{PlainReply, http_reply}
 use Rattle.http_bind.specs.Replying.{reply, reply_head, reply_body, longest_reply_head, head_of, head_with, location_of}
 use Rattle.thing_ops.specs.Requests.{PlainRequest}
@@ -131,11 +131,11 @@ in_whole x a b seen whole (inr there) = subst (λ (l : List Sighting). Contains 
 first_of : (x : Sighting) (rest seen : List Sighting) → seen ≡ x ∷ rest → Contains seen x
 first_of x rest seen is = subst (λ (l : List Sighting). Contains l x) (sym is) (0, omega arith, refl)
 
-pub by_ask : (site : Site) (from : Endpoint) (ask : PlainAsk) (r : OpenAsk) (done : Done) (s t : State) (seen : List Sighting) → AnswersAsk site from ask r done s seen t → SaysByCoap from r.blocks done.outcome seen
+pub by_ask : (site : Site) (from : Endpoint) (ask : PlainAsk) (r : PendingReply) (done : Done) (s t : State) (seen : List Sighting) → AnswersAsk site from ask r done s seen t → SaysByCoap from r.blocks done.outcome seen
 by_ask site from ask r done s t seen (bytes, w) = record {
-  message = coap_reply (observed w.one.1.observe (answer_reply r.blocks done.outcome)) r.request.head s.coap.next_id;
-  sent = in_whole (at_network (did (act.Datagram from (spelling (coap_reply (observed w.one.1.observe (answer_reply r.blocks done.outcome)) r.request.head s.coap.next_id))))) w.first w.second seen w.whole
-      (inr (first_of (at_network (did (act.Datagram from (spelling (coap_reply (observed w.one.1.observe (answer_reply r.blocks done.outcome)) r.request.head s.coap.next_id))))) [] w.second
+  message = coap_reply (observed w.one.1.observe (answer_reply r.blocks done.outcome)) (head_in r) s.coap.next_id;
+  sent = in_whole (at_network (did (act.Datagram from (spelling (coap_reply (observed w.one.1.observe (answer_reply r.blocks done.outcome)) (head_in r) s.coap.next_id))))) w.first w.second seen w.whole
+      (inr (first_of (at_network (did (act.Datagram from (spelling (coap_reply (observed w.one.1.observe (answer_reply r.blocks done.outcome)) (head_in r) s.coap.next_id))))) [] w.second
       (w.other.saw ∙ ap (λ (x : List ℕ). at_network (did (act.Datagram from x)) ∷ []) w.one.1.replies.bytes_are)));
   payload = short_payload r.blocks done.outcome;
   part = part_payload r.blocks done.outcome;

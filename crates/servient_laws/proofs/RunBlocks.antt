@@ -18,9 +18,9 @@ use Rattle.coap_bind.specs.declared.blocks.BlockUse.TheVariants as blocks
 use Rattle.coap_bind.specs.declared.blocks.Giving.{Giving}
 use Rattle.coap_bind.specs.Blocks.{block2_of, use_of, bodies_after, body_of, is_kept}
 use Rattle.coap_bind.specs.Links.{bodies_with_links, is_text_kept, links_content, size_asked}
-use Rattle.coap_bind.specs.declared.head.OpenAsk.{OpenAsk}
+use Rattle.coap_bind.specs.declared.pending.PendingReply.{PendingReply}
 use Rattle.coap_bind.specs.declared.server.Server.{Server}
-use Rattle.coap_bind.specs.Server.{Heard, ignored, answered_at_once, asked, asks_links, is_request, observing_in, block_arrival, opened_ask, joined_ask, with_whole_body}
+use Rattle.coap_bind.specs.Server.{Heard, ignored, answered_at_once, asked, asks_links, is_request, observing_in, block_arrival, pending_of, pending_joined, with_whole_body}
 use Rattle.thing_ops.specs.declared.outcome.Outcome.{Outcome}
 use Rattle.thing_ops.specs.Outcomes.{payload_of}
 use Rattle.thing_core.specs.State.{State as ThingState}
@@ -173,7 +173,7 @@ given_longer site exchanges epoch took es seen shown b g = record {
 }
 
 -- what was asked is answered, and the event ends: one act is made
-pub acts_once : (site : Site) (what : PlainAsk) (ask : OpenAsk) (e : EventWithBytes) (u middle t : State) (answer rest seen : List Sighting)
+pub acts_once : (site : Site) (what : PlainAsk) (ask : PendingReply) (e : EventWithBytes) (u middle t : State) (answer rest seen : List Sighting)
     (done : Done) → Answered site what ask done u answer middle → seen ≡ at_network (heard e) ∷ answer ++ rest → EndsEvent middle rest t → ActsOnce site what.request done u seen t
 acts_once site what ask e u middle t answer rest seen done a all ends =
     let quiet = ends_quiet middle t rest ends in
@@ -274,7 +274,7 @@ record AfterAnswer (site : Site) (exchanges : ℕ) (epoch : Option ℕ) (took : 
 
 -- what is asked as it is gives a body at most
 one_given : (P : Body → Type 0) (now : ℕ) (m : CoapMessage) (slot : ℕ) (from : Endpoint) (o : Outcome) (bodies : List Body) → All P bodies
-    → P (body_of from (what_is_asked m).request.path now o) → All P (bodies_after (opened_ask from now m slot).blocks from o bodies)
+    → P (body_of from (what_is_asked m).request.path now o) → All P (bodies_after (pending_of from now m slot).blocks from o bodies)
 one_given P now m slot from o bodies all one = by (m.code == GET)
   where
     giving : Giving
@@ -321,7 +321,7 @@ answered_past site exchanges epoch took seen shown e s t past step d p hears ask
     answers_as : (h : Heard) → p.what ≡ h → AnswersDatagram site d.from h u p.answer p.middle
     answers_as h is = subst (λ (x : Heard). AnswersDatagram site d.from x u p.answer p.middle) is p.answers
 
-    after : (what : PlainAsk) (ask : OpenAsk) → AnswersDatagram site d.from (asked what ask) u p.answer p.middle
+    after : (what : PlainAsk) (ask : PendingReply) → AnswersDatagram site d.from (asked what ask) u p.answer p.middle
         → ((done : Done) → Answered site what ask done u p.answer p.middle → All Given (bodies_after ask.blocks ask.from done.outcome p.server.bodies))
         → AfterAnswer site exchanges epoch (took ++ e ∷ []) (seen ++ shown) p.server p.middle (moment_of s e)
     after what ask answers given =
@@ -333,13 +333,13 @@ answered_past site exchanges epoch took seen shown e s t past step d p hears ask
     by_heard (answered_at_once bytes) is asks = same (same_state u p.middle (answers_as (answered_at_once bytes) is).next)
     by_heard (asked what ask) is (asks_nothing none) = absurd (none what ask is)
     by_heard (asked what ask) is (asks_act m slot spells request asks_it) =
-        after (what_is_asked m) (opened_ask d.from (moment_of s e) m slot) (answers_as (asked (what_is_asked m) (opened_ask d.from (moment_of s e) m slot)) asks_it)
+        after (what_is_asked m) (pending_of d.from (moment_of s e) m slot) (answers_as (asked (what_is_asked m) (pending_of d.from (moment_of s e) m slot)) asks_it)
         (λ done a. one_given Given (moment_of s e) m slot d.from done.outcome p.server.bodies before
         (given_now site exchanges epoch took seen shown d.from m e s t done (body_of d.from (what_is_asked m).request.path (moment_of s e) done.outcome) past.run step
         (record { size = d.size; datagram = d.datagram; short = d.short; spells = spells; request = request })
-        (acts_once site (what_is_asked m) (opened_ask d.from (moment_of s e) m slot) e u p.middle t p.answer p.rest shown done a p.whole p.ends) refl))
+        (acts_once site (what_is_asked m) (pending_of d.from (moment_of s e) m slot) e u p.middle t p.answer p.rest shown done a p.whole p.ends) refl))
     by_heard (asked what ask) is (asks_whole m slot b body asks_it) =
-        after (with_whole_body body (what_is_asked m)) (joined_ask d.from m slot b) (answers_as (asked (with_whole_body body (what_is_asked m)) (joined_ask d.from m slot b)) asks_it)
+        after (with_whole_body body (what_is_asked m)) (pending_joined d.from m slot b) (answers_as (asked (with_whole_body body (what_is_asked m)) (pending_joined d.from m slot b)) asks_it)
         (λ done a. before)
 
 past_heard : (site : Site) (exchanges : ℕ) (epoch : Option ℕ) (took : List EventWithBytes) (seen shown : List Sighting) (e : EventWithBytes) (s t : State) → Past site exchanges epoch took seen s

@@ -26,11 +26,11 @@ use Rattle.coap_opts.specs.Reading.{PlainAsk, faults_of, asked as what_is_asked}
 use Rattle.coap_opts.specs.declared.fault.AskFault.{AskFault}
 use Rattle.coap_bind.specs.declared.blocks.Wanted.{Wanted}
 use Rattle.coap_bind.specs.declared.blocks.Wanted.TheVariants as wanted
-use Rattle.coap_bind.specs.declared.head.OpenAsk.{OpenAsk}
+use Rattle.coap_bind.specs.declared.pending.PendingReply.{PendingReply}
 use Rattle.coap_bind.specs.declared.server.Server.{Server}
 use Rattle.coap_bind.specs.Blocks.{use_of, portion_at, content_reply, block_reply, later_reply, added_reply}
 use Rattle.coap_bind.specs.Laws.{Did}
-use Rattle.coap_bind.specs.Server.{Heard, answered_at_once, asked, is_request, arrival, IsMet, malformed, no_request, duplicate as settles_duplicate, full, Hears, settled, admitted, observing_in, wanted_in, with_parts, Replies, opened, opened_ask, joined_ask, with_whole_body, block_arrival, Adds, IsAnsweredAtOnce, bad_option, bad_block, for_proxy, no_memory, later_block, joined, takes_no_other_verb, takes_no_body, Reads, replied, bad_option_ignored, asks_links, gives_links, asks, asks_whole}
+use Rattle.coap_bind.specs.Server.{Heard, answered_at_once, asked, is_request, arrival, IsMet, malformed, no_request, duplicate as settles_duplicate, full, Hears, settled, admitted, observing_in, wanted_in, with_parts, Replies, pending_of, pending_joined, with_whole_body, block_arrival, Adds, IsAnsweredAtOnce, bad_option, bad_block, for_proxy, no_memory, later_block, joined, takes_no_other_verb, takes_no_body, Reads, replied, bad_option_ignored, asks_links, gives_links, asks, asks_whole}
 use Rattle.coap_bind.specs.Writing.{Reply, reply_of, head_of, coap_reply}
 use Rattle.thing_ops.specs.declared.outcome.Outcome.TheVariants as outcome
 use Rattle.thing_core.specs.Thing.{Done, Acts}
@@ -119,7 +119,7 @@ record AtOnce (r : Reply) (from : Endpoint) (m : CoapMessage) (parts : List Part
   left : t.coap.parts ≡ parts
 
 at_once : (site : Site) (from : Endpoint) (m : CoapMessage) (s t : State) (e : EventWithBytes) (seen : List Sighting) (p : Parts site from e.bytes e s seen t) (slot : ℕ) (u : Server)
-    (r : Reply) (parts : List Part) (bytes : List ℕ) → u.next_id ≡ s.coap.next_id → Replies r (opened m slot) bytes (with_parts parts u) p.server → p.what ≡ answered_at_once bytes
+    (r : Reply) (parts : List Part) (bytes : List ℕ) → u.next_id ≡ s.coap.next_id → Replies r (head_of m) slot bytes (with_parts parts u) p.server → p.what ≡ answered_at_once bytes
     → AtOnce r from m parts s e seen t
 at_once site from m s t e seen p slot u r parts bytes same replies is =
     let does = subst (λ (x : Heard). AnswersDatagram site from x (record s { moment = moment_of s e; coap = p.server }) p.answer p.middle) is p.answers in
@@ -131,19 +131,19 @@ at_once site from m s t e seen p slot u r parts bytes same replies is =
         nothing = subst (λ (a : List Sighting). ActsOnNothing e s a p.middle seen t) sent
             (nothing_done e s p.middle t p.answer p.rest seen p.whole p.ends (ap calls_in does.saw) (ap (λ (x : State). x.thing) does.next) (ap (λ (x : State). x.directory) does.next));
       };
-      left = (ends_same p.middle t p.rest p.ends).parts ∙ (ap (λ (x : State). x.coap.parts) does.next ∙ (replies_blocks r (opened m slot) bytes (with_parts parts u) p.server replies).0);
+      left = (ends_same p.middle t p.rest p.ends).parts ∙ (ap (λ (x : State). x.coap.parts) does.next ∙ (replies_blocks r (head_of m) slot bytes (with_parts parts u) p.server replies).0);
     }
 
 -- ---- what is asked
 
 -- one act is made, what it gives is said, and the parts are as they were
-record ActsAndSays (site : Site) (from : Endpoint) (what : PlainAsk) (ask : OpenAsk) (server : Server) (s : State) (seen : List Sighting) (t : State) : Type 0 where
+record ActsAndSays (site : Site) (from : Endpoint) (what : PlainAsk) (ask : PendingReply) (server : Server) (s : State) (seen : List Sighting) (t : State) : Type 0 where
   done : Done
   once : ActsOnce site what.request done s seen t
   says : SaysByCoap from ask.blocks done.outcome seen
   left : t.coap.parts ≡ server.parts
 
-acts_and_says : (site : Site) (from : Endpoint) (s t : State) (e : EventWithBytes) (seen : List Sighting) (p : Parts site from e.bytes e s seen t) (what : PlainAsk) (ask : OpenAsk)
+acts_and_says : (site : Site) (from : Endpoint) (s t : State) (e : EventWithBytes) (seen : List Sighting) (p : Parts site from e.bytes e s seen t) (what : PlainAsk) (ask : PendingReply)
     → p.what ≡ asked what ask → ActsAndSays site from what ask p.server s seen t
 acts_and_says site from s t e seen p what ask is =
     let u = record s { moment = moment_of s e; coap = p.server } in
@@ -186,7 +186,7 @@ requests_act_once site exchanges epoch from m s t e seen comes fine wants other_
     by p slot u met (bad_option_ignored number fault non h same) = absurd (fault_free _ _ fine fault)
     by p slot u met (gives_links bytes none wants' links get replies h) = absurd (both_paths m links other_path)
     by p slot u met (asks none wants' apart h same) =
-        let a = acts_and_says site from s t e seen p (what_is_asked m) (opened_ask from (moment_of s e) m slot) h in inr (a.done, a.once, a.says)
+        let a = acts_and_says site from s t e seen p (what_is_asked m) (pending_of from (moment_of s e) m slot) h in inr (a.done, a.once, a.says)
     by p slot u met (asks_whole b place parts whole none wants' apart adding there h same) = absurd (let no = clash wanted.Act (wanted.Joining b) m wants wants' in cc)
 
 -- ---- a later block
@@ -326,7 +326,7 @@ joined_bodies_act_once site exchanges epoch from m b s t e seen comes fine wants
         subst (λ (x : Block). Adds from (moment_of s e) m x s.coap added parts) (same_block c wants') (adds_there from (moment_of s e) m c u s.coap added parts same adding)
 
     not_whole : (p : Parts site from e.bytes e s seen t) (slot : ℕ) (u : Server) (r : Reply) (parts : List Part) (bytes : List ℕ) (c : Block) (added : Added) → u.next_id ≡ s.coap.next_id
-        → u.parts ≡ s.coap.parts → Replies r (opened m slot) bytes (with_parts parts u) p.server → p.what ≡ answered_at_once bytes → wanted_in m ≡ wanted.Joining c
+        → u.parts ≡ s.coap.parts → Replies r (head_of m) slot bytes (with_parts parts u) p.server → p.what ≡ answered_at_once bytes → wanted_in m ≡ wanted.Joining c
         → Adds from (moment_of s e) m c u added parts → added_reply c added ≡ Some r → Comes
     not_whole p slot u r parts bytes c added id same replies h wants' adding is =
         let adds = of_block c u added parts wants' same adding in
@@ -337,11 +337,11 @@ joined_bodies_act_once site exchanges epoch from m b s t e seen comes fine wants
 
     whole : (p : Parts site from e.bytes e s seen t) (slot : ℕ) (u : Server) (c : Block) (place : ℕ) (parts : List Part) (body : Part) → u.parts ≡ s.coap.parts
         → wanted_in m ≡ wanted.Joining c → Adds from (moment_of s e) m c u (Complete place) parts → slice_get parts place ≡ Some body
-        → p.what ≡ asked (with_whole_body body.bytes (what_is_asked m)) (joined_ask from m slot c) → p.server.parts ≡ remove parts place → Comes
+        → p.what ≡ asked (with_whole_body body.bytes (what_is_asked m)) (pending_joined from m slot c) → p.server.parts ≡ remove parts place → Comes
     whole p slot u c place parts body same wants' adding there h left =
         let adds = of_block c u (Complete place) parts wants' same adding in
         let row = is_row site exchanges epoch comes.took comes.before s arrived place parts body past adds.answer_is adds.parts_are there in
-        let done = acts_and_says site from s t e seen p (with_whole_body body.bytes (what_is_asked m)) (joined_ask from m slot c) h in
+        let done = acts_and_says site from s t e seen p (with_whole_body body.bytes (what_is_asked m)) (pending_joined from m slot c) h in
         laws.whole place row.row done.done (sym adds.answer_is) row.of_run row.in_order
         (subst (λ (bytes : List ℕ). ActsOnce site (with_whole_body bytes (what_is_asked m)).request done.done s seen t) row.bytes_are done.once)
         (done.left ∙ (left ∙ ap (λ (ps : List Part). remove ps place) adds.parts_are))

@@ -8,8 +8,7 @@ use Rattle.thing_handler.specs.declared.handler.Answer.{Answer}
 use Rattle.thing_handler.specs.Turns.{answered, missed}
 use Rattle.thing_site.specs.Site.{Site}
 use Rattle.thing_core.specs.Determined.{AreAnsweredBy}
-use Rattle.coap_bind.specs.declared.head.RequestHead.{RequestHead}
-use Rattle.coap_bind.specs.Writing.{reply_of, coap_reply}
+use Rattle.coap_bind.specs.Writing.{reply_of, coap_reply, ReplyHead}
 use Rattle.http_bind.specs.Replying.{reply}
 use Rattle.servient_outside.specs.declared.net.EventWithBytes.{EventWithBytes}
 use Rattle.servient_outside.specs.declared.net.Act.{Act}
@@ -20,7 +19,7 @@ use Rattle.servient_core.specs.Machine.{State, start, Run}
 
 -- An act is the reply, by either binding, to a request for which the server was out of memory.
 pub data TellsOfMemory (a : Act) : Type 0 where
-  by_coap : (to : Endpoint) (head : RequestHead) (id : ℕ) → a ≡ act.Datagram to (spelling (coap_reply (reply_of outcome.Memory) head id)) → TellsOfMemory a
+  by_coap : (to : Endpoint) (head : ReplyHead) (id : ℕ) → a ≡ act.Datagram to (spelling (coap_reply (reply_of outcome.Memory) head id)) → TellsOfMemory a
   by_http : (c : ℕ) (bodiless closes : Bool) (bytes : List ℕ) → reply bodiless closes outcome.Memory ≡ Some bytes → a ≡ act.Sent c bytes → TellsOfMemory a
 
 -- What was seen is no sign that memory was wanting: no such reply, and no call for which a handler was out of memory.

@@ -105,11 +105,11 @@ replied_at c now o b bytes said owed d r closes written =
     (λ s holds. replied c o now bytes said owed (held_at c b) r.held s (connection_at c s) refl holds r.settles closes written))
 
 -- what is sent
-sent_by : (out : HttpOut) → out.waits ≡ false → sent_in out ≡ Some (out.head.now ++ out.body.now, out.close)
-sent_by out is = ap (λ (t : Bool). cond t None (Some (out.head.now ++ out.body.now, out.close))) is
+sent_by : (out : HttpOut) → out.waits ≡ false → sent_in out ≡ Some (record { bytes = out.head.now ++ out.body.now; closes = out.close })
+sent_by out is = ap (λ (t : Bool). cond t None (Some (record { bytes = out.head.now ++ out.body.now; closes = out.close }))) is
 
 none_sent : (out : HttpOut) → out.waits ≡ true → sent_in out ≡ None
-none_sent out is = ap (λ (t : Bool). cond t None (Some (out.head.now ++ out.body.now, out.close))) is
+none_sent out is = ap (λ (t : Bool). cond t None (Some (record { bytes = out.head.now ++ out.body.now; closes = out.close }))) is
 
 pub answers_reply : (c now : ℕ) (o : Outcome) (b : Slots) (out : HttpOut) (d : Slots) → waits_of o ≡ None → Replied c now o b out d → Leads (Answers c o now (sent_in out)) b d
 answers_reply c now o b out d none r = λ s stands.

@@ -6,7 +6,7 @@ use Rattle.http_wire.specs.Heads.{skipped}
 use Rattle.http_bind.specs.declared.owed.Owed.{Owed}
 use Rattle.http_bind.specs.declared.out.HttpOut.{HttpOut}
 use Rattle.http_bind.specs.declared.waits.Wait.{Wait}
-use Rattle.http_bind.specs.Streams.{Connection, Streams, rest_of, is_waiting, other_waits}
+use Rattle.http_bind.specs.Streams.{HttpReply, Connection, Streams, rest_of, is_waiting, other_waits}
 
 -- The most bytes that are held of a connection.
 abbrev pub longest_rest : ℕ
@@ -165,5 +165,5 @@ pub record OthersStay (c : ℕ) (b d : Slots) : Type 0 where
 -- ---- replies that were written
 
 -- what is sent for the outcome of a request; nothing, while it waits
-abbrev pub sent_in : HttpOut → Option (List ℕ × Bool)
-sent_in out = if out.waits then None else Some (out.head.now ++ out.body.now, out.close)
+abbrev pub sent_in : HttpOut → Option HttpReply
+sent_in out = if out.waits then None else Some (record { bytes = out.head.now ++ out.body.now; closes = out.close })

@@ -203,11 +203,16 @@ abbrev pub waits_of : Outcome → Option ℕ
 waits_of (outcome.Wait target) = Some target
 waits_of o = None
 
+-- a reply: its bytes, and whether its connection is closed after them
+pub record HttpReply : Type 0 where
+  pub bytes : List ℕ
+  pub closes : Bool
+
 -- What comes of the outcome of the request taken last: it waits, and nothing is sent; or it is replied with these
 -- bytes, and the connection is closed after them or isn't.
-pub data Answers (c : ℕ) (o : Outcome) (now : ℕ) (sent : Option (List ℕ × Bool)) (s t : Streams) : Type 0 where
+pub data Answers (c : ℕ) (o : Outcome) (now : ℕ) (sent : Option HttpReply) (s t : Streams) : Type 0 where
   lets_wait : (target : ℕ) → o ≡ outcome.Wait target → Waits c target now s t → sent ≡ None → Answers c o now sent s t
-  sends_reply : (bytes : List ℕ) (closes : Bool) → waits_of o ≡ None → Replies c o now bytes closes s t → sent ≡ Some (bytes, closes) → Answers c o now sent s t
+  sends_reply : (bytes : List ℕ) (closes : Bool) → waits_of o ≡ None → Replies c o now bytes closes s t → sent ≡ Some (record { bytes = bytes; closes = closes }) → Answers c o now sent s t
 
 -- what a request that waits is replied: the text that was emitted, or that there was none
 abbrev pub woken_by : Option (List ℕ) → Outcome

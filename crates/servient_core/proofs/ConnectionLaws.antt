@@ -19,7 +19,7 @@ use Rattle.directory_requests.specs.declared.server.Entries.{Entries}
 use Rattle.directory_requests.specs.Requests.{standing_at, is_out_of_memory}
 use Rattle.directory_requests.proofs.StandingLaws.{standing_later}
 use Rattle.http_bind.specs.Replying.{fault_word}
-use Rattle.http_bind.specs.Streams.{Streams, asks, wants_continue, is_faulty, interrupts, Takes, IsDry, Answers, Continues, Refuses, Ended, Closes, IsIdle, NoneIdle}
+use Rattle.http_bind.specs.Streams.{HttpReply, Streams, asks, wants_continue, is_faulty, interrupts, Takes, IsDry, Answers, Continues, Refuses, Ended, Closes, IsIdle, NoneIdle}
 use Rattle.http_bind.specs.Slots.{Held, Slots, Leads, StandsFor as ConnectionsStandFor, place_at, with_place, HasRoom}
 use Rattle.coap_bind.specs.declared.server.Server.{Server}
 use Rattle.http_bind.specs.Given.{StaysDry as StreamStaysDry}
@@ -64,20 +64,20 @@ refines_acts k n m slots acts shows = λ s stands. (
 
 -- a reply was sent that closes the connection
 pub shows_closed : (c : ℕ) (bytes : List ℕ) (close : Bool) (n m l : NetSeen) → close ≡ true → NetShows n m (did (act.Sent c bytes) ∷ []) → NetShows m l (did (act.Closed c) ∷ [])
-    → NetShows n l (map did (acts_of_reply c (bytes, close)))
+    → NetShows n l (map did (acts_of_reply c (record { bytes = bytes; closes = close })))
 shows_closed c bytes close n m l closes sent closed =
-    subst (λ (b : Bool). NetShows n l (map did (acts_of_reply c (bytes, b)))) (sym closes)
+    subst (λ (b : Bool). NetShows n l (map did (acts_of_reply c (record { bytes = bytes; closes = b })))) (sym closes)
     (net_shows_then n m l (did (act.Sent c bytes) ∷ []) (did (act.Closed c) ∷ []) sent closed)
 
 -- one that doesn't
 pub shows_kept : (c : ℕ) (bytes : List ℕ) (close : Bool) (n m : NetSeen) → close ≡ false → NetShows n m (did (act.Sent c bytes) ∷ [])
-    → NetShows n m (map did (acts_of_reply c (bytes, close)))
-shows_kept c bytes close n m stays sent = subst (λ (b : Bool). NetShows n m (map did (acts_of_reply c (bytes, b)))) (sym stays) sent
+    → NetShows n m (map did (acts_of_reply c (record { bytes = bytes; closes = close })))
+shows_kept c bytes close n m stays sent = subst (λ (b : Bool). NetShows n m (map did (acts_of_reply c (record { bytes = bytes; closes = b })))) (sym stays) sent
 
 -- ---- one message
 
 -- the reply is sent, if there is one
-sends_if_any : (c : ℕ) (k : Layers) (n m : NetSeen) (slots : List Seen) (reply : Option (List ℕ × Bool)) → NetShows n m (map did (acts_of_answer c reply))
+sends_if_any : (c : ℕ) (k : Layers) (n m : NetSeen) (slots : List Seen) (reply : Option HttpReply) → NetShows n m (map did (acts_of_answer c reply))
     → Refines StandsFor Shows (SendsIfAny c reply) k k (outside n slots) (outside m slots)
 sends_if_any c k n m slots None shows = refines_acts k n m slots [] shows
 sends_if_any c k n m slots (Some reply) shows = refines_acts k n m slots (acts_of_reply c reply) shows
@@ -156,9 +156,9 @@ takes_continue site c k b d n m slots leads sends =
     let w = outside n slots in
     passing_moves (λ taken. OnHttp (λ now. Takes c taken)) (AnswersTaken site c) wants_continue k one two w w (outside m slots)
     (refines_http (λ now. Takes c wants_continue) k b w leads)
-    (passing_moves (λ bytes. OnHttp (λ now. Continues bytes)) (λ bytes. Sends c (bytes, false)) sends.bytes one two two w w (outside m slots)
+    (passing_moves (λ bytes. OnHttp (λ now. Continues bytes)) (λ bytes. Sends c (record { bytes = bytes; closes = false })) sends.bytes one two two w w (outside m slots)
     (refines_http (λ now. Continues sends.bytes) one d w sends.leads)
-    (refines_acts two n m slots (acts_of_reply c (sends.bytes, false)) sends.shows))
+    (refines_acts two n m slots (acts_of_reply c (record { bytes = sends.bytes; closes = false })) sends.shows))
 
 -- a status with a word isn't 100
 pub isnt_100 : (status : ℕ) → IsSome (fault_word status) → (status == 100) ≡ false
@@ -181,9 +181,9 @@ takes_fault site c status k b d n m slots leads sends =
     let w = outside n slots in
     passing_moves (λ taken. OnHttp (λ now. Takes c taken)) (AnswersTaken site c) (is_faulty status) k one two w w (outside m slots)
     (refines_http (λ now. Takes c (is_faulty status)) k b w leads)
-    (passing_moves (λ bytes. OnHttp (λ now. Refuses c status bytes)) (λ bytes. Sends c (bytes, true)) sends.bytes one two two w w (outside m slots)
+    (passing_moves (λ bytes. OnHttp (λ now. Refuses c status bytes)) (λ bytes. Sends c (record { bytes = bytes; closes = true })) sends.bytes one two two w w (outside m slots)
     (refines_http (λ now. Refuses c status sends.bytes) one d w sends.leads)
-    (refines_acts two n m slots (acts_of_reply c (sends.bytes, true)) sends.shows))
+    (refines_acts two n m slots (acts_of_reply c (record { bytes = sends.bytes; closes = true })) sends.shows))
 
 -- nothing can be taken
 pub takes_nothing : (c : ℕ) (k : Layers) (d : Slots) (w : Outside) → Leads (StreamStaysDry c) k.http d → Refines StandsFor Shows (StaysDry c) k (record k { http = d }) w w

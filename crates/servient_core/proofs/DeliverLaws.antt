@@ -15,7 +15,7 @@ use Rattle.thing_core.specs.Rounds.{events_left, MakesPoll, PollsNext}
 use Rattle.coap_exchange.specs.Table.{Table}
 use Rattle.coap_bind.specs.declared.server.Server.{Server}
 use Rattle.coap_bind.specs.Server.{with_emitted}
-use Rattle.http_bind.specs.Streams.{Wakes, oldest_for, oldest_late}
+use Rattle.http_bind.specs.Streams.{HttpReply, Wakes, oldest_for, oldest_late}
 use Rattle.http_bind.specs.declared.waits.Wait.{Wait}
 use Rattle.http_bind.specs.Slots.{Slots, HasRoom}
 use Rattle.servient_outside.specs.Network.{NetSeen}
@@ -37,8 +37,8 @@ pub replies_to_wait : (c : ℕ) (text : Option (List ℕ)) (k : Layers) (d : Slo
     → Refines StandsFor Shows (RepliesToWait c text) k (record k { http = d }) (outside n slots) (outside m slots)
 replies_to_wait c text k d n m slots sends =
     let two : Layers = record k { http = d } in
-    passing_moves (λ (reply : List ℕ × Bool). OnHttp (λ now. Wakes c text now reply.0 reply.1)) (Sends c) sends.reply k two two (outside n slots) (outside n slots) (outside m slots)
-    (refines_http (λ now. Wakes c text now sends.reply.0 sends.reply.1) k d (outside n slots) sends.leads)
+    passing_moves (λ (reply : HttpReply). OnHttp (λ now. Wakes c text now reply.bytes reply.closes)) (Sends c) sends.reply k two two (outside n slots) (outside n slots) (outside m slots)
+    (refines_http (λ now. Wakes c text now sends.reply.bytes sends.reply.closes) k d (outside n slots) sends.leads)
     (refines_acts two n m slots (acts_of_reply c sends.reply) sends.shows)
 
 -- the oldest that waits for a target gets its last value

@@ -24,7 +24,7 @@ use Rattle.servient_core.specs.declared.serving.Served.{Served}
 use Rattle.servient_core.specs.declared.serving.Served.TheVariants as served
 use Rattle.servient_core.specs.Trace.{Sighting, at_network, at_handler, happened_in, calls_in, happening_in}
 use Rattle.servient_core.specs.Machine.{Site, State, Move, OnHttp, OnCoap, OnThing, Does, PerformsByHttp, AnswersDatagram, HearsDatagram, acts_of_reply, SendsIfAny, RepliesToWait, AnswersWait, AnswersLateWait, AnswersLateWaits, Delivers, DeliversEach, observed_target, AnswersTaken, TakesNextMessage, ClosesIdle, ClosesAllIdle, PollsAndDelivers, SendsNotification, NothingIsDue, SendsNotifications, EndsEvent, notice_bytes, Follows, Step, Run}
-use Rattle.http_bind.specs.Streams.{Streams, Taken, asks, wants_continue, is_faulty, interrupts, Opened, Ended, Lengthened, Takes, IsDry, Answers as AnswersRequest, Wakes, Continues, Refuses, Closes, oldest_for, oldest_late, IsIdle, NoneIdle}
+use Rattle.http_bind.specs.Streams.{HttpReply, Streams, Taken, asks, wants_continue, is_faulty, interrupts, Opened, Ended, Lengthened, Takes, IsDry, Answers as AnswersRequest, Wakes, Continues, Refuses, Closes, oldest_for, oldest_late, IsIdle, NoneIdle}
 use Rattle.servient_core.specs.Serving.{Serves, BreaksAtEnd}
 use Rattle.servient_core.proofs.PartLaws.{nothing_happened, the_calls}
 use Rattle.servient_core.proofs.NumberLaws.{Counts, acts_count, polled_counts}
@@ -150,7 +150,7 @@ receives_keeps site from bytes s seen t (inr heard) =
     then_keeps [] [] s both.mid t both.first both.second seen (coap_keeps (λ now. Hears from bytes now heard.1.0) s both.first both.mid both.one) (responds_keeps site from heard.1.0 both.mid both.second t both.other) both.whole
 
 -- a reply is sent, if there is one
-if_any_keeps : (c : ℕ) (reply : Option (List ℕ × Bool)) (s : State) (seen : List Sighting) (t : State) → SendsIfAny c reply s seen t → Keeps [] s seen t
+if_any_keeps : (c : ℕ) (reply : Option HttpReply) (s : State) (seen : List Sighting) (t : State) → SendsIfAny c reply s seen t → Keeps [] s seen t
 if_any_keeps c None s seen t stays = stays_keeps s t seen stays.next stays.saw
 if_any_keeps c (Some reply) s seen t does = does_keeps (acts_of_reply c reply) s seen t does
 
@@ -178,11 +178,11 @@ handles_keeps site c (asks q) s seen t is =
 handles_keeps site c wants_continue s seen t is =
     let both = is.1 in
     then_keeps [] [] s both.mid t both.first both.second seen (http_keeps (λ now. Continues is.0) s both.first both.mid both.one)
-    (does_keeps (acts_of_reply c (is.0, false)) both.mid both.second t both.other) both.whole
+    (does_keeps (acts_of_reply c (record { bytes = is.0; closes = false })) both.mid both.second t both.other) both.whole
 handles_keeps site c (is_faulty status) s seen t is =
     let both = is.1 in
     then_keeps [] [] s both.mid t both.first both.second seen (http_keeps (λ now. Refuses c status is.0) s both.first both.mid both.one)
-    (does_keeps (acts_of_reply c (is.0, true)) both.mid both.second t both.other) both.whole
+    (does_keeps (acts_of_reply c (record { bytes = is.0; closes = true })) both.mid both.second t both.other) both.whole
 handles_keeps site c interrupts s seen t does = does_keeps (act.Closed c ∷ []) s seen t does
 
 takes_keeps : (site : Site) (c : ℕ) (s : State) (seen : List Sighting) (t : State) → TakesNextMessage site c s seen t → Keeps [] s seen t

@@ -2,7 +2,7 @@
 use Rattle.std.proofs.Common.{inl, inr, true, false, ◌≡◌, ℕ, List, [], ◌∷◌, ◌++◌, map, Bool, refl, sym, ap, ap₂, subst, ◌∙◌}
 use Rattle.std.specs.Prelude.{◌⊎◌, Option, Some, None}
 use Rattle.servient_base.specs.Moves.{Becomes, Then, Each, Until, is_done, goes_on}
-use Rattle.http_bind.specs.Streams.{oldest_for, oldest_late, NoneIdle}
+use Rattle.http_bind.specs.Streams.{HttpReply, oldest_for, oldest_late, NoneIdle}
 use Rattle.std.proofs.lemmas.List.Elements.{filter_map-append}
 use Rattle.std.proofs.lemmas.List.{append-nil}
 use Rattle.coap_msg.specs.declared.endpoint.Endpoint.{Endpoint}
@@ -71,7 +71,7 @@ each_quiet [] s t seen stays = stays_quiet s t seen stays
 each_quiet (target ∷ targets) s t seen w =
     then_quiet s w.mid t w.first w.second seen (delivers_quiet target s w.mid w.first w.one) (each_quiet targets w.mid t w.second w.other) w.whole
 
-pub if_any_quiet : (c : ℕ) (reply : Option (List ℕ × Bool)) (s t : State) (seen : List Sighting) → SendsIfAny c reply s seen t → ActsOnNothing s seen t
+pub if_any_quiet : (c : ℕ) (reply : Option HttpReply) (s t : State) (seen : List Sighting) → SendsIfAny c reply s seen t → ActsOnNothing s seen t
 if_any_quiet c None s t seen stays = stays_quiet s t seen stays
 if_any_quiet c (Some reply) s t seen does = does_quiet (acts_of_reply c reply) s t seen does
 

@@ -22,7 +22,7 @@ use Rattle.coap_exchange.specs.Table.{Table}
 use Rattle.coap_bind.proofs.OpenLaws.{asks_are_open}
 use Rattle.coap_bind.proofs.DuplicateLaws.{ready}
 use Rattle.coap_bind.proofs.MomentLaws.{replies_moment, hears_moment}
-use Rattle.http_bind.specs.Streams.{Streams, Taken, asks, wants_continue, is_faulty, interrupts, oldest_for, oldest_late, IsDry, NoneIdle}
+use Rattle.http_bind.specs.Streams.{HttpReply, Streams, Taken, asks, wants_continue, is_faulty, interrupts, oldest_for, oldest_late, IsDry, NoneIdle}
 use Rattle.thing_ops.specs.declared.outcome.Outcome.{Outcome}
 use Rattle.thing_ops.specs.Requests.{PlainRequest}
 use Rattle.thing_core.specs.Thing.{Done}
@@ -145,7 +145,7 @@ responds_holds k history now site from (asked ask request) s t seen is opens h =
     (subst (λ (x : Server). IsOpen request x) (sym (ap (λ (x : State). x.coap) one.one.3.next)) (opens ask request refl)) three.one
     (thing_stays k history now s one.mid one.one.0 (map at_handler one.one.1) one.first one.one.3 h)))
 
-if_any_holds : (k : ℕ) (history : List Arrival) (now c : ℕ) (reply : Option (List ℕ × Bool)) (s t : State) (seen : List Sighting) → SendsIfAny c reply s seen t
+if_any_holds : (k : ℕ) (history : List Arrival) (now c : ℕ) (reply : Option HttpReply) (s t : State) (seen : List Sighting) → SendsIfAny c reply s seen t
     → Holds k history now s → Holds k history now t
 if_any_holds k history now c None s t seen stays h = becomes k history now s t stays.next h
 if_any_holds k history now c (Some reply) s t seen does h = becomes k history now s t does.next h

@@ -5,7 +5,7 @@ use Rattle.thing_ops.specs.declared.outcome.Outcome.{Outcome}
 use Rattle.thing_handler.specs.Handler.{Seen}
 use Rattle.thing_site.specs.Site.{Site}
 use Rattle.thing_site.specs.Fits.{Fits}
-use Rattle.http_bind.specs.Streams.{Answers, Continues, Refuses, IsDry}
+use Rattle.http_bind.specs.Streams.{HttpReply, Answers, Continues, Refuses, IsDry}
 use Rattle.wot_registry.specs.Times.{last_moment}
 use Rattle.http_bind.specs.Slots.{Slots, Leads}
 use Rattle.servient_outside.specs.declared.net.Act.{Act}
@@ -23,13 +23,13 @@ pub record IsOn (c : ℕ) (kept : Layers) (slots : List Seen) : Type 0 where
   pub fits : Fits kept.exposed.site slots
 
 -- what is done where there is a reply, and where a request waits
-abbrev pub acts_of_answer : ℕ → Option (List ℕ × Bool) → List Act
+abbrev pub acts_of_answer : ℕ → Option HttpReply → List Act
 acts_of_answer c None = []
 acts_of_answer c (Some reply) = acts_of_reply c reply
 
 -- the request that was taken last is answered by this outcome: its reply is sent, or it waits
 pub record SendsAnswer (c : ℕ) (o : Outcome) (moment : ℕ) (b d : Slots) (n m : NetSeen) : Type 0 where
-  pub reply : Option (List ℕ × Bool)
+  pub reply : Option HttpReply
   pub leads : Leads (Answers c o moment reply) b d
   pub shows : NetShows n m (map did (acts_of_answer c reply))
 
@@ -37,13 +37,13 @@ pub record SendsAnswer (c : ℕ) (o : Outcome) (moment : ℕ) (b d : Slots) (n m
 pub record SendsContinue (c : ℕ) (b d : Slots) (n m : NetSeen) : Type 0 where
   pub bytes : List ℕ
   pub leads : Leads (Continues bytes) b d
-  pub shows : NetShows n m (map did (acts_of_reply c (bytes, false)))
+  pub shows : NetShows n m (map did (acts_of_reply c (record { bytes = bytes; closes = false })))
 
 -- the reply to a fault is sent
 pub record SendsRefusal (c status : ℕ) (b d : Slots) (n m : NetSeen) : Type 0 where
   pub bytes : List ℕ
   pub leads : Leads (Refuses c status bytes) b d
-  pub shows : NetShows n m (map did (acts_of_reply c (bytes, true)))
+  pub shows : NetShows n m (map did (acts_of_reply c (record { bytes = bytes; closes = true })))
 
 -- nothing can be taken from it
 abbrev pub StaysDry : ℕ → Move

@@ -17,7 +17,7 @@ use Rattle.directory_requests.specs.Requests.{DirectoryActs}
 use Rattle.thing_core.specs.declared.polling.Round.{Round}
 use Rattle.thing_core.specs.Rounds.{events_left}
 use Rattle.coap_bind.specs.Laws.{HasShortPlace}
-use Rattle.http_bind.specs.Streams.{Wakes}
+use Rattle.http_bind.specs.Streams.{HttpReply, Wakes}
 use Rattle.http_bind.specs.Slots.{Slots, Leads, left_at}
 use Rattle.servient_outside.specs.Network.{NetSeen, NetShows, did}
 use Rattle.servient_core.specs.Trace.{Outside, outside, Shows}
@@ -71,8 +71,8 @@ pub record OnlyDelivers (old new : Layers) : Type 0 where
 
 -- A connection that waits was replied to, with a value or with none.
 pub record SendsToWait (c : ℕ) (text : Option (List ℕ)) (moment : ℕ) (b d : Slots) (n m : NetSeen) : Type 0 where
-  pub reply : List ℕ × Bool
-  pub leads : Leads (Wakes c text moment reply.0 reply.1) b d
+  pub reply : HttpReply
+  pub leads : Leads (Wakes c text moment reply.bytes reply.closes) b d
   pub shows : NetShows n m (map did (acts_of_reply c reply))
 
 -- What follows on an ask for the next poll of a round: the first event that is left was polled, and what it emits was

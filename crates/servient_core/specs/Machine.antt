@@ -32,7 +32,7 @@ use Rattle.coap_bind.specs.declared.server.Server.{Server}
 use Rattle.servient_core.specs.declared.capacity.TheConstants.{MOST_WATCHERS}
 use Rattle.coap_bind.specs.Server.{start as nothing_came, Heard, ignored, answered_at_once, asked, Hears, Answers, with_emitted, with_links, SendsNext}
 use Rattle.coap_bind.specs.Writing.{notification}
-use Rattle.http_bind.specs.Streams.{Streams, none_open, Taken, asks, wants_continue, is_faulty, interrupts, Opened, Ended, Lengthened, Takes, IsDry, Answers as AnswersRequest, Wakes, Continues, Refuses, Closes, oldest_for, oldest_late, IsIdle, NoneIdle}
+use Rattle.http_bind.specs.Streams.{HttpReply, Streams, none_open, Taken, asks, wants_continue, is_faulty, interrupts, Opened, Ended, Lengthened, Takes, IsDry, Answers as AnswersRequest, Wakes, Continues, Refuses, Closes, oldest_for, oldest_late, IsIdle, NoneIdle}
 use Rattle.servient_outside.specs.declared.net.What.{What}
 use Rattle.servient_outside.specs.declared.net.What.TheVariants as what
 use Rattle.servient_outside.specs.declared.net.EventWithBytes.{EventWithBytes}
@@ -89,14 +89,14 @@ Does acts s = Becomes s (map (λ a. at_network (did a)) acts)
 -- ---- what is sent on a connection
 
 -- a reply is one act, and one that closes is followed by the close
-abbrev pub acts_of_reply : ℕ → List ℕ × Bool → List Act
-acts_of_reply c reply = act.Sent c reply.0 ∷ (if reply.1 then act.Closed c ∷ [] else [])
+abbrev pub acts_of_reply : ℕ → HttpReply → List Act
+acts_of_reply c reply = act.Sent c reply.bytes ∷ (if reply.closes then act.Closed c ∷ [] else [])
 
-abbrev pub Sends : ℕ → List ℕ × Bool → Move
+abbrev pub Sends : ℕ → HttpReply → Move
 Sends c reply = Does (acts_of_reply c reply)
 
 -- a request that waits has no reply yet
-abbrev pub SendsIfAny : ℕ → Option (List ℕ × Bool) → Move
+abbrev pub SendsIfAny : ℕ → Option HttpReply → Move
 SendsIfAny c None s seen t = Stays s seen t
 SendsIfAny c (Some reply) s seen t = Sends c reply s seen t
 
@@ -104,7 +104,7 @@ SendsIfAny c (Some reply) s seen t = Sends c reply s seen t
 
 -- a connection that waits is replied to, with a value or with none
 abbrev pub RepliesToWait : ℕ → Option (List ℕ) → Move
-RepliesToWait c text = Passing (λ (reply : List ℕ × Bool). OnHttp (λ now. Wakes c text now reply.0 reply.1)) (Sends c)
+RepliesToWait c text = Passing (λ (reply : HttpReply). OnHttp (λ now. Wakes c text now reply.bytes reply.closes)) (Sends c)
 
 -- the oldest that waits for a target gets its last value
 abbrev pub AnswersWait : ℕ → Move
@@ -177,9 +177,9 @@ abbrev pub AnswersTaken : Site → ℕ → Taken → Move
 AnswersTaken site c (asks q) s seen t =
     Passing (PerformsByHttp site q) (λ done. Then (AnswersMessage c done) (DeliversEach done.emissions)) s seen t
 AnswersTaken site c wants_continue s seen t =
-    Passing (λ bytes. OnHttp (λ now. Continues bytes)) (λ bytes. Sends c (bytes, false)) s seen t
+    Passing (λ bytes. OnHttp (λ now. Continues bytes)) (λ bytes. Sends c (record { bytes = bytes; closes = false })) s seen t
 AnswersTaken site c (is_faulty status) s seen t =
-    Passing (λ bytes. OnHttp (λ now. Refuses c status bytes)) (λ bytes. Sends c (bytes, true)) s seen t
+    Passing (λ bytes. OnHttp (λ now. Refuses c status bytes)) (λ bytes. Sends c (record { bytes = bytes; closes = true })) s seen t
 AnswersTaken site c interrupts s seen t = Does (act.Closed c ∷ []) s seen t
 
 -- something is taken from a connection, and answered

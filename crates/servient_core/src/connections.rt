@@ -223,7 +223,7 @@ impl ReplyRoom {
 /// Sends a reply on a connection, and closes the connection afterwards where the reply says so.
 #[tactic(auto, using(crate::proofs::ConnectionLaws::shows_closed, crate::proofs::ConnectionLaws::shows_kept))]
 fn send<N: Net>(net: &mut N, c: u32, out: &HttpOut<'_>)
-    ensures { NetShows (N.seen net.old) (N.seen net.new) (map did (acts_of_reply c (out.now.head.now ++ out.now.body.now, out.now.close))) }
+    ensures { NetShows (N.seen net.old) (N.seen net.new) (map did (acts_of_reply c (record { bytes = out.now.head.now ++ out.now.body.now; closes = out.now.close }))) }
 {
     net.send(c, out.head, out.body);
     if out.close {

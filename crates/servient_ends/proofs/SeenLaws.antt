@@ -8,7 +8,7 @@ use Rattle.coap_observe.specs.declared.notice.Notice.{Notice}
 use Rattle.coap_bind.specs.Server.{Heard, ignored, answered_at_once, asked}
 use Rattle.thing_ops.specs.Requests.{PlainRequest}
 use Rattle.thing_handler.specs.Turns.{HandlerCall}
-use Rattle.http_bind.specs.Streams.{Taken, asks, wants_continue, is_faulty, interrupts, oldest_for, oldest_late, IsDry, NoneIdle}
+use Rattle.http_bind.specs.Streams.{HttpReply, Taken, asks, wants_continue, is_faulty, interrupts, oldest_for, oldest_late, IsDry, NoneIdle}
 use Rattle.thing_site.specs.Site.{Placed, events_of}
 use Rattle.thing_core.specs.State.{State as ThingState, last_of}
 use Rattle.thing_core.specs.Thing.{Done}
@@ -48,7 +48,7 @@ calls_quiet : (calls : List HandlerCall) → IsQuiet (map at_handler calls)
 calls_quiet [] = refl
 calls_quiet (call ∷ calls) = calls_quiet calls
 
-reply_quiet : (c : ℕ) (bytes : List ℕ) (closes : Bool) → IsQuiet (map (λ a. at_network (did a)) (acts_of_reply c (bytes, closes)))
+reply_quiet : (c : ℕ) (bytes : List ℕ) (closes : Bool) → IsQuiet (map (λ a. at_network (did a)) (acts_of_reply c (record { bytes = bytes; closes = closes })))
 reply_quiet c bytes true = refl
 reply_quiet c bytes false = refl
 
@@ -75,9 +75,9 @@ delivers_quiet target s t seen both =
 deliveries_quiet : (targets : List ℕ) (s t : State) (seen : List Sighting) → Each Delivers targets s seen t → IsQuiet seen
 deliveries_quiet targets s t seen each = each_quiet Delivers delivers_quiet targets s t seen each
 
-any_quiet : (c : ℕ) (reply : Option (List ℕ × Bool)) (s t : State) (seen : List Sighting) → SendsIfAny c reply s seen t → IsQuiet seen
+any_quiet : (c : ℕ) (reply : Option HttpReply) (s t : State) (seen : List Sighting) → SendsIfAny c reply s seen t → IsQuiet seen
 any_quiet c None s t seen stays = quiet_as [] seen stays.saw refl
-any_quiet c (Some reply) s t seen does = quiet_as _ seen does.saw (reply_quiet c reply.0 reply.1)
+any_quiet c (Some reply) s t seen does = quiet_as _ seen does.saw (reply_quiet c reply.bytes reply.closes)
 
 http_quiet : (site : Site) (q : PlainRequest) (done : Done) (s t : State) (seen : List Sighting) → PerformsByHttp site q done s seen t → IsQuiet seen
 http_quiet site q done s t seen (inl directory) = quiet_as [] seen directory.1.3.saw refl

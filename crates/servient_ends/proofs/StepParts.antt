@@ -11,7 +11,7 @@ use Rattle.coap_opts.specs.Reading.{PlainAsk}
 use Rattle.coap_bind.specs.declared.server.Server.{Server}
 use Rattle.coap_bind.specs.Server.{Heard, ignored, answered_at_once, asked, Hears, Answers, with_emitted}
 use Rattle.coap_bind.specs.Treating.{Acted, ignores, answers, acts}
-use Rattle.http_bind.specs.Streams.{Streams, Taken, asks, wants_continue, is_faulty, interrupts, oldest_for, oldest_late, IsDry, NoneIdle}
+use Rattle.http_bind.specs.Streams.{HttpReply, Streams, Taken, asks, wants_continue, is_faulty, interrupts, oldest_for, oldest_late, IsDry, NoneIdle}
 use Rattle.thing_site.specs.Site.{Placed, events_of}
 use Rattle.thing_core.specs.State.{State as ThingState, Emission, last_of}
 use Rattle.thing_core.specs.Thing.{Done}
@@ -142,7 +142,7 @@ happened_delivered es s m u t seen moment coap emitted left delivers =
 
 -- ---- HTTP, polls and other events
 
-any_leaves : (c : ℕ) (reply : Option (List ℕ × Bool)) (s t : State) (seen : List Sighting) → SendsIfAny c reply s seen t → Leaves s t
+any_leaves : (c : ℕ) (reply : Option HttpReply) (s t : State) (seen : List Sighting) → SendsIfAny c reply s seen t → Leaves s t
 any_leaves c None s t seen stays = leaves_shown s t [] seen stays
 any_leaves c (Some reply) s t seen does = leaves_shown s t _ seen does
 

@@ -8,7 +8,7 @@ use Rattle.thing_core.specs.State.{State as ThingState, Emission, last_of}
 use Rattle.coap_observe.specs.declared.notice.Notice.{Notice}
 use Rattle.coap_bind.specs.declared.server.Server.{Server}
 use Rattle.coap_bind.specs.Server.{with_emitted, SendsNext}
-use Rattle.http_bind.specs.Streams.{Streams, with_connection, without_wait, Wakes, Closes, oldest_for, oldest_late, IsIdle, NoneIdle}
+use Rattle.http_bind.specs.Streams.{HttpReply, Streams, with_connection, without_wait, Wakes, Closes, oldest_for, oldest_late, IsIdle, NoneIdle}
 use Rattle.servient_outside.specs.declared.net.Act.{Act}
 use Rattle.servient_outside.specs.declared.net.Act.TheVariants as act
 use Rattle.servient_outside.specs.Network.{did}
@@ -23,10 +23,10 @@ use Rattle.servient_laws.proofs.AlikeWatchers.{SameNotices, same_emitted, same_n
 pub does_agree : (answers : ℕ → Answer) (acts : List Act) → AgreeAs answers (Does acts) (Does acts)
 does_agree answers acts s t u v a b alike p q on_a on_b = becomes_agree s t u v (map (λ x. at_network (did x)) acts) (map (λ x. at_network (did x)) acts) a b alike refl p q
 
-pub sends_agree : (answers : ℕ → Answer) (c : ℕ) (reply : List ℕ × Bool) → AgreeAs answers (Sends c reply) (Sends c reply)
+pub sends_agree : (answers : ℕ → Answer) (c : ℕ) (reply : HttpReply) → AgreeAs answers (Sends c reply) (Sends c reply)
 sends_agree answers c reply = does_agree answers (acts_of_reply c reply)
 
-pub if_any_agree : (answers : ℕ → Answer) (c : ℕ) (reply : Option (List ℕ × Bool)) → AgreeAs answers (SendsIfAny c reply) (SendsIfAny c reply)
+pub if_any_agree : (answers : ℕ → Answer) (c : ℕ) (reply : Option HttpReply) → AgreeAs answers (SendsIfAny c reply) (SendsIfAny c reply)
 if_any_agree answers c None s t u v a b alike p q on_a on_b = becomes_agree s t u v [] [] a b alike refl p q
 if_any_agree answers c (Some reply) s t u v a b alike p q on_a on_b = sends_agree answers c reply s t u v a b alike p q on_a on_b
 
@@ -34,8 +34,8 @@ if_any_agree answers c (Some reply) s t u v a b alike p q on_a on_b = sends_agre
 
 wakes_agree : (answers : ℕ → Answer) (c : ℕ) (text : Option (List ℕ)) → AgreeAs answers (RepliesToWait c text) (RepliesToWait c text)
 wakes_agree answers c text =
-    passing_same answers (λ (reply : List ℕ × Bool). OnHttp (λ now. Wakes c text now reply.0 reply.1)) (Sends c)
-    (on_http answers (λ (reply : List ℕ × Bool) now. Wakes c text now reply.0 reply.1) (λ x y now h k l p q. woken_once c text x y now h k l p q))
+    passing_same answers (λ (reply : HttpReply). OnHttp (λ now. Wakes c text now reply.bytes reply.closes)) (Sends c)
+    (on_http answers (λ (reply : HttpReply) now. Wakes c text now reply.bytes reply.closes) (λ x y now h k l p q. woken_once c text x y now h k l p q))
     (sends_agree answers c)
 
 -- the oldest that waits, by two ways to find it in the connections and a text that it gets

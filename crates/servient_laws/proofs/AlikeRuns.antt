@@ -26,7 +26,7 @@ use Rattle.coap_bind.specs.Blocks.{answer_reply}
 use Rattle.coap_bind.specs.Writing.{Reply, reply_of, observed, coap_reply, head_in}
 use Rattle.coap_bind.specs.Server.{Heard, ignored, answered_at_once, asked, Hears, Answers}
 use Rattle.coap_observe.specs.Watching.{Watching}
-use Rattle.http_bind.specs.Streams.{Streams, Taken, asks, wants_continue, is_faulty, interrupts, Opened, Ended, Lengthened, Takes, IsDry, Answers as AnswersRequest, lets_wait, sends_reply, Continues, Refuses}
+use Rattle.http_bind.specs.Streams.{HttpReply, Streams, Taken, asks, wants_continue, is_faulty, interrupts, Opened, Ended, Lengthened, Takes, IsDry, Answers as AnswersRequest, lets_wait, sends_reply, Continues, Refuses}
 use Rattle.http_bind.specs.Replying.{reply}
 use Rattle.servient_outside.specs.declared.net.What.{What}
 use Rattle.servient_outside.specs.declared.net.What.TheVariants as what
@@ -166,18 +166,18 @@ message_is_ample answers c done s u a (sent, w) fits memory = by sent w.one.1 w.
     closing : Bool → List Act
     closing closes = if closes then act.Closed c ∷ [] else []
 
-    by : (sent : Option (List ℕ × Bool)) → AnswersRequest c done.outcome s.moment sent s.http w.one.0 → SendsIfAny c sent w.mid w.second u → ⊥
+    by : (sent : Option HttpReply) → AnswersRequest c done.outcome s.moment sent s.http w.one.0 → SendsIfAny c sent w.mid w.second u → ⊥
     by sent (lets_wait target is waits none) sends = absurd (let apart : outcome.Memory ≡ outcome.Wait target = sym memory ∙ is in cc)
     by sent (sends_reply bytes closes none replies is) sends =
-        let does : Sends c (bytes, closes) w.mid w.second u = subst (λ (x : Option (List ℕ × Bool)). SendsIfAny c x w.mid w.second u) is sends in
+        let does : Sends c (record { bytes = bytes; closes = closes }) w.mid w.second u = subst (λ (x : Option HttpReply). SendsIfAny c x w.mid w.second u) is sends in
         let of_memory = subst (λ (o : Outcome). reply replies.1.bodiless closes o ≡ Some bytes) memory replies.5 in
         told answers (act.Sent c bytes) (map (λ x. at_network (did x)) (closing closes)) w.second does.saw (fits_rest answers w.first w.second a w.whole fits)
         (by_http c replies.1.bodiless closes bytes of_memory refl)
 
 message_agrees : (answers : ℕ → Answer) (c : ℕ) (done : Done) → AgreeAs answers (AnswersMessage c done) (AnswersMessage c done)
 message_agrees answers c done =
-    passing_same answers (λ (reply : Option (List ℕ × Bool)). OnHttp (λ now. AnswersRequest c done.outcome now reply)) (SendsIfAny c)
-    (on_http answers (λ (reply : Option (List ℕ × Bool)) now. AnswersRequest c done.outcome now reply) (λ x y now h k l p q. answered_once c done.outcome x y now h k l p q))
+    passing_same answers (λ (reply : Option HttpReply). OnHttp (λ now. AnswersRequest c done.outcome now reply)) (SendsIfAny c)
+    (on_http answers (λ (reply : Option HttpReply) now. AnswersRequest c done.outcome now reply) (λ x y now h k l p q. answered_once c done.outcome x y now h k l p q))
     (if_any_agree answers c)
 
 taken_agrees : (answers : ℕ → Answer) (site : Site) (c : ℕ) (taken : Taken) → AgreeAs answers (AnswersTaken site c taken) (AnswersTaken site c taken)
@@ -190,13 +190,13 @@ taken_agrees answers site c (asks q) s t u v a b alike p w on_a on_b =
     s t u v a b alike p (subst (λ (z : Done). Then (AnswersMessage c z) (DeliversEach z.emissions) t b v) (sym same) w) on_a on_b)
     s t u v a b alike p w on_a on_b
 taken_agrees answers site c wants_continue s t u v a b alike p w on_a on_b =
-    passing_same answers (λ (bytes : List ℕ). OnHttp (λ now. Continues bytes)) (λ bytes. Sends c (bytes, false))
+    passing_same answers (λ (bytes : List ℕ). OnHttp (λ now. Continues bytes)) (λ bytes. Sends c (record { bytes = bytes; closes = false }))
     (on_http answers (λ (bytes : List ℕ) now. Continues bytes) (λ x y now h k l p q. (p.0 ∙ sym q.0, p.1 ∙ sym q.1)))
-    (λ bytes. sends_agree answers c (bytes, false)) s t u v a b alike p w on_a on_b
+    (λ bytes. sends_agree answers c (record { bytes = bytes; closes = false })) s t u v a b alike p w on_a on_b
 taken_agrees answers site c (is_faulty status) s t u v a b alike p w on_a on_b =
-    passing_same answers (λ (bytes : List ℕ). OnHttp (λ now. Refuses c status bytes)) (λ bytes. Sends c (bytes, true))
+    passing_same answers (λ (bytes : List ℕ). OnHttp (λ now. Refuses c status bytes)) (λ bytes. Sends c (record { bytes = bytes; closes = true }))
     (on_http answers (λ (bytes : List ℕ) now. Refuses c status bytes) (λ x y now h k l p q. (p.0 ∙ sym q.0, p.1 ∙ sym q.1)))
-    (λ bytes. sends_agree answers c (bytes, true)) s t u v a b alike p w on_a on_b
+    (λ bytes. sends_agree answers c (record { bytes = bytes; closes = true })) s t u v a b alike p w on_a on_b
 taken_agrees answers site c interrupts s t u v a b alike p w on_a on_b = does_agree answers (act.Closed c ∷ []) s t u v a b alike p w on_a on_b
 
 piece_agrees : (answers : ℕ → Answer) (site : Site) (c : ℕ) (bytes : List ℕ) → AgreeAs answers (HearsPiece site c bytes) (HearsPiece site c bytes)

@@ -7,7 +7,7 @@ use Rattle.http_wire.specs.Stream.{Front}
 use Rattle.http_wire.proofs.OneFront.{at_most_one_front}
 use Rattle.http_bind.specs.declared.owed.Owed.{Owed}
 use Rattle.http_bind.specs.Replying.{reply}
-use Rattle.http_bind.specs.Streams.{Connection, Streams, Taken, with_connection, without_wait, rest_of, to_take, after_taking, LetsTake, takes_front, is_interrupted, Takes, IsSpent, HasNothing, IsDry, after_reply, Replies, waits_of, other_waits, Answers, lets_wait, sends_reply, woken_by, Wakes, IsIdle, NoneIdle}
+use Rattle.http_bind.specs.Streams.{HttpReply, Connection, Streams, Taken, with_connection, without_wait, rest_of, to_take, after_taking, LetsTake, takes_front, is_interrupted, Takes, IsSpent, HasNothing, IsDry, after_reply, Replies, waits_of, other_waits, Answers, lets_wait, sends_reply, woken_by, Wakes, IsIdle, NoneIdle}
 
 some_none : {A : Type 0} (o : Option A) (x : A) → o ≡ None → o ≡ Some x → ⊥
 some_none o x none some = absurd (let apart : None ≡ Some x = sym none ∙ some in cc)
@@ -43,6 +43,9 @@ dry_takes c p s t dry (x, y, there, takes, is) = spent_lets x y p x.owed refl (s
 
 -- ---- replies
 
+same_reply : (p q : HttpReply) → p.bytes ≡ q.bytes → p.closes ≡ q.closes → p ≡ q
+same_reply p q bytes closes = λ i. record { bytes = bytes i; closes = closes i }
+
 replied_once : (c : ℕ) (o : Outcome) (now : ℕ) (a b : List ℕ) (d e : Bool) (s t u : Streams) → Replies c o now a d s t → Replies c o now b e s u → (a ≡ b) × (d ≡ e) × (t ≡ u)
 replied_once c o now a b d e s t u (x, w, there, owed, closes, bytes, is) (y, v, there', owed', closes', bytes', is') =
     let same : x ≡ y = same_Some x y (sym there ∙ there') in
@@ -51,7 +54,7 @@ replied_once c o now a b d e s t u (x, w, there, owed, closes, bytes, is) (y, v,
     let replies : a ≡ b = same_Some a b (sym bytes ∙ ap₂ (λ (z : Owed) (f : Bool). reply z.bodiless f o) debts closed ∙ bytes') in
     (replies, closed, is ∙ ap₂ (λ (f : Bool) (z : Connection). with_connection c (after_reply f now z) (without_wait c s)) closed same ∙ sym is')
 
-pub answered_once : (c : ℕ) (o : Outcome) (p q : Option (List ℕ × Bool)) (now : ℕ) (s t u : Streams) → Answers c o now p s t → Answers c o now q s u → (p ≡ q) × (t ≡ u)
+pub answered_once : (c : ℕ) (o : Outcome) (p q : Option HttpReply) (now : ℕ) (s t u : Streams) → Answers c o now p s t → Answers c o now q s u → (p ≡ q) × (t ≡ u)
 answered_once c o p q now s t u (lets_wait m is waits sent) (lets_wait n is' waits' sent') =
     let targets : m ≡ n = (let e : outcome.Wait m ≡ outcome.Wait n = sym is ∙ is' in cc) in
     (sent ∙ sym sent', waits.4 ∙ ap (λ (k : ℕ). record s { waits = other_waits c s.waits ++ record { connection = c; target = k; since = now } ∷ [] }) targets ∙ sym waits'.4)
@@ -59,12 +62,12 @@ answered_once c o p q now s t u (lets_wait m is waits sent) (sends_reply b e non
 answered_once c o p q now s t u (sends_reply a d none replies sent) (lets_wait n is waits sent') = absurd (some_none (waits_of o) n none (ap waits_of is))
 answered_once c o p q now s t u (sends_reply a d none replies sent) (sends_reply b e none' replies' sent') =
     let once = replied_once c o now a b d e s t u replies replies' in
-    (sent ∙ ap₂ (λ (x : List ℕ) (f : Bool). Some (x, f)) once.0 once.1 ∙ sym sent', once.2)
+    (sent ∙ ap Some (same_reply (record { bytes = a; closes = d }) (record { bytes = b; closes = e }) once.0 once.1) ∙ sym sent', once.2)
 
-pub woken_once : (c : ℕ) (text : Option (List ℕ)) (p q : List ℕ × Bool) (now : ℕ) (s t u : Streams) → Wakes c text now p.0 p.1 s t → Wakes c text now q.0 q.1 s u → (p ≡ q) × (t ≡ u)
+pub woken_once : (c : ℕ) (text : Option (List ℕ)) (p q : HttpReply) (now : ℕ) (s t u : Streams) → Wakes c text now p.bytes p.closes s t → Wakes c text now q.bytes q.closes s u → (p ≡ q) × (t ≡ u)
 woken_once c text p q now s t u one other =
-    let once = replied_once c (woken_by text) now p.0 q.0 p.1 q.1 s t u one.1 other.1 in
-    (ap₂ (λ (x : List ℕ) (f : Bool). (x, f)) once.0 once.1, once.2)
+    let once = replied_once c (woken_by text) now p.bytes q.bytes p.closes q.closes s t u one.1 other.1 in
+    (same_reply p q once.0 once.1, once.2)
 
 -- ---- idle connections
 

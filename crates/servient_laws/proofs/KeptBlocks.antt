@@ -8,7 +8,7 @@ use Rattle.coap_msg.specs.declared.endpoint.Endpoint.{Endpoint}
 use Rattle.coap_observe.specs.declared.notice.Notice.{Notice}
 use Rattle.coap_bind.specs.declared.server.Server.{Server}
 use Rattle.coap_bind.specs.Server.{with_next_id, with_notice_sent, with_watchers, SendsNext}
-use Rattle.http_bind.specs.Streams.{Streams, Taken, asks, wants_continue, is_faulty, interrupts, oldest_for, oldest_late, IsDry, NoneIdle}
+use Rattle.http_bind.specs.Streams.{HttpReply, Streams, Taken, asks, wants_continue, is_faulty, interrupts, oldest_for, oldest_late, IsDry, NoneIdle}
 use Rattle.thing_ops.specs.Requests.{PlainRequest}
 use Rattle.thing_core.specs.Thing.{Done}
 use Rattle.thing_core.specs.State.{State as ThingState, Emission, last_of}
@@ -88,7 +88,7 @@ delivers_each_same emissions s t seen each = each_same Delivers delivers_same (m
 
 -- ---- HTTP
 
-if_any_same : (c : ℕ) (reply : Option (List ℕ × Bool)) (s t : State) (seen : List Sighting) → SendsIfAny c reply s seen t → SameBlocks s t
+if_any_same : (c : ℕ) (reply : Option HttpReply) (s t : State) (seen : List Sighting) → SendsIfAny c reply s seen t → SameBlocks s t
 if_any_same c None s t seen stays = same_state s t stays.next
 if_any_same c (Some reply) s t seen does = same_state s t does.next
 

@@ -26,7 +26,7 @@ use Rattle.coap_bind.specs.Writing.{place_of, text_format, format_options, etag_
 use Rattle.http_wire.specs.Writing.{PlainReply, http_reply}
 use Rattle.http_bind.specs.Replying.{reply, reply_head, reply_body, longest_reply_head, head_of, head_with, location_of}
 use Rattle.thing_ops.specs.Requests.{PlainRequest}
-use Rattle.http_bind.specs.Streams.{Streams, connection_at, Answers as AnswersRequest, lets_wait, sends_reply, waits_of}
+use Rattle.http_bind.specs.Streams.{HttpReply, Streams, connection_at, Answers as AnswersRequest, lets_wait, sends_reply, waits_of}
 use Rattle.servient_outside.specs.declared.net.Act.TheVariants as act
 use Rattle.servient_outside.specs.Network.{did}
 use Rattle.servient_core.specs.Trace.{Sighting, at_network}
@@ -153,10 +153,10 @@ parts_of bodiless closes o bytes is = by (reply_head closes o) refl is
 by_message : (c : ℕ) (done : Done) (s t : State) (seen : List Sighting) → waits_of done.outcome ≡ None → AnswersMessage c done s seen t → SaysByHttp c done.outcome s seen
 by_message c done s t seen answered (sent, w) = by sent w.one.1 w.other
   where
-    by : (sent : Option (List ℕ × Bool)) → AnswersRequest c done.outcome s.moment sent s.http w.one.0 → SendsIfAny c sent w.mid w.second t → SaysByHttp c done.outcome s seen
+    by : (sent : Option HttpReply) → AnswersRequest c done.outcome s.moment sent s.http w.one.0 → SendsIfAny c sent w.mid w.second t → SaysByHttp c done.outcome s seen
     by sent (lets_wait target is waits none) sends = absurd (let apart : None ≡ Some target = sym answered ∙ ap waits_of is in cc)
     by sent (sends_reply bytes closes none replies is) sends =
-        let does : Sends c (bytes, closes) w.mid w.second t = subst (λ (x : Option (List ℕ × Bool)). SendsIfAny c x w.mid w.second t) is sends in
+        let does : Sends c (record { bytes = bytes; closes = closes }) w.mid w.second t = subst (λ (x : Option HttpReply). SendsIfAny c x w.mid w.second t) is sends in
         let owed = replies.1 in
         let parts = parts_of owed.bodiless owed.closes done.outcome bytes (subst (λ (b : Bool). reply owed.bodiless b done.outcome ≡ Some bytes) replies.4 replies.5) in
         let head = head_says owed.closes done.outcome parts.0 parts.1 in

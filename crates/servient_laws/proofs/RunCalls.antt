@@ -73,9 +73,9 @@ taken_fit : (site : Site) (c : ℕ) (taken : Taken) (s t : State) (seen : List S
 taken_fit site c (asks q) s t seen (done, w) =
     fit_then site w.first w.second seen (by_http_fit site q done s w.mid w.first w.one) (fit_none site w.second (rest_quiet site (by_http c q) done w.mid t w.second w.other).calls) w.whole
 taken_fit site c wants_continue s t seen (bytes, w) =
-    fit_then site w.first w.second seen (fit_none site w.first (ap calls_in w.one.2.saw)) (fit_none site w.second (does_quiet (acts_of_reply c (bytes, false)) w.mid t w.second w.other).calls) w.whole
+    fit_then site w.first w.second seen (fit_none site w.first (ap calls_in w.one.2.saw)) (fit_none site w.second (does_quiet (acts_of_reply c (record { bytes = bytes; closes = false })) w.mid t w.second w.other).calls) w.whole
 taken_fit site c (is_faulty status) s t seen (bytes, w) =
-    fit_then site w.first w.second seen (fit_none site w.first (ap calls_in w.one.2.saw)) (fit_none site w.second (does_quiet (acts_of_reply c (bytes, true)) w.mid t w.second w.other).calls) w.whole
+    fit_then site w.first w.second seen (fit_none site w.first (ap calls_in w.one.2.saw)) (fit_none site w.second (does_quiet (acts_of_reply c (record { bytes = bytes; closes = true })) w.mid t w.second w.other).calls) w.whole
 taken_fit site c interrupts s t seen does = fit_none site seen (does_quiet (act.Closed c ∷ []) s t seen does).calls
 
 next_fit : (site : Site) (c : ℕ) (s t : State) (seen : List Sighting) → TakesNextMessage site c s seen t → AreFit site seen

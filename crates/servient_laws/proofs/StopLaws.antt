@@ -117,10 +117,10 @@ taken_tasks site c (asks q) s t seen (done, w) =
     (quiet site w.mid t w.second (rest_quiet site (by_http c q) done w.mid t w.second w.other)) w.whole
 taken_tasks site c wants_continue s t seen (bytes, w) =
     tasks_then site [] [] s.thing w.mid.thing t.thing w.first w.second seen (becomes site s (record s { http = w.one.0 }) w.mid [] w.first w.one.2 refl refl)
-    (quiet site w.mid t w.second (does_quiet (acts_of_reply c (bytes, false)) w.mid t w.second w.other)) w.whole
+    (quiet site w.mid t w.second (does_quiet (acts_of_reply c (record { bytes = bytes; closes = false })) w.mid t w.second w.other)) w.whole
 taken_tasks site c (is_faulty status) s t seen (bytes, w) =
     tasks_then site [] [] s.thing w.mid.thing t.thing w.first w.second seen (becomes site s (record s { http = w.one.0 }) w.mid [] w.first w.one.2 refl refl)
-    (quiet site w.mid t w.second (does_quiet (acts_of_reply c (bytes, true)) w.mid t w.second w.other)) w.whole
+    (quiet site w.mid t w.second (does_quiet (acts_of_reply c (record { bytes = bytes; closes = true })) w.mid t w.second w.other)) w.whole
 taken_tasks site c interrupts s t seen does = quiet site s t seen (does_quiet (act.Closed c ∷ []) s t seen does)
 
 next_tasks : (site : Site) (c : ℕ) (s t : State) (seen : List Sighting) → TakesNextMessage site c s seen t → Tasks site [] s.thing seen t.thing

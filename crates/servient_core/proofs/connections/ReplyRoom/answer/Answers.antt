@@ -1,6 +1,6 @@
 use Rattle.std.proofs.Common.{◌++◌, ℕ, List, Bool, subst, cond}
 use Rattle.std.specs.Prelude.{Some, None}
-use Rattle.http_bind.specs.Streams.{Answers}
+use Rattle.http_bind.specs.Streams.{HttpReply, Answers}
 use Rattle.http_bind.specs.Slots.{Leads}
 use Rattle.servient_outside.proofs.NetLaws.{net_shows_none}
 use Rattle.servient_core.proofs.PartLaws.{others_left}
@@ -9,7 +9,7 @@ use Rattle.servient_core.proofs.connections.ReplyRoom.answer.Goals as goal
 pub returns-then-not-out-clause-answered : goal.returns-then-not-out-clause-answered
 returns-then-not-out-clause-answered g c =
     let out = c.answered-out.result in
-    let reply : List ℕ × Bool = (out.head.now ++ out.body.now, out.close) in
+    let reply : HttpReply = (record { bytes = out.head.now ++ out.body.now; closes = out.close }) in
     record {
       reply = Some reply;
       leads = subst (λ (b : Bool). Leads (Answers c.args.c c.args.outcome.now c.args.moment (cond b None (Some reply))) c.args.http.now c.answered-out.new.self)
@@ -20,7 +20,7 @@ returns-then-not-out-clause-answered g c =
 pub returns-else-not-out-clause-answered : goal.returns-else-not-out-clause-answered
 returns-else-not-out-clause-answered g c =
     let out = c.answered-out.result in
-    let reply : List ℕ × Bool = (out.head.now ++ out.body.now, out.close) in
+    let reply : HttpReply = (record { bytes = out.head.now ++ out.body.now; closes = out.close }) in
     record {
       reply = None;
       leads = subst (λ (b : Bool). Leads (Answers c.args.c c.args.outcome.now c.args.moment (cond b None (Some reply))) c.args.http.now c.answered-out.new.self)

@@ -11,7 +11,7 @@ returns-clause-continued g c =
     record {
       bytes = bytes;
       leads = c.refused-out.ensures.continues refl;
-      shows = subst (λ (t : Bool). NetShows (g.N.Net.seen c.args.net.now) (g.N.Net.seen c.send.new.net) (map did (acts_of_reply c.args.c (bytes, t)))) c.refused-out.ensures.close c.send.ensures;
+      shows = subst (λ (t : Bool). NetShows (g.N.Net.seen c.args.net.now) (g.N.Net.seen c.send.new.net) (map did (acts_of_reply c.args.c (record { bytes = bytes; closes = t })))) c.refused-out.ensures.close c.send.ensures;
     }
 
 pub returns-clause-left : goal.returns-clause-left

@@ -15,7 +15,7 @@ returns-clause-refused g c =
     record {
       bytes = bytes;
       leads = c.refused-out.ensures.refuses c.requires.status;
-      shows = subst (λ (t : Bool). NetShows (g.N.Net.seen c.args.net.now) (g.N.Net.seen c.send.new.net) (map did (acts_of_reply c.args.c (bytes, t))))
+      shows = subst (λ (t : Bool). NetShows (g.N.Net.seen c.args.net.now) (g.N.Net.seen c.send.new.net) (map did (acts_of_reply c.args.c (record { bytes = bytes; closes = t }))))
           (c.refused-out.ensures.close ∙ ap not (isnt_100 c.args.status c.requires.status)) c.send.ensures;
     }
 

@@ -5,11 +5,12 @@ use Rattle.std.proofs.lemmas.List.{get_or_read, append-nil}
 use Rattle.std.proofs.lemmas.Bool.{eqb-true}
 use Rattle.thing_ops.specs.declared.outcome.Outcome.{Outcome}
 use Rattle.thing_ops.specs.declared.outcome.Outcome.TheVariants as outcome
+use Rattle.thing_ops.specs.Outcomes.{payload_of}
 use Rattle.http_bind.specs.declared.out.HttpOut.{HttpOut}
 use Rattle.http_bind.specs.declared.owed.Owed.{Owed}
 use Rattle.http_bind.specs.declared.waits.Wait.{Wait}
 use Rattle.http_bind.specs.Replying.{reply, reply_head, reply_body, fault_word, fault_head, fault_body, fault_reply, continue_reply, status_head}
-use Rattle.http_bind.specs.Shown.{Settles, SettlesAt, Replied, after_answer}
+use Rattle.http_bind.specs.Shown.{Settles, SettlesAt, after_answer}
 use Rattle.http_bind.specs.Streams.{Connection, Streams, connection_at, with_connection, without_wait, other_waits, is_waiting, opened_at, lengthened, Opened, Ended, Lengthened, Replies, Waits, Answers, lets_wait, sends_reply, waits_of, Wakes, woken_by, Continues, Refuses, after_reply}
 use Rattle.http_bind.specs.Slots.{Held, Slots, HoldsIfOpen, StandsFor, Leads, held_at, with_held, with_place, without_wait_of, with_wait, held_at_opening, longer, owed_in, IsOwed, IsWaiting, HasRoomFor, HasRoom, longest_piece, left_in, left_at, OthersStay, sent_in}
 use Rattle.http_bind.proofs.Holding.{holds_opening, holds_longer, holds_reply}
@@ -104,27 +105,25 @@ replied_at c now o b bytes said owed d r closes written =
     (leads_left c b r.held (Replies c o now bytes said)
     (λ s holds. replied c o now bytes said owed (held_at c b) r.held s (connection_at c s) refl holds r.settles closes written))
 
--- what is sent
-sent_by : (out : HttpOut) → out.waits ≡ false → sent_in out ≡ Some (record { bytes = out.head.now ++ out.body.now; closes = out.close })
-sent_by out is = ap (λ (t : Bool). cond t None (Some (record { bytes = out.head.now ++ out.body.now; closes = out.close }))) is
-
 none_sent : (out : HttpOut) → out.waits ≡ true → sent_in out ≡ None
 none_sent out is = ap (λ (t : Bool). cond t None (Some (record { bytes = out.head.now ++ out.body.now; closes = out.close }))) is
 
-pub answers_reply : (c now : ℕ) (o : Outcome) (b : Slots) (out : HttpOut) (d : Slots) → waits_of o ≡ None → Replied c now o b out d → Leads (Answers c o now (sent_in out)) b d
-answers_reply c now o b out d none r = λ s stands.
-    let t = replied_at c now o b (out.head.now ++ out.body.now) out.close r.owed d r.settles r.closes
-    (bytes_are r.owed.bodiless r.owed.closes out.close o out.head.now out.body.now r.closes r.head r.body) s stands in
-    (t.0, t.1, sends_reply (out.head.now ++ out.body.now) out.close none t.2 (sent_by out r.sent))
+-- the payload of a reply
+pub answered_body : (bodiless : Bool) (o : Outcome) (payload body : List ℕ) → body ≡ cond bodiless [] payload → payload ≡ payload_of o → body ≡ reply_body bodiless o
+answered_body true o payload body is all = is
+answered_body false o payload body is all = is ∙ all
+
+pub answers_reply : (c now : ℕ) (o : Outcome) (b : Slots) (head body : List ℕ) (owed : Owed) (d : Slots) → waits_of o ≡ None → SettlesAt c now b owed d →
+    reply_head owed.closes o ≡ Some head → body ≡ reply_body owed.bodiless o → Leads (Answers c o now (Some (record { bytes = head ++ body; closes = owed.closes }))) b d
+answers_reply c now o b head body owed d none r is_head is_body = λ s stands.
+    let t = replied_at c now o b (head ++ body) owed.closes owed d r refl
+    (bytes_are owed.bodiless owed.closes owed.closes o head body refl is_head is_body) s stands in
+    (t.0, t.1, sends_reply (head ++ body) owed.closes none t.2 refl)
 
 -- an outcome that waits for nothing
 pub isnt_wait : (o : Outcome) → ((target : ℕ) → o ≡ outcome.Wait target → ⊥) → waits_of o ≡ None
 isnt_wait (outcome.Wait target) isnt = absurd (isnt target refl)
 isnt_wait o isnt = refl
-
--- the head that was written
-pub head_said : (closes said : Bool) (o : Outcome) (head : List ℕ) → said ≡ closes → reply_head closes o ≡ Some head → head ≡ unwrap_or (reply_head said o) []
-head_said closes said o head same is = ap (λ (r : Option (List ℕ)). unwrap_or r []) (sym is) ∙ ap (λ (t : Bool). unwrap_or (reply_head t o) []) (sym same)
 
 -- the payload of the reply to a request that waits
 pub woken_body : (bodiless : Bool) (text : Option (List ℕ)) (payload body : List ℕ) → body ≡ cond bodiless [] payload → payload ≡ unwrap_or text [] → body ≡ reply_body bodiless (woken_by text)

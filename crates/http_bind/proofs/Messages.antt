@@ -3,13 +3,17 @@ use Rattle.std.proofs.Common.{◌≡◌, ℕ, ◌&&◌, Bool, true, false, List,
 use Rattle.std.specs.Prelude.{Option, Some, None, option_map, not, is_some, IsSome}
 use Rattle.thing_ops.specs.Requests.{PlainRequest}
 use Rattle.http_wire.specs.Targets.{segments_of}
-use Rattle.http_wire.specs.Stream.{PlainHead, Front, message}
+use Rattle.http_wire.specs.declared.scanned.Head.{Head}
+use Rattle.http_wire.specs.declared.scanned.Scanned.{Scanned}
+use Rattle.http_wire.specs.declared.scanned.Scanned.TheVariants as scanned
+use Rattle.http_wire.specs.Stream.{PlainHead, Front, message, IsFront}
+use Rattle.http_wire.specs.Scanned.{plain_head, front_of}
 use Rattle.http_wire.specs.Reading.{verb_of, request_at, asked}
 use Rattle.http_bind.specs.declared.looking.Found.{Found}
 use Rattle.http_bind.specs.declared.looking.Found.TheVariants as seen
 use Rattle.http_bind.specs.Replying.{is_head, fault_word}
 use Rattle.http_bind.specs.Streams.{wants_continue, is_faulty, read_as, expected, found, to_take}
-use Rattle.http_bind.specs.Looking.{IsMessageStep, ShowsMessage, Fits}
+use Rattle.http_bind.specs.Looking.{IsMessageStep, ShowsMessage, Fits, Shows}
 
 pub takes_continue : (continued : Bool) (f : Front) (t : Bool) → t ≡ (expected f && not continued) → t ≡ true → to_take continued f ≡ Some wants_continue
 takes_continue continued f t is holds = ap (λ (u : Bool). cond u (Some wants_continue) (found f)) (sym is ∙ holds)
@@ -51,4 +55,15 @@ shows_message continued h body used expect (seen.Message step parts) room is sho
   is ∙ ap (λ (r : Option PlainRequest). Some (read_as r)) shows.1,
   record { used = shows.2.used; bodiless = shows.2.bodiless; closes = shows.2.closes },
   shows.3,
+)
+
+-- and so where it was scanned
+pub shows_whole : (continued : Bool) (bytes : List ℕ) (s : Scanned) (head : Head) (body : List ℕ) (used : ℕ) (expect t : Bool) (what : Found) (room : List ℕ) →
+    s ≡ scanned.Whole head body used expect → IsFront bytes (front_of s) → t ≡ (expected (front_of s) && not continued) → t ≡ false →
+    ShowsMessage (plain_head head) body used what room → Shows continued bytes what room
+shows_whole continued bytes s head body used expect t what room is front asks none shows = (
+  front_of (scanned.Whole head body used expect),
+  subst (λ (r : Scanned). IsFront bytes (front_of r)) is front,
+  shows_message continued (plain_head head) body used expect what room
+      (subst (λ (r : Scanned). to_take continued (front_of r) ≡ found (front_of r)) is (takes_found continued (front_of s) t asks none)) shows,
 )

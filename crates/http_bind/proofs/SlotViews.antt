@@ -1,13 +1,14 @@
 -- What is seen of one slot, and what its methods do to that.
-use Rattle.std.proofs.Common.{◌≡◌, ℕ, ◌+◌, ◌-◌, ◌≤◌, List, length, drop, refl, sym, ap, subst, ◌∙◌, arith}
-use Rattle.std.specs.Prelude.{Option, Some, None, option_map}
+use Rattle.std.proofs.Common.{◌≡◌, ℕ, ◌+◌, ◌-◌, ◌≤◌, List, length, drop, sym, ap, subst, ◌∙◌, arith}
+use Rattle.std.specs.Prelude.{Option, Some, option_map}
 use Rattle.std.proofs.lemmas.List.{length-drop, drop-drop}
 use Rattle.http_wire.specs.Heads.{skipped}
 use Rattle.http_bind.specs.declared.slot.State.{State}
 use Rattle.http_bind.specs.declared.looking.Found.{Found}
 use Rattle.http_bind.specs.Kept.{held_with}
-use Rattle.http_bind.specs.Slots.{Held, without_pairs}
-use Rattle.http_bind.specs.Shown.{ShowsIfOpen, MayPass, after_finding, TakesFront}
+use Rattle.http_bind.specs.Looking.{Shows, IsWithin}
+use Rattle.http_bind.specs.Slots.{Held}
+use Rattle.http_bind.specs.Shown.{after_finding, TakesFront}
 use Rattle.http_bind.proofs.Skipping.{skipped_from}
 
 -- where what is left begins in all bytes
@@ -32,15 +33,17 @@ left_of items start rest within is =
     place : length rest ≤ length (drop start items) → length items - length rest ≡ start + (length (drop start items) - length rest)
     place few = omega (arith, few, length-drop start items, within)
 
-pub seen_without_pairs : (bytes rest left : List ℕ) (st : Option State) → left ≡ rest → rest ≡ skipped bytes →
-    option_map (held_with left) st ≡ option_map without_pairs (option_map (held_with bytes) st)
-seen_without_pairs bytes rest left None same is = refl
-seen_without_pairs bytes rest left (Some st) same is = ap (λ (xs : List ℕ). Some (held_with xs st)) (same ∙ is)
-
 -- what is at the front without the pairs was found and taken
-pub front_taken : (old mid new : Option Held) (what : Found) (room : List ℕ) → mid ≡ option_map without_pairs old → ShowsIfOpen mid what room → MayPass what mid →
-    new ≡ option_map (after_finding what) mid → TakesFront old what new room
-front_taken None mid new what room skips shows may takes =
-    (subst (λ (k : Option Held). ShowsIfOpen k what room) skips shows, takes ∙ ap (option_map (after_finding what)) skips)
-front_taken (Some h) mid new what room skips shows may takes =
-    (subst (λ (k : Option Held). ShowsIfOpen k what room) skips shows, subst (MayPass what) skips may, takes ∙ ap (option_map (after_finding what)) skips)
+pub front_taken : (items : List ℕ) (start place : ℕ) (rest bytes : List ℕ) (kept : Option State) (st : State) (old new : Option Held) (what : Found) (room : List ℕ) →
+    option_map (held_with (drop start items)) kept ≡ old → kept ≡ Some st → rest ≡ skipped (drop start items) → drop place items ≡ rest → bytes ≡ drop place items →
+    Shows st.continued bytes what room → IsWithin (length bytes) what → new ≡ option_map (after_finding what) (option_map (held_with (drop place items)) kept) →
+    TakesFront old what new room
+front_taken items start place rest bytes kept st old new what room view is skips left same shows within takes =
+    let front : bytes ≡ skipped (drop start items) = same ∙ left ∙ skips in
+    subst (λ (k : Option Held). TakesFront k what new room) (ap (option_map (held_with (drop start items))) (sym is) ∙ view) (
+      subst (λ (xs : List ℕ). Shows st.continued xs what room) front shows,
+      subst (λ (xs : List ℕ). IsWithin (length xs) what) front within,
+      takes
+          ∙ ap (λ (k : Option State). option_map (after_finding what) (option_map (held_with (drop place items)) k)) is
+          ∙ ap (λ (xs : List ℕ). Some (after_finding what (held_with xs st))) (left ∙ skips),
+    )

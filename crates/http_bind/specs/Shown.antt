@@ -12,9 +12,6 @@ use Rattle.http_bind.specs.declared.waits.Wait.{Wait}
 use Rattle.http_bind.specs.Looking.{Shows, IsWithin}
 use Rattle.http_bind.specs.Streams.{other_waits}
 use Rattle.http_bind.specs.Slots.{Held, Slots, place_at, with_place, held_at, with_held, without_wait_of, without_pairs, owed_in}
-use Rattle.http_bind.specs.Replying.{reply_head, reply_body}
-use Rattle.http_bind.specs.declared.out.HttpOut.{HttpOut}
-use Rattle.thing_ops.specs.declared.outcome.Outcome.{Outcome}
 
 -- what was found at the front of a connection; nothing, where it isn't open
 abbrev pub ShowsIfOpen : Option Held → Found → List ℕ → Type 0
@@ -77,15 +74,6 @@ pub record SettlesAt (c now : ℕ) (b : Slots) (owed : Owed) (d : Slots) : Type 
   pub held : Option Held
   pub settles : Settles now (held_at c b) owed held
   pub after : d ≡ with_held c held (without_wait_of c b)
-
--- the reply to it was written
-pub record Replied (c now : ℕ) (o : Outcome) (b : Slots) (out : HttpOut) (d : Slots) : Type 0 where
-  pub owed : Owed
-  pub settles : SettlesAt c now b owed d
-  pub closes : out.close ≡ owed.closes
-  pub head : reply_head owed.closes o ≡ Some out.head.now
-  pub body : out.body.now ≡ reply_body owed.bodiless o
-  pub sent : out.waits ≡ false
 
 -- what was found at the front of a connection was taken from it, and all others are as they were
 abbrev pub TakesAt : ℕ → List (Option Held) → Found → List (Option Held) → List ℕ → Type 0

@@ -1,18 +1,19 @@
 //! The connections of an HTTP server: bytes come in, requests come out, replies are written.
 
 ghost use Rattle.std.specs.Prelude.{◌≡◌, ◌≤◌, ◌<◌, ◌++◌, ◌⊎◌, ℕ, [], length, position, Some, None, false, not, ◌==◌, option_map, unwrap_or, IfOk, IfSome, IsSome, if◌then◌else◌};
-ghost use Rattle.thing_ops.specs.Outcomes.{HasStatus};
 ghost use Rattle.http_bind.specs.Slots.{nothing_held, with_held, without_wait_of, with_wait, is_idle};
 ghost use Rattle.http_bind.specs.Looking.{room_size};
-ghost use Rattle.http_bind.specs.Shown.{TakesAt, MayLend, Lends, Replied, SettlesAt, waits_after};
+ghost use Rattle.http_bind.specs.Shown.{TakesAt, MayLend, Lends, SettlesAt, waits_after};
 
 use crate::looking::Found;
 use crate::owed::Owed;
 use crate::slot::Slot;
 use crate::waits::{Wait, Waits};
-use crate::writing::{fault_word, payload, put_answer, put_status_head, put_woken};
+use crate::writing::{
+    HEAD_BYTES, WORD_BYTES, fault_word, payload, put_answer, put_status_head, put_woken,
+};
 use crate::{HttpNext, HttpOut};
-use servient_base::put_bytes;
+use servient_base::{ConnectionId, Target, put_bytes};
 use std::alloc::Global;
 use std::marker::Model;
 use thing_ops::{NoMemory, Outcome};
@@ -75,7 +76,7 @@ impl HttpBind {
     }
 
     /// A connection is opened; what was held of an earlier one of this number is given up.
-    pub fn opened(&mut self, c: u32, now: u64)
+    pub fn opened(&mut self, c: ConnectionId, now: u64)
         requires { c < 64 }
         ensures leads { Leads (Opened c now) self.old self.new }
         ensures room { HasRoom c self.new }
@@ -86,7 +87,7 @@ impl HttpBind {
     }
 
     /// Bytes came on a connection; where it isn't open nothing happens. There is room for them once `next` was `Idle`.
-    pub fn bytes(&mut self, c: u32, piece: &[u8], now: u64)
+    pub fn bytes(&mut self, c: ConnectionId, piece: &[u8], now: u64)
         requires connection { c < 64 }
         requires length { length piece.now ≤ longest_piece }
         requires room { HasRoom c self.old }
@@ -98,7 +99,7 @@ impl HttpBind {
     }
 
     /// A connection isn't open any more: its peer ended it, or it is closed. Nobody waits on it any more.
-    pub fn ended(&mut self, c: u32)
+    pub fn ended(&mut self, c: ConnectionId)
         requires { c < 64 }
         ensures leads { Leads (Ended c) self.old self.new }
         ensures held { self.new ≡ with_held c None (without_wait_of c self.old) }
@@ -113,15 +114,14 @@ impl HttpBind {
     /// body of a request are written into `room` and lent from there, because a caller would know nothing of `self` if
     /// a result that owns a path were lent from it (docs/DECISIONS.md, "What the kit can't give"). What is taken leaves
     /// less to take, so a connection is dry after finitely many calls.
-    pub fn next<'a>(&mut self, c: u32, room: &'a mut [u8]) -> HttpNext<'a>
+    pub fn next<'a>(&mut self, c: ConnectionId, room: &'a mut [u8]) -> HttpNext<'a>
         requires connection { c < 64 }
         requires room { ROOM ≤ length room.old }
         ensures gives { Gives c result self.old self.new }
         ensures less { LeavesLess result (left_at c self.old) (left_at c self.new) }
         ensures others { OthersStay c self.old self.new }
     {
-        let found = take(&mut self.slots, c, self.alloc, room);
-        forget_wait(&mut self.waits, c, &found);
+        let found = take(&mut self.slots, &mut self.waits, c, self.alloc, room);
         lend(found, room)
     }
 
@@ -129,11 +129,11 @@ impl HttpBind {
     /// is in `out`; its payload is the outcome's text, or its word in `word`.
     pub fn answered<'a>(
         &mut self,
-        c: u32,
+        c: ConnectionId,
         outcome: &'a Outcome,
         now: u64,
-        out: &'a mut [u8; 4096],
-        word: &'a mut [u8; 32],
+        out: &'a mut [u8; HEAD_BYTES],
+        word: &'a mut [u8; WORD_BYTES],
     ) -> HttpOut<'a>
         requires connection { c < 64 }
         requires owed { IsOwed c self.old }
@@ -148,7 +148,17 @@ impl HttpBind {
                 self.begin_wait(c, *target, now);
                 HttpOut::of_a_wait()
             }
-            _ => self.reply(c, outcome, now, out, word),
+            _ => {
+                let owed = self.settle(c, now);
+                let payload = payload(outcome, word);
+                let length = put_answer(outcome, payload.len(), owed.closes, out);
+                HttpOut {
+                    head: &out[..length],
+                    body: body_of(owed.bodiless, payload),
+                    close: owed.closes,
+                    waits: false,
+                }
+            }
         }
     }
 
@@ -156,10 +166,10 @@ impl HttpBind {
     /// seconds. Its head is in `out`.
     pub fn woken<'a>(
         &mut self,
-        c: u32,
+        c: ConnectionId,
         text: Option<&'a [u8]>,
         now: u64,
-        out: &'a mut [u8; 4096],
+        out: &'a mut [u8; HEAD_BYTES],
     ) -> HttpOut<'a>
         requires waits { IsWaiting c self.old }
         requires text { IfSome text (λ t. length t.now ≤ longest_text) }
@@ -187,10 +197,10 @@ impl HttpBind {
     /// word in `word`.
     pub fn refused<'a>(
         &mut self,
-        c: u32,
+        c: ConnectionId,
         status: u16,
-        out: &'a mut [u8; 4096],
-        word: &'a mut [u8; 32],
+        out: &'a mut [u8; HEAD_BYTES],
+        word: &'a mut [u8; WORD_BYTES],
     ) -> HttpOut<'a>
         requires connection { c < 64 }
         requires status { (status ≡ 100) ⊎ IsSome (word_of_fault status) }
@@ -214,7 +224,7 @@ impl HttpBind {
     }
 
     /// The connection that waits longest for an emission of this target.
-    pub fn waiting(&self, target: u32) -> Option<u32>
+    pub fn waiting(&self, target: Target) -> Option<ConnectionId>
         ensures first { result ≡ oldest_for target self.now.waits }
         ensures waits { (c : ℕ) → result ≡ Some c → IsWaiting c self.now }
         ensures bound { (c : ℕ) → result ≡ Some c → c < 64 }
@@ -223,7 +233,7 @@ impl HttpBind {
     }
 
     /// The connection that waits longest, of those that have waited for 60,000 ms or longer.
-    pub fn late(&self, now: u64) -> Option<u32>
+    pub fn late(&self, now: u64) -> Option<ConnectionId>
         ensures first { result ≡ oldest_late now self.now.waits }
         ensures waits { (c : ℕ) → result ≡ Some c → IsWaiting c self.now }
         ensures bound { (c : ℕ) → result ≡ Some c → c < 64 }
@@ -233,20 +243,20 @@ impl HttpBind {
 
     /// The lowest connection that is owed no reply and whose last activity (its opening, bytes, or a reply) was 120,000
     /// ms ago or longer.
-    pub fn idle(&self, now: u64) -> Option<u32>
+    pub fn idle(&self, now: u64) -> Option<ConnectionId>
         ensures idle { (c : ℕ) → result ≡ Some c → (s : Streams) → StandsFor self.now s → IsIdle c now s }
         ensures none { result ≡ None → (s : Streams) → StandsFor self.now s → NoneIdle now s }
         ensures bound { (c : ℕ) → result ≡ Some c → c < 64 }
         ensures open { (c : ℕ) → result ≡ Some c → IsOpen c self.now }
     {
         match first_idle(self.slots.as_slice(), now) {
-            Some(place) => Some(place as u32),
+            Some(place) => Some(place as ConnectionId),
             None => None,
         }
     }
 
     /// The request that was taken last from a connection waits for an emission of a target.
-    fn begin_wait(&mut self, c: u32, target: u32, now: u64)
+    fn begin_wait(&mut self, c: ConnectionId, target: Target, now: u64)
         requires { IsOwed c self.old }
         ensures { self.new ≡ with_wait c target now self.old }
     {
@@ -258,33 +268,9 @@ impl HttpBind {
         });
     }
 
-    /// The reply to the request that was taken last from a connection.
-    fn reply<'a>(
-        &mut self,
-        c: u32,
-        outcome: &'a Outcome,
-        now: u64,
-        out: &'a mut [u8; 4096],
-        word: &'a mut [u8; 32],
-    ) -> HttpOut<'a>
-        requires owed { IsOwed c self.old }
-        requires status { HasStatus outcome.now }
-        ensures { Replied c now outcome.now self.old result self.new }
-    {
-        let owed = self.settle(c, now);
-        let payload = payload(outcome, word);
-        let length = put_answer(outcome, payload.len(), owed.closes, out);
-        HttpOut {
-            head: &out[..length],
-            body: body_of(owed.bodiless, payload),
-            close: owed.closes,
-            waits: false,
-        }
-    }
-
     /// The request that was taken last from a connection is replied to, and waits no longer if it did. Returns what was
     /// owed to it.
-    fn settle(&mut self, c: u32, now: u64) -> Owed
+    fn settle(&mut self, c: ConnectionId, now: u64) -> Owed
         requires { IsOwed c self.old }
         ensures { SettlesAt c now self.old result self.new }
     {
@@ -293,7 +279,7 @@ impl HttpBind {
     }
 
     /// Gives up a connection that doesn't go on.
-    fn free_unless(&mut self, c: u32, goes_on: bool)
+    fn free_unless(&mut self, c: ConnectionId, goes_on: bool)
         requires { c < 64 }
         ensures { self.new ≡ (if goes_on then self.old else with_held c None (without_wait_of c self.old)) }
     {
@@ -347,22 +333,25 @@ fn free_slots(alloc: Global) -> Result<Vec<Slot>, NoMemory>
     Ok(slots)
 }
 
-/// Takes what is at the front of a connection. The query and the body of a request are written into `room`.
-fn take(slots: &mut Vec<Slot>, c: u32, alloc: Global, room: &mut [u8]) -> Found
+/// Takes what is at the front of a connection. The query and the body of a request are written into `room`; a request
+/// that waits and was interrupted waits no longer.
+fn take(
+    slots: &mut Vec<Slot>,
+    waits: &mut Waits,
+    c: ConnectionId,
+    alloc: Global,
+    room: &mut [u8],
+) -> Found
     requires connection { c < length slots.old.items }
     requires room { room_size ≤ length room.old }
-    ensures { TakesAt c slots.old.items result slots.new.items room.new }
+    ensures taken { TakesAt c slots.old.items result slots.new.items room.new }
+    ensures waits { waits.new ≡ waits_after result c waits.old }
 {
-    slots[c as usize].next(alloc, room)
-}
-
-/// Where a request that waits was interrupted, it waits no longer.
-fn forget_wait(waits: &mut Waits, c: u32, found: &Found)
-    ensures { waits.new ≡ waits_after found.now c waits.old }
-{
+    let found = slots[c as usize].next(alloc, room);
     if matches!(found, Found::Interrupted) {
         waits.remove(c);
     }
+    found
 }
 
 /// What was found, with the query and the body of a request, which lie in `room`.

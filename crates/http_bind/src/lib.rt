@@ -49,3 +49,4 @@ pub use laws::each_connection_takes_its_stream;
 pub use next::HttpNext;
 pub use out::HttpOut;
 pub use thing_ops::NoMemory;
+pub use writing::{HEAD_BYTES, WORD_BYTES};

@@ -1,15 +1,13 @@
 //! What is at the front of the bytes that are held, with the request that it asks for.
 
 ghost use Rattle.std.specs.Prelude.{◌≡◌, ◌≤◌, ◌&&◌, not, length};
-ghost use Rattle.http_wire.specs.Judging.{longest_body};
-ghost use Rattle.http_wire.specs.Stream.{longest_head};
-ghost use Rattle.http_wire.specs.Scanned.{plain_head, front_of};
+ghost use Rattle.http_wire.specs.Scanned.{front_of};
 ghost use Rattle.http_bind.specs.Replying.{is_head as is_head_verb};
 ghost use Rattle.http_bind.specs.Streams.{expected};
-ghost use Rattle.http_bind.specs.Looking.{room_size, Shows, ShowsMessage, IsWithin};
+ghost use Rattle.http_bind.specs.Looking.{room_size, Shows, IsWithin};
 
 use crate::owed::Owed;
-use http_wire::{Body, Head, RequestParts, Scanned, TargetFault, request_of, scan, verb_of};
+use http_wire::{Head, RequestParts, Scanned, TargetFault, request_of, scan, verb_of};
 use std::alloc::Global;
 use thing_ops::Verb;
 
@@ -56,7 +54,20 @@ pub fn look(alloc: Global, bytes: &[u8], continued: bool, room: &mut [u8]) -> Fo
             body,
             used,
             expect: _,
-        } => look_at_message(alloc, &head, &body, used, room),
+        } => {
+            let step = Step {
+                used,
+                owed: Owed {
+                    bodiless: is_head(verb_of(head.method)),
+                    closes: head.close,
+                },
+            };
+            match request_of(alloc, &head, &body, room) {
+                Ok(parts) => Found::Message(step, Some(parts)),
+                Err(TargetFault::BadTarget) => Found::Fault(400),
+                Err(TargetFault::NoMemory) => Found::Message(step, None),
+            }
+        }
     }
 }
 
@@ -73,33 +84,6 @@ fn wants_continue(scanned: &Scanned<'_>, continued: bool) -> bool
             used: _,
             expect,
         } => *expect && !continued,
-    }
-}
-
-/// What a whole message of this many bytes is taken for.
-fn look_at_message(
-    alloc: Global,
-    head: &Head<'_>,
-    body: &Body<'_>,
-    used: usize,
-    room: &mut [u8],
-) -> Found
-    requires room { room_size ≤ length room.old }
-    requires target { length head.now.target.now ≤ longest_head }
-    requires body { length body.now ≤ longest_body }
-    ensures { ShowsMessage (plain_head head.now) body.now used result room.new }
-{
-    let step = Step {
-        used,
-        owed: Owed {
-            bodiless: is_head(verb_of(head.method)),
-            closes: head.close,
-        },
-    };
-    match request_of(alloc, head, body, room) {
-        Ok(parts) => Found::Message(step, Some(parts)),
-        Err(TargetFault::BadTarget) => Found::Fault(400),
-        Err(TargetFault::NoMemory) => Found::Message(step, None),
     }
 }
 

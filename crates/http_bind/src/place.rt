@@ -1,6 +1,6 @@
 //! The path of a place, as it is written in a reply (RFC 3986, section 2).
 
-ghost use Rattle.std.specs.Prelude.{◌≡◌, ◌≤◌, ◌<◌, ◌∷◌, [], codes, length, slice_index_or};
+ghost use Rattle.std.specs.Prelude.{◌≤◌, ◌<◌, ◌∷◌, [], codes, length, slice_index_or};
 ghost use Rattle.servient_base.specs.Writing.{PutsIfRoom};
 ghost use Rattle.http_bind.specs.Places.{path_text, segment_text};
 

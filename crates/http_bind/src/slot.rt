@@ -1,6 +1,6 @@
 //! What is held of one connection: the rest of its stream, and what is known of its last message.
 
-ghost use Rattle.std.specs.Prelude.{◌≡◌, ◌≤◌, length, drop, option_map, vec_capacity, IfOk, is_some, IsSome};
+ghost use Rattle.std.specs.Prelude.{◌≡◌, ◌≤◌, length, drop, option_map, vec_capacity, IfOk, IsSome};
 
 use crate::looking::{Found, look};
 use crate::owed::Owed;
@@ -24,18 +24,6 @@ pub struct State {
     pub owed: Option<Owed>,
     /// The moment of the last activity.
     pub active: u64,
-}
-
-impl State {
-    /// The same, with its last activity at this moment.
-    fn active_at(self, now: u64) -> State
-        ensures { result ≡ record self { active = now } }
-    {
-        State {
-            active: now,
-            ..self
-        }
-    }
 }
 
 /// What is held of a connection, if it is open. Contracts see the bytes that weren't taken and what is known besides
@@ -63,9 +51,9 @@ impl Model for Slot {
 }
 
 impl Slot {
-    ghost use Rattle.http_bind.specs.Slots.{held_at_opening, without_pairs, longer, owed_in, is_idle, HasRoomFor};
+    ghost use Rattle.http_bind.specs.Slots.{held_at_opening, longer, owed_in, is_idle, HasRoomFor};
     ghost use Rattle.http_bind.specs.Looking.{room_size};
-    ghost use Rattle.http_bind.specs.Shown.{ShowsIfOpen, after_finding, MayPass, LooksBehind, TakesFront, Passes, Settles};
+    ghost use Rattle.http_bind.specs.Shown.{after_finding, MayPass, LooksBehind, TakesFront, Passes, Settles};
 
     /// A connection that isn't open. Its memory is taken here.
     pub fn new(alloc: Global) -> Result<Slot, NoMemory>
@@ -108,7 +96,10 @@ impl Slot {
             move_to_front(&mut self.bytes, self.start);
             self.start = 0;
             self.bytes.extend_from_slice(piece).unwrap();
-            self.state = Some(state.active_at(now));
+            self.state = Some(State {
+                active: now,
+                ..state
+            });
         }
     }
 
@@ -118,20 +109,9 @@ impl Slot {
         requires { room_size ≤ length room.old }
         ensures { Passes self.old result self.new room.new }
     {
-        if self.is_owed() {
-            self.look_behind()
-        } else {
-            self.take_front(alloc, room)
-        }
-    }
-
-    /// Whether a reply is owed to the request taken last.
-    fn is_owed(&self) -> bool
-        ensures { result ≡ is_some (owed_in self.now) }
-    {
         match self.state {
-            None => false,
-            Some(state) => state.owed.is_some(),
+            Some(State { owed: Some(_), .. }) => self.look_behind(),
+            _ => self.take_front(alloc, room),
         }
     }
 
@@ -148,39 +128,25 @@ impl Slot {
         }
     }
 
-    /// Takes what is at the front, where no reply is owed.
+    /// Takes what is at the front, after CR LF pairs, where no reply is owed.
     fn take_front(&mut self, alloc: Global, room: &mut [u8]) -> Found
         requires room { room_size ≤ length room.old }
         ensures { TakesFront self.old result self.new room.new }
     {
-        self.skip_pairs();
-        let found = self.look(alloc, room);
-        self.pass(&found);
-        found
-    }
-
-    /// Leaves out CR LF pairs in front of the next message.
-    fn skip_pairs(&mut self)
-        ensures { self.new ≡ option_map without_pairs self.old }
-    {
-        let rest = skip_pairs(behind(&self.bytes, self.start)).len();
-        self.start = self.bytes.len() - rest;
-    }
-
-    /// What is at the front.
-    fn look(&self, alloc: Global, room: &mut [u8]) -> Found
-        requires { room_size ≤ length room.old }
-        ensures shows { ShowsIfOpen self.now result room.new }
-        ensures may { MayPass result self.now }
-    {
         match self.state {
             None => Found::Nothing,
-            Some(state) => look(
-                alloc,
-                behind(&self.bytes, self.start),
-                state.continued,
-                room,
-            ),
+            Some(state) => {
+                let rest = skip_pairs(behind(&self.bytes, self.start));
+                self.start = self.bytes.len() - rest.len();
+                let found = look(
+                    alloc,
+                    behind(&self.bytes, self.start),
+                    state.continued,
+                    room,
+                );
+                self.pass(&found);
+                found
+            }
         }
     }
 

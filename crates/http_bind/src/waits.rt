@@ -1,5 +1,6 @@
 //! The requests that wait for the next emission of a target, in the order in which they began to wait.
 
+use servient_base::{ConnectionId, Target};
 use std::alloc::Global;
 use std::marker::Model;
 use thing_ops::NoMemory;
@@ -14,9 +15,9 @@ const LATE_AFTER: u64 = 60_000;
 #[derive(Clone, Copy, Debug, Drop)]
 pub struct Wait {
     /// The connection that it came on.
-    pub connection: u32,
+    pub connection: ConnectionId,
     /// What it waits for an emission of.
-    pub target: u32,
+    pub target: Target,
     /// When it began to wait, in milliseconds.
     pub since: u64,
 }
@@ -59,40 +60,32 @@ impl Waits {
     }
 
     /// A connection waits no longer, if it did.
-    pub fn remove(&mut self, c: u32)
+    pub fn remove(&mut self, c: ConnectionId)
         ensures { self.new ≡ other_waits c self.old }
     {
-        remove_of(&mut self.list, c);
+        self.list.retain(|wait| wait.connection != c);
     }
 
     /// The connection that waits longest for a target.
-    pub fn oldest_for(&self, target: u32) -> Option<u32>
+    pub fn oldest_for(&self, target: Target) -> Option<ConnectionId>
         ensures { result ≡ oldest_for target self.now }
     {
         first_of(self.list.as_slice(), target)
     }
 
     /// The connection that waits longest, if it is late.
-    pub fn oldest_late(&self, now: u64) -> Option<u32>
+    pub fn oldest_late(&self, now: u64) -> Option<ConnectionId>
         ensures { result ≡ oldest_late now self.now }
     {
         first_late(self.list.as_slice(), now)
     }
 }
 
-ghost use Rattle.std.specs.Prelude.{◌≡◌, vec_capacity, length};
-ghost use Rattle.http_bind.specs.Streams.{other_waits as others_of, oldest_for as oldest_wait_for, oldest_late as oldest_late_wait};
-
-/// The waits of this connection are removed.
-fn remove_of(list: &mut Vec<Wait>, c: u32)
-    ensures items { list.new.items ≡ others_of c list.old.items }
-    ensures room { vec_capacity list.new ≡ vec_capacity list.old }
-{
-    list.retain(|wait| wait.connection != c);
-}
+ghost use Rattle.std.specs.Prelude.{◌≡◌};
+ghost use Rattle.http_bind.specs.Streams.{oldest_for as oldest_wait_for, oldest_late as oldest_late_wait};
 
 /// The connection of the first wait of a target.
-fn first_of(list: &[Wait], target: u32) -> Option<u32>
+fn first_of(list: &[Wait], target: Target) -> Option<ConnectionId>
     ensures { result ≡ oldest_wait_for target list.now }
 {
     match list.iter().find(|wait| wait.target == target) {
@@ -102,7 +95,7 @@ fn first_of(list: &[Wait], target: u32) -> Option<u32>
 }
 
 /// The connection of the first wait that is late.
-fn first_late(list: &[Wait], now: u64) -> Option<u32>
+fn first_late(list: &[Wait], now: u64) -> Option<ConnectionId>
     ensures { result ≡ oldest_late_wait now list.now }
 {
     match list

@@ -5,7 +5,7 @@ ghost use Rattle.thing_ops.specs.Outcomes.{answer_of, payload_of, HasStatus};
 ghost use Rattle.http_wire.specs.Writing.{http_reply, phrase_of};
 ghost use Rattle.http_wire.specs.Replies.{plain_reply};
 ghost use Rattle.http_bind.specs.Places.{path_text};
-ghost use Rattle.http_bind.specs.Replying.{media_type_of, location_of, allow_of, head_of, head_with, reply_head, longest_reply_head, fault_word as word_of_fault, fault_body, status_head};
+ghost use Rattle.http_bind.specs.Replying.{media_type_of, location_of, allow_of, head_of, reply_head, longest_reply_head, fault_word as word_of_fault, fault_body, status_head};
 ghost use Rattle.http_bind.specs.Streams.{woken_by};
 ghost use Rattle.http_bind.specs.Written.{PutsPlaced, IsShortReply, head_of_text};
 ghost use Rattle.thing_ops.specs.declared.outcome.Outcome.TheVariants as outcome;
@@ -16,7 +16,10 @@ use thing_ops::{LONGEST_LINE, LONGEST_WORD, Outcome, Segments, http_status, word
 use wot_json::Text;
 
 /// The most bytes of the head of a reply.
-pub const LONGEST_HEAD: usize = 4096;
+pub const HEAD_BYTES: usize = 4096;
+
+/// The most bytes of a word that is the payload of a reply.
+pub const WORD_BYTES: usize = LONGEST_WORD;
 
 /// The media type of values and lists.
 const JSON: &str = "application/json";
@@ -25,7 +28,7 @@ const JSON: &str = "application/json";
 const PLAIN_TEXT: &str = "text/plain;charset=utf-8";
 
 /// The payload of an outcome: its text, or its word, which is written into `out`.
-pub fn payload<'a>(outcome: &'a Outcome, out: &'a mut [u8; LONGEST_WORD]) -> &'a [u8]
+pub fn payload<'a>(outcome: &'a Outcome, out: &'a mut [u8; WORD_BYTES]) -> &'a [u8]
     ensures { result.now ≡ payload_of outcome.now }
 {
     match outcome.text() {
@@ -47,14 +50,9 @@ struct Basics {
     close: bool,
 }
 
-/// Writes the head of the reply of an outcome to the beginning of `out`, and returns its length. The
-/// payload has this many bytes.
-pub fn put_answer(
-    outcome: &Outcome,
-    size: usize,
-    close: bool,
-    out: &mut [u8; LONGEST_HEAD],
-) -> usize
+/// Writes the head of the reply of an outcome to the beginning of `out`, with its place if it has one and there is room,
+/// and returns its length. The payload has this many bytes.
+pub fn put_answer(outcome: &Outcome, size: usize, close: bool, out: &mut [u8; HEAD_BYTES]) -> usize
     requires status { HasStatus outcome.now }
     requires size { size ≡ length (payload_of outcome.now) }
     ensures text { reply_head close outcome.now ≡ Some (take result out.new) }
@@ -65,11 +63,14 @@ pub fn put_answer(
         size,
         close,
     };
-    put_head(outcome, basics, out)
+    match put_placed(outcome, basics, out) {
+        Some(end) => end,
+        None => put_plain(outcome, basics, out),
+    }
 }
 
 /// Writes the head of the reply that is sent for a text that a request waited for, or where there was none.
-pub fn put_woken(text: Option<&[u8]>, close: bool, out: &mut [u8; LONGEST_HEAD]) -> usize
+pub fn put_woken(text: Option<&[u8]>, close: bool, out: &mut [u8; HEAD_BYTES]) -> usize
     ensures text { reply_head close (woken_by (option_map (λ t. t.now) text.entry)) ≡ Some (take result out.new) }
     ensures within { result ≤ 4096 }
 {
@@ -115,20 +116,6 @@ fn put_empty(close: bool, out: &mut [u8]) -> usize
     put_short(&reply, out)
 }
 
-/// Writes the head of the reply of an outcome, with its place if it has one and there is room.
-fn put_head(outcome: &Outcome, basics: Basics, out: &mut [u8]) -> usize
-    requires phrase { IsSome (phrase_of basics.status) }
-    requires size { basics.size ≡ length (payload_of outcome.now) }
-    requires room { length out.old ≡ longest_reply_head }
-    ensures text { take result out.new ≡ head_with basics.close outcome.now basics.status }
-    ensures within { result ≤ longest_reply_head }
-{
-    match put_placed(outcome, basics, out) {
-        Some(end) => end,
-        None => put_plain(outcome, basics, out),
-    }
-}
-
 /// Writes the head of a reply with its place, if it has one and there is room.
 fn put_placed(outcome: &Outcome, basics: Basics, out: &mut [u8]) -> Option<usize>
     requires phrase { IsSome (phrase_of basics.status) }
@@ -151,7 +138,7 @@ fn put_started(outcome: &Outcome, place: &Segments, basics: Basics, out: &mut [u
     requires place { location_of outcome.now ≡ Some (path_text place.now) }
     ensures { PutsPlaced basics.status basics.close outcome.now out.new result }
 {
-    let mut path = [0; LONGEST_HEAD];
+    let mut path = [0; HEAD_BYTES];
     let end = put_path(place, &mut path)?;
     put_at(outcome, &path[..end], basics, out)
 }
@@ -164,7 +151,7 @@ fn put_created(outcome: &Outcome, id: &Text, basics: Basics, out: &mut [u8]) -> 
     requires place { location_of outcome.now ≡ Some (path_text (codes "things" ∷ id.now ∷ [])) }
     ensures { PutsPlaced basics.status basics.close outcome.now out.new result }
 {
-    let mut path = [0; LONGEST_HEAD];
+    let mut path = [0; HEAD_BYTES];
     let end = put_entry(id.as_str().as_bytes(), &mut path)?;
     put_at(outcome, &path[..end], basics, out)
 }

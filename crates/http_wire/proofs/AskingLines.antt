@@ -1,9 +1,9 @@
 -- The header lines of a head as its bytes have them: those that ask for a version are those of the head.
-use Rattle.std.proofs.Common.{◌≡◌, ◌≢◌, ℕ, suc, ◌+◌, ◌-◌, ◌<◌, ◌≤◌, ◌⊎◌, Bool, true, false, IsTrue, List, [], ◌∷◌, ◌++◌, length, map, take, drop, reverse, get_or, codes, refl, sym, ap, subst, ◌∙◌, arith, cond, append_assoc, append-nil, length-append, inl, inr}
-use Rattle.std.specs.Prelude.{◌==◌, ◌||◌, All}
-use Rattle.std.specs.List.{filter, flat_map, prefix_len, suffix_len, position_or_len, before_first, after_first, slice_split}
+use Rattle.std.proofs.Common.{◌≡◌, ℕ, suc, ◌+◌, ◌-◌, ◌⊎◌, Bool, true, false, IsTrue, List, [], ◌∷◌, ◌++◌, length, map, take, drop, reverse, codes, refl, sym, ap, ◌∙◌, arith, cond, append_assoc, append-nil, inl, inr}
+use Rattle.std.specs.Prelude.{◌==◌, All}
+use Rattle.std.specs.List.{flat_map, prefix_len, suffix_len, position_or_len, before_first, after_first, slice_split}
 use Rattle.std.specs.Char.{is_ascii_whitespace}
-use Rattle.std.proofs.Math.Seq.{take-append_seam, drop-append_seam, drop-append-add}
+use Rattle.std.proofs.Math.Seq.{take-append_seam, drop-append-add}
 use Rattle.std.proofs.lemmas.Bool.{false≢true, ne_eqb, eq-eqb}
 use Rattle.std.proofs.lemmas.Bool.Decides.{nat_tests}
 use Rattle.std.proofs.lemmas.List.{reverse-append, reverse-reverse, take-append-drop, length-reverse, length-drop}

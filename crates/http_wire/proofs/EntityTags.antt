@@ -1,5 +1,5 @@
 -- The version that an item names, by what is between its quotes.
-use Rattle.std.proofs.Common.{◌≡◌, ℕ, ◌-◌, ◌<◌, ◌≤◌, ◌^◌, Bool, true, false, List, [], ◌∷◌, ◌++◌, length, take, drop, decimal, refl, sym, ap, ◌∙◌, arith, cond, length-append, length-drop, get_or, get_or-drop, suc, ◌+◌}
+use Rattle.std.proofs.Common.{◌≡◌, ℕ, ◌-◌, ◌≤◌, Bool, true, false, List, [], ◌∷◌, ◌++◌, length, take, drop, decimal, refl, sym, ap, ◌∙◌, arith, cond, length-append, length-drop, get_or, get_or-drop, suc, ◌+◌}
 use Rattle.std.specs.Prelude.{◌&&◌, nat_le, Option, Some, None, IsUtf8}
 use Rattle.std.specs.Str.{bytes_eq}
 use Rattle.std.specs.Str.Parse.{digits_value}

@@ -1,6 +1,6 @@
 -- What is noted of lines, one after another, and of the items of a value.
 use Rattle.std.proofs.Common.{◌≡◌, ℕ, ◌||◌, Bool, true, false, List, [], ◌∷◌, ◌++◌, map, codes, refl, sym, ap, ◌∙◌, cond, append_assoc, append-nil}
-use Rattle.std.specs.Prelude.{◌==◌, ◌&&◌, not, Option, Some, None, Result, Ok, Err, OnOk, filter_map}
+use Rattle.std.specs.Prelude.{◌==◌, ◌&&◌, not, Some, None, Result, Ok, Err, OnOk, filter_map}
 use Rattle.std.specs.List.{filter, flat_map, list_any, slice_split}
 use Rattle.std.specs.Str.{bytes_eq, str_eq_ignore_ascii_case, str_to_ascii_lowercase}
 use Rattle.std.proofs.Math.Bool.{or-false}

@@ -1,11 +1,11 @@
 //! What the header lines of a head say, read in one pass over them.
 
-ghost use Rattle.std.specs.Prelude.{◌≡◌, ◌∷◌, ◌||◌, [], map, length, true, false, None};
+ghost use Rattle.std.specs.Prelude.{◌≡◌, ◌||◌, [], map, length, true, false, None};
 ghost use Rattle.std.specs.List.{All};
 ghost use Rattle.std.specs.Str.{str_eq_ignore_ascii_case};
 ghost use Rattle.httparse.specs.Spans.{IsHeaderWithin, header_bytes};
-ghost use Rattle.http_wire.specs.Fields.{trimmed, asks_for_version, has_item, media_type, format_of_type, is_close, is_continue, takes_each, takes_json as is_json, takes_td as is_td, format_of, accept_of, said_by};
-ghost use Rattle.http_wire.specs.Found.{standing_of, said_in, more_if, types_in, both_taken, taken_if, or_if, with_line, with_lines};
+ghost use Rattle.http_wire.specs.Fields.{trimmed, has_item, media_type, format_of_type, is_close, takes_each, takes_json as is_json, takes_td as is_td, format_of, said_by};
+ghost use Rattle.http_wire.specs.Found.{standing_of, said_in, more_if, types_in, both_taken, taken_if, with_line, with_lines};
 
 use crate::lines::{cut, cut_at_each};
 use httparse::spans::HeaderSpan;
@@ -42,6 +42,12 @@ pub struct Fields<'a> {
     /// A line asks for a version: it is `If-Match` or `If-None-Match`.
     pub conditional: bool,
 }
+
+/// What is taken in the reply where no line says it.
+pub const EITHER_TYPE: Accept = Accept {
+    json: true,
+    td: true,
+};
 
 /// What no lines say.
 const NOTHING: Fields<'static> = Fields {
@@ -84,18 +90,14 @@ fn with_field<'a>(fields: Fields<'a>, name: &[u8], value: &'a [u8]) -> Fields<'a
             value,
         ),
         content_type: more(fields.content_type, is_alike(name, b"content-type"), value),
-        continues: fields.continues || is_continue_line(is_alike(name, b"expect"), value),
-        closes: fields.closes || is_close_line(is_alike(name, b"connection"), value),
+        continues: fields.continues
+            || is_alike(name, b"expect") && is_alike(value, b"100-continue"),
+        closes: fields.closes || is_alike(name, b"connection") && lists_close(value),
         accept: more_taken(fields.accept, is_alike(name, b"accept"), value),
-        conditional: fields.conditional || asks(name),
+        conditional: fields.conditional
+            || is_alike(name, b"if-match")
+            || is_alike(name, b"if-none-match"),
     }
-}
-
-/// Whether a line with this name asks for a version.
-fn asks(name: &[u8]) -> bool
-    ensures { result ≡ asks_for_version (name.now, []) }
-{
-    is_alike(name, b"if-match") || is_alike(name, b"if-none-match")
 }
 
 /// How often a field comes, where a further line has its name or hasn't.
@@ -109,20 +111,6 @@ fn more<'a>(before: Found<'a>, is_named: bool, value: &'a [u8]) -> Found<'a>
         Found::Absent => Found::Once(value),
         Found::Once(_) | Found::Often => Found::Often,
     }
-}
-
-/// Whether a line is `Expect`, with this value, and is `100-continue`.
-fn is_continue_line(is_named: bool, value: &[u8]) -> bool
-    ensures { result ≡ or_if is_named is_continue value.now false }
-{
-    is_named && is_alike(value, b"100-continue")
-}
-
-/// Whether a line is `Connection`, with this value, and has the option `close`.
-fn is_close_line(is_named: bool, value: &[u8]) -> bool
-    ensures { result ≡ or_if is_named (has_item is_close) value.now false }
-{
-    is_named && lists_close(value)
 }
 
 /// What is taken, where a further line is `Accept` or isn't.
@@ -242,18 +230,5 @@ fn format_of_name(name: &[u8]) -> Format
         Format::Patch
     } else {
         Format::Other
-    }
-}
-
-/// What is taken in the reply.
-pub fn accept(taken: Option<Accept>) -> Accept
-    ensures { result ≡ accept_of taken }
-{
-    match taken {
-        None => Accept {
-            json: true,
-            td: true,
-        },
-        Some(accept) => accept,
     }
 }

@@ -1,14 +1,14 @@
 //! How a head is judged, and how the end of the body after it is found.
 
-ghost use Rattle.std.specs.Prelude.{◌≡◌, ◌≤◌, ◌<◌, ◌+◌, ◌*◌, ◌||◌, not, true, ℕ, min, length, Ok, Err, IfOk, IfErr};
+ghost use Rattle.std.specs.Prelude.{◌≡◌, ◌≤◌, ◌+◌, ◌*◌, true, ℕ, min, length, Ok, Err, IfOk};
 ghost use Rattle.std.specs.List.{list_all};
 ghost use Rattle.std.specs.Char.{is_ascii_digit, digit_value};
 ghost use Rattle.std.specs.Str.Parse.{digits_value};
-ghost use Rattle.http_wire.specs.Judging.{longest_body, IsBounded, is_length, framing_by, stated_framing, coded_framing, is_once, is_often, has_right_counts, fields_judged, has_body as brings_body};
+ghost use Rattle.http_wire.specs.Judging.{longest_body, IsBounded, is_length, framing_by, stated_framing, coded_framing, fields_judged, has_body as brings_body};
 ghost use Rattle.http_wire.specs.Bodies.{longest_reply};
 ghost use Rattle.http_wire.specs.Found.{standing_of, said_in, IsJudgedAs};
 
-use crate::fields::{Fields, Found, is_alike};
+use crate::fields::{Found, is_alike};
 use crate::heads::{HeadParts, count_line_feeds, has_pairs_alone, read_head};
 
 /// The most bytes that a body has when it is decoded.
@@ -49,57 +49,32 @@ pub fn judge(head: &[u8]) -> Result<Judged<'_>, u16>
         return Err(400);
     }
     match read_head(head) {
-        Some(parts) => judge_parts(parts),
+        Some(head) => {
+            let framing = framing_of(&head)?;
+            Ok(Judged { head, framing })
+        }
         None => Err(400),
     }
 }
 
-/// A head with its framing.
-fn judge_parts(head: HeadParts<'_>) -> Result<Judged<'_>, u16>
-    ensures ok { IfOk result (λ j. (j.head ≡ head.entry) × (fields_judged head.entry.newer (said_in head.entry.fields) ≡ Ok j.framing)) }
-    ensures fault { IfErr result (λ status. fields_judged head.entry.newer (said_in head.entry.fields) ≡ Err status) }
-    ensures bound { IfOk result (λ j. IsBounded longest_body j.framing) }
-{
-    let framing = judge_fields(head.newer, &head.fields)?;
-    Ok(Judged { head, framing })
-}
-
-/// The framing by the fields of a head.
-fn judge_fields(newer: bool, fields: &Fields<'_>) -> Result<Framing, u16>
-    ensures ok { result ≡ fields_judged newer (said_in fields.now) }
+/// The framing of the body after a head.
+fn framing_of(head: &HeadParts<'_>) -> Result<Framing, u16>
+    ensures ok { result ≡ fields_judged head.now.newer (said_in head.now.fields) }
     ensures bound { IfOk result (IsBounded longest_body) }
 {
-    if has_counts(newer, fields) {
-        read_framing(
-            LONGEST_BODY,
-            newer,
-            fields.content_length,
-            fields.transfer_encoding,
-        )
-    } else {
-        Err(400)
+    let fields = &head.fields;
+    if head.newer && !matches!(fields.host, Found::Once(_)) {
+        return Err(400);
     }
-}
-
-/// Whether `Host` and `Content-Type` come as often as they may.
-fn has_counts(newer: bool, fields: &Fields<'_>) -> bool
-    ensures { result ≡ has_right_counts newer (said_in fields.now) }
-{
-    (!newer || stands_once(fields.host)) && !stands_often(fields.content_type)
-}
-
-/// Whether a field comes just once.
-fn stands_once(found: Found<'_>) -> bool
-    ensures { result ≡ is_once (standing_of found.entry) }
-{
-    matches!(found, Found::Once(_))
-}
-
-/// Whether a field comes more than once.
-fn stands_often(found: Found<'_>) -> bool
-    ensures { result ≡ is_often (standing_of found.entry) }
-{
-    matches!(found, Found::Often)
+    if matches!(fields.content_type, Found::Often) {
+        return Err(400);
+    }
+    read_framing(
+        LONGEST_BODY,
+        head.newer,
+        fields.content_length,
+        fields.transfer_encoding,
+    )
 }
 
 /// The framing by `Content-Length` and `Transfer-Encoding`, where a body has at most so many bytes.
@@ -207,29 +182,11 @@ fn digit(byte: u8) -> usize
 }
 
 /// Whether a body is to come.
-fn has_body(framing: Framing) -> bool
+pub fn has_body(framing: Framing) -> bool
     ensures { result ≡ brings_body framing }
 {
     match framing {
         Framing::Stated(length) => length > 0,
         Framing::Chunked => true,
-    }
-}
-
-impl Judged<'_> {
-    ghost use Rattle.std.specs.Prelude.{◌&&◌};
-
-    /// Whether it asks for a 100 reply before the body is sent.
-    pub fn asks_to_go_on(&self) -> bool
-        ensures { result ≡ (self.now.head.newer && brings_body self.now.framing && (said_in self.now.head.fields).continues) }
-    {
-        self.head.newer && has_body(self.framing) && self.head.fields.continues
-    }
-
-    /// Whether it asks that the connection be closed.
-    pub fn asks_to_close(&self) -> bool
-        ensures { result ≡ (not self.now.head.newer || (said_in self.now.head.fields).closes) }
-    {
-        !self.head.newer || self.head.fields.closes
     }
 }

@@ -1,17 +1,13 @@
 //! Where a head ends, and whether it is one.
 
-ghost use Rattle.std.specs.Prelude.{◌≡◌, ◌≤◌, ◌<◌, ◌+◌, ◌==◌, [], map, length, take, drop, IfSome, Some};
-ghost use Rattle.std.specs.List.{All};
-ghost use Rattle.httparse.specs.Spans.{IsWithin, IsHeaderWithin, span_bytes, header_bytes};
-ghost use Rattle.http_wire.specs.Heads.{skipped, length_through, empty_line, line_feeds, may_follow, are_paired};
-ghost use Rattle.http_wire.specs.Fields.{said_by};
-ghost use Rattle.http_wire.specs.Asked.{behind_start};
-ghost use Rattle.http_wire.specs.Found.{said_in, with_lines, IsReadAs};
+ghost use Rattle.std.specs.Prelude.{◌≡◌, ◌≤◌, ◌<◌, ◌+◌, ◌==◌, length, take, drop, IfSome, Some};
+ghost use Rattle.http_wire.specs.Heads.{skipped, length_through, line_feeds, are_paired};
+ghost use Rattle.http_wire.specs.Found.{IsReadAs};
 
 use crate::fields::{Fields, fields_in};
 use crate::lines::cut;
 use httparse::Status;
-use httparse::spans::{EMPTY_HEADER_SPAN, HeaderSpan, RequestSpans, parse_request};
+use httparse::spans::{EMPTY_HEADER_SPAN, parse_request};
 use memchr::memmem;
 
 /// The most header lines of a head.
@@ -76,13 +72,6 @@ pub fn count_line_feeds(bytes: &[u8]) -> usize
     count
 }
 
-/// Whether a byte may come after another.
-fn follows(before: u8, byte: u8) -> bool
-    ensures { result ≡ may_follow before byte }
-{
-    (before == b'\r') == (byte == b'\n')
-}
-
 /// Whether each carriage return and each line feed is part of a CR LF.
 pub fn has_pairs_alone(bytes: &[u8]) -> bool
     ensures { result ≡ are_paired 0 bytes.now }
@@ -90,7 +79,7 @@ pub fn has_pairs_alone(bytes: &[u8]) -> bool
     let mut paired = true;
     let mut before = 0;
     for byte in bytes {
-        paired &= follows(before, *byte);
+        paired &= (before == b'\r') == (*byte == b'\n');
         before = *byte;
     }
     paired && before != b'\r'
@@ -120,40 +109,19 @@ pub fn read_head(head: &[u8]) -> Option<HeadParts<'_>>
     match parse_request(head, &mut headers) {
         Ok(Status::Complete(found)) => {
             if found.len == head.len() {
-                Some(parts_at(head, &found, &headers[..found.headers]))
+                let (_, behind_method) = cut(b' ', head);
+                let (_, lines) = cut(b'\n', behind_method);
+                Some(HeadParts {
+                    method: found.method.of(head),
+                    target: found.path.of(head),
+                    newer: found.version == 1,
+                    fields: fields_in(head, &headers[..found.headers]),
+                    lines,
+                })
             } else {
                 None
             }
         }
         _ => None,
     }
-}
-
-/// The parts of a head, which are at these spans.
-fn parts_at<'a>(head: &'a [u8], found: &RequestSpans, headers: &[HeaderSpan]) -> HeadParts<'a>
-    requires method { IsWithin (length head.now) found.now.method }
-    requires path { IsWithin (length head.now) found.now.path }
-    requires headers { All (IsHeaderWithin (length head.now)) headers.now }
-    ensures method { result.method.now ≡ span_bytes head.now found.now.method }
-    ensures target { result.target.now ≡ span_bytes head.now found.now.path }
-    ensures newer { result.newer ≡ (found.now.version == 1) }
-    ensures fields { said_in result.fields ≡ with_lines (said_by []) (map (header_bytes head.now) headers.now) }
-    ensures lines { result.lines.now ≡ behind_start head.now }
-{
-    HeadParts {
-        method: found.method.of(head),
-        target: found.path.of(head),
-        newer: found.version == 1,
-        fields: fields_in(head, headers),
-        lines: lines_behind_start(head),
-    }
-}
-
-/// The header lines of a head, with the empty line that ends them.
-fn lines_behind_start(head: &[u8]) -> &[u8]
-    ensures { result.now ≡ behind_start head.now }
-{
-    let (_, behind_method) = cut(b' ', head);
-    let (_, lines) = cut(b'\n', behind_method);
-    lines
 }

@@ -1,12 +1,12 @@
 //! The head of a reply, written into a caller's slice.
 
-ghost use Rattle.std.specs.Prelude.{◌≡◌, ◌≤◌, ◌++◌, ◌↔◌, length, take, option_map, IsSome, IsTrue};
+ghost use Rattle.std.specs.Prelude.{◌≡◌, ◌≤◌, ◌++◌, ◌↔◌, length, option_map, IsSome, IsTrue};
 ghost use Rattle.std.specs.List.{flat_map};
 ghost use Rattle.std.specs.Fmt.{decimal};
 ghost use Rattle.http_wire.specs.Heads.{line_end};
-ghost use Rattle.servient_base.specs.Writing.{Puts, PutsIfRoom};
+ghost use Rattle.servient_base.specs.Writing.{PutsIfRoom};
 ghost use Rattle.http_wire.specs.Conditions.{entity_tag};
-ghost use Rattle.http_wire.specs.Writing.{http_reply, head_text, phrase_of, phrase_text, field_line, closing, written_length};
+ghost use Rattle.http_wire.specs.Writing.{http_reply, phrase_of, closing, written_length};
 ghost use Rattle.http_wire.specs.Replies.{plain_reply, line_of};
 
 use itoa::Buffer;
@@ -70,15 +70,16 @@ pub fn put_reply(reply: &Reply<'_>, out: &mut [u8]) -> Option<usize>
         },
         Field {
             name: b"Content-Length: ",
-            value: decimal_of(length_of(reply), &mut digits),
+            value: length_of(reply, &mut digits),
         },
         Field {
             name: b"Connection: ",
             value: closing_value(reply.close),
         },
     ];
-    let phrase = phrase(reply.status).unwrap();
-    put_head(phrase, &fields, out)
+    let at = put_line(b"HTTP/1.1 ", phrase(reply.status).unwrap(), out, 0)?;
+    let at = put_fields(&fields, out, at)?;
+    put_piece(out, at, b"\r\n")
 }
 
 /// Whether a status has a reason, so that its reply can be written: the test for callers whose
@@ -87,15 +88,6 @@ pub fn has_reason(status: u16) -> bool
     ensures { IsTrue result ↔ IsSome (phrase_of status) }
 {
     phrase(status).is_some()
-}
-
-/// Writes the status line with this phrase, the lines of some fields and an empty line.
-fn put_head(phrase: &[u8], fields: &[Field<'_>], out: &mut [u8]) -> Option<usize>
-    ensures { PutsIfRoom (head_text phrase.now (flat_map line_of fields.now)) 0 out.old out.new result }
-{
-    let at = put_line(b"HTTP/1.1 ", phrase, out, 0)?;
-    let at = put_fields(fields, out, at)?;
-    put_piece(out, at, b"\r\n")
 }
 
 /// Writes the lines of fields.
@@ -144,48 +136,32 @@ fn bytes_of(text: Option<&str>) -> Option<&[u8]>
     }
 }
 
-/// A number in decimal, if there is one.
-fn decimal_of<'a>(number: Option<usize>, digits: &'a mut Buffer) -> Option<&'a [u8]>
-    ensures { option_map (λ t. t.now) result ≡ option_map decimal number }
-{
-    match number {
-        Some(number) => Some(digits.format(number).as_bytes()),
-        None => None,
-    }
-}
-
 /// The entity tag of a version, if there is one. It is written into `room`.
 fn tag_of(version: Option<u32>, room: &mut [u8; LONGEST_TAG]) -> Option<&[u8]>
     ensures { option_map (λ t. t.now) result ≡ option_map entity_tag version }
 {
     match version {
         Some(version) => {
-            let length = put_tag(version, room);
-            Some(&room[..length])
+            let mut digits = Buffer::new();
+            let end = put_bytes(room, 0, b"\"");
+            let end = put_bytes(room, end, digits.format(version).as_bytes());
+            let end = put_bytes(room, end, b"\"");
+            Some(&room[..end])
         }
         None => None,
     }
 }
 
-/// Writes the entity tag of a version to the beginning of `room`, and returns its length.
-fn put_tag(version: u32, room: &mut [u8; LONGEST_TAG]) -> usize
-    ensures text { take result room.new ≡ entity_tag version }
-    ensures within { result ≤ 12 }
-{
-    let mut digits = Buffer::new();
-    let end = put_bytes(room, 0, b"\"");
-    let end = put_bytes(room, end, digits.format(version).as_bytes());
-    put_bytes(room, end, b"\"")
-}
-
-/// The length that is written.
-fn length_of(reply: &Reply<'_>) -> Option<usize>
-    ensures { result ≡ written_length (plain_reply reply.now) }
+/// The length of the payload in decimal, if it is written.
+fn length_of<'a>(reply: &Reply<'_>, digits: &'a mut Buffer) -> Option<&'a [u8]>
+    ensures { option_map (λ t. t.now) result ≡ option_map decimal (written_length (plain_reply reply.now)) }
 {
     if reply.status == 100 || reply.status == 204 || reply.status == 304 {
-        None
-    } else {
-        reply.length
+        return None;
+    }
+    match reply.length {
+        Some(length) => Some(digits.format(length).as_bytes()),
+        None => None,
     }
 }
 

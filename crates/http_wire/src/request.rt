@@ -1,7 +1,6 @@
 //! What the message of a request asks for (RFC 9110, sections 7.1 and 9; RFC 9112, section 3).
 
-ghost use Rattle.std.specs.Prelude.{◌≡◌, ◌≤◌, ◌+◌, ◌⊎◌, length, take, drop, None, IfOk, IfErr, IsSome};
-ghost use Rattle.std.specs.Str.{bytes_eq};
+ghost use Rattle.std.specs.Prelude.{◌≡◌, ◌≤◌, ◌+◌, ◌⊎◌, length, None, IfOk, IfErr, IsSome};
 ghost use Rattle.http_wire.specs.Judging.{longest_body};
 ghost use Rattle.http_wire.specs.Stream.{longest_head};
 ghost use Rattle.http_wire.specs.Reading.{verb_of as verb_named, asked, request_in, IsRead};
@@ -50,7 +49,10 @@ pub fn request_of(
     let (path, place) = segments(alloc, head.target)?;
     let verb = verb_of(head.method);
     let conditions = head.conditions(alloc, verb)?;
-    let (query_length, body_length) = lay_out(&head.target[place..], body, room);
+    let query = &head.target[place..];
+    let (query_length, body_length) = (query.len(), body.length());
+    room[..query_length].copy_from_slice(query);
+    body.copy_to(&mut room[query_length..query_length + body_length]);
     Ok(RequestParts {
         verb,
         path,
@@ -62,45 +64,25 @@ pub fn request_of(
     })
 }
 
-/// Writes a query and the body after it to the beginning of `room`, and returns their lengths.
-fn lay_out(query: &[u8], body: &Body<'_>, room: &mut [u8]) -> (usize, usize)
-    requires room { length query.now + length body.now ≤ length room.old }
-    ensures query { take result.0 room.new ≡ query.now }
-    ensures body { take result.1 (drop result.0 room.new) ≡ body.now }
-    ensures lengths { (result.0 ≡ length query.now) × (result.1 ≡ length body.now) }
-{
-    let place = query.len();
-    room[..place].copy_from_slice(query);
-    body.copy_to(&mut room[place..place + body.length()]);
-    (place, body.length())
-}
-
 /// The verb of a method, whose name is taken in the case in which it came (RFC 9110, section 9.1).
 pub fn verb_of(method: &[u8]) -> Verb
     ensures { result ≡ verb_named method.now }
 {
-    if is(method, b"GET") {
+    if method == b"GET".as_slice() {
         Verb::Get
-    } else if is(method, b"HEAD") {
+    } else if method == b"HEAD".as_slice() {
         Verb::Head
-    } else if is(method, b"PUT") {
+    } else if method == b"PUT".as_slice() {
         Verb::Put
-    } else if is(method, b"POST") {
+    } else if method == b"POST".as_slice() {
         Verb::Post
-    } else if is(method, b"PATCH") {
+    } else if method == b"PATCH".as_slice() {
         Verb::Patch
-    } else if is(method, b"DELETE") {
+    } else if method == b"DELETE".as_slice() {
         Verb::Delete
     } else {
         Verb::Other
     }
-}
-
-/// Whether a method has this name.
-fn is(method: &[u8], name: &[u8]) -> bool
-    ensures { result ≡ bytes_eq method.now name.now }
-{
-    method == name
 }
 
 impl RequestParts {

@@ -3,13 +3,13 @@
 ghost use Rattle.std.specs.Prelude.{◌≡◌, ◌≤◌, ◌<◌, ◌+◌, ◌^◌, length};
 ghost use Rattle.httparse.specs.Grammar.{RequestHead};
 ghost use Rattle.http_wire.specs.Judging.{IsBounded, longest_body, expects};
-ghost use Rattle.http_wire.specs.Stream.{IsFront, without_head as front_without, with_body, body_front, longest_head};
-ghost use Rattle.http_wire.specs.Scanned.{front_of, IsHeadFront, TakesBetween};
+ghost use Rattle.http_wire.specs.Stream.{IsFront, with_body, body_front, longest_head};
+ghost use Rattle.http_wire.specs.Scanned.{front_of, TakesBetween};
 ghost use Rattle.http_wire.specs.Found.{AreHeadParts};
 
 use crate::chunks::{BodyScan, body_at_front};
-use crate::fields::{accept, format};
-use crate::framing::{Judged, judge};
+use crate::fields::{EITHER_TYPE, format};
+use crate::framing::{Judged, has_body, judge};
 use crate::heads::{front, length_through_mark, skip_pairs};
 use crate::{Head, Scanned};
 
@@ -26,43 +26,26 @@ pub fn scan(bytes: &[u8]) -> Scanned<'_>
     let rest = skip_pairs(bytes);
     let skipped = bytes.len() - rest.len();
     match length_through_mark(b"\r\n\r\n", front(rest, LONGEST_HEAD)) {
-        None => without_head(rest),
+        None => {
+            if rest.len() >= LONGEST_HEAD {
+                Scanned::Fault {
+                    status: 431,
+                    expect: false,
+                }
+            } else {
+                Scanned::Short { expect: false }
+            }
+        }
         Some(end) => {
             let (head, after) = rest.split_at(end);
-            scan_head(head, skipped + end, after)
+            match judge(head) {
+                Err(status) => Scanned::Fault {
+                    status,
+                    expect: false,
+                },
+                Ok(judged) => scan_body(&judged, skipped + end, after),
+            }
         }
-    }
-}
-
-/// What is at the front where no head ends.
-fn without_head<'a>(bytes: &[u8]) -> Scanned<'a>
-    ensures ok { front_of result ≡ front_without bytes.now }
-    ensures within { TakesBetween 1 0 result }
-{
-    if bytes.len() >= LONGEST_HEAD {
-        Scanned::Fault {
-            status: 431,
-            expect: false,
-        }
-    } else {
-        Scanned::Short { expect: false }
-    }
-}
-
-/// What is at the front where this head ends after n bytes.
-#[tactic(auto, using(crate::proofs::Fronts::front_of_fault, crate::proofs::Fronts::front_of_head))]
-fn scan_head<'a>(head: &'a [u8], taken: usize, after: &'a [u8]) -> Scanned<'a>
-    requires fits { taken + length after.now < 2 ^ 64 }
-    requires short { length head.now ≤ longest_head }
-    ensures ok { IsHeadFront head.now taken after.now (front_of result) }
-    ensures within { TakesBetween taken (taken + length after.now) result }
-{
-    match judge(head) {
-        Err(status) => Scanned::Fault {
-            status,
-            expect: false,
-        },
-        Ok(judged) => scan_body(&judged, taken, after),
     }
 }
 
@@ -76,19 +59,20 @@ fn scan_body<'a>(judged: &Judged<'a>, taken: usize, after: &'a [u8]) -> Scanned<
         front_of result ≡ with_body h taken (expects h judged.now.framing) (body_front judged.now.framing after.now) }
     ensures within { TakesBetween taken (taken + length after.now) result }
 {
-    let expect = judged.asks_to_go_on();
+    let head = &judged.head;
+    let expect = head.newer && head.fields.continues && has_body(judged.framing);
     match body_at_front(judged.framing, after) {
         BodyScan::Unfinished => Scanned::Short { expect },
         BodyScan::Faulty(status) => Scanned::Fault { status, expect },
         BodyScan::Whole { body, used } => Scanned::Whole {
             head: Head {
-                method: judged.head.method,
-                target: judged.head.target,
-                close: judged.asks_to_close(),
-                format: format(judged.head.fields.content_type),
-                accept: accept(judged.head.fields.accept),
-                lines: judged.head.lines,
-                conditional: judged.head.fields.conditional,
+                method: head.method,
+                target: head.target,
+                close: !head.newer || head.fields.closes,
+                format: format(head.fields.content_type),
+                accept: head.fields.accept.unwrap_or(EITHER_TYPE),
+                lines: head.lines,
+                conditional: head.fields.conditional,
             },
             body,
             used: taken + used,

@@ -1,8 +1,7 @@
 //! The path and the query of a request target, cut into segments and decoded.
 
-ghost use Rattle.std.specs.Prelude.{◌≡◌, ◌<◌, ◌++◌, ◌∷◌, ◌⊎◌, [], length, Some, None, IsSome, IfSome, IfOk, IfErr, OnOk, option_map};
-ghost use Rattle.percent_encoding.specs.Percent.{percent_decode as decoded_part};
-ghost use Rattle.http_wire.specs.Targets.{path_behind_authority, path_in, path_of, segments_behind as segments_behind_of, segments_of, query_place};
+ghost use Rattle.std.specs.Prelude.{◌≡◌, ◌<◌, ◌⊎◌, length, Some, None, IsSome, IfSome, IfOk, IfErr, option_map};
+ghost use Rattle.http_wire.specs.Targets.{path_behind_authority, path_in, segments_behind as segments_behind_of, segments_of, query_place};
 ghost use Rattle.http_wire.specs.declared.target.TargetFault.TheVariants.{BadTarget, NoMemory as no_memory};
 
 use crate::lines::{cut, cut_at_each, place_of};
@@ -40,33 +39,21 @@ pub fn segments(alloc: Global, target: &[u8]) -> Result<(Segments, usize), Targe
     ensures fault { IfErr result (λ e. ((e ≡ BadTarget) × (segments_of target.now ≡ None))
         ⊎ ((e ≡ no_memory) × IsSome (segments_of target.now))) }
 {
-    match path(target) {
+    let (before, query) = cut(b'?', target);
+    match path(before) {
         Some(path) => {
             let segments = segments_behind(alloc, &path[1..])?;
-            Ok((segments, place_of_query(target)))
+            Ok((segments, target.len() - query.len()))
         }
         None => Err(TargetFault::BadTarget),
     }
 }
 
-/// The place where the query begins.
-fn place_of_query(target: &[u8]) -> usize
-    ensures { result ≡ query_place target.now }
-{
-    let mark = place_of(b'?', target);
-    if mark < target.len() {
-        mark + 1
-    } else {
-        target.len()
-    }
-}
-
-/// The path of a target.
-fn path(target: &[u8]) -> Option<&[u8]>
-    ensures ok { option_map (λ p. p.now) result ≡ path_of target.now }
+/// The path in what comes before a query.
+fn path(before: &[u8]) -> Option<&[u8]>
+    ensures ok { option_map (λ p. p.now) result ≡ path_in before.now }
     ensures begins { IfSome result (λ p. 0 < length p.now) }
 {
-    let (before, _) = cut(b'?', target);
     if before.starts_with(b"/") {
         Some(before)
     } else if before.starts_with(b"http://") {
@@ -98,15 +85,8 @@ pub fn segments_behind(alloc: Global, path: &[u8]) -> Result<Segments, NoMemory>
     }
     let mut segments = Segments::with_capacity(alloc, path.len())?;
     for part in cut_at_each(b'/', path) {
-        push_decoded(alloc, &mut segments, part)?;
+        let decoded = percent_decode(part).into_cow(alloc)?;
+        segments.push(&decoded)?;
     }
     Ok(segments)
-}
-
-/// Puts a part of a path at the end, percent-encoding taken away.
-fn push_decoded(alloc: Global, segments: &mut Segments, part: &[u8]) -> Result<(), NoMemory>
-    ensures { OnOk result (segments.new ≡ segments.old ++ decoded_part part.now ∷ []) }
-{
-    let decoded = percent_decode(part).into_cow(alloc)?;
-    segments.push(&decoded)
 }

@@ -1,11 +1,14 @@
-use Rattle.std.proofs.Common.{◌≡◌, ap, ◌∙◌, subst}
+use Rattle.std.proofs.Common.{ap, ◌∙◌, subst, sym, refl, inl, inr}
+use Rattle.std.specs.Prelude.{Some, None}
+use Rattle.http_wire.specs.Reading.{asked}
+use Rattle.http_bind.specs.Replying.{is_head}
+use Rattle.http_bind.specs.declared.looking.Found.TheVariants as seen
 use Rattle.http_wire.specs.declared.scanned.Scanned.{Scanned}
-use Rattle.http_wire.specs.declared.scanned.Scanned.TheVariants as scanned
 use Rattle.http_wire.specs.Stream.{IsFront}
 use Rattle.http_wire.specs.Scanned.{front_of, plain_head}
-use Rattle.http_bind.specs.Streams.{found, to_take}
+use Rattle.http_bind.specs.Streams.{found}
 use Rattle.http_bind.proofs.FaultWords.{fault_said}
-use Rattle.http_bind.proofs.Messages.{takes_continue, takes_found, shows_message}
+use Rattle.http_bind.proofs.Messages.{takes_continue, takes_found, shows_whole, message_step, something}
 use Rattle.http_bind.proofs.looking.look.Goals as goal
 
 pub returns-then-wants_continue-clause-shows : goal.returns-then-wants_continue-clause-shows
@@ -35,12 +38,34 @@ returns-in-Fault-clause-shows c = (
   ),
 )
 
-pub returns-in-Whole-clause-shows : goal.returns-in-Whole-clause-shows
-returns-in-Whole-clause-shows c =
-    let is = takes_found c.args.continued (front_of c.scan-scanned.result) c.wants_continue.result c.wants_continue.ensures c.if-wants_continue.false in (
-      front_of (scanned.Whole c.in-Whole.head c.in-Whole.body c.in-Whole.used c.in-Whole.expect),
-      subst (λ (s : Scanned). IsFront c.args.bytes.now (front_of s)) c.in-Whole.is c.scan-scanned.ensures.ok,
-      shows_message c.args.continued (plain_head c.in-Whole.head) c.in-Whole.body c.in-Whole.used c.in-Whole.expect c.look_at_message.result c.look_at_message.new.room
-          (subst (λ (s : Scanned). to_take c.args.continued (front_of s) ≡ found (front_of s)) c.in-Whole.is is)
-          c.look_at_message.ensures,
-    )
+pub returns-in-Ok-clause-shows : goal.returns-in-Ok-clause-shows
+returns-in-Ok-clause-shows c =
+    let q = c.in-Ok.ensures.ok in
+    let h = c.in-Whole.head in
+    shows_whole c.args.continued c.args.bytes.now c.scan-scanned.result h c.in-Whole.body c.in-Whole.used c.in-Whole.expect c.wants_continue.result
+    (seen.Message (record { used = c.in-Whole.used; owed = record { bodiless = c.is_head.result; closes = c.in-Whole.head.close } }) (Some c.in-Ok.parts)) c.request_of.new.room
+    c.in-Whole.is c.scan-scanned.ensures.ok c.wants_continue.ensures c.if-wants_continue.false
+    (q.0, q.1, message_step (plain_head h) c.in-Whole.body c.in-Whole.used q.0 c.is_head.result q.1 (c.is_head.ensures ∙ ap is_head c.verb_of.ensures), q.2)
+
+pub returns-in-Err-BadTarget-clause-shows : goal.returns-in-Err-BadTarget-clause-shows
+returns-in-Err-BadTarget-clause-shows c =
+    let h = c.in-Whole.head in
+    shows_whole c.args.continued c.args.bytes.now c.scan-scanned.result h c.in-Whole.body c.in-Whole.used c.in-Whole.expect c.wants_continue.result
+    (seen.Fault 400) c.request_of.new.room
+    c.in-Whole.is c.scan-scanned.ensures.ok c.wants_continue.ensures c.if-wants_continue.false
+    (elim c.in-Err-BadTarget.ensures.fault [
+      | inl bad ↦ (bad.1, refl)
+      | inr none ↦ absurd (let same = sym c.in-Err-BadTarget.field-0-is ∙ none.0 in cc)
+    ])
+
+pub returns-in-Err-NoMemory-clause-shows : goal.returns-in-Err-NoMemory-clause-shows
+returns-in-Err-NoMemory-clause-shows c =
+    let h = c.in-Whole.head in
+    shows_whole c.args.continued c.args.bytes.now c.scan-scanned.result h c.in-Whole.body c.in-Whole.used c.in-Whole.expect c.wants_continue.result
+    (seen.Message (record { used = c.in-Whole.used; owed = record { bodiless = c.is_head.result; closes = c.in-Whole.head.close } }) None) c.request_of.new.room
+    c.in-Whole.is c.scan-scanned.ensures.ok c.wants_continue.ensures c.if-wants_continue.false
+    (elim c.in-Err-NoMemory.ensures.fault [
+      | inl bad ↦ absurd (let same = sym c.in-Err-NoMemory.field-0-is ∙ bad.0 in cc)
+      | inr none ↦ let q = something (asked (plain_head h) c.in-Whole.body) none.1 in
+          (q.0, q.1, message_step (plain_head h) c.in-Whole.body c.in-Whole.used q.0 c.is_head.result q.1 (c.is_head.ensures ∙ ap is_head c.verb_of.ensures), tt)
+    ])

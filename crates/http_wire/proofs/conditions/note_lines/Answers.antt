@@ -1,8 +1,7 @@
 use Rattle.http_wire.specs.Pieces.{pieces_left}
-use Rattle.std.proofs.Common.{◌∙◌, ap}
 use Rattle.std.specs.Prelude.{◌==◌}
 use Rattle.std.specs.List.{slice_split}
-use Rattle.http_wire.proofs.NotedLines.{line_kept, lines_kept}
+use Rattle.http_wire.proofs.NotedLines.{line_kept}
 use Rattle.http_wire.proofs.conditions.note_lines.Goals as goal
 
 pub loop-line-preserved : goal.loop-line-preserved

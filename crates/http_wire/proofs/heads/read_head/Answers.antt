@@ -1,5 +1,6 @@
-use Rattle.std.proofs.Common.{◌≡◌, ◌∙◌, ap, subst, arith}
+use Rattle.std.proofs.Common.{◌≡◌, ◌∙◌, ◌==◌, ap, subst, arith, refl}
 use Rattle.std.specs.Prelude.{Result, Ok}
+use Rattle.std.specs.List.{after_first}
 use Rattle.httparse.specs.declared.Error.{Error}
 use Rattle.httparse.specs.declared.Status.{Status}
 use Rattle.httparse.specs.declared.Status.TheVariants.{Complete}
@@ -16,12 +17,19 @@ returns-then-found-head-clause-ok c =
     let is : c.parse_request.result ≡ Ok (Complete c.in-Ok-Complete.found) = c.in-Ok-Complete.is ∙ ap Ok c.in-Ok-Complete.field-0-is in
     let within = subst (λ (r : Result (Status RequestSpans) Error). IfComplete r (IsRequestWithin head headers)) is c.parse_request.ensures.within in
     let of = subst (λ (r : Result (Status RequestSpans) Error). IfComplete r (IsRequestOf head headers)) is c.parse_request.ensures.complete in
-    read_as head headers c.in-Ok-Complete.found c.parts_at.result
+    read_as head headers c.in-Ok-Complete.found
+    (record {
+      method = c.of.result;
+      target = c.of-then-found-head.result;
+      newer = c.in-Ok-Complete.found.version == 1;
+      fields = c.fields_in.result;
+      lines = c.cut-then-found-head.result.1;
+    })
     (omega (arith, within.section.count_fits, c.parse_request.auto.headers)) of c.if-found-head.true
     (record {
-      method = c.parts_at.ensures.method;
-      target = c.parts_at.ensures.target;
-      newer = c.parts_at.ensures.newer;
-      fields = c.parts_at.ensures.fields;
-      lines = c.parts_at.ensures.lines;
+      method = c.of.ensures;
+      target = c.of-then-found-head.ensures;
+      newer = refl;
+      fields = c.fields_in.ensures;
+      lines = c.cut-then-found-head.ensures.after ∙ ap (after_first (λ b. b == 10)) c.cut.ensures.after;
     })

@@ -1,17 +1,17 @@
-use Rattle.std.proofs.Common.{length, arith}
-use Rattle.http_wire.proofs.Fronts.{front_with_head, takes_wider}
+use Rattle.std.proofs.Common.{length, ◌+◌, ◌-◌, false}
+use Rattle.http_wire.specs.Stream.{fault}
+use Rattle.http_wire.specs.Scanned.{front_of}
+use Rattle.http_wire.proofs.Fronts.{front_with_head, front_of_fault, front_of_head}
 use Rattle.http_wire.proofs.stream.scan.Goals as goal
 
-pub returns-in-Some-clause-ok : goal.returns-in-Some-clause-ok
-returns-in-Some-clause-ok c =
-    front_with_head c.args.bytes.now c.skip_pairs-rest.result.now c.front.result.now _ _ c.in-Some.end _
-    c.skip_pairs-rest.ensures.ok c.front.ensures.ok c.in-Some.ensures.ok c.split_at.ensures.front c.split_at.ensures.back c.scan_head.ensures.ok
+pub returns-in-Err-clause-ok : goal.returns-in-Err-clause-ok
+returns-in-Err-clause-ok c =
+    front_with_head c.args.bytes.now c.skip_pairs-rest.result.now c.front.result.now c.split_at.result.0.now c.split_at.result.1.now c.in-Some.end (fault c.in-Err.status false)
+    c.skip_pairs-rest.ensures.ok c.front.ensures.ok c.in-Some.ensures.ok c.split_at.ensures.front c.split_at.ensures.back
+    (front_of_fault c.split_at.result.0.now c.split_at.result.1.now (length c.args.bytes.now - length c.skip_pairs-rest.result.now + c.in-Some.end) c.in-Err.status c.in-Err.ensures.ok)
 
-pub returns-in-Some-clause-within : goal.returns-in-Some-clause-within
-returns-in-Some-clause-within c =
-    takes_wider _ _ 1 (length c.args.bytes.now) c.scan_head.result (omega (arith, c.in-Some.ensures.through))
-    (omega (arith, c.split_at.ensures.back_len, c.skip_pairs-rest.ensures.bound)) c.scan_head.ensures.within
-
-pub returns-in-None-clause-within : goal.returns-in-None-clause-within
-returns-in-None-clause-within c =
-    takes_wider 1 0 1 (length c.args.bytes.now) c.without_head.result (omega arith) (omega arith) c.without_head.ensures.within
+pub returns-in-Ok-clause-ok : goal.returns-in-Ok-clause-ok
+returns-in-Ok-clause-ok c =
+    front_with_head c.args.bytes.now c.skip_pairs-rest.result.now c.front.result.now c.split_at.result.0.now c.split_at.result.1.now c.in-Some.end (front_of c.scan_body.result)
+    c.skip_pairs-rest.ensures.ok c.front.ensures.ok c.in-Some.ensures.ok c.split_at.ensures.front c.split_at.ensures.back
+    (front_of_head c.split_at.result.0.now c.split_at.result.1.now (length c.args.bytes.now - length c.skip_pairs-rest.result.now + c.in-Some.end) c.in-Ok.judged (front_of c.scan_body.result) c.in-Ok.ensures.ok c.scan_body.ensures.ok)

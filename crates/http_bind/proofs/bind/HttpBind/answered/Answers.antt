@@ -1,4 +1,5 @@
-use Rattle.http_bind.proofs.Calls.{answers_wait, others_waiting, answers_reply, isnt_wait, head_said, settles_left, settles_room, others_without}
+use Rattle.std.proofs.Common.{take}
+use Rattle.http_bind.proofs.Calls.{answers_wait, others_waiting, answers_reply, answered_body, isnt_wait, settles_left, settles_room, others_without}
 use Rattle.http_bind.proofs.bind.HttpBind.answered.Goals as goal
 
 pub returns-in-Wait-clause-leads : goal.returns-in-Wait-clause-leads
@@ -8,13 +9,17 @@ returns-in-Wait-clause-leads c =
 pub returns-in-Wait-clause-others : goal.returns-in-Wait-clause-others
 returns-in-Wait-clause-others c = others_waiting c.args.c c.in-Wait.target c.args.now c.args.self.now c.begin_wait.new.self c.begin_wait.ensures
 
-pub returns-in_default : goal.returns-in_default
-returns-in_default c =
-    let r = c.reply.ensures in
-    record {
-      leads = answers_reply c.args.c c.args.now c.args.outcome.now c.args.self.now c.reply.result c.reply.new.self (isnt_wait c.args.outcome.now c.in_default.not-Wait) r;
-      head = head_said r.owed.closes c.reply.result.close c.args.outcome.now c.reply.result.head.now r.closes r.head;
-      left = settles_left c.args.c c.args.now c.args.self.now r.owed c.reply.new.self c.requires.owed r.settles;
-      room = settles_room c.args.c c.args.now c.args.self.now r.owed c.reply.new.self c.requires.owed r.settles;
-      others = others_without c.args.c c.args.self.now c.reply.new.self r.settles.held r.settles.after;
-    }
+pub returns-in_default-clause-leads : goal.returns-in_default-clause-leads
+returns-in_default-clause-leads c =
+    answers_reply c.args.c c.args.now c.args.outcome.now c.args.self.now (take c.put_answer-length.result c.put_answer-length.new.out) c.body_of.result.now
+    c.settle-owed.result c.settle-owed.new.self (isnt_wait c.args.outcome.now c.in_default.not-Wait) c.settle-owed.ensures c.put_answer-length.ensures.text
+    (answered_body c.settle-owed.result.bodiless c.args.outcome.now c.payload-payload.result.now c.body_of.result.now c.body_of.ensures c.payload-payload.ensures)
+
+pub returns-in_default-clause-left : goal.returns-in_default-clause-left
+returns-in_default-clause-left c = settles_left c.args.c c.args.now c.args.self.now c.settle-owed.result c.settle-owed.new.self c.requires.owed c.settle-owed.ensures
+
+pub returns-in_default-clause-room : goal.returns-in_default-clause-room
+returns-in_default-clause-room c = settles_room c.args.c c.args.now c.args.self.now c.settle-owed.result c.settle-owed.new.self c.requires.owed c.settle-owed.ensures
+
+pub returns-in_default-clause-others : goal.returns-in_default-clause-others
+returns-in_default-clause-others c = others_without c.args.c c.args.self.now c.settle-owed.new.self c.settle-owed.ensures.held c.settle-owed.ensures.after

@@ -1,14 +1,9 @@
 -- The servient as one abstract machine: what it does to the network and which calls it makes of device handlers, event
--- by event. It knows no byte of a message, no exchange and no affordance: what these mean is said by the layers that it
--- names. So what a layer does may change without a change of this page.
---
--- A move relates the state before it, the list of what is seen of it in order, and the state after it. `Becomes`,
--- `Stays`, `Then`, `Passing`, `Each` and `Until` put moves together (servient_base/specs/Moves.antt). A run is the last
--- definition of this page: one event after another comes and is followed by its step.
---
+-- by event. It knows no byte of a message, no exchange and no affordance: the layers that it names say what these mean,
+-- so that what a layer does may change without a change of this page. A move relates the state before it, the list of
+-- what is seen of it in order, and the state after it; `Becomes`, `Stays`, `Then`, `Passing`, `Each` and `Until` put moves
+-- together (servient_base/specs/Moves.antt). A run is the last definition: each event that comes is followed by its step.
 -- A reader may go on after the imports, which only say where each word of a layer stands.
-
--- ---- imports
 
 use Rattle.std.specs.Prelude.{◌≡◌, ℕ, ◌<◌, ◌≤◌, ◌⊎◌, max, Option, Some, None, unwrap_or, List, [], ◌∷◌, map, length, Bool, true, false, if◌then◌else◌}
 use Rattle.servient_base.specs.Moves.{Becomes, Stays, Then, Passing, Each, Until}
@@ -48,9 +43,9 @@ use Rattle.servient_core.specs.Links.{segments_of, text_of_links}
 abbrev pub Site : Type 0
 Site = Things
 
--- The machine's state: the greatest moment so far in milliseconds; the connections with their whole streams and the
--- requests that wait; the CoAP server with its exchanges, its watchers and the id of its next message; what the Things
--- don't leave to their devices; the directory's entries, with times where it is known when the clock began.
+-- The greatest moment so far in milliseconds; the connections with their whole streams and the requests that wait; the
+-- CoAP server with its exchanges, its watchers and the id of its next message; what the Things don't leave to their
+-- devices; the directory's entries, with times where it is known when the clock began.
 pub record State : Type 0 where
   pub moment : ℕ
   pub http : Streams
@@ -58,60 +53,52 @@ pub record State : Type 0 where
   pub thing : ThingState
   pub directory : Entries
 
--- before the first event, where n exchanges may live, of a clock that began then, if that is known; nobody watches, and the
--- CoAP server has the links to the Things
+-- before the first event, where so many exchanges may live, of a clock that began at this epoch, if that is known
 abbrev pub start : Site → ℕ → Option ℕ → State
 start site exchanges epoch = record { moment = 0; http = none_open; coap = with_links (text_of_links (segments_of site)) (nothing_came exchanges MOST_WATCHERS); thing = no_request_yet site; directory = no_entries epoch }
 
 abbrev pub Move : Type 1
 Move = State → List Sighting → State → Type 0
 
--- ---- moves of one part, and acts
+-- ---- moves of one part, and what is done to the network
 
--- the connections change, at the machine's moment
+-- the connections change, or the CoAP server does, at the machine's moment
 abbrev pub OnHttp : (ℕ → Streams → Streams → Type 0) → Move
-OnHttp Change s seen t = (h : Streams) × Change s.moment s.http h × Becomes (record s { http = h }) [] seen t
-
--- the CoAP server changes, at the machine's moment
+OnHttp Change before seen after = (changed : Streams) × Change before.moment before.http changed × Becomes (record before { http = changed }) [] seen after
 abbrev pub OnCoap : (ℕ → Server → Server → Type 0) → Move
-OnCoap Change s seen t = (c : Server) × Change s.moment s.coap c × Becomes (record s { coap = c }) [] seen t
+OnCoap Change before seen after = (changed : Server) × Change before.moment before.coap changed × Becomes (record before { coap = changed }) [] seen after
 
 -- a move of the Thing machine, of which calls of handlers are seen
 abbrev pub OnThing : ThingMove → Move
-OnThing move s seen t =
-    (x : ThingState) × (calls : List HandlerCall) × move s.thing calls x
-    × Becomes (record s { thing = x }) (map at_handler calls) seen t
+OnThing move before seen after =
+    (changed : ThingState) × (calls : List HandlerCall) × move before.thing calls changed × Becomes (record before { thing = changed }) (map at_handler calls) seen after
 
 -- this is done to the network
 abbrev pub Does : List Act → Move
-Does acts s = Becomes s (map (λ a. at_network (did a)) acts)
-
--- ---- what is sent on a connection
+Does acts before = Becomes before (map (λ it. at_network (did it)) acts)
 
 -- a reply is one act, and one that closes is followed by the close
 abbrev pub acts_of_reply : ℕ → HttpReply → List Act
-acts_of_reply c reply = act.Sent c reply.bytes ∷ (if reply.closes then act.Closed c ∷ [] else [])
-
+acts_of_reply connection reply = act.Sent connection reply.bytes ∷ (if reply.closes then act.Closed connection ∷ [] else [])
 abbrev pub Sends : ℕ → HttpReply → Move
-Sends c reply = Does (acts_of_reply c reply)
+Sends connection reply = Does (acts_of_reply connection reply)
 
 -- a request that waits has no reply yet
 abbrev pub SendsIfAny : ℕ → Option HttpReply → Move
-SendsIfAny c None s seen t = Stays s seen t
-SendsIfAny c (Some reply) s seen t = Sends c reply s seen t
+SendsIfAny connection None before seen after = Stays before seen after
+SendsIfAny connection (Some reply) before seen after = Sends connection reply before seen after
 
 -- ---- new values (RFC 7641 for CoAP; TD 1.1's long polls for HTTP)
 
 -- a connection that waits is replied to, with a value or with none
 abbrev pub RepliesToWait : ℕ → Option (List ℕ) → Move
-RepliesToWait c text = Passing (λ (reply : HttpReply). OnHttp (λ now. Wakes c text now reply.bytes reply.closes)) (Sends c)
+RepliesToWait connection text = Passing (λ (reply : HttpReply). OnHttp (λ now. Wakes connection text now reply.bytes reply.closes)) (Sends connection)
 
 -- the oldest that waits for a target gets its last value
 abbrev pub AnswersWait : ℕ → Move
-AnswersWait target s seen t = (c : ℕ) × (oldest_for target s.http.waits ≡ Some c) × RepliesToWait c (last_of target s.thing.last) s seen t
-
+AnswersWait target before seen after = (connection : ℕ) × (oldest_for target before.http.waits ≡ Some connection) × RepliesToWait connection (last_of target before.thing.last) before seen after
 abbrev pub AnswersWaits : ℕ → Move
-AnswersWaits target = Until (AnswersWait target) (λ s. oldest_for target s.http.waits ≡ None)
+AnswersWaits target = Until (AnswersWait target) (λ state. oldest_for target state.http.waits ≡ None)
 
 -- the watchers of a target are to be notified
 abbrev pub MarksWatchers : ℕ → Move
@@ -120,27 +107,24 @@ MarksWatchers target = OnCoap (λ now before after. after ≡ with_emitted targe
 -- A target has a new value: all that wait for it get it, the oldest first, and its watchers are to be notified.
 abbrev pub Delivers : ℕ → Move
 Delivers target = Then (AnswersWaits target) (MarksWatchers target)
-
 -- what was emitted is delivered, in order
 abbrev pub DeliversEach : List Emission → Move
-DeliversEach emissions = Each Delivers (map (λ e. e.target) emissions)
+DeliversEach emissions = Each Delivers (map (λ emission. emission.target) emissions)
 
--- ---- a request, whichever way it came
-
+-- a request is performed, whichever way it came
 abbrev pub Performs : Site → PlainRequest → Done → Move
-Performs site q done = OnThing (Acts site q done)
+Performs site request done = OnThing (Acts site request done)
 
--- one to the directory (WoT Discovery, "Things API", in outline) at the machine's moment, which calls no handler and
--- emits nothing
+-- one to the directory (WoT Discovery, "Things API", in outline), which calls no handler and emits nothing
 abbrev pub PerformsOnDirectory : PlainRequest → Done → Move
-PerformsOnDirectory q done s seen t =
-    (d : Entries) × DirectoryActs q s.moment done.outcome s.directory d × (done.emissions ≡ []) × Becomes (record s { directory = d }) [] seen t
+PerformsOnDirectory request done before seen after =
+    (changed : Entries) × DirectoryActs request before.moment done.outcome before.directory changed × (done.emissions ≡ []) × Becomes (record before { directory = changed }) [] seen after
 
 -- The directory is reached by HTTP alone: by its paths, which lead to no Thing.
 abbrev pub PerformsByHttp : Site → PlainRequest → Done → Move
-PerformsByHttp site q done s seen t =
-    ((is_of_directory (route_of q.path) ≡ true) × PerformsOnDirectory q done s seen t)
-    ⊎ ((is_of_directory (route_of q.path) ≡ false) × Performs site q done s seen t)
+PerformsByHttp site request done before seen after =
+    ((is_of_directory (route_of request.path) ≡ true) × PerformsOnDirectory request done before seen after)
+    ⊎ ((is_of_directory (route_of request.path) ≡ false) × Performs site request done before seen after)
 
 -- ---- CoAP (RFC 7252): a datagram is heard, and where it asks for something it is answered, once
 
@@ -150,89 +134,76 @@ observed_target site thing ask = elim ask.observe as (λ _. Option ℕ) [ None �
 
 -- what was asked is answered by this outcome
 abbrev pub AnswersAsk : Site → Endpoint → PlainAsk → PendingReply → Done → Move
-AnswersAsk site from ask request done s =
-    Passing (λ bytes. OnCoap (λ now. Answers request done.outcome (observed_target site s.thing ask) bytes)) (λ bytes. Does (act.Datagram from bytes ∷ [])) s
+AnswersAsk site from ask pending done before =
+    Passing (λ bytes. OnCoap (λ now. Answers pending done.outcome (observed_target site before.thing ask) bytes)) (λ bytes. Does (act.Datagram from bytes ∷ [])) before
 
 -- what follows on a datagram from this endpoint: a request is performed, answered, and its emissions are delivered
 abbrev pub AnswersDatagram : Site → Endpoint → Heard → Move
-AnswersDatagram site from ignored s seen t = Stays s seen t
-AnswersDatagram site from (answered_at_once bytes) s seen t = Does (act.Datagram from bytes ∷ []) s seen t
-AnswersDatagram site from (asked ask request) s seen t =
-    Passing (Performs site ask.request) (λ done. Then (AnswersAsk site from ask request done) (DeliversEach done.emissions)) s seen t
+AnswersDatagram site from ignored before seen after = Stays before seen after
+AnswersDatagram site from (answered_at_once bytes) before seen after = Does (act.Datagram from bytes ∷ []) before seen after
+AnswersDatagram site from (asked ask pending) before seen after =
+    Passing (Performs site ask.request) (λ done. Then (AnswersAsk site from ask pending done) (DeliversEach done.emissions)) before seen after
 
 -- a datagram is longer than one that is looked at and nothing is done, or it is heard
 abbrev pub HearsDatagram : Site → Endpoint → List ℕ → Move
-HearsDatagram site from bytes s seen t =
-    (LONGEST_DATAGRAM < length bytes × Stays s seen t)
-    ⊎ (length bytes ≤ LONGEST_DATAGRAM × Passing (λ h. OnCoap (λ now. Hears from bytes now h)) (AnswersDatagram site from) s seen t)
+HearsDatagram site from bytes before seen after =
+    (LONGEST_DATAGRAM < length bytes × Stays before seen after)
+    ⊎ (length bytes ≤ LONGEST_DATAGRAM × Passing (λ what_is. OnCoap (λ now. Hears from bytes now what_is)) (AnswersDatagram site from) before seen after)
 
 -- ---- HTTP (RFC 9112): the messages of a stream that weren't taken yet, one after another
 
 -- the request that was taken last is answered by this outcome: its reply is sent, or it waits
 abbrev pub AnswersMessage : ℕ → Done → Move
-AnswersMessage c done = Passing (λ reply. OnHttp (λ now. AnswersRequest c done.outcome now reply)) (SendsIfAny c)
+AnswersMessage connection done = Passing (λ reply. OnHttp (λ now. AnswersRequest connection done.outcome now reply)) (SendsIfAny connection)
 
 -- what follows on what was taken from a connection
 abbrev pub AnswersTaken : Site → ℕ → Taken → Move
-AnswersTaken site c (asks q) s seen t =
-    Passing (PerformsByHttp site q) (λ done. Then (AnswersMessage c done) (DeliversEach done.emissions)) s seen t
-AnswersTaken site c wants_continue s seen t =
-    Passing (λ bytes. OnHttp (λ now. Continues bytes)) (λ bytes. Sends c (record { bytes = bytes; closes = false })) s seen t
-AnswersTaken site c (is_faulty status) s seen t =
-    Passing (λ bytes. OnHttp (λ now. Refuses c status bytes)) (λ bytes. Sends c (record { bytes = bytes; closes = true })) s seen t
-AnswersTaken site c interrupts s seen t = Does (act.Closed c ∷ []) s seen t
+AnswersTaken site connection (asks request) before seen after =
+    Passing (PerformsByHttp site request) (λ done. Then (AnswersMessage connection done) (DeliversEach done.emissions)) before seen after
+AnswersTaken site connection wants_continue before seen after =
+    Passing (λ bytes. OnHttp (λ now. Continues bytes)) (λ bytes. Sends connection (record { bytes = bytes; closes = false })) before seen after
+AnswersTaken site connection (is_faulty status) before seen after =
+    Passing (λ bytes. OnHttp (λ now. Refuses connection status bytes)) (λ bytes. Sends connection (record { bytes = bytes; closes = true })) before seen after
+AnswersTaken site connection interrupts before seen after = Does (act.Closed connection ∷ []) before seen after
 
 -- something is taken from a connection, and answered
 abbrev pub TakesNextMessage : Site → ℕ → Move
-TakesNextMessage site c = Passing (λ taken. OnHttp (λ now. Takes c taken)) (AnswersTaken site c)
-
+TakesNextMessage site connection = Passing (λ taken. OnHttp (λ now. Takes connection taken)) (AnswersTaken site connection)
 -- one after another is, until nothing is left to take
 abbrev pub TakesEveryMessage : Site → ℕ → Move
-TakesEveryMessage site c = Until (TakesNextMessage site c) (λ s. IsDry c s.http)
-
+TakesEveryMessage site connection = Until (TakesNextMessage site connection) (λ state. IsDry connection state.http)
 -- bytes come, and the messages that are whole now are taken
 abbrev pub HearsPiece : Site → ℕ → List ℕ → Move
-HearsPiece site c bytes = Then (OnHttp (Lengthened c bytes)) (TakesEveryMessage site c)
-
--- an idle connection is closed
-abbrev pub ClosesIdle : Move
-ClosesIdle = Passing (λ c. OnHttp (λ now h k. IsIdle c now h × Closes c h k)) (λ c. Does (act.Closed c ∷ []))
-
--- the lowest first, until none is idle
-abbrev pub ClosesAllIdle : Move
-ClosesAllIdle = Until ClosesIdle (λ s. NoneIdle s.moment s.http)
-
--- ---- polls
-
--- an event affordance is polled, and what it emits is delivered
-abbrev pub PollsAndDelivers : Placed → Move
-PollsAndDelivers p = Passing (λ emissions. OnThing (PollsEvent p emissions)) DeliversEach
+HearsPiece site connection bytes = Then (OnHttp (Lengthened connection bytes)) (TakesEveryMessage site connection)
 
 -- ---- the end of each event
 
 -- the bytes of a notification, which says the last value of its target
 abbrev pub notice_bytes : Notice → ThingState → List ℕ
-notice_bytes n thing = spelling (notification n (unwrap_or (last_of n.target thing.last) []))
+notice_bytes notice thing = spelling (notification notice (unwrap_or (last_of notice.target thing.last) []))
 
 -- what is to be sent next to a watcher is sent
 abbrev pub SendsNotification : Move
-SendsNotification s =
-    Passing (λ n. OnCoap (λ now. SendsNext now (Some n))) (λ n. Does (act.Datagram n.to (notice_bytes n s.thing) ∷ [])) s
-
+SendsNotification before =
+    Passing (λ notice. OnCoap (λ now. SendsNext now (Some notice))) (λ notice. Does (act.Datagram notice.to (notice_bytes notice before.thing) ∷ [])) before
 -- nothing is to be sent
 abbrev pub NothingIsDue : State → Type 0
-NothingIsDue s = (c : Server) × SendsNext s.moment None s.coap c
-
+NothingIsDue state = (changed : Server) × SendsNext state.moment None state.coap changed
 -- one after another, until nothing is to be sent; watchers that are given up are gone then
 abbrev pub SendsNotifications : Move
 SendsNotifications = Then (Until SendsNotification NothingIsDue) (OnCoap (λ now. SendsNext now None))
 
 -- the oldest that waited too long is told that nothing came
 abbrev pub AnswersLateWait : Move
-AnswersLateWait s seen t = (c : ℕ) × (oldest_late s.moment s.http.waits ≡ Some c) × RepliesToWait c None s seen t
-
+AnswersLateWait before seen after = (connection : ℕ) × (oldest_late before.moment before.http.waits ≡ Some connection) × RepliesToWait connection None before seen after
 abbrev pub AnswersLateWaits : Move
-AnswersLateWaits = Until AnswersLateWait (λ s. oldest_late s.moment s.http.waits ≡ None)
+AnswersLateWaits = Until AnswersLateWait (λ state. oldest_late state.moment state.http.waits ≡ None)
+
+-- an idle connection is closed: the lowest first, until none is idle
+abbrev pub ClosesIdle : Move
+ClosesIdle = Passing (λ lowest. OnHttp (λ now before after. IsIdle lowest now before × Closes lowest before after)) (λ lowest. Does (act.Closed lowest ∷ []))
+abbrev pub ClosesAllIdle : Move
+ClosesAllIdle = Until ClosesIdle (λ state. NoneIdle state.moment state.http)
 
 -- Notifications go out, then requests that waited too long are answered, and then idle connections are closed.
 abbrev pub EndsEvent : Move
@@ -240,29 +211,29 @@ EndsEvent = Then SendsNotifications (Then AnswersLateWaits ClosesAllIdle)
 
 -- ---- events
 
--- what follows when this comes, at the machine's moment
+-- an event affordance is polled, and what it emits is delivered
+abbrev pub PollsAndDelivers : Placed → Move
+PollsAndDelivers affordance = Passing (λ emissions. OnThing (PollsEvent affordance emissions)) DeliversEach
+
+-- What follows when this comes, at the machine's moment. On a tick all event affordances are polled, one after another;
+-- the end of the run does nothing more.
 abbrev pub Follows : Site → What → List ℕ → Move
-Follows site (what.Opened c) bytes s seen t = OnHttp (Opened c) s seen t
-Follows site (what.Bytes c size) bytes s seen t = HearsPiece site c bytes s seen t
-Follows site (what.Ended c) bytes s seen t = OnHttp (λ now. Ended c) s seen t
-Follows site (what.Datagram from size) bytes s seen t = HearsDatagram site from bytes s seen t
--- all event affordances are polled, one after another
-Follows site what.Tick bytes s seen t = Each PollsAndDelivers (events_of site) s seen t
--- the end of the run does nothing more
-Follows site what.Stop bytes s seen t = Stays s seen t
+Follows site (what.Opened connection) bytes before seen after = OnHttp (Opened connection) before seen after
+Follows site (what.Bytes connection size) bytes before seen after = HearsPiece site connection bytes before seen after
+Follows site (what.Ended connection) bytes before seen after = OnHttp (λ now. Ended connection) before seen after
+Follows site (what.Datagram from size) bytes before seen after = HearsDatagram site from bytes before seen after
+Follows site what.Tick bytes before seen after = Each PollsAndDelivers (events_of site) before seen after
+Follows site what.Stop bytes before seen after = Stays before seen after
 
--- One event: the machine's moment becomes the greater of itself and the event's, then comes what follows, and then what
--- ends each event, also the last.
+-- One event: the machine's moment becomes the greater of itself and the event's, then comes what follows, then its end.
 abbrev pub Step : Site → EventWithBytes → Move
-Step site e s = Then (Follows site e.event.what e.bytes) EndsEvent (record s { moment = max s.moment e.event.moment })
-
--- an event comes
-abbrev pub Comes : EventWithBytes → Move
-Comes e s = Becomes s (at_network (heard e) ∷ [])
+Step site it before = Then (Follows site it.event.what it.bytes) EndsEvent (record before { moment = max before.moment it.event.moment })
 
 -- an event comes, and then the step on it is made, before another event comes
+abbrev pub Comes : EventWithBytes → Move
+Comes it before = Becomes before (at_network (heard it) ∷ [])
 abbrev pub EventAndStep : Site → EventWithBytes → Move
-EventAndStep site e = Then (Comes e) (Step site e)
+EventAndStep site it = Then (Comes it) (Step site it)
 
 -- A run: one event after another is taken.
 abbrev pub Run : Site → List EventWithBytes → Move

@@ -112,8 +112,7 @@ impl Server {
         ensures { RepliesAs (observed said.entry.observe (answer_reply said.entry.blocks.now said.entry.outcome.now)) pending.now result out.old out.new self.old self.new }
     {
         let size = put_outcome(said, pending, self.next_id, out);
-        self.use_id(pending.kind);
-        self.keep(pending, &out[..size]);
+        self.note_sent(pending, &out[..size]);
         size
     }
 
@@ -131,8 +130,7 @@ impl Server {
         ensures { RepliesAs (word_reply code word.now) pending.now result out.old out.new self.old self.new }
     {
         let size = put_word(code, word, pending, self.next_id, out);
-        self.use_id(pending.kind);
-        self.keep(pending, &out[..size]);
+        self.note_sent(pending, &out[..size]);
         size
     }
 
@@ -165,25 +163,16 @@ impl Server {
         self.next_id = self.next_id.wrapping_add(1);
     }
 
-    /// Uses the next message ID in a reply to a request of this type, where the reply isn't an acknowledgement.
-    pub fn use_id(&mut self, kind: RequestType)
-        ensures { self.new ≡ with_id_used kind self.old }
-    {
-        match kind {
-            RequestType::Confirmable => {}
-            RequestType::NonConfirmable => self.use_next_id(),
-        }
-    }
-
-    /// Keeps a reply, where its request was confirmable.
-    pub fn keep(&mut self, pending: &PendingReply, reply: &[u8])
+    /// Notes that a reply was sent: it is kept, where its request was Confirmable, and has used the next message ID, where it
+    /// was not.
+    pub fn note_sent(&mut self, pending: &PendingReply, reply: &[u8])
         requires slot { IsAwaited pending.now.slot self.old.exchanges }
         requires length { length reply.now ≤ LONGEST_MESSAGE }
-        ensures { self.new ≡ with_kept pending.now.kind pending.now.slot reply.now self.old }
+        ensures { self.new ≡ with_kept pending.now.kind pending.now.slot reply.now (with_id_used pending.now.kind self.old) }
     {
         match pending.kind {
             RequestType::Confirmable => self.exchanges.keep(pending.slot, reply),
-            RequestType::NonConfirmable => {}
+            RequestType::NonConfirmable => self.use_next_id(),
         }
     }
 }

@@ -130,7 +130,7 @@ impl CoapBind {
         ensures ok { AnswersAs ticket outcome.now target result out.old out.new self.old self.new }
         ensures moment { self.new.exchanges.moment ≡ self.old.exchanges.moment }
     {
-        let pending = ticket.spend();
+        let Ticket { pending } = ticket;
         self.server.answer(&pending, outcome, target, out)
     }
 

@@ -1,8 +1,8 @@
 //! What a request wants of blocks, and what its reply says of them (RFC 7959).
 
-ghost use Rattle.std.specs.Prelude.{◌≡◌, option_map};
+ghost use Rattle.std.specs.Prelude.{◌≡◌};
 ghost use Rattle.coap_opts.specs.PlainAsk.{plain_ask};
-ghost use Rattle.coap_bind.specs.Blocks.{block2_of, wanted_by_body, wanted_by_get, wanted_of};
+ghost use Rattle.coap_bind.specs.Blocks.{block2_of, wanted_of};
 ghost use Rattle.coap_bind.specs.Links.{size_asked};
 
 use crate::observing::Observing;
@@ -57,8 +57,20 @@ pub fn wanted_of(code: u8, observing: Observing, ask: &CoapAsk<'_>) -> Wanted
     ensures { result ≡ wanted_of code observing (plain_ask ask.now) }
 {
     match code {
-        GET => wanted_by_get(block2_of(observing, ask)),
-        POST | PUT => wanted_by_body(ask.block1),
+        GET => match block2_of(observing, ask) {
+            Some(block) => {
+                if block.number == 0 {
+                    Wanted::Act
+                } else {
+                    Wanted::LaterBlock(block)
+                }
+            }
+            None => Wanted::Act,
+        },
+        POST | PUT => match ask.block1 {
+            Some(block) => Wanted::Joining(block),
+            None => Wanted::Act,
+        },
         _ => Wanted::Act,
     }
 }
@@ -77,41 +89,8 @@ pub fn block2_of(observing: Observing, ask: &CoapAsk<'_>) -> Option<Block>
 pub fn size_asked(observing: Observing, ask: &CoapAsk<'_>) -> Option<u8>
     ensures { result ≡ size_asked observing (plain_ask ask.now) }
 {
-    size_of(block2_of(observing, ask))
-}
-
-/// The exponent of the size of a block.
-fn size_of(block: Option<Block>) -> Option<u8>
-    ensures { result ≡ option_map (λ b. b.szx) block }
-{
-    match block {
+    match block2_of(observing, ask) {
         Some(block) => Some(block.szx),
         None => None,
-    }
-}
-
-/// What a GET wants with this Block2.
-fn wanted_by_get(block: Option<Block>) -> Wanted
-    ensures { result ≡ wanted_by_get block }
-{
-    match block {
-        Some(block) => {
-            if block.number == 0 {
-                Wanted::Act
-            } else {
-                Wanted::LaterBlock(block)
-            }
-        }
-        None => Wanted::Act,
-    }
-}
-
-/// What a PUT or a POST wants with this Block1.
-fn wanted_by_body(block: Option<Block>) -> Wanted
-    ensures { result ≡ wanted_by_body block }
-{
-    match block {
-        Some(block) => Wanted::Joining(block),
-        None => Wanted::Act,
     }
 }

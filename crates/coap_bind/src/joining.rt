@@ -94,8 +94,7 @@ impl Server {
             },
         };
         let size = put_told(told, pending, self.next_id, out);
-        self.use_id(pending.kind);
-        self.keep(pending, &out[..size]);
+        self.note_sent(pending, &out[..size]);
         size
     }
 

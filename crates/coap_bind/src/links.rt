@@ -137,8 +137,7 @@ impl Server {
     {
         let text = self.links.as_slice();
         let size = put_links(text, szx, pending, self.next_id, out);
-        self.use_id(pending.kind);
-        self.keep(pending, &out[..size]);
+        self.note_sent(pending, &out[..size]);
         size
     }
 }

@@ -17,7 +17,7 @@ pub enum CoapNext<'a> {
 /// A request that was admitted and is to be answered, by `CoapBind::answer` alone: a ticket can't be dropped, copied or
 /// made elsewhere. Contracts see the reply that is pending.
 pub struct Ticket {
-    pending: PendingReply,
+    pub(crate) pending: PendingReply,
 }
 
 impl Model for Ticket {
@@ -30,26 +30,4 @@ impl Model for Ticket {
     ghost view = { λ t. t.pending };
 
     ghost invariant = { λ t. IsUse t.pending.blocks };
-}
-
-impl Ticket {
-    ghost use Rattle.std.specs.Prelude.{◌≡◌};
-    ghost use Rattle.coap_bind.specs.Blocks.{IsUse};
-
-    /// A ticket for this reply.
-    pub(crate) fn of(pending: PendingReply) -> Ticket
-        requires { IsUse pending.blocks }
-        ensures { result ≡ pending }
-    {
-        Ticket { pending }
-    }
-
-    /// Spends the ticket: the reply that it is for.
-    pub(crate) fn spend(self) -> PendingReply
-        ensures ok { result ≡ self }
-        ensures blocks { IsUse result.blocks }
-    {
-        let Ticket { pending } = self;
-        pending
-    }
 }

@@ -82,7 +82,7 @@ impl Server {
                             ..pending
                         };
                         let body = self.take_whole(place, room);
-                        CoapNext::Ask(with_body(ask, body), Ticket::of(pending))
+                        CoapNext::Ask(with_body(ask, body), Ticket { pending })
                     }
                     Err(size) => CoapNext::Send(size),
                 }
@@ -153,7 +153,7 @@ impl Server {
         match use_of(alloc, code, pending.observing, &ask, now) {
             Ok(blocks) => {
                 let pending = PendingReply { blocks, ..pending };
-                CoapNext::Ask(ask, Ticket::of(pending))
+                CoapNext::Ask(ask, Ticket { pending })
             }
             Err(_) => CoapNext::Send(self.refuse_out_of_memory(&pending, out)),
         }
@@ -176,8 +176,7 @@ impl Server {
     {
         let body = self.bodies.get(pending.from, path, now);
         let size = put_later(body, block, pending, self.next_id, out);
-        self.use_id(pending.kind);
-        self.keep(pending, &out[..size]);
+        self.note_sent(pending, &out[..size]);
         size
     }
 }

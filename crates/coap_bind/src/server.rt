@@ -4,7 +4,7 @@ ghost use Rattle.std.specs.Prelude.{◌≡◌, ◌≤◌, ◌&&◌, nat_lt, leng
 ghost use Rattle.coap_msg.specs.Written.{IsWritten};
 ghost use Rattle.coap_bind.specs.Server.{may_ask};
 
-use crate::writing::{id_of_reply, kind_of_reply};
+use crate::writing::kind_and_id;
 use coap_blocks::{Bodies, Parts};
 use coap_exchange::{Exchanges, Met};
 use coap_msg::{
@@ -82,16 +82,21 @@ impl Server {
         let kind = RequestType::of(message.kind);
         let mut none = [];
         let options = Opts::on(&mut none);
+        let (reply_kind, id) = kind_and_id(kind, message.id, self.next_id);
         let reply = Plain {
-            kind: kind_of_reply(kind),
+            kind: reply_kind,
             code: SERVICE_UNAVAILABLE,
-            id: id_of_reply(kind, message.id, self.next_id),
+            id,
             token: message.token,
             options: &options,
             payload: b"full",
         };
-        self.use_id(kind);
-        encode(&reply, out).unwrap()
+        let size = encode(&reply, out).unwrap();
+        match kind {
+            RequestType::Confirmable => {}
+            RequestType::NonConfirmable => self.use_next_id(),
+        }
+        size
     }
 
     /// Takes what a message that is no request says of a notification.

@@ -47,23 +47,13 @@ pub struct Told<'a> {
     pub portion: Portion<'a>,
 }
 
-/// The type of a reply to a request of this type.
-pub fn kind_of_reply(kind: RequestType) -> Type4
-    ensures { result ≡ reply_kind kind }
+/// The type and the message ID of a reply to a request of this type and ID.
+pub fn kind_and_id(kind: RequestType, id: u16, next_id: u16) -> (Type4, u16)
+    ensures { result ≡ (reply_kind kind, reply_id kind id next_id) }
 {
     match kind {
-        RequestType::Confirmable => Type4::Ack,
-        RequestType::NonConfirmable => Type4::Non,
-    }
-}
-
-/// The message ID of a reply to a request of this type and ID.
-pub fn id_of_reply(kind: RequestType, id: u16, next: u16) -> u16
-    ensures { result ≡ reply_id kind id next }
-{
-    match kind {
-        RequestType::Confirmable => id,
-        RequestType::NonConfirmable => next,
+        RequestType::Confirmable => (Type4::Ack, id),
+        RequestType::NonConfirmable => (Type4::Non, next_id),
     }
 }
 
@@ -81,10 +71,11 @@ pub fn put_word(
 {
     let mut none = [];
     let options = Opts::on(&mut none);
+    let (kind, id) = kind_and_id(pending.kind, pending.id, next_id);
     let message = Plain {
-        kind: kind_of_reply(pending.kind),
+        kind,
         code,
-        id: id_of_reply(pending.kind, pending.id, next_id),
+        id,
         token: pending.token.as_bytes(),
         options: &options,
         payload: word,
@@ -106,20 +97,13 @@ pub fn put_outcome(
     ensures { IsWritten (spelling (coap_reply (observed said.entry.observe (answer_reply said.entry.blocks.now said.entry.outcome.now)) (head_in pending.now) next_id)) result out.old out.new }
 {
     let mut words = [0u8; LONGEST_WORD];
-    let payload = payload_of(said.outcome, &mut words);
+    let size = word(said.outcome, &mut words);
+    let payload = said.outcome.text().unwrap_or(&words[..size]);
     if payload.len() > most_bytes(said.blocks, said.outcome) {
         return put_word(INTERNAL_SERVER_ERROR, b"long", pending, next_id, out);
     }
     let portion = portion_of(said.blocks, said.outcome, payload);
     put_portion(said, portion, pending, next_id, out)
-}
-
-/// The payload of an outcome; a word is written into the room for it.
-fn payload_of<'a>(outcome: &'a Outcome, words: &'a mut [u8; LONGEST_WORD]) -> &'a [u8]
-    ensures { result.now ≡ payload_of outcome.now }
-{
-    let size = word(outcome, words);
-    outcome.text().unwrap_or(&words[..size])
 }
 
 /// Writes a reply with this part of the payload of its outcome, and returns how many bytes it has.
@@ -139,10 +123,11 @@ fn put_portion(
     let mut options = Opts::on(&mut room);
     put_options(said.observe, said.outcome, &mut options).unwrap();
     put_block(portion.block, &mut options).unwrap();
+    let (kind, id) = kind_and_id(pending.kind, pending.id, next_id);
     let message = Plain {
-        kind: kind_of_reply(pending.kind),
+        kind,
         code: coap_code(said.outcome),
-        id: id_of_reply(pending.kind, pending.id, next_id),
+        id,
         token: pending.token.as_bytes(),
         options: &options,
         payload: portion.payload,
@@ -166,10 +151,11 @@ pub fn put_told(
     let mut options = Opts::on(&mut room);
     put_content_options(told.version, told.format, &mut options).unwrap();
     put_block(told.portion.block, &mut options).unwrap();
+    let (kind, id) = kind_and_id(pending.kind, pending.id, next_id);
     let message = Plain {
-        kind: kind_of_reply(pending.kind),
+        kind,
         code: told.code,
-        id: id_of_reply(pending.kind, pending.id, next_id),
+        id,
         token: pending.token.as_bytes(),
         options: &options,
         payload: told.portion.payload,

@@ -9,4 +9,4 @@ pub answer-requires-clause-room : goal.answer-requires-clause-room
 answer-requires-clause-room c =
     let P : PendingReply → Type 0 = λ a. HasRoom a c.args.outcome.now c.args.target c.self.inside.server in
     let Q : Server → Type 0 = λ s. HasRoom c.args.ticket c.args.outcome.now c.args.target s in
-    subst P (sym c.spend-pending.ensures.ok) (subst Q (sym c.self.view_is) c.requires.room)
+    subst P (sym c.ticket.view_is) (subst Q (sym c.self.view_is) c.requires.room)

@@ -12,22 +12,22 @@ returns-then-is_links_path-clause-ok c =
     λ m r act. treat_links c.args.pending c.args.now c.args.code (plain_ask c.args.ask) m c.answer_links.result _ _ _ _ r act
     (sym c.is_links_path.ensures ∙ c.if-is_links_path.true) c.answer_links.ensures
 
-pub of-requires : goal.of-requires
-of-requires c = subst IsUse (sym c.in-Ok.ensures) (use_fits c.args.now c.args.code c.args.pending.observing (plain_ask c.args.ask) c.requires.blocks c.requires.path)
+pub invariant_of-result : goal.invariant_of-result
+invariant_of-result c = subst IsUse (sym c.in-Ok.ensures) (use_fits c.args.now c.args.code c.args.pending.observing (plain_ask c.args.ask) c.requires.blocks c.requires.path)
 
 pub returns-in-Ok-clause-ok : goal.returns-in-Ok-clause-ok
 returns-in-Ok-clause-ok c =
     let what = plain_ask c.args.ask in
-    let ticket = c.of.ensures ∙ ap (λ (u : BlockUse). let x : PendingReply = record c.args.pending { blocks = u } in x) c.in-Ok.ensures in
+    let ticket = ap (λ (u : BlockUse). let x : PendingReply = record c.args.pending { blocks = u } in x) c.in-Ok.ensures in
     λ m r act. (
       _,
-      treat_asks c.args.pending c.args.now c.args.code what c.of.result m c.args.self.now r act (sym c.is_links_path.ensures ∙ c.if-is_links_path.false) ticket,
+      treat_asks c.args.pending c.args.now c.args.code what (record c.args.pending { blocks = c.in-Ok.blocks }) m c.args.self.now r act (sym c.is_links_path.ensures ∙ c.if-is_links_path.false) ticket,
       (refl, refl),
     )
 
 pub returns-in-Ok-clause-open : goal.returns-in-Ok-clause-open
 returns-in-Ok-clause-open c =
-    open_ticket c.of.result _ c.args.self.now c.of.ensures c.requires.slot c.requires.token
+    open_ticket (record c.args.pending { blocks = c.in-Ok.blocks }) _ c.args.self.now refl c.requires.slot c.requires.token
     (subst IsUse (sym c.in-Ok.ensures) (use_fits c.args.now c.args.code c.args.pending.observing (plain_ask c.args.ask) c.requires.blocks c.requires.path))
 
 pub returns-clause-ok : goal.returns-clause-ok

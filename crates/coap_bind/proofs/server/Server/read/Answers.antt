@@ -8,7 +8,7 @@ use Rattle.coap_bind.specs.declared.blocks.Wanted.TheVariants.{Act}
 use Rattle.coap_bind.specs.declared.pending.PendingReply.{PendingReply}
 use Rattle.coap_bind.specs.declared.server.Server.{Server}
 use Rattle.coap_bind.proofs.ReadingLaws.{no_ticket, reads_fault}
-use Rattle.coap_bind.proofs.TreatLaws.{added_of, added_whole, block_of, has_whole, is_read, joining_is_block, treat_answered, treat_later, treat_whole, wanted_is, whole_found}
+use Rattle.coap_bind.proofs.TreatLaws.{added_of, added_whole, block_of, has_whole, is_read, joining_is_block, treat_answered, treat_later, treat_whole, wanted_is, whole_found, whole_pending}
 use Rattle.coap_bind.proofs.WholeLaws.{short_in_room}
 use Rattle.coap_bind.proofs.server.Server.read.Goals as goal
 
@@ -50,8 +50,8 @@ take_whole-body-requires-clause-room c =
     short_in_room _ longest_request (length c.args.room.now) c.requires.room
     (subst (λ (x : Server). IfSome (slice_get x.parts c.in-Ok-answer_block.place) (λ q. length q.bytes ≤ longest_request)) (sym is.same) short)
 
-pub of-requires : goal.of-requires
-of-requires c = joining_is_block c.args.message.now.code c.observing_of-observing.result (plain_ask c.in-Ok.ask) c.in-Joining.block c.in-Ok.ensures.blocks (sym c.in-Joining.ensures)
+pub invariant_of-result : goal.invariant_of-result
+invariant_of-result c = joining_is_block c.args.message.now.code c.observing_of-observing.result (plain_ask c.in-Ok.ask) c.in-Joining.block c.in-Ok.ensures.blocks (sym c.in-Joining.ensures)
 
 pub returns-in-Ok-answer_block-clause-ok : goal.returns-in-Ok-answer_block-clause-ok
 returns-in-Ok-answer_block-clause-ok c =
@@ -64,8 +64,8 @@ returns-in-Ok-answer_block-clause-ok c =
     let is = whole_found p what.request.path b c.add-added.result c.in-Ok-answer_block.place c.answer_block.result _ _ _ _ c.answer_block.ensures c.in-Ok-answer_block.is in
     let whole = added_whole p c.args.now what m b c.add-added.result c.in-Ok-answer_block.place _ _ _ _ c.answer_block.new.self added is in (
       _,
-      treat_whole p c.args.now what (plain_ask c.with_body.result) c.of.result m b c.in-Ok-answer_block.place c.take_whole-body.result.now c.args.self.now c.answer_block.new.self c.take_whole-body.new.self
-          is.apart c.of.ensures c.take_whole-body.ensures.bytes c.with_body.ensures c.take_whole-body.ensures.after whole,
+      treat_whole p c.args.now what (plain_ask c.with_body.result) (whole_pending p b) m b c.in-Ok-answer_block.place c.take_whole-body.result.now c.args.self.now c.answer_block.new.self c.take_whole-body.new.self
+          is.apart refl c.take_whole-body.ensures.bytes c.with_body.ensures c.take_whole-body.ensures.after whole,
       (refl, is.same_bytes),
     )
 

@@ -1,6 +1,5 @@
 pub mod Fitting
 pub mod Judging
-pub mod PlaceLaws
 pub mod VerbLaws
 mod RisingLaws
 mod Halving

@@ -4,3 +4,4 @@ pub mod VerbLaws
 mod RisingLaws
 mod Halving
 mod IndexLaws
+mod InputLaws

@@ -1,11 +1,11 @@
 //! What the path of a request leads to among Things, and which act its verb asks for there.
 
-ghost use Rattle.std.specs.Prelude.{◌≡◌, Some, None, MatchResult, option_map};
+ghost use Rattle.std.specs.Prelude.{◌≡◌, Some, None, MatchResult};
 ghost use Rattle.thing_ops.specs.Routes.{route_of};
 ghost use Rattle.thing_ops.specs.Verbs.{verbs_in, verbs_of};
 ghost use Rattle.thing_site.specs.Places as spec;
 
-use crate::{HeldThing, IndexedThings, LentThing, Spot};
+use crate::{IndexedThings, LentThing, Spot};
 use thing_ops::{Allow, Flags, RouteKind, Segments, Verb, allowed, route};
 use wot_terms::Kind;
 
@@ -47,8 +47,8 @@ pub fn place_at<'a>(things: &'a IndexedThings, path: &Segments) -> Option<Place<
 {
     match route(path) {
         RouteKind::Root => Some(Place::Description(LentThing::of(things.as_slice().first()?))),
-        RouteKind::Thing => Some(Place::Description(LentThing::of(thing_in(things, path)?))),
-        RouteKind::All => Some(Place::AllProperties(LentThing::of(thing_in(things, path)?))),
+        RouteKind::Thing => Some(Place::Description(LentThing::of(things.named(path.get(0)?)?))),
+        RouteKind::All => Some(Place::AllProperties(LentThing::of(things.named(path.get(0)?)?))),
         RouteKind::Property => Some(Place::Property(affordance_in(things, path, Kind::Property)?)),
         RouteKind::Observe => observed(affordance_in(things, path, Kind::Property)?),
         RouteKind::Subscribe => Some(Place::Subscribed(affordance_in(things, path, Kind::Event)?)),
@@ -62,27 +62,12 @@ pub fn place_at<'a>(things: &'a IndexedThings, path: &Segments) -> Option<Place<
     }
 }
 
-/// The Thing that the first segment names.
-fn thing_in<'a>(things: &'a IndexedThings, path: &Segments) -> Option<&'a HeldThing>
-    ensures { option_map (λ t. t.now) result ≡ spec.thing_in path.now things.now }
-{
-    match path.get(0) {
-        Some(segment) => things.named(segment),
-        None => None,
-    }
-}
-
-/// Its affordance of this kind that the third segment names.
+/// The affordance of this kind that the third segment names, of the Thing that the first one names.
 fn affordance_in<'a>(things: &'a IndexedThings, path: &Segments, kind: Kind) -> Option<Spot<'a>>
     ensures { result ≡ spec.affordance_in kind path.now things.now }
 {
-    match thing_in(things, path) {
-        Some(thing) => match path.get(2) {
-            Some(name) => thing.affordance(kind, name),
-            None => None,
-        },
-        None => None,
-    }
+    let thing = things.named(path.get(0)?)?;
+    thing.affordance(kind, path.get(2)?)
 }
 
 /// Where a property is observed, if it is observable.

@@ -1,6 +1,6 @@
 -- Which affordance a binary search finds among affordances that rise.
 use Rattle.std.proofs.Common.{◌≡◌, ℕ, zero, suc, ◌+◌, ◌<◌, ◌≤◌, List, [], ◌∷◌, length, get_or, true, false, refl, sym, ap, inl, inr, ◌∙◌, arith}
-use Rattle.std.specs.Prelude.{Option, Some, None, slice_get, option_map, ◌&&◌}
+use Rattle.std.specs.Prelude.{Some, None, slice_get, min, ◌&&◌}
 use Rattle.std.specs.Str.{bytes_eq}
 use Rattle.std.specs.Ordering.{nat_cmp, ordering_index, ordering_reverse, ordering_then, is_eq, is_lt}
 use Rattle.std.specs.declared.cmp.Ordering.{Ordering}
@@ -73,10 +73,9 @@ test_of k name a o is = test_of_keys k a.kind name a.name o is
 
 -- the one at a place that compares as equal is found, with its slot
 found_at : (list : List Affordance) (slots : List ℕ) (k : Kind) (name : List ℕ) (i : ℕ) (d : Affordance) → AreRising list → i < length list → order_of k name (get_or list i d) ≡ Equal
-    → option_map (placed_by (get_or list i d)) (slice_get slots i) ≡ affordance_named k name (placed_all list slots)
+    → slice_get (placed_all list slots) i ≡ affordance_named k name (placed_all list slots)
 found_at [] slots k name i d rising within same = absurd (omega arith)
-found_at (a ∷ list) [] k name zero d rising within same = refl
-found_at (a ∷ list) [] k name (suc i) d rising within same = refl
+found_at (a ∷ list) [] k name i d rising within same = refl
 found_at (a ∷ list) (s ∷ slots) k name zero d rising within same = rw (test_of k name a Equal same) refl
 found_at (a ∷ list) (s ∷ slots) k name (suc i) d rising within same =
     let less : order_of k name a ≡ Less = sym (alike_right nat_list_cmp_total (key_of (get_or list i d)) (key k name) (key_of a) same) ∙ first_before a list rising i d (omega arith) in
@@ -92,11 +91,9 @@ none_found (a ∷ list) (s ∷ slots) k name d others =
     rw (test_of k name a first.0 first.1 ∙ first.2) (none_found list slots k name d (λ i within. others (suc i) (omega arith)))
 
 -- a search that ends at one
-pub found_by_halving : (list : List Affordance) (slots : List ℕ) (k : Kind) (name : List ℕ) (i : ℕ) (a : Affordance) (slot : Option ℕ) → are_rising list ≡ true → i < length list → HoldsAt (λ b. order_of k name b ≡ Equal) list i
-    → a ≡ get_or list i a → slot ≡ slice_get slots i → option_map (placed_by a) slot ≡ affordance_named k name (placed_all list slots)
-found_by_halving list slots k name i a slot rising within equal is of =
-    ap (λ (o : Option ℕ). option_map (placed_by a) o) of ∙ ap (λ (b : Affordance). option_map (placed_by b) (slice_get slots i)) is
-    ∙ found_at list slots k name i a (from_test list rising) within (equal a)
+pub found_by_halving : (list : List Affordance) (slots : List ℕ) (k : Kind) (name : List ℕ) (i : ℕ) (d : Affordance) → are_rising list ≡ true → i < length list → HoldsAt (λ b. order_of k name b ≡ Equal) list i
+    → slice_get (placed_all list slots) i ≡ affordance_named k name (placed_all list slots)
+found_by_halving list slots k name i d rising within equal = found_at list slots k name i d (from_test list rising) within (equal d)
 
 -- a search that ends between two
 pub missing_by_halving : (list : List Affordance) (slots : List ℕ) (k : Kind) (name : List ℕ) (i : ℕ) (d : Affordance) → are_rising list ≡ true
@@ -111,15 +108,13 @@ missing_by_halving list slots k name i d rising parted =
 
 -- ---- affordances with their slots, by number
 
-pub spot_here : (list : List Affordance) (slots : List ℕ) (i : ℕ) (a : Affordance) (slot : Option ℕ) → i < length list → a ≡ get_or list i a → slot ≡ slice_get slots i
-    → option_map (placed_by a) slot ≡ slice_get (placed_all list slots) i
-spot_here [] slots i a slot within is of = absurd (omega arith)
-spot_here (b ∷ list) [] zero a slot within is of = ap (λ (o : Option ℕ). option_map (placed_by a) o) of
-spot_here (b ∷ list) [] (suc i) a slot within is of = ap (λ (o : Option ℕ). option_map (placed_by a) o) of
-spot_here (b ∷ list) (s ∷ slots) zero a slot within is of = ap (λ (o : Option ℕ). option_map (placed_by a) o) of ∙ ap (λ (x : Affordance). Some (placed_by x s)) is
-spot_here (b ∷ list) (s ∷ slots) (suc i) a slot within is of = spot_here list slots i a slot (omega arith) is of
+pub spot_here : (list : List Affordance) (slots : List ℕ) (i : ℕ) (a : Affordance) → i < length list → i < length slots → a ≡ get_or list i a → Some (placed_by a (get_or slots i 0)) ≡ slice_get (placed_all list slots) i
+spot_here [] slots i a within among is = absurd (omega arith)
+spot_here (b ∷ list) [] i a within among is = absurd (omega arith)
+spot_here (b ∷ list) (s ∷ slots) zero a within among is = ap (λ (x : Affordance). Some (placed_by x s)) is
+spot_here (b ∷ list) (s ∷ slots) (suc i) a within among is = spot_here list slots i a (omega arith) (omega arith) is
 
-pub no_spot : (list : List Affordance) (slots : List ℕ) (i : ℕ) → length list ≤ i → None ≡ slice_get (placed_all list slots) i
+pub no_spot : (list : List Affordance) (slots : List ℕ) (i : ℕ) → min (length list) (length slots) ≤ i → None ≡ slice_get (placed_all list slots) i
 no_spot [] slots i past = refl
 no_spot (a ∷ list) [] i past = refl
 no_spot (a ∷ list) (s ∷ slots) zero past = absurd (omega arith)

@@ -10,7 +10,7 @@ use Rattle.std.specs.declared.cmp.Ordering.TheVariants.{Less, Equal, Greater}
 use Rattle.std.specs.Cmp.Lexicographic.{slice_cmp, nat_list_cmp_total}
 use Rattle.std.proofs.lemmas.Bool.{cases_lt}
 use Rattle.std.proofs.lemmas.List.{take_all}
-use Rattle.std.proofs.lemmas.Option.{same_Some, slice_get_cases}
+use Rattle.std.proofs.lemmas.Option.{same_Some, slice_get_cases, slice_get_read}
 use Rattle.std.proofs.lemmas.Slice.Eq.{bytes_eq-Decides}
 use Rattle.std.proofs.lemmas.List.Sorted.{searchable_from_sorted}
 use Rattle.std.proofs.lemmas.Cmp.{alike_right}
@@ -241,3 +241,23 @@ no_index site = record { rise = tt; stand = tt; same = λ segment. refl }
 
 pub whole_index : (site : Site) (ns : List ℕ) (k : ℕ) → length site ≤ k → Indexes site ns (take k site) → Indexes site ns site
 whole_index site ns k past index = subst (λ (l : Site). Indexes site ns l) (take_all k site past) index
+
+-- ---- what is found, and what isn't, as slices show Things and index
+
+pub thing_found : (site shown whole : Site) (ns seen segment : List ℕ) (i n : ℕ) (t : ExposedThing) → Indexes site ns site → site ≡ whole → shown ≡ site → seen ≡ ns → i < length seen → HoldsAt (λ m. segment_order shown segment m ≡ Equal) seen i
+    → n ≡ get_or ns i n → t ≡ get_or site n t → Some t ≡ thing_named segment whole
+thing_found site shown whole ns seen segment i n t index whole_is shown_is seen_is within equal at is =
+    let inside : i < length ns = subst (λ (ms : List ℕ). i < length ms) seen_is within in
+    let same : HoldsAt (λ m. segment_order site segment m ≡ Equal) ns i =
+    subst (λ (ms : List ℕ). HoldsAt (λ m. segment_order site segment m ≡ Equal) ms i) seen_is
+    (subst (λ (s : Site). HoldsAt (λ m. segment_order s segment m ≡ Equal) seen i) shown_is equal) in
+    let stands : n < length site = subst (λ (m : ℕ). m < length site) (sym at) (at_place (λ m. m < length site) ns i n index.stand inside) in
+    sym (slice_get_read site (length site) n t refl stands is)
+    ∙ ap (λ (m : ℕ). slice_get site m) at
+    ∙ found_thing site site ns segment i n index inside same
+    ∙ ap (λ (s : Site). thing_named segment s) whole_is
+
+pub thing_missing : (site shown whole : Site) (ns seen segment : List ℕ) (i : ℕ) → Indexes site ns site → site ≡ whole → shown ≡ site → seen ≡ ns → IsBetween shown segment seen i → None ≡ thing_named segment whole
+thing_missing site shown whole ns seen segment i index whole_is shown_is seen_is between =
+    missing_thing site site ns segment i index (subst (λ (ms : List ℕ). IsBetween site segment ms i) seen_is (subst (λ (s : Site). IsBetween s segment seen i) shown_is between))
+    ∙ ap (λ (s : Site). thing_named segment s) whole_is

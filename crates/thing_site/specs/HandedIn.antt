@@ -11,7 +11,7 @@ use Rattle.thing_site.specs.SiteCodes.{placed_code}
 use Rattle.thing_site.specs.declared.place.Act.{Act}
 use Rattle.thing_site.specs.declared.formats.AnswerFormat.{AnswerFormat}
 use Rattle.thing_site.specs.declared.formats.BodyFormat.{BodyFormat}
-use Rattle.thing_site.specs.Refusals.{Input, inputs_of, is_acceptable, HasOtherFormat, refusals_by_request, StandsByRequest, IsAnswer, IsFirst, IsNone}
+use Rattle.thing_site.specs.Refusals.{Input, inputs_of, is_acceptable, HasOtherFormat, SomeInput, IsLong, IsRefusedBySchema, refusals_by_request, StandsByRequest, IsAnswer, IsFirst, IsNone}
 
 -- ---- formats
 
@@ -30,6 +30,16 @@ AreFormatsRefused answer body q o =
 -- a body isn't as it should be, or it is out of memory
 abbrev pub HasNoInputs : Option (List Input) → Outcome → Type 0
 HasNoInputs expected o = (o ≡ outcome.Memory) ⊎ ((expected ≡ None) × (o ≡ outcome.BadValue))
+
+-- no value is too long, and none is refused by a schema
+abbrev pub AreInputsTaken : List Input → Type 0
+AreInputsTaken inputs = (¬ (SomeInput IsLong inputs)) × (¬ (SomeInput IsRefusedBySchema inputs))
+
+-- some value is too long, or else some is refused by a schema
+abbrev pub AreInputsRefused : List Input → Outcome → Type 0
+AreInputsRefused inputs o =
+    (SomeInput IsLong inputs × (o ≡ outcome.TooLarge))
+    ⊎ ((¬ (SomeInput IsLong inputs)) × SomeInput IsRefusedBySchema inputs × (o ≡ outcome.BadValue))
 
 -- a request hands this in to an act, and nothing that needs no state is against it
 abbrev pub IsUnrefused : Act → PlainRequest → List Input → Type 0

@@ -4,7 +4,6 @@ pub mod Fits
 pub mod Places
 pub mod Refusals
 pub mod Exposing
-pub mod Found
 pub mod HandedIn
 pub mod Order
 pub mod Index

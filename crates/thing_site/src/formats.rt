@@ -1,6 +1,6 @@
 //! The formats in which answers are sent and bodies are taken, and the refusals of a request for its formats.
 
-ghost use Rattle.std.specs.Prelude.{◌≡◌, ◌↔◌, IsTrue, OnOk, IfErr};
+ghost use Rattle.std.specs.Prelude.{◌≡◌, OnOk, IfErr};
 ghost use Rattle.thing_ops.specs.Requests.{plain_request};
 ghost use Rattle.thing_site.specs.Refusals as refusal;
 ghost use Rattle.thing_site.specs.HandedIn.{AreFormatsTaken, AreFormatsRefused};
@@ -43,7 +43,7 @@ pub fn judge_formats(
     if !is_acceptable(answer, request.accept) {
         return Err(Outcome::NotAcceptable);
     }
-    if has_other_format(body, request) {
+    if !request.body.is_empty() && !is_taken_format(body, request.format) {
         return Err(Outcome::Format);
     }
     Ok(())
@@ -58,16 +58,6 @@ fn is_acceptable(answer: AnswerFormat, accept: Accept) -> bool
         AnswerFormat::Json => accept.json,
         AnswerFormat::Description => accept.json || accept.td,
     }
-}
-
-/// The request has a body in a format that isn't taken.
-fn has_other_format(body: BodyFormat, request: &Request<'_>) -> bool
-    ensures { IsTrue result ↔ refusal.HasOtherFormat body (plain_request request.now) }
-{
-    if request.body.is_empty() {
-        return false;
-    }
-    !is_taken_format(body, request.format)
 }
 
 /// A body of this format is taken.

@@ -1,17 +1,19 @@
 //! A Thing as it is kept: its description, its affordances and their slots.
 
 use crate::Spot;
-use crate::site::{spot_at, spot_count, spot_named};
+use crate::site::{compare, spot_at, spot_count};
+use std::cmp::Ordering;
 use std::marker::Model;
 use wot_json::{Text, Tree};
-use wot_terms::{Description, Kind};
+use wot_terms::{Affordance, Description, Kind};
 
 /// A Thing with the slots of its handlers, one for each affordance, in the order of the affordances: in a list of their
 /// own, because `Description` hands out a slice alone. The description is a copy for the same reason. Contracts see its
 /// segment, its description, and its affordances with their slots.
 #[derive(Drop)]
 pub struct HeldThing {
-    segment: Text,
+    /// The segment with which its paths begin.
+    pub(crate) segment: Text,
     tree: Tree,
     affordances: Description,
     slots: Vec<u32>,
@@ -36,8 +38,10 @@ impl Model for HeldThing {
 
 impl HeldThing {
     ghost use Rattle.std.specs.Prelude.{◌≡◌, length, slice_get, true};
+    ghost use Rattle.std.specs.Cmp.Lexicographic.{slice_cmp};
+    ghost use Rattle.std.specs.Ordering.{nat_cmp};
     ghost use Rattle.wot_json.specs.Meaning.{json_of};
-    ghost use Rattle.thing_site.specs.Order.{are_rising};
+    ghost use Rattle.thing_site.specs.Order.{key, key_of, are_rising};
     ghost use Rattle.thing_site.specs.Site.{affordance_named};
     ghost use Rattle.thing_site.specs.Exposing.{placed_all};
 
@@ -52,13 +56,6 @@ impl HeldThing {
             affordances,
             slots,
         }
-    }
-
-    /// The segment with which its paths begin.
-    pub(crate) fn segment(&self) -> &str
-        ensures { result.now ≡ self.now.segment }
-    {
-        self.segment.as_str()
     }
 
     /// Its description.
@@ -86,12 +83,14 @@ impl HeldThing {
     pub fn affordance(&self, kind: Kind, name: &[u8]) -> Option<Spot<'_>>
         ensures { result ≡ affordance_named kind name.now self.now.affordances }
     {
-        spot_named(
-            self.affordances.affordances(),
-            self.slots.as_slice(),
-            kind,
-            name,
-        )
+        let affordances = self.affordances.affordances();
+        let order = |affordance: &Affordance| -> Ordering
+            ensures { result ≡ slice_cmp nat_cmp (key_of affordance.now) (key kind name.entry.now) }
+        { compare(affordance, kind, name) };
+        match affordances.binary_search_by(order) {
+            Ok(index) => spot_at(affordances, self.slots.as_slice(), index),
+            Err(_) => None,
+        }
     }
 }
 

@@ -1,6 +1,6 @@
 //! Things with an index, by which each is found by its segment.
 
-ghost use Rattle.std.specs.Prelude.{◌≡◌, ◌<◌, ◌+◌, [], length, take, option_map, slice_get, IfErr, IfOk, OnOk};
+ghost use Rattle.std.specs.Prelude.{◌≡◌, ◌<◌, ◌+◌, [], length, take, option_map, IfErr, IfOk, OnOk};
 ghost use Rattle.std.specs.List.{AllByRecursion};
 ghost use Rattle.std.specs.List.Sorted.{IsBinarySearchResult, IsSearchInRange};
 ghost use Rattle.wot_terms.specs.Faults.{IsValid};
@@ -77,22 +77,10 @@ impl IndexedThings {
     pub fn named(&self, segment: &[u8]) -> Option<&HeldThing>
         ensures { option_map (λ t. t.now) result ≡ thing_of segment.now self.now }
     {
-        thing_named(self.things.as_slice(), self.index.as_slice(), segment)
-    }
-}
-
-/// The Thing of this segment, by an index of the Things.
-fn thing_named<'a>(
-    things: &'a [HeldThing],
-    index: &[usize],
-    segment: &[u8],
-) -> Option<&'a HeldThing>
-    requires { Indexes things.now index.now things.now }
-    ensures { option_map (λ t. t.now) result ≡ thing_of segment.now things.now }
-{
-    match search(things, index, segment) {
-        Ok(place) => thing_at(things, index[place]),
-        Err(_) => None,
+        match search(self.things.as_slice(), self.index.as_slice(), segment) {
+            Ok(place) => Some(&self.things[self.index[place]]),
+            Err(_) => None,
+        }
     }
 }
 
@@ -107,19 +95,12 @@ fn search(things: &[HeldThing], index: &[usize], segment: &[u8]) -> Result<usize
     index.binary_search_by(order)
 }
 
-/// The Thing of this number.
-fn thing_at(things: &[HeldThing], number: usize) -> Option<&HeldThing>
-    ensures { option_map (λ t. t.now) result ≡ slice_get things.now number }
-{
-    things.get(number)
-}
-
 /// The segment of the Thing of this number.
 fn segment_at(things: &[HeldThing], number: usize) -> &[u8]
     ensures { result.now ≡ segment_in things.now number }
 {
-    match thing_at(things, number) {
-        Some(thing) => thing.segment().as_bytes(),
+    match things.get(number) {
+        Some(thing) => thing.segment.as_str().as_bytes(),
         None => &[],
     }
 }

@@ -8,9 +8,9 @@ use wot_json::{Bytes, Tree, text_of};
 /// A value of a request, with its text, and the affordance that it is for. Contracts see the affordance and the value.
 #[derive(Drop)]
 pub struct Input<'a> {
-    spot: Spot<'a>,
-    value: Tree,
-    text: Bytes,
+    pub(crate) spot: Spot<'a>,
+    pub(crate) value: Tree,
+    pub(crate) text: Bytes,
 }
 
 impl<'a> Model for Input<'a> {
@@ -40,27 +40,6 @@ impl<'a> Input<'a> {
     {
         let text = text_of(alloc, &value)?;
         Ok(Input { spot, value, text })
-    }
-
-    /// The affordance that it is for.
-    pub fn spot(&self) -> &Spot<'a>
-        ensures { result.now ≡ self.now.affordance }
-    {
-        &self.spot
-    }
-
-    /// The value.
-    pub fn value(&self) -> &Tree
-        ensures { json_of result.now ≡ self.now.value }
-    {
-        &self.value
-    }
-
-    /// The text of the value.
-    pub fn text(&self) -> &[u8]
-        ensures { result.now ≡ text_of_value self.now.value }
-    {
-        self.text.as_slice()
     }
 
     /// The affordance, the value and its text.

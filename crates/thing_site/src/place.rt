@@ -1,12 +1,11 @@
 //! What the path of a request leads to among Things, and which act its verb asks for there.
 
-ghost use Rattle.std.specs.Prelude.{◌≡◌, Some, None, MatchResult, option_and_then, option_map, slice_get};
+ghost use Rattle.std.specs.Prelude.{◌≡◌, Some, None, MatchResult};
 ghost use Rattle.thing_ops.specs.Routes.{route_of};
 ghost use Rattle.thing_ops.specs.Verbs.{verbs_in, verbs_of};
 ghost use Rattle.thing_site.specs.Places as spec;
-ghost use Rattle.thing_site.specs.Found.{kind_by, place_by, spot_by, thing_by};
 
-use crate::{HeldThing, IndexedThings, LentThing, Spot};
+use crate::{IndexedThings, LentThing, Spot};
 use thing_ops::{Allow, Flags, RouteKind, Segments, Verb, allowed, route};
 use wot_terms::Kind;
 
@@ -43,195 +42,42 @@ pub enum Act<'a> {
 }
 
 /// What a path leads to, where it leads anywhere: to an invocation of an action also where there is none of this id.
-#[tactic(auto, using(crate::proofs::PlaceLaws::place_by_parts))]
 pub fn place_at<'a>(things: &'a IndexedThings, path: &Segments) -> Option<Place<'a>>
     ensures { result ≡ spec.place_at (route_of path.now) path.now things.now }
 {
-    let route = route(path);
-    let thing = thing_at(things, path, route);
-    let spot = spot_at(things, path, route);
-    place_from(route, thing, spot)
-}
-
-/// What such a path leads to, to this Thing or this affordance.
-fn place_from<'a>(
-    route: RouteKind,
-    thing: Option<&'a HeldThing>,
-    spot: Option<Spot<'a>>,
-) -> Option<Place<'a>>
-    ensures { result ≡ place_by route (option_map (λ t. t.now) thing.entry) spot.entry }
-{
-    match route {
-        RouteKind::Root | RouteKind::Thing => description(thing),
-        RouteKind::All => all_properties(thing),
-        RouteKind::Property => property(spot),
-        RouteKind::Observe => observed(spot),
-        RouteKind::Subscribe => subscribed(spot),
-        RouteKind::Action => action(spot),
-        RouteKind::Invocation(id) => invocation(spot, id),
-        RouteKind::Event => event(spot),
+    match route(path) {
+        RouteKind::Root => Some(Place::Description(LentThing::of(things.as_slice().first()?))),
+        RouteKind::Thing => Some(Place::Description(LentThing::of(things.named(path.get(0)?)?))),
+        RouteKind::All => Some(Place::AllProperties(LentThing::of(things.named(path.get(0)?)?))),
+        RouteKind::Property => Some(Place::Property(affordance_in(things, path, Kind::Property)?)),
+        RouteKind::Observe => observed(affordance_in(things, path, Kind::Property)?),
+        RouteKind::Subscribe => Some(Place::Subscribed(affordance_in(things, path, Kind::Event)?)),
+        RouteKind::Action => Some(Place::Action(affordance_in(things, path, Kind::Action)?)),
+        RouteKind::Invocation(id) => Some(Place::Invocation(
+            affordance_in(things, path, Kind::Action)?,
+            id,
+        )),
+        RouteKind::Event => Some(Place::Event(affordance_in(things, path, Kind::Event)?)),
         RouteKind::Things | RouteKind::Entry | RouteKind::Nowhere => None,
     }
 }
 
-/// The Thing that a path of this form is about as a whole.
-fn thing_at<'a>(
-    things: &'a IndexedThings,
-    path: &Segments,
-    route: RouteKind,
-) -> Option<&'a HeldThing>
-    ensures { option_map (λ t. t.now) result ≡ thing_by route path.now things.now }
-{
-    match route {
-        RouteKind::Root => root_of(things.as_slice()),
-        RouteKind::Thing | RouteKind::All => thing_in(things, path),
-        _ => None,
-    }
-}
-
-/// The affordance that a path of this form is about.
-fn spot_at<'a>(things: &'a IndexedThings, path: &Segments, route: RouteKind) -> Option<Spot<'a>>
-    ensures { result ≡ spot_by route path.now things.now }
-{
-    match kind_at(route) {
-        Some(kind) => affordance_in(things, path, kind),
-        None => None,
-    }
-}
-
-/// The kind of the affordance that a path of this form is about.
-fn kind_at(route: RouteKind) -> Option<Kind>
-    ensures { result ≡ kind_by route }
-{
-    match route {
-        RouteKind::Property | RouteKind::Observe => Some(Kind::Property),
-        RouteKind::Action | RouteKind::Invocation(_) => Some(Kind::Action),
-        RouteKind::Subscribe | RouteKind::Event => Some(Kind::Event),
-        RouteKind::Root
-        | RouteKind::Thing
-        | RouteKind::All
-        | RouteKind::Things
-        | RouteKind::Entry
-        | RouteKind::Nowhere => None,
-    }
-}
-
-/// The root Thing.
-fn root_of(things: &[HeldThing]) -> Option<&HeldThing>
-    ensures { option_map (λ t. t.now) result ≡ slice_get things.now 0 }
-{
-    match things {
-        [] => None,
-        [root, ..] => Some(root),
-    }
-}
-
-/// The Thing that the first segment names.
-fn thing_in<'a>(things: &'a IndexedThings, path: &Segments) -> Option<&'a HeldThing>
-    ensures { option_map (λ t. t.now) result ≡ spec.thing_in path.now things.now }
-{
-    match path.get(0) {
-        Some(segment) => things.named(segment),
-        None => None,
-    }
-}
-
-/// Its affordance of this kind that the third segment names.
+/// The affordance of this kind that the third segment names, of the Thing that the first one names.
 fn affordance_in<'a>(things: &'a IndexedThings, path: &Segments, kind: Kind) -> Option<Spot<'a>>
     ensures { result ≡ spec.affordance_in kind path.now things.now }
 {
-    match thing_in(things, path) {
-        Some(thing) => match path.get(2) {
-            Some(name) => thing.affordance(kind, name),
-            None => None,
-        },
-        None => None,
-    }
-}
-
-/// The description of a Thing.
-fn description<'a>(thing: Option<&'a HeldThing>) -> Option<Place<'a>>
-    ensures { result ≡ option_map (λ t. Place.Description t.now) thing.entry }
-{
-    match thing {
-        Some(there) => Some(Place::Description(LentThing::of(there))),
-        None => None,
-    }
-}
-
-/// The properties of a Thing together.
-fn all_properties<'a>(thing: Option<&'a HeldThing>) -> Option<Place<'a>>
-    ensures { result ≡ option_map (λ t. Place.AllProperties t.now) thing.entry }
-{
-    match thing {
-        Some(there) => Some(Place::AllProperties(LentThing::of(there))),
-        None => None,
-    }
-}
-
-/// A property.
-fn property<'a>(spot: Option<Spot<'a>>) -> Option<Place<'a>>
-    ensures { result ≡ option_map Place.Property spot.entry }
-{
-    match spot {
-        Some(there) => Some(Place::Property(there)),
-        None => None,
-    }
-}
-
-/// Where an event is subscribed to.
-fn subscribed<'a>(spot: Option<Spot<'a>>) -> Option<Place<'a>>
-    ensures { result ≡ option_map Place.Subscribed spot.entry }
-{
-    match spot {
-        Some(there) => Some(Place::Subscribed(there)),
-        None => None,
-    }
-}
-
-/// An action.
-fn action<'a>(spot: Option<Spot<'a>>) -> Option<Place<'a>>
-    ensures { result ≡ option_map Place.Action spot.entry }
-{
-    match spot {
-        Some(there) => Some(Place::Action(there)),
-        None => None,
-    }
-}
-
-/// An event.
-fn event<'a>(spot: Option<Spot<'a>>) -> Option<Place<'a>>
-    ensures { result ≡ option_map Place.Event spot.entry }
-{
-    match spot {
-        Some(there) => Some(Place::Event(there)),
-        None => None,
-    }
+    let thing = things.named(path.get(0)?)?;
+    thing.affordance(kind, path.get(2)?)
 }
 
 /// Where a property is observed, if it is observable.
-fn observed<'a>(property: Option<Spot<'a>>) -> Option<Place<'a>>
-    ensures { result ≡ option_and_then spec.where_observable property.entry }
+fn observed<'a>(property: Spot<'a>) -> Option<Place<'a>>
+    ensures { result ≡ spec.where_observable property.entry }
 {
-    match property {
-        Some(spot) => {
-            if spot.affordance().observable {
-                Some(Place::Observed(spot))
-            } else {
-                None
-            }
-        }
-        None => None,
-    }
-}
-
-/// An invocation of an action.
-fn invocation<'a>(action: Option<Spot<'a>>, id: u32) -> Option<Place<'a>>
-    ensures { result ≡ option_map (λ p. Place.Invocation p id) action.entry }
-{
-    match action {
-        Some(there) => Some(Place::Invocation(there, id)),
-        None => None,
+    if property.affordance().observable {
+        Some(Place::Observed(property))
+    } else {
+        None
     }
 }
 

@@ -1,15 +1,15 @@
 //! Why a request is refused in every state of the Things.
 
-ghost use Rattle.std.specs.Prelude.{◌≡◌, ◌↔◌, ◌++◌, option_map, option_and_then, ◌⊎◌, Some, None, IfOk, IfErr, OnOk, IsTrue, false};
+ghost use Rattle.std.specs.Prelude.{◌≡◌, ◌↔◌, option_map, option_and_then, ◌⊎◌, Some, None, IfOk, IfErr, OnOk, IsTrue};
 ghost use Rattle.wot_json.specs.Reading.{tree_of};
 ghost use Rattle.wot_json.specs.Tree.{members_of};
 ghost use Rattle.wot_json.specs.Meaning.{json_of};
 ghost use Rattle.thing_ops.specs.Requests.{plain_request};
 ghost use Rattle.thing_site.specs.Refusals as refusal;
-ghost use Rattle.thing_site.specs.HandedIn.{HasNoInputs, IsRefusedByRequest, IsUnrefused};
+ghost use Rattle.thing_site.specs.HandedIn.{AreInputsTaken, AreInputsRefused, HasNoInputs, IsRefusedByRequest, IsUnrefused};
 
 use crate::formats::{AnswerFormat, BodyFormat, judge_formats};
-use crate::{Act, HeldThing, Input, NoMemory, Spot};
+use crate::{Act, HeldThing, Input, Spot};
 use std::alloc::Global;
 use thing_ops::{Outcome, Request};
 use wot_json::{Members, ReadFault, Tree, read};
@@ -30,40 +30,30 @@ pub fn judge<'a>(
     ensures ok { IfOk result (λ inputs. IsUnrefused act.now (plain_request request.now) inputs.items) }
     ensures fault { IfErr result (λ o. IsRefusedByRequest act.now (plain_request request.now) o) }
 {
-    judge_formats(answer_format(act), body_format(act), request)?;
+    let (answer, body) = formats_of(act);
+    judge_formats(answer, body, request)?;
     let inputs = inputs_of(alloc, act, request.body)?;
-    if is_any_long(inputs.as_slice()) {
-        return Err(Outcome::TooLarge);
-    }
-    if is_any_refused(inputs.as_slice()) {
-        return Err(Outcome::BadValue);
-    }
+    judge_inputs(inputs.as_slice())?;
     Ok(inputs)
 }
 
-/// What the answer of an act can be sent as.
-fn answer_format(act: &Act<'_>) -> AnswerFormat
-    ensures { result ≡ refusal.answer_format act.now }
+/// What the answer of an act can be sent as, and what its body is taken as.
+fn formats_of(act: &Act<'_>) -> (AnswerFormat, BodyFormat)
+    ensures answer { result.0 ≡ refusal.answer_format act.now }
+    ensures body { result.1 ≡ refusal.body_format act.now }
 {
     match act {
-        Act::Describes(_) => AnswerFormat::Description,
+        Act::Describes(_) => (AnswerFormat::Description, BodyFormat::Description),
         Act::ReadsAll(_)
         | Act::Reads(_)
         | Act::Invokes(_)
         | Act::Queries(_, _)
         | Act::ReadsEvent(_)
-        | Act::Waits(_) => AnswerFormat::Json,
-        Act::WritesMany(_) | Act::Writes(_) | Act::Cancels(_, _) => AnswerFormat::Any,
-    }
-}
-
-/// What the body of an act is taken as.
-fn body_format(act: &Act<'_>) -> BodyFormat
-    ensures { result ≡ refusal.body_format act.now }
-{
-    match act {
-        Act::Describes(_) => BodyFormat::Description,
-        _ => BodyFormat::Json,
+        | Act::Waits(_) => (AnswerFormat::Json, BodyFormat::Json),
+        Act::WritesMany(_) | Act::Writes(_) | Act::Cancels(_, _) => (
+            AnswerFormat::Any,
+            BodyFormat::Json,
+        ),
     }
 }
 
@@ -115,8 +105,8 @@ fn one_input<'a>(alloc: Global, spot: Spot<'a>, body: &[u8]) -> Result<Vec<Input
     ensures fault { IfErr result (λ o. HasNoInputs (option_map (refusal.only_input spot.entry) (tree_of body.now)) o) }
 {
     let value = value_in(alloc, body)?;
-    let mut inputs = Vec::new(alloc);
-    push_input(alloc, &mut inputs, spot, value)?;
+    let mut inputs = Vec::with_capacity(alloc, 1)?;
+    inputs.push_reserved(Input::of(alloc, spot, value)?);
     Ok(inputs)
 }
 
@@ -132,19 +122,6 @@ pub fn value_in(alloc: Global, body: &[u8]) -> Result<Tree, Outcome>
             Err(Outcome::BadValue)
         }
     }
-}
-
-/// Puts a value with its text at the end.
-fn push_input<'a>(
-    alloc: Global,
-    inputs: &mut Vec<Input<'a>>,
-    spot: Spot<'a>,
-    value: Tree,
-) -> Result<(), NoMemory>
-    ensures { OnOk result (inputs.new.items ≡ inputs.old.items ++ refusal.only_input spot.entry (json_of value)) }
-{
-    inputs.push(Input::of(alloc, spot, value)?)?;
-    Ok(())
 }
 
 /// The body is an object whose members name properties that may be written.
@@ -180,7 +157,8 @@ fn member_inputs<'a>(
             Some(spot) => spot,
             None => return Err(Outcome::BadValue),
         };
-        push_input(alloc, &mut inputs, spot, value)?;
+        inputs.reserve(1)?;
+        inputs.push_reserved(Input::of(alloc, spot, value)?);
     }
     Ok(inputs)
 }
@@ -201,28 +179,22 @@ fn writable<'a>(thing: &'a HeldThing, name: &[u8]) -> Option<Spot<'a>>
     }
 }
 
-/// Some value is longer than is taken.
-fn is_any_long(inputs: &[Input<'_>]) -> bool
-    ensures { IsTrue result ↔ refusal.SomeInput refusal.IsLong inputs.now }
+/// Judges what is handed in: no value is longer than is taken, and no schema refuses one.
+fn judge_inputs(inputs: &[Input<'_>]) -> Result<(), Outcome>
+    ensures ok { OnOk result (AreInputsTaken inputs.now) }
+    ensures fault { IfErr result (λ o. AreInputsRefused inputs.now o) }
 {
     for input in inputs {
-        if LONGEST_VALUE < input.text().len() {
-            return true;
+        if LONGEST_VALUE < input.text.len() {
+            return Err(Outcome::TooLarge);
         }
     }
-    false
-}
-
-/// A schema refuses some value.
-fn is_any_refused(inputs: &[Input<'_>]) -> bool
-    ensures { IsTrue result ↔ refusal.SomeInput refusal.IsRefusedBySchema inputs.now }
-{
     for input in inputs {
-        if !is_accepted(&input.spot().affordance().input, input.value()) {
-            return true;
+        if !is_accepted(&input.spot.affordance().input, &input.value) {
+            return Err(Outcome::BadValue);
         }
     }
-    false
+    Ok(())
 }
 
 /// The schema accepts the value, or there is none.

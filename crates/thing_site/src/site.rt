@@ -1,10 +1,10 @@
 //! What is constant in a run: the Things, their affordances and the slots of their handlers.
 
-ghost use Rattle.std.specs.Prelude.{◌≡◌, length, option_map, slice_get, true};
-ghost use Rattle.thing_site.specs.Site.{affordance_named, is_emitter as is_emitter_of, is_kind as is_kind_of};
+ghost use Rattle.std.specs.Prelude.{◌≡◌, length, slice_get};
+ghost use Rattle.thing_site.specs.Site.{is_emitter as is_emitter_of, is_kind as is_kind_of};
 ghost use Rattle.std.specs.Cmp.Lexicographic.{slice_cmp};
 ghost use Rattle.std.specs.Ordering.{nat_cmp};
-ghost use Rattle.thing_site.specs.Order.{key, key_of, rank as rank_of, are_rising};
+ghost use Rattle.thing_site.specs.Order.{key, key_of, rank as rank_of};
 ghost use Rattle.thing_site.specs.Exposing.{placed_all};
 
 use std::cmp::Ordering;
@@ -30,13 +30,6 @@ impl<'a> Model for Spot<'a> {
 }
 
 impl<'a> Spot<'a> {
-    /// An affordance with its slot.
-    pub fn of(affordance: &'a Affordance, slot: u32) -> Spot<'a>
-        ensures { result ≡ record { affordance = affordance.now; slot = slot } }
-    {
-        Spot { affordance, slot }
-    }
-
     /// The affordance.
     pub fn affordance(&self) -> &'a Affordance
         ensures { result.now ≡ self.now.affordance }
@@ -81,44 +74,19 @@ pub(crate) fn spot_at<'a>(
 ) -> Option<Spot<'a>>
     ensures { result ≡ slice_get (placed_all affordances.now slots.now) index }
 {
-    if index < affordances.len() {
-        spot_of(&affordances[index], slot_at(slots, index))
+    let count = affordances.len().min(slots.len());
+    if index < count {
+        Some(Spot {
+            affordance: &affordances[index],
+            slot: slots[index],
+        })
     } else {
         None
     }
 }
 
-/// The one of these affordances of this kind and name.
-pub(crate) fn spot_named<'a>(
-    affordances: &'a [Affordance],
-    slots: &[u32],
-    kind: Kind,
-    name: &[u8],
-) -> Option<Spot<'a>>
-    requires { are_rising affordances.now ≡ true }
-    ensures { result ≡ affordance_named kind name.now (placed_all affordances.now slots.now) }
-{
-    let order = |affordance: &Affordance| -> Ordering
-        ensures { result ≡ slice_cmp nat_cmp (key_of affordance.now) (key kind name.entry.now) }
-    { compare(affordance, kind, name) };
-    match affordances.binary_search_by(order) {
-        Ok(index) => spot_of(&affordances[index], slot_at(slots, index)),
-        Err(_) => None,
-    }
-}
-
-/// An affordance with its slot, where it has one.
-fn spot_of(affordance: &Affordance, slot: Option<u32>) -> Option<Spot<'_>>
-    ensures { result ≡ option_map (λ s. record { affordance = affordance.now; slot = s }) slot }
-{
-    match slot {
-        Some(slot) => Some(Spot::of(affordance, slot)),
-        None => None,
-    }
-}
-
 /// How an affordance compares to one of this kind and name, in the order in which a Thing keeps them.
-fn compare(affordance: &Affordance, kind: Kind, name: &[u8]) -> Ordering
+pub(crate) fn compare(affordance: &Affordance, kind: Kind, name: &[u8]) -> Ordering
     ensures { result ≡ slice_cmp nat_cmp (key_of affordance.now) (key kind name.now) }
 {
     match rank(affordance.kind).cmp(&rank(kind)) {
@@ -136,13 +104,6 @@ fn rank(kind: Kind) -> u8
         Kind::Action => 1,
         Kind::Event => 2,
     }
-}
-
-/// The slot with this number.
-fn slot_at(slots: &[u32], index: usize) -> Option<u32>
-    ensures { result ≡ slice_get slots.now index }
-{
-    slots.get(index).copied()
 }
 
 /// Both kinds are one.

@@ -20,10 +20,10 @@ use Rattle.http_bind.specs.declared.waits.Wait.{Wait}
 use Rattle.http_bind.specs.Slots.{Slots, HasRoom}
 use Rattle.servient_outside.specs.Network.{NetSeen}
 use Rattle.servient_core.specs.Trace.{Outside, outside, Shows}
-use Rattle.servient_core.specs.Machine.{State, Move, OnHttp, OnThing, Sends, acts_of_reply, RepliesToWait, AnswersWait, AnswersWaits, AnswersLateWait, MarksWatchers, Delivers, DeliversEach, PollsAndDelivers}
+use Rattle.servient_core.specs.Machine.{State, Move, OnHttp, OnThing, Sends, acts_of_reply, RepliesToWait, AnswersWait, AnswersLateWait, MarksWatchers, Delivers, DeliversEach, PollsAndDelivers}
 use Rattle.wot_registry.specs.Times.{last_moment}
 use Rattle.servient_core.specs.Serving.{StandsFor, IsReady}
-use Rattle.servient_core.specs.Keeping.{DoesQuietly, DoesMove, LeavesNoMore, OnlyDelivers, SendsToWait, PollsOne, polls, ends}
+use Rattle.servient_core.specs.Keeping.{DoesQuietly, DoesMove, LeavesNoMore, OnlyDelivers, SendsToWait, PollsOne, polls, ends, AnswersWaits}
 use Rattle.servient_core.specs.declared.layers.Layers.{Layers}
 use Rattle.servient_core.proofs.TraceLaws.{shows_in_order}
 use Rattle.servient_core.proofs.PartLaws.{refines_http, refines_coap, refines_thing, refines_from, passing_moves, then_moves, fits_after}

@@ -12,9 +12,9 @@ use Rattle.http_bind.specs.Slots.{Slots}
 use Rattle.servient_outside.specs.declared.net.Act.TheVariants as act
 use Rattle.servient_outside.specs.Network.{NetSeen, NetShows, did}
 use Rattle.servient_core.specs.Trace.{outside, Shows}
-use Rattle.servient_core.specs.Machine.{OnCoap, Does, SendsNotification, NothingIsDue, SendsNotifications, AnswersLateWaits, ClosesAllIdle, EndsEvent, notice_bytes}
+use Rattle.servient_core.specs.Machine.{OnCoap, Does, SendsNotification, NothingIsDue, SendsNotifications, EndsEvent, notice_bytes}
 use Rattle.servient_core.specs.Serving.{StandsFor, IsReady}
-use Rattle.servient_core.specs.Keeping.{DoesQuietly, LeavesNoMore}
+use Rattle.servient_core.specs.Keeping.{DoesQuietly, LeavesNoMore, AnswersLateWaits, ClosesAllIdle}
 use Rattle.servient_core.specs.declared.layers.Layers.{Layers}
 use Rattle.servient_core.proofs.PartLaws.{refines_coap, refines_act, passing_moves, then_moves}
 use Rattle.servient_core.proofs.LoopLaws.{Repeating, repeating_begins, repeating_more, repeating_ends, room_stays}

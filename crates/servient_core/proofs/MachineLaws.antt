@@ -23,7 +23,8 @@ use Rattle.servient_outside.proofs.NetLaws.{break_count-append}
 use Rattle.servient_core.specs.declared.serving.Served.{Served}
 use Rattle.servient_core.specs.declared.serving.Served.TheVariants as served
 use Rattle.servient_core.specs.Trace.{Sighting, at_network, at_handler, happened_in, calls_in, happening_in}
-use Rattle.servient_core.specs.Machine.{Site, State, Move, OnHttp, OnCoap, OnThing, Does, PerformsByHttp, AnswersDatagram, HearsDatagram, acts_of_reply, SendsIfAny, RepliesToWait, AnswersWait, AnswersLateWait, AnswersLateWaits, Delivers, DeliversEach, observed_target, AnswersTaken, TakesNextMessage, ClosesIdle, ClosesAllIdle, PollsAndDelivers, SendsNotification, NothingIsDue, SendsNotifications, EndsEvent, notice_bytes, Follows, Step, Run}
+use Rattle.servient_core.specs.Machine.{Site, State, Move, OnHttp, OnCoap, OnThing, Does, PerformsByHttp, AnswersDatagram, HearsDatagram, acts_of_reply, SendsIfAny, RepliesToWait, AnswersWait, AnswersLateWait, Delivers, DeliversEach, observed_target, AnswersTaken, TakesNextMessage, ClosesIdle, PollsAndDelivers, SendsNotification, NothingIsDue, SendsNotifications, EndsEvent, notice_bytes, Follows, Step, Run}
+use Rattle.servient_core.specs.Keeping.{AnswersLateWaits, ClosesAllIdle}
 use Rattle.http_bind.specs.Streams.{HttpReply, Streams, Taken, asks, wants_continue, is_faulty, interrupts, Opened, Ended, Lengthened, Takes, IsDry, Answers as AnswersRequest, Wakes, Continues, Refuses, Closes, oldest_for, oldest_late, IsIdle, NoneIdle}
 use Rattle.servient_core.specs.Serving.{Serves, BreaksAtEnd}
 use Rattle.servient_core.proofs.PartLaws.{nothing_happened, the_calls}
@@ -245,7 +246,7 @@ follows_keeps site (what.Datagram from size) bytes s seen t receives = receives_
 follows_keeps site what.Tick bytes s seen t each = each_keeps PollsAndDelivers (λ x a calls b m. polls_keeps x a calls b m) (events_of site) s seen t each
 follows_keeps site what.Stop bytes s seen t stays = stays_keeps s t seen stays.next stays.saw
 
-step_keeps : (site : Site) (e : EventWithBytes) (s : State) (seen : List Sighting) (t : State) → Step site e s seen t → Keeps [] s seen t
+pub step_keeps : (site : Site) (e : EventWithBytes) (s : State) (seen : List Sighting) (t : State) → Step site e s seen t → Keeps [] s seen t
 step_keeps site e s seen t step =
     let moved : State = record s { moment = max s.moment e.event.moment } in
     let k = then_keeps [] [] moved step.mid t step.first step.second seen (follows_keeps site e.event.what e.bytes moved step.first step.mid step.one)

@@ -11,13 +11,14 @@ use Rattle.servient_outside.specs.Network.{byte_count, in_buffer, Happening, Net
 use Rattle.servient_core.specs.declared.serving.Served.{Served}
 use Rattle.servient_core.specs.declared.serving.Served.TheVariants as served
 use Rattle.servient_core.specs.Trace.{at_network, Outside, outside, Shows}
-use Rattle.servient_core.specs.Machine.{Site, State, Comes, Step, EventAndStep, Run}
+use Rattle.servient_core.specs.Machine.{Site, State, Step, EventAndStep, Run}
+use Rattle.servient_core.specs.Keeping.{Comes}
 use Rattle.servient_core.specs.declared.layers.Layers.{Layers}
 use Rattle.servient_core.specs.Serving.{StandsFor, HasNoStop, AreTaken, Ends, Serves}
 use Rattle.servient_core.proofs.TraceLaws.{shows_in_order, shows_at_network}
 
 -- no event of all is a stop, where none so far and not the next is
-no_stop_more : (es : List EventWithBytes) (e : EventWithBytes) → HasNoStop es → e.event.what ≢ what.Stop → HasNoStop (es ++ e ∷ [])
+pub no_stop_more : (es : List EventWithBytes) (e : EventWithBytes) → HasNoStop es → e.event.what ≢ what.Stop → HasNoStop (es ++ e ∷ [])
 no_stop_more [] e all last = (last, tt)
 no_stop_more (x ∷ es) e all last = (all.0, no_stop_more es e all.1 last)
 

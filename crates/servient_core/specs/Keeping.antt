@@ -1,6 +1,6 @@
 -- What the functions over the layers of a servient say of one another.
-use Rattle.std.specs.Prelude.{◌≡◌, ◌⊎◌, ◌≤◌, ℕ, List, [], ◌∷◌, map, Bool, true, false, Option}
-use Rattle.servient_base.specs.Moves.{Makes, Refines}
+use Rattle.std.specs.Prelude.{◌≡◌, ◌⊎◌, ◌≤◌, ℕ, List, [], ◌∷◌, map, Bool, true, false, Option, None}
+use Rattle.servient_base.specs.Moves.{Becomes, Until, Makes, Refines}
 use Rattle.thing_ops.specs.declared.outcome.Outcome.{Outcome}
 use Rattle.thing_ops.specs.Outcomes.{HasCode}
 use Rattle.thing_ops.specs.Requests.{PlainRequest}
@@ -17,13 +17,34 @@ use Rattle.directory_requests.specs.Requests.{DirectoryActs}
 use Rattle.thing_core.specs.declared.polling.Round.{Round}
 use Rattle.thing_core.specs.Rounds.{events_left}
 use Rattle.coap_bind.specs.Laws.{HasShortPlace}
-use Rattle.http_bind.specs.Streams.{HttpReply, Wakes}
+use Rattle.http_bind.specs.Streams.{HttpReply, Wakes, oldest_for, oldest_late, NoneIdle}
 use Rattle.http_bind.specs.Slots.{Slots, Leads, left_at}
-use Rattle.servient_outside.specs.Network.{NetSeen, NetShows, did}
-use Rattle.servient_core.specs.Trace.{Outside, outside, Shows}
-use Rattle.servient_core.specs.Machine.{Move, PollsAndDelivers, acts_of_reply}
+use Rattle.servient_outside.specs.Network.{NetSeen, NetShows, heard, did}
+use Rattle.servient_outside.specs.declared.net.EventWithBytes.{EventWithBytes}
+use Rattle.servient_core.specs.Trace.{at_network, Outside, outside, Shows}
+use Rattle.servient_core.specs.Machine.{Move, AnswersWait, AnswersLateWait, ClosesIdle, PollsAndDelivers, acts_of_reply}
 use Rattle.servient_core.specs.Serving.{StandsFor, IsReady}
 use Rattle.servient_core.specs.declared.layers.Layers.{Layers}
+
+-- ---- moves of one function each
+
+-- all that wait for a target get its last value, the oldest first
+abbrev pub AnswersWaits : ℕ → Move
+AnswersWaits target = Until (AnswersWait target) (λ state. oldest_for target state.http.waits ≡ None)
+
+-- all that waited too long are answered
+abbrev pub AnswersLateWaits : Move
+AnswersLateWaits = Until AnswersLateWait (λ state. oldest_late state.moment state.http.waits ≡ None)
+
+-- all connections that are idle are closed
+abbrev pub ClosesAllIdle : Move
+ClosesAllIdle = Until ClosesIdle (λ state. NoneIdle state.moment state.http)
+
+-- an event comes
+abbrev pub Comes : EventWithBytes → Move
+Comes it before = Becomes before (at_network (heard it) ∷ [])
+
+-- ---- what they say
 
 -- Code makes this move, from every state that it stands for, and is ready for another.
 pub record DoesMove (move : Move) (old new : Layers) (before after : Outside) : Type 0 where

@@ -65,6 +65,7 @@ Move = State → List Sighting → State → Type 0
 -- the connections change, or the CoAP server does, at the machine's moment
 abbrev pub OnHttp : (ℕ → Streams → Streams → Type 0) → Move
 OnHttp Change before seen after = (changed : Streams) × Change before.moment before.http changed × Becomes (record before { http = changed }) [] seen after
+
 abbrev pub OnCoap : (ℕ → Server → Server → Type 0) → Move
 OnCoap Change before seen after = (changed : Server) × Change before.moment before.coap changed × Becomes (record before { coap = changed }) [] seen after
 
@@ -80,6 +81,7 @@ Does acts before = Becomes before (map (λ it. at_network (did it)) acts)
 -- a reply is one act, and one that closes is followed by the close
 abbrev pub acts_of_reply : ℕ → HttpReply → List Act
 acts_of_reply connection reply = act.Sent connection reply.bytes ∷ (if reply.closes then act.Closed connection ∷ [] else [])
+
 abbrev pub Sends : ℕ → HttpReply → Move
 Sends connection reply = Does (acts_of_reply connection reply)
 
@@ -97,8 +99,6 @@ RepliesToWait connection text = Passing (λ (reply : HttpReply). OnHttp (λ now.
 -- the oldest that waits for a target gets its last value
 abbrev pub AnswersWait : ℕ → Move
 AnswersWait target before seen after = (connection : ℕ) × (oldest_for target before.http.waits ≡ Some connection) × RepliesToWait connection (last_of target before.thing.last) before seen after
-abbrev pub AnswersWaits : ℕ → Move
-AnswersWaits target = Until (AnswersWait target) (λ state. oldest_for target state.http.waits ≡ None)
 
 -- the watchers of a target are to be notified
 abbrev pub MarksWatchers : ℕ → Move
@@ -106,7 +106,8 @@ MarksWatchers target = OnCoap (λ now before after. after ≡ with_emitted targe
 
 -- A target has a new value: all that wait for it get it, the oldest first, and its watchers are to be notified.
 abbrev pub Delivers : ℕ → Move
-Delivers target = Then (AnswersWaits target) (MarksWatchers target)
+Delivers target = Then (Until (AnswersWait target) (λ state. oldest_for target state.http.waits ≡ None)) (MarksWatchers target)
+
 -- what was emitted is delivered, in order
 abbrev pub DeliversEach : List Emission → Move
 DeliversEach emissions = Each Delivers (map (λ emission. emission.target) emissions)
@@ -169,9 +170,11 @@ AnswersTaken site connection interrupts before seen after = Does (act.Closed con
 -- something is taken from a connection, and answered
 abbrev pub TakesNextMessage : Site → ℕ → Move
 TakesNextMessage site connection = Passing (λ taken. OnHttp (λ now. Takes connection taken)) (AnswersTaken site connection)
+
 -- one after another is, until nothing is left to take
 abbrev pub TakesEveryMessage : Site → ℕ → Move
 TakesEveryMessage site connection = Until (TakesNextMessage site connection) (λ state. IsDry connection state.http)
+
 -- bytes come, and the messages that are whole now are taken
 abbrev pub HearsPiece : Site → ℕ → List ℕ → Move
 HearsPiece site connection bytes = Then (OnHttp (Lengthened connection bytes)) (TakesEveryMessage site connection)
@@ -186,9 +189,11 @@ notice_bytes notice thing = spelling (notification notice (unwrap_or (last_of no
 abbrev pub SendsNotification : Move
 SendsNotification before =
     Passing (λ notice. OnCoap (λ now. SendsNext now (Some notice))) (λ notice. Does (act.Datagram notice.to (notice_bytes notice before.thing) ∷ [])) before
+
 -- nothing is to be sent
 abbrev pub NothingIsDue : State → Type 0
 NothingIsDue state = (changed : Server) × SendsNext state.moment None state.coap changed
+
 -- one after another, until nothing is to be sent; watchers that are given up are gone then
 abbrev pub SendsNotifications : Move
 SendsNotifications = Then (Until SendsNotification NothingIsDue) (OnCoap (λ now. SendsNext now None))
@@ -196,18 +201,15 @@ SendsNotifications = Then (Until SendsNotification NothingIsDue) (OnCoap (λ now
 -- the oldest that waited too long is told that nothing came
 abbrev pub AnswersLateWait : Move
 AnswersLateWait before seen after = (connection : ℕ) × (oldest_late before.moment before.http.waits ≡ Some connection) × RepliesToWait connection None before seen after
-abbrev pub AnswersLateWaits : Move
-AnswersLateWaits = Until AnswersLateWait (λ state. oldest_late state.moment state.http.waits ≡ None)
 
--- an idle connection is closed: the lowest first, until none is idle
+-- the lowest connection that is idle is closed
 abbrev pub ClosesIdle : Move
 ClosesIdle = Passing (λ lowest. OnHttp (λ now before after. IsIdle lowest now before × Closes lowest before after)) (λ lowest. Does (act.Closed lowest ∷ []))
-abbrev pub ClosesAllIdle : Move
-ClosesAllIdle = Until ClosesIdle (λ state. NoneIdle state.moment state.http)
 
--- Notifications go out, then requests that waited too long are answered, and then idle connections are closed.
+-- Notifications go out, then requests that waited too long are answered until none is late, the oldest first, and then
+-- connections are closed until none is idle.
 abbrev pub EndsEvent : Move
-EndsEvent = Then SendsNotifications (Then AnswersLateWaits ClosesAllIdle)
+EndsEvent = Then SendsNotifications (Then (Until AnswersLateWait (λ state. oldest_late state.moment state.http.waits ≡ None)) (Until ClosesIdle (λ state. NoneIdle state.moment state.http)))
 
 -- ---- events
 
@@ -230,10 +232,8 @@ abbrev pub Step : Site → EventWithBytes → Move
 Step site it before = Then (Follows site it.event.what it.bytes) EndsEvent (record before { moment = max before.moment it.event.moment })
 
 -- an event comes, and then the step on it is made, before another event comes
-abbrev pub Comes : EventWithBytes → Move
-Comes it before = Becomes before (at_network (heard it) ∷ [])
 abbrev pub EventAndStep : Site → EventWithBytes → Move
-EventAndStep site it = Then (Comes it) (Step site it)
+EventAndStep site it = Then (λ before. Becomes before (at_network (heard it) ∷ [])) (Step site it)
 
 -- A run: one event after another is taken.
 abbrev pub Run : Site → List EventWithBytes → Move

@@ -5,9 +5,9 @@ ghost use Rattle.std.specs.Prelude.{◌≡◌, ◌≤◌, ◌∷◌, []};
 ghost use Rattle.coap_observe.specs.Watching.{IsSendable};
 ghost use Rattle.servient_outside.specs.Network.{NetShows, did};
 ghost use Rattle.servient_outside.specs.declared.net.Act.TheVariants as act;
-ghost use Rattle.servient_core.specs.Machine.{SendsNotifications, AnswersLateWaits, ClosesAllIdle, EndsEvent, notice_bytes};
+ghost use Rattle.servient_core.specs.Machine.{SendsNotifications, EndsEvent, notice_bytes};
 ghost use Rattle.servient_core.specs.Serving.{IsReady};
-ghost use Rattle.servient_core.specs.Keeping.{DoesQuietly, LeavesNoMore};
+ghost use Rattle.servient_core.specs.Keeping.{DoesQuietly, LeavesNoMore, AnswersLateWaits, ClosesAllIdle};
 
 use crate::Net;
 use crate::connections::ReplyRoom;

@@ -17,9 +17,9 @@ use Rattle.thing_core.specs.State.{State as ThingState, Emission, last_of}
 use Rattle.thing_core.specs.Thing.{Done}
 use Rattle.servient_outside.specs.declared.net.What.{What}
 use Rattle.servient_outside.specs.declared.net.What.TheVariants as what
-use Rattle.servient_core.specs.Keeping.{IsSendable}
+use Rattle.servient_core.specs.Keeping.{IsSendable, AnswersLateWaits, ClosesAllIdle}
 use Rattle.servient_core.specs.Trace.{Sighting}
-use Rattle.servient_core.specs.Machine.{Site, State, Move, SendsIfAny, RepliesToWait, AnswersWait, AnswersLateWait, AnswersLateWaits, Delivers, DeliversEach, observed_target, PerformsByHttp, AnswersDatagram, HearsDatagram, AnswersTaken, TakesNextMessage, ClosesIdle, ClosesAllIdle, PollsAndDelivers, Follows}
+use Rattle.servient_core.specs.Machine.{Site, State, Move, SendsIfAny, RepliesToWait, AnswersWait, AnswersLateWait, Delivers, DeliversEach, observed_target, PerformsByHttp, AnswersDatagram, HearsDatagram, AnswersTaken, TakesNextMessage, ClosesIdle, PollsAndDelivers, Follows}
 use Rattle.servient_core.proofs.OutcomeLaws.{acts_sendable}
 use Rattle.servient_core.proofs.PathLaws.{asked_short}
 use Rattle.servient_world.specs.World.{Receives, too_long, treated}

@@ -13,7 +13,8 @@ use Rattle.servient_outside.specs.declared.net.Act.{Act}
 use Rattle.servient_outside.specs.declared.net.Act.TheVariants as act
 use Rattle.servient_outside.specs.Network.{did}
 use Rattle.servient_core.specs.Trace.{Sighting, at_network}
-use Rattle.servient_core.specs.Machine.{State, OnHttp, OnCoap, Does, acts_of_reply, Sends, SendsIfAny, RepliesToWait, AnswersWait, AnswersWaits, MarksWatchers, Delivers, DeliversEach, ClosesIdle, ClosesAllIdle, notice_bytes, SendsNotification, NothingIsDue, SendsNotifications, AnswersLateWait, AnswersLateWaits, EndsEvent}
+use Rattle.servient_core.specs.Machine.{State, OnHttp, OnCoap, Does, acts_of_reply, Sends, SendsIfAny, RepliesToWait, AnswersWait, MarksWatchers, Delivers, DeliversEach, ClosesIdle, notice_bytes, SendsNotification, NothingIsDue, SendsNotifications, AnswersLateWait, EndsEvent}
+use Rattle.servient_core.specs.Keeping.{AnswersWaits, ClosesAllIdle, AnswersLateWaits}
 use Rattle.servient_laws.proofs.AlikeStates.{Alike, SameServer, Agree, AgreeAs, coap_changed, becomes_agree, joined, then_agree, each_agree, until_agree, passing_same, on_http, coap_agree}
 use Rattle.servient_laws.proofs.AlikeStreams.{woken_once, none_idle}
 use Rattle.servient_laws.proofs.AlikeWatchers.{SameNotices, same_emitted, same_next, same_bytes}

@@ -35,7 +35,8 @@ use Rattle.servient_outside.specs.declared.net.Act.{Act}
 use Rattle.servient_outside.specs.declared.net.Act.TheVariants as act
 use Rattle.servient_outside.specs.Network.{heard, did}
 use Rattle.servient_core.specs.Trace.{Sighting, at_network}
-use Rattle.servient_core.specs.Machine.{Site, State, start, OnHttp, OnCoap, Does, Sends, SendsIfAny, PerformsByHttp, observed_target, AnswersAsk, AnswersDatagram, HearsDatagram, AnswersMessage, AnswersTaken, TakesNextMessage, TakesEveryMessage, HearsPiece, PollsAndDelivers, DeliversEach, EndsEvent, Follows, Step, Comes, EventAndStep}
+use Rattle.servient_core.specs.Machine.{Site, State, start, OnHttp, OnCoap, Does, Sends, SendsIfAny, PerformsByHttp, observed_target, AnswersAsk, AnswersDatagram, HearsDatagram, AnswersMessage, AnswersTaken, TakesNextMessage, TakesEveryMessage, HearsPiece, PollsAndDelivers, DeliversEach, EndsEvent, Follows, Step, EventAndStep}
+use Rattle.servient_core.specs.Keeping.{Comes}
 use Rattle.servient_laws.specs.Determined.{TellsOfMemory, by_coap, by_http, HadMemory, Fits, RunsAreDetermined}
 use Rattle.servient_laws.proofs.AlikeStates.{Alike, Agree, AgreeAs, alike_self, coap_changed, fits_first, fits_rest, becomes_agree, joined, then_agree, each_agree, until_agree, passing_agree, passing_same, on_http, http_agree}
 use Rattle.servient_laws.proofs.AlikeServers.{SameAsk, SameHeard, IsAmple, same_hearing}

@@ -52,7 +52,9 @@ impl Server {
             observe,
             blocks: &pending.blocks,
         };
-        self.reply(pending, said, out)
+        let size = put_outcome(said, pending, self.next_id, out);
+        self.note_sent(pending, &out[..size]);
+        size
     }
 
     /// Keeps the payload of what was asked for the requests for its later blocks, where it has any.
@@ -95,25 +97,6 @@ impl Server {
                 sequence_of(self.watchers.register(pending.from, token, target))
             }
         }
-    }
-
-    /// Replies to a request, and returns how many bytes to send.
-    pub fn reply(
-        &mut self,
-        pending: &PendingReply,
-        said: Said<'_>,
-        out: &mut [u8; LONGEST_MESSAGE],
-    ) -> usize
-        requires slot { IsAwaited pending.now.slot self.old.exchanges }
-        requires code { HasCode said.outcome.now }
-        requires blocks { IsUse said.blocks.now }
-        requires short { (said.observe ≡ None) ⊎ (length (payload_of said.outcome.now) ≤ LONGEST_PAYLOAD) }
-        requires room { length (spelling (coap_reply (observed said.observe (answer_reply said.blocks.now said.outcome.now)) (head_in pending.now) self.old.next_id)) ≤ LONGEST_MESSAGE }
-        ensures { RepliesAs (observed said.entry.observe (answer_reply said.entry.blocks.now said.entry.outcome.now)) pending.now result out.old out.new self.old self.new }
-    {
-        let size = put_outcome(said, pending, self.next_id, out);
-        self.note_sent(pending, &out[..size]);
-        size
     }
 
     /// Answers a request that was admitted with a word, and returns how many bytes to send.

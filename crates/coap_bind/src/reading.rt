@@ -8,12 +8,12 @@ use crate::observing::{Observing, observing_of};
 use crate::pending::PendingReply;
 use crate::portion::portion_at;
 use crate::server::Server;
-use crate::writing::{CONTENT, Said, Told, put_told, put_word};
+use crate::writing::{CONTENT, Told, put_told, put_word};
 use coap_blocks::Whole;
-use coap_msg::{Block, GET, LONGEST_MESSAGE, Message, PROXYING_NOT_SUPPORTED};
+use coap_msg::{Block, GET, LONGEST_MESSAGE, Message, PROXYING_NOT_SUPPORTED, SERVICE_UNAVAILABLE};
 use coap_opts::{AskFault, CoapAsk, request_of};
 use std::alloc::Global;
-use thing_ops::{NoMemory, Outcome, Segments};
+use thing_ops::{NoMemory, Segments};
 
 impl Server {
     ghost use Rattle.std.specs.Prelude.{◌≡◌, ◌<◌, ◌≤◌, ◌/◌, ◌⊎◌, true, false, length, option_map, slice_get, IfSome, Some};
@@ -121,12 +121,7 @@ impl Server {
         requires slot { IsAwaited pending.now.slot self.old.exchanges }
         ensures { RepliesAs (reply_of Memory) pending.now result out.old out.new self.old self.new }
     {
-        let said = Said {
-            outcome: &Outcome::Memory,
-            observe: None,
-            blocks: &BlockUse::Whole,
-        };
-        self.reply(pending, said, out)
+        self.refuse(pending, SERVICE_UNAVAILABLE, b"memory", out)
     }
 
     /// Asks a request that wants an act, unless it is for the links.

@@ -9,7 +9,7 @@ use crate::AskFault;
 use crate::conditions::read_conditions;
 use crate::found::{Found, note_all, refusal};
 use crate::known::{ACCEPT, CONTENT_FORMAT, OBSERVE};
-use crate::values::{block_under, numeric};
+use crate::values::{block_of, numeric};
 use coap_msg::{Block, DELETE, GET, JSON, Message, POST, PUT, TD_JSON};
 use std::alloc::Global;
 use thing_ops::{Accept, Format, Request, Segments, Verb};
@@ -71,8 +71,8 @@ pub fn request_of<'a>(alloc: Global, message: &Message<'a>) -> Result<CoapAsk<'a
     Ok(CoapAsk {
         request,
         observe,
-        block1: block_under(found.block1),
-        block2: block_under(found.block2),
+        block1: found.block1.and_then(block_of),
+        block2: found.block2.and_then(block_of),
     })
 }
 

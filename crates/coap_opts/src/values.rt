@@ -25,19 +25,8 @@ pub fn numeric(row: Known, value: Option<&[u8]>) -> Option<u32>
     }
 }
 
-/// The block that the first value of a Block option says, if it is there.
-pub fn block_under(value: Option<&[u8]>) -> Option<Block>
-    ensures ok { result ≡ option_and_then block_of (option_map (λ v. v.now) value.entry) }
-    ensures block { IfSome result IsBlock }
-{
-    match value {
-        Some(value) => block_of(value),
-        None => None,
-    }
-}
-
 /// The block that a value says.
-fn block_of(value: &[u8]) -> Option<Block>
+pub fn block_of(value: &[u8]) -> Option<Block>
     ensures ok { result ≡ block_of value.now }
     ensures block { IfSome result IsBlock }
 {

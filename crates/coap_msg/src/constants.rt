@@ -65,34 +65,55 @@ pub const PROXY_URI: u16 = 35;
 /// The scheme of the URI that a proxy is asked for.
 pub const PROXY_SCHEME: u16 = 39;
 
-// ---- codes (RFC 7252, section 12.1): the class in the upper three bits, the detail in the lower five
+// ---- codes (RFC 7252, section 12.1; RFC 7959, section 2.9)
+
+/// The code of a message: the class in the upper three bits, the detail in the lower five.
+pub type Code = u8;
 
 /// 0.00, that of an empty message.
-pub const EMPTY: u8 = 0;
+pub const EMPTY: Code = 0;
 
 /// 0.01.
-pub const GET: u8 = 1;
+pub const GET: Code = 1;
 
 /// 0.02.
-pub const POST: u8 = 2;
+pub const POST: Code = 2;
 
 /// 0.03.
-pub const PUT: u8 = 3;
+pub const PUT: Code = 3;
 
 /// 0.04.
-pub const DELETE: u8 = 4;
+pub const DELETE: Code = 4;
+
+/// 2.05.
+pub const CONTENT: Code = 32 * 2 + 5;
+
+/// 2.31, that the other blocks of a request are to come.
+pub const CONTINUE: Code = 32 * 2 + 31;
+
+/// 4.00.
+pub const BAD_REQUEST: Code = 32 * 4;
 
 /// 4.02.
-pub const BAD_OPTION: u8 = 32 * 4 + 2;
+pub const BAD_OPTION: Code = 32 * 4 + 2;
+
+/// 4.05.
+pub const METHOD_NOT_ALLOWED: Code = 32 * 4 + 5;
+
+/// 4.08, that blocks of a request before one are missing.
+pub const REQUEST_ENTITY_INCOMPLETE: Code = 32 * 4 + 8;
+
+/// 4.13.
+pub const REQUEST_ENTITY_TOO_LARGE: Code = 32 * 4 + 13;
 
 /// 5.00.
-pub const INTERNAL_SERVER_ERROR: u8 = 32 * 5;
+pub const INTERNAL_SERVER_ERROR: Code = 32 * 5;
 
 /// 5.03.
-pub const SERVICE_UNAVAILABLE: u8 = 32 * 5 + 3;
+pub const SERVICE_UNAVAILABLE: Code = 32 * 5 + 3;
 
 /// 5.05.
-pub const PROXYING_NOT_SUPPORTED: u8 = 32 * 5 + 5;
+pub const PROXYING_NOT_SUPPORTED: Code = 32 * 5 + 5;
 
 // ---- content formats (RFC 7252, section 12.3)
 

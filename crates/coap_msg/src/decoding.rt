@@ -58,17 +58,10 @@ fn check_header(header: &Header, rest: &[u8]) -> Result<(), MsgFault>
     if header.code == EMPTY && !rest.is_empty() {
         return Err(MsgFault::EmptyCode);
     }
-    if !is_class(header.code / 32) {
+    if !matches!(header.code / 32, 0 | 2 | 4 | 5) {
         return Err(MsgFault::Class);
     }
     Ok(())
-}
-
-/// Whether a class is not reserved (RFC 7252, section 12.1).
-fn is_class(class: u8) -> bool
-    ensures { IsTrue result ↔ IsClass class }
-{
-    matches!(class, 0 | 2 | 4 | 5)
 }
 
 /// The options and the payload in the bytes after the token.
@@ -85,7 +78,12 @@ fn split_body(body: &[u8]) -> Result<(Options<'_>, &[u8]), MsgFault>
             if after.is_empty() {
                 return Err(MsgFault::NoPayload);
             }
-            return Ok((Options::of(&body[..body.len() - rest.len()]), after));
+            return Ok((
+                Options {
+                    bytes: &body[..body.len() - rest.len()],
+                },
+                after,
+            ));
         }
         let Some((number, _, next)) = take_option(last, rest) else {
             return Err(option_fault(last, *first, after));
@@ -93,7 +91,7 @@ fn split_body(body: &[u8]) -> Result<(Options<'_>, &[u8]), MsgFault>
         last = number;
         rest = next;
     }
-    Ok((Options::of(body), rest))
+    Ok((Options { bytes: body }, rest))
 }
 
 /// What is wrong with the bytes after an option of the number `last`, which begin with no option that may be there.

@@ -7,7 +7,7 @@ ghost use Rattle.coap_msg.specs.PlainMessage.{plain_message};
 ghost use Rattle.coap_msg.specs.declared.constants.TheConstants.{LONGEST_TOKEN};
 
 use crate::message::PAYLOAD_MARKER;
-use crate::{NoRoom, Opts, Type4};
+use crate::{Code, NoRoom, Opts, Type4};
 use servient_base::put_bytes;
 
 /// A message to write.
@@ -16,7 +16,7 @@ pub struct Plain<'a> {
     /// Whether it is confirmable, non-confirmable, an acknowledgement or a reset.
     pub kind: Type4,
     /// The code: class in the upper three bits, detail in the lower five.
-    pub code: u8,
+    pub code: Code,
     /// The message ID.
     pub id: u16,
     /// The token.
@@ -59,19 +59,11 @@ fn spelled_length(message: &Plain<'_>) -> u128
 {
     4 + message.token.len() as u128
         + message.options.as_bytes().len() as u128
-        + payload_length(message.payload)
-}
-
-/// How many bytes a payload has with its marker.
-fn payload_length(payload: &[u8]) -> u128
-    ensures ok { result ≡ length (payload_spelling payload.now) }
-    ensures bound { result ≤ length payload.now + 1 }
-{
-    if payload.is_empty() {
-        0
-    } else {
-        1 + payload.len() as u128
-    }
+        + if message.payload.is_empty() {
+            0
+        } else {
+            1 + message.payload.len() as u128
+        }
 }
 
 /// The four bytes of a header.

@@ -3,7 +3,7 @@
 ghost use Rattle.std.specs.Prelude.{◌<◌, length, IfSome, IfNone};
 ghost use Rattle.coap_msg.specs.Headers.{SpellsHeader};
 
-use crate::Type4;
+use crate::{Code, Type4};
 
 /// The fields of a header.
 #[derive(Clone, Copy)]
@@ -15,7 +15,7 @@ pub struct Header {
     /// How many bytes the token has; 9 to 15 are reserved.
     pub token_length: u8,
     /// The code.
-    pub code: u8,
+    pub code: Code,
     /// The message ID.
     pub id: u16,
 }

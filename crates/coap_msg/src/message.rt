@@ -1,6 +1,6 @@
 //! A CoAP message over the bytes that it was read from.
 
-use crate::Options;
+use crate::{Code, Options};
 use thiserror::Error;
 
 /// The byte between the options and the payload (RFC 7252, section 3).
@@ -113,7 +113,7 @@ pub struct Message<'a> {
     /// Whether it is confirmable, non-confirmable, an acknowledgement or a reset.
     pub kind: Type4,
     /// The code: class in the upper three bits, detail in the lower five.
-    pub code: u8,
+    pub code: Code,
     /// The message ID.
     pub id: u16,
     /// The token, of at most 8 bytes.

@@ -10,7 +10,7 @@ use std::marker::Model;
 /// The options of a message, seen as the list of their numbers and values.
 #[derive(Drop)]
 pub struct Options<'a> {
-    bytes: &'a [u8],
+    pub(crate) bytes: &'a [u8],
 }
 
 impl<'a> Model for Options<'a> {
@@ -24,13 +24,6 @@ impl<'a> Model for Options<'a> {
 }
 
 impl<'a> Options<'a> {
-    /// The options that these bytes spell.
-    pub(crate) fn of(bytes: &'a [u8]) -> Options<'a>
-        ensures { result ≡ options_of bytes.now }
-    {
-        Options { bytes }
-    }
-
     /// The bytes that spell the options.
     pub fn as_bytes(&self) -> &'a [u8]
         ensures { options_of result.now ≡ self.now }

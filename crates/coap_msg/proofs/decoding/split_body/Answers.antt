@@ -17,11 +17,11 @@ returns-then-first-clause-ok c =
     let bytes : length c.in-Some.after.now ≡ 0 → ⊥ = grind (arith, nat_tests) in
     let payload : c.options.rest.now ≡ payload_spelling c.in-Some.after.now =
     marker_and_bytes c.in-Some.first.now c.options.rest.now c.in-Some.after.now c.in-Some.ensures.cases.0 c.if-first.true bytes in
-    rw c.of.ensures (at_payload c.args.body.now c.options.last c.options.rest.now c.in-Some.after.now _ c.options.invariant payload refl)
+    at_payload c.args.body.now c.options.last c.options.rest.now c.in-Some.after.now _ c.options.invariant payload refl
 
 pub returns-then-first-clause-complete : goal.returns-then-first-clause-complete
 returns-then-first-clause-complete c options payload spells =
-    one_body c.of.result options c.in-Some.after.now payload c.args.body.now (returns-then-first-clause-ok c) spells
+    one_body _ options c.in-Some.after.now payload c.args.body.now (returns-then-first-clause-ok c) spells
 
 pub returns-in_default-take_option-clause-complete : goal.returns-in_default-take_option-clause-complete
 returns-in_default-take_option-clause-complete c =
@@ -43,11 +43,11 @@ options-smaller c =
 
 pub returns-clause-ok : goal.returns-clause-ok
 returns-clause-ok c =
-    rw c.of-2.ensures (at_end c.args.body.now c.options.last c.options.rest.now c.options.invariant c.in_default.ensures.cases)
+    at_end c.args.body.now c.options.last c.options.rest.now c.options.invariant c.in_default.ensures.cases
 
 pub returns-clause-complete : goal.returns-clause-complete
 returns-clause-complete c options payload spells =
-    one_body c.of-2.result options c.options.rest.now payload c.args.body.now (returns-clause-ok c) spells
+    one_body _ options c.options.rest.now payload c.args.body.now (returns-clause-ok c) spells
 
 pub returns-in_default-take_option-clause-fault : goal.returns-in_default-take_option-clause-fault
 returns-in_default-take_option-clause-fault c =

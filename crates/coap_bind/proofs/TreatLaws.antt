@@ -1,5 +1,6 @@
 -- What a request wants, and what comes of it.
-use Rattle.std.proofs.Common.{◌≡◌, ◌≤◌, ◌<◌, ◌∙◌, ℕ, Bool, true, false, List, [], length, remove, slice_get, Option, Some, None, Result, Ok, Err, refl, ap, sym, subst}
+use Rattle.std.proofs.lemmas.Bool.Decides.{nat_tests}
+use Rattle.std.proofs.Common.{arith, ◌≡◌, ◌≢◌, ◌≤◌, ◌<◌, ◌∙◌, ℕ, Bool, true, false, List, [], length, remove, slice_get, Option, Some, None, Result, Ok, Err, refl, ap, sym, subst}
 use Rattle.std.specs.Prelude.{◌==◌, ◌||◌, option_map, IfSome, if◌then◌else◌}
 use Rattle.coap_msg.specs.declared.block.Block.{Block}
 use Rattle.coap_msg.specs.declared.constants.TheConstants.{GET, POST, PUT}
@@ -288,3 +289,17 @@ use_fits now code o a h short = by_test (code == GET)
 -- what is open may be answered
 pub open_ticket : (ticket other : PendingReply) (t : Server) → ticket ≡ other → IsAwaited other.slot t.exchanges → length other.token ≤ 8 → IsUse other.blocks → MayAnswer ticket t
 open_ticket ticket other t same awaited token fits = subst (λ (a : PendingReply). MayAnswer a t) (sym same) (record { awaited = awaited; token = token; blocks = fits })
+
+-- ---- what blocks are to the reply to an act
+
+pub whole_use : (now code : ℕ) (o : Observing) (a : PlainAsk) → code ≢ GET → use_of_blocks.Whole ≡ use_of now code o a
+whole_use now code o a other =
+    let t : (code == GET) ≡ false = grind (arith, nat_tests) in
+    ap (λ (b : Bool). if b then use_of_blocks.Gives (record { path = a.request.path; szx = size_asked o a; moment = now }) else use_of_blocks.Whole) (sym t)
+
+pub gives_use : (now code : ℕ) (o : Observing) (a : PlainAsk) (path : List (List ℕ)) (szx : Option ℕ) → code ≡ GET → path ≡ a.request.path → szx ≡ size_asked o a
+    → use_of_blocks.Gives (record { path = path; szx = szx; moment = now }) ≡ use_of now code o a
+gives_use now code o a path szx get path_is szx_is =
+    let t : (code == GET) ≡ true = grind (arith, nat_tests) in
+    (λ i. use_of_blocks.Gives (record { path = path_is i; szx = szx_is i; moment = now }))
+    ∙ ap (λ (b : Bool). if b then use_of_blocks.Gives (record { path = a.request.path; szx = size_asked o a; moment = now }) else use_of_blocks.Whole) (sym t)

@@ -75,15 +75,18 @@ reply_of o = if nat_lt LONGEST_PAYLOAD (length (payload_of o)) then long_reply e
 
 -- ---- ETag and Observe
 
+-- the option of this number with this value, if there is a value
+abbrev pub optional : ℕ → Option ℕ → List CoapOption
+optional number None = []
+optional number (Some value) = (number, number_bytes value) ∷ []
+
 -- ETag, where there is a version: the number of the version is its tag (section 5.10.6.1)
 abbrev pub etag_options : Option ℕ → List CoapOption
-etag_options None = []
-etag_options (Some version) = (ETAG, number_bytes version) ∷ []
+etag_options version = optional ETAG version
 
 -- Observe, where a sequence number is said (RFC 7641, section 2)
 abbrev pub observe_options : Option ℕ → List CoapOption
-observe_options None = []
-observe_options (Some n) = (OBSERVE, number_bytes n) ∷ []
+observe_options sequence = optional OBSERVE sequence
 
 -- all options of a reply, in order of their numbers
 abbrev pub reply_options : Reply → List CoapOption

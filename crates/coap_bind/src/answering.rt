@@ -2,12 +2,12 @@
 
 use crate::blocks::{BlockUse, Giving};
 use crate::next::CoapNext;
-use crate::observing::{Effect, effect_of};
+use crate::observing::Effect;
 use crate::options::text_format;
 use crate::pending::PendingReply;
 use crate::portion::{LONGEST_BODY, first_block, is_representation};
 use crate::server::Server;
-use crate::writing::{CONTENT, Said, put_outcome, put_word};
+use crate::writing::{CONTENT, put_word};
 use coap_blocks::Whole;
 use coap_msg::{BAD_OPTION, Endpoint, LONGEST_MESSAGE, RequestType};
 use coap_observe::Registered;
@@ -30,33 +30,8 @@ impl Server {
     ghost use Rattle.coap_bind.specs.Telling.{RepliesAs, AnswersAs, HasRoom};
     ghost use Rattle.coap_bind.specs.Settling.{RefusesOption};
 
-    /// Answers what was asked of this target, if it has one, and returns how many bytes to send.
-    pub fn answer(
-        &mut self,
-        pending: &PendingReply,
-        outcome: &Outcome,
-        target: Option<u32>,
-        out: &mut [u8; LONGEST_MESSAGE],
-    ) -> usize
-        requires slot { IsAwaited pending.now.slot self.old.exchanges }
-        requires code { HasCode outcome.now }
-        requires blocks { IsUse pending.now.blocks }
-        requires room { HasRoom pending.now outcome.now target self.old }
-        ensures { AnswersAs pending.now outcome.now target result out.old out.new self.old self.new }
-    {
-        let effect = effect_of(pending.observing, outcome, target);
-        let observe = self.watch(pending, effect);
-        self.keep_body(pending, outcome);
-        let said = Said {
-            outcome,
-            observe,
-            blocks: &pending.blocks,
-        };
-        self.reply(pending, said, out)
-    }
-
     /// Keeps the payload of what was asked for the requests for its later blocks, where it has any.
-    fn keep_body(&mut self, pending: &PendingReply, outcome: &Outcome)
+    pub fn keep_body(&mut self, pending: &PendingReply, outcome: &Outcome)
         requires { IsUse pending.now.blocks }
         ensures { self.new ≡ with_bodies (bodies_after pending.now.blocks pending.now.from outcome.now self.old.bodies) self.old }
     {
@@ -80,7 +55,7 @@ impl Server {
 
     /// Does this to the watchers, for the sender of what was asked: gives the sequence number that the response says,
     /// if it says one.
-    fn watch(&mut self, pending: &PendingReply, effect: Effect) -> Option<u32>
+    pub fn watch(&mut self, pending: &PendingReply, effect: Effect) -> Option<u32>
         ensures watches { Watches effect pending.now.from pending.now.token self.old.watchers result self.new.watchers }
         ensures same { self.new ≡ with_watchers self.new.watchers self.old }
     {
@@ -95,25 +70,6 @@ impl Server {
                 sequence_of(self.watchers.register(pending.from, token, target))
             }
         }
-    }
-
-    /// Replies to a request, and returns how many bytes to send.
-    pub fn reply(
-        &mut self,
-        pending: &PendingReply,
-        said: Said<'_>,
-        out: &mut [u8; LONGEST_MESSAGE],
-    ) -> usize
-        requires slot { IsAwaited pending.now.slot self.old.exchanges }
-        requires code { HasCode said.outcome.now }
-        requires blocks { IsUse said.blocks.now }
-        requires short { (said.observe ≡ None) ⊎ (length (payload_of said.outcome.now) ≤ LONGEST_PAYLOAD) }
-        requires room { length (spelling (coap_reply (observed said.observe (answer_reply said.blocks.now said.outcome.now)) (head_in pending.now) self.old.next_id)) ≤ LONGEST_MESSAGE }
-        ensures { RepliesAs (observed said.entry.observe (answer_reply said.entry.blocks.now said.entry.outcome.now)) pending.now result out.old out.new self.old self.new }
-    {
-        let size = put_outcome(said, pending, self.next_id, out);
-        self.note_sent(pending, &out[..size]);
-        size
     }
 
     /// Answers a request that was admitted with a word, and returns how many bytes to send.

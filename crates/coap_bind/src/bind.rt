@@ -2,9 +2,10 @@
 
 use crate::NoMemory;
 use crate::next::{CoapNext, Ticket};
+use crate::observing::effect_of;
 use crate::pending::PendingReply;
 use crate::server::Server;
-use crate::writing::put_notification;
+use crate::writing::{Said, put_notification, put_outcome};
 use coap_blocks::{Bodies, Parts};
 use coap_exchange::Exchanges;
 use coap_msg::{Endpoint, LONGEST_DATAGRAM, LONGEST_MESSAGE, LONGEST_PAYLOAD};
@@ -131,7 +132,17 @@ impl CoapBind {
         ensures moment { self.new.exchanges.moment ≡ self.old.exchanges.moment }
     {
         let Ticket { pending } = ticket;
-        self.server.answer(&pending, outcome, target, out)
+        let effect = effect_of(pending.observing, outcome, target);
+        let observe = self.server.watch(&pending, effect);
+        self.server.keep_body(&pending, outcome);
+        let said = Said {
+            outcome,
+            observe,
+            blocks: &pending.blocks,
+        };
+        let size = put_outcome(said, &pending, self.server.next_id, out);
+        self.server.note_sent(&pending, &out[..size]);
+        size
     }
 
     /// A target has a new value: its watchers are to be notified.

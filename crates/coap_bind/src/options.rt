@@ -7,7 +7,7 @@ ghost use Rattle.coap_msg.specs.Numbers.{number_bytes};
 ghost use Rattle.coap_msg.specs.Opts.{last_number, PutsOptions, segment_options};
 ghost use Rattle.coap_bind.specs.Blocks.{block_options, content_format};
 ghost use Rattle.coap_bind.specs.Portions.{HoldsBlock};
-ghost use Rattle.coap_bind.specs.Writing.{place_of, format_options, text_format, etag_options, observe_options};
+ghost use Rattle.coap_bind.specs.Writing.{place_of, format_options, text_format, etag_options, observe_options, optional};
 ghost use Rattle.thing_ops.specs.Outcomes.{version_of};
 
 use crate::blocks::BlockOption;
@@ -28,8 +28,13 @@ pub fn put_options(
     ensures ok { PutsOptions (etag_options (version_of outcome.now) ++ (observe_options observe ++ (segment_options LOCATION_PATH (place_of outcome.now) ++ format_options outcome.now))) result options.old options.new }
     ensures last { OnOk result (last_number 0 options.new.list ≤ CONTENT_FORMAT) }
 {
-    put_tag(outcome.version(), options)?;
-    put_behind_tag(observe, outcome, options)
+    put_optional(options, ETAG, outcome.version())?;
+    put_optional(options, OBSERVE, observe)?;
+    put_place(outcome, options)?;
+    match outcome.text() {
+        Some(_) => put_number(options, CONTENT_FORMAT, u32::from(text_format(outcome))),
+        None => Ok(()),
+    }
 }
 
 /// Writes the options of a notification, where none are written yet.
@@ -37,58 +42,20 @@ pub fn put_notification_options(sequence: u32, options: &mut Opts<'_>) -> Result
     requires { options.old.list ≡ [] }
     ensures { PutsOptions (observe_options (Some sequence) ++ (CONTENT_FORMAT, number_bytes JSON) ∷ []) result options.old options.new }
 {
-    put_observe(Some(sequence), options)?;
+    put_number(options, OBSERVE, sequence)?;
     put_number(options, CONTENT_FORMAT, u32::from(JSON))
 }
 
-/// Writes ETag, where there is a version and no option is written yet.
-fn put_tag(version: Option<u32>, options: &mut Opts<'_>) -> Result<(), NoRoom>
-    requires { options.old.list ≡ [] }
-    ensures ok { PutsOptions (etag_options version) result options.old options.new }
-    ensures last { OnOk result (last_number 0 options.new.list ≤ ETAG) }
+/// Writes the option of this number with this value, if there is a value.
+fn put_optional(options: &mut Opts<'_>, number: u16, value: Option<u32>) -> Result<(), NoRoom>
+    requires { last_number 0 options.old.list ≤ number }
+    ensures ok { PutsOptions (optional number value) result options.old options.new }
+    ensures last { OnOk result (last_number 0 options.new.list ≤ number) }
 {
-    match version {
-        Some(version) => put_number(options, ETAG, version),
+    match value {
+        Some(value) => put_number(options, number, value),
         None => Ok(()),
     }
-}
-
-/// Writes the options of an outcome's reply that follow ETag.
-fn put_behind_tag(
-    observe: Option<u32>,
-    outcome: &Outcome,
-    options: &mut Opts<'_>,
-) -> Result<(), NoRoom>
-    requires order { last_number 0 options.old.list ≤ ETAG }
-    requires segments { All (λ segment. length segment ≤ largest_number) (place_of outcome.now) }
-    ensures ok { PutsOptions (observe_options observe ++ (segment_options LOCATION_PATH (place_of outcome.now) ++ format_options outcome.now)) result options.old options.new }
-    ensures last { OnOk result (last_number 0 options.new.list ≤ CONTENT_FORMAT) }
-{
-    put_observe(observe, options)?;
-    put_rest(outcome, options)
-}
-
-/// Writes Observe, where a sequence number is said.
-fn put_observe(observe: Option<u32>, options: &mut Opts<'_>) -> Result<(), NoRoom>
-    requires { last_number 0 options.old.list ≤ ETAG }
-    ensures ok { PutsOptions (observe_options observe) result options.old options.new }
-    ensures last { OnOk result (last_number 0 options.new.list ≤ OBSERVE) }
-{
-    match observe {
-        Some(sequence) => put_number(options, OBSERVE, sequence),
-        None => Ok(()),
-    }
-}
-
-/// Writes the options of an outcome's reply that follow Observe.
-fn put_rest(outcome: &Outcome, options: &mut Opts<'_>) -> Result<(), NoRoom>
-    requires order { last_number 0 options.old.list ≤ OBSERVE }
-    requires segments { All (λ segment. length segment ≤ largest_number) (place_of outcome.now) }
-    ensures ok { PutsOptions (segment_options LOCATION_PATH (place_of outcome.now) ++ format_options outcome.now) result options.old options.new }
-    ensures last { OnOk result (last_number 0 options.new.list ≤ CONTENT_FORMAT) }
-{
-    put_place(outcome, options)?;
-    put_format(outcome, options)
 }
 
 /// Writes the place of what was started.
@@ -120,18 +87,6 @@ fn put_location(options: &mut Opts<'_>, place: &Segments) -> Result<(), NoRoom>
     Ok(())
 }
 
-/// Writes Content-Format, where a text is sent.
-fn put_format(outcome: &Outcome, options: &mut Opts<'_>) -> Result<(), NoRoom>
-    requires { last_number 0 options.old.list ≤ LOCATION_PATH }
-    ensures ok { PutsOptions (format_options outcome.now) result options.old options.new }
-    ensures last { OnOk result (last_number 0 options.new.list ≤ CONTENT_FORMAT) }
-{
-    match outcome.text() {
-        Some(_) => put_number(options, CONTENT_FORMAT, u32::from(text_format(outcome))),
-        None => Ok(()),
-    }
-}
-
 /// The content format of an outcome's text.
 pub fn text_format(outcome: &Outcome) -> u16
     ensures { result ≡ text_format outcome.now }
@@ -153,7 +108,7 @@ pub fn put_content_options(
     ensures ok { PutsOptions (etag_options version ++ content_format format) result options.old options.new }
     ensures last { OnOk result (last_number 0 options.new.list ≤ CONTENT_FORMAT) }
 {
-    put_tag(version, options)?;
+    put_optional(options, ETAG, version)?;
     put_content_format(format, options)
 }
 

@@ -3,7 +3,7 @@
 ghost use Rattle.std.specs.Prelude.{◌≡◌, ◌≤◌, ◌<◌, ◌/◌, ◌==◌, length, take, IfSome, if◌then◌else◌};
 ghost use Rattle.coap_msg.specs.Blocks.{IsBlock, block_size, block_start};
 ghost use Rattle.thing_ops.specs.Outcomes.{HasCode, payload_of};
-ghost use Rattle.coap_bind.specs.Blocks.{IsUse, all_of, first_block, given_portion, goes_on, is_in_blocks, is_representation, most_bytes, portion_at, portion_of, success_option};
+ghost use Rattle.coap_bind.specs.Blocks.{IsUse, first_block, given_portion, goes_on, is_in_blocks, is_representation, most_bytes, portion_at, portion_of, success_option};
 ghost use Rattle.coap_bind.specs.Portions.{HoldsBlock, portion_seen};
 
 use crate::blocks::{BlockOption, BlockUse};
@@ -62,12 +62,18 @@ pub fn portion_of<'a>(blocks: &BlockUse, outcome: &Outcome, payload: &'a [u8]) -
     ensures block { HoldsBlock result.block }
 {
     match blocks {
-        BlockUse::Whole => all_of(payload),
+        BlockUse::Whole => Portion {
+            block: None,
+            payload,
+        },
         BlockUse::Gives(giving) => {
             if is_representation(outcome) {
                 given_portion(giving.szx, payload)
             } else {
-                all_of(payload)
+                Portion {
+                    block: None,
+                    payload,
+                }
             }
         }
         BlockUse::Joined(block) => Portion {
@@ -94,17 +100,6 @@ fn success_option(outcome: &Outcome, block: Block) -> Option<BlockOption>
     }))
 }
 
-/// A whole payload.
-fn all_of(payload: &[u8]) -> Portion<'_>
-    ensures ok { portion_seen result ≡ all_of payload.now }
-    ensures block { HoldsBlock result.block }
-{
-    Portion {
-        block: None,
-        payload,
-    }
-}
-
 /// What is given of a payload, where a block of this size was asked for, or none.
 pub fn given_portion(szx: Option<u8>, payload: &[u8]) -> Portion<'_>
     requires { IfSome szx (λ z. z ≤ 6) }
@@ -114,7 +109,10 @@ pub fn given_portion(szx: Option<u8>, payload: &[u8]) -> Portion<'_>
     if is_in_blocks(szx, payload.len()) {
         portion_at(first_block(szx), payload)
     } else {
-        all_of(payload)
+        Portion {
+            block: None,
+            payload,
+        }
     }
 }
 

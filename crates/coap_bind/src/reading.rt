@@ -4,16 +4,16 @@ use crate::blocks::{BlockUse, Giving, Wanted, size_asked, wanted_of};
 use crate::joining::{BAD_REQUEST, with_body};
 use crate::links::is_links_path;
 use crate::next::{CoapNext, Ticket};
-use crate::observing::{Observing, observing_of};
+use crate::observing::observing_of;
 use crate::pending::PendingReply;
 use crate::portion::portion_at;
 use crate::server::Server;
-use crate::writing::{CONTENT, Said, Told, put_told, put_word};
+use crate::writing::{CONTENT, Told, put_told, put_word};
 use coap_blocks::Whole;
-use coap_msg::{Block, GET, LONGEST_MESSAGE, Message, PROXYING_NOT_SUPPORTED};
+use coap_msg::{Block, GET, LONGEST_MESSAGE, Message, PROXYING_NOT_SUPPORTED, SERVICE_UNAVAILABLE};
 use coap_opts::{AskFault, CoapAsk, request_of};
 use std::alloc::Global;
-use thing_ops::{NoMemory, Outcome, Segments};
+use thing_ops::Segments;
 
 impl Server {
     ghost use Rattle.std.specs.Prelude.{◌≡◌, ◌<◌, ◌≤◌, ◌/◌, ◌⊎◌, true, false, length, option_map, slice_get, IfSome, Some};
@@ -121,12 +121,7 @@ impl Server {
         requires slot { IsAwaited pending.now.slot self.old.exchanges }
         ensures { RepliesAs (reply_of Memory) pending.now result out.old out.new self.old self.new }
     {
-        let said = Said {
-            outcome: &Outcome::Memory,
-            observe: None,
-            blocks: &BlockUse::Whole,
-        };
-        self.reply(pending, said, out)
+        self.refuse(pending, SERVICE_UNAVAILABLE, b"memory", out)
     }
 
     /// Asks a request that wants an act, unless it is for the links.
@@ -150,8 +145,18 @@ impl Server {
         if is_links_path(&ask.request.path) {
             return CoapNext::Send(self.answer_links(&pending, code, &ask, now, out));
         }
-        match use_of(alloc, code, pending.observing, &ask, now) {
-            Ok(blocks) => {
+        if code != GET {
+            let blocks = BlockUse::Whole;
+            let pending = PendingReply { blocks, ..pending };
+            return CoapNext::Ask(ask, Ticket { pending });
+        }
+        match ask.request.path.copied(alloc) {
+            Ok(path) => {
+                let blocks = BlockUse::Gives(Giving {
+                    path,
+                    szx: size_asked(pending.observing, &ask),
+                    moment: now,
+                });
                 let pending = PendingReply { blocks, ..pending };
                 CoapNext::Ask(ask, Ticket { pending })
             }
@@ -181,34 +186,13 @@ impl Server {
     }
 }
 
-ghost use Rattle.std.specs.Prelude.{◌≡◌, ◌<◌, length, option_map, Some, IfOk};
+ghost use Rattle.std.specs.Prelude.{◌≡◌, ◌<◌, length, option_map, Some};
 ghost use Rattle.coap_msg.specs.Blocks.{IsBlock};
 ghost use Rattle.coap_msg.specs.Grammar.{spelling};
 ghost use Rattle.coap_msg.specs.Written.{IsWritten};
 ghost use Rattle.coap_blocks.specs.Bodies.{content_of};
-ghost use Rattle.coap_opts.specs.PlainAsk.{plain_ask};
-ghost use Rattle.coap_bind.specs.Blocks.{later_reply, use_of};
+ghost use Rattle.coap_bind.specs.Blocks.{later_reply};
 ghost use Rattle.coap_bind.specs.Writing.{head_in, coap_reply};
-
-/// What blocks are to the reply to what is asked.
-fn use_of(
-    alloc: Global,
-    code: u8,
-    observing: Observing,
-    ask: &CoapAsk<'_>,
-    now: u64,
-) -> Result<BlockUse, NoMemory>
-    ensures { IfOk result (λ u. u ≡ use_of now code observing (plain_ask ask.now)) }
-{
-    if code != GET {
-        return Ok(BlockUse::Whole);
-    }
-    Ok(BlockUse::Gives(Giving {
-        path: ask.request.path.copied(alloc)?,
-        szx: size_asked(observing, ask),
-        moment: now,
-    }))
-}
 
 /// Writes the reply to a request for a later block, where this body is kept, and returns how many bytes it has.
 fn put_later(

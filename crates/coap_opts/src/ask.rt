@@ -2,14 +2,14 @@
 
 ghost use Rattle.std.specs.Prelude.{◌≡◌, ◌<◌, ◌⊎◌, ◌==◌, ◌&&◌, not, [], ◌∷◌, Some, IfOk, IfErr, OnOk, slice_get};
 ghost use Rattle.coap_msg.specs.MessageOf.{message_of};
-ghost use Rattle.coap_opts.specs.Reading.{faults_of, verb_of, registers as registers_by, format_of, accept_of, asked, HasBlocks, IsRefusal};
+ghost use Rattle.coap_opts.specs.Reading.{faults_of, verb_of, format_of, accept_of, asked, HasBlocks, IsRefusal};
 ghost use Rattle.coap_opts.specs.PlainAsk.{plain_ask};
 
 use crate::AskFault;
 use crate::conditions::read_conditions;
 use crate::found::{Found, note_all, refusal};
 use crate::known::{ACCEPT, CONTENT_FORMAT, OBSERVE};
-use crate::values::{block_under, numeric};
+use crate::values::{block_of, numeric};
 use coap_msg::{Block, DELETE, GET, JSON, Message, POST, PUT, TD_JSON};
 use std::alloc::Global;
 use thing_ops::{Accept, Format, Request, Segments, Verb};
@@ -56,7 +56,8 @@ pub fn request_of<'a>(alloc: Global, message: &Message<'a>) -> Result<CoapAsk<'a
     };
     note_all(&mut found, &message.options)?;
     let observe = numeric(OBSERVE, found.observe);
-    let counts = counts_tags(message.code, observe);
+    // The options ETag of a request that registers don't count.
+    let counts = message.code == GET && observe != Some(0);
     let conditions = read_conditions(alloc, &message.options, found.conditional, counts)?;
     let request = Request {
         verb: verb(message.code),
@@ -70,23 +71,9 @@ pub fn request_of<'a>(alloc: Global, message: &Message<'a>) -> Result<CoapAsk<'a
     Ok(CoapAsk {
         request,
         observe,
-        block1: block_under(found.block1),
-        block2: block_under(found.block2),
+        block1: found.block1.and_then(block_of),
+        block2: found.block2.and_then(block_of),
     })
-}
-
-/// Whether the options ETag of a request count, where the value of its Observe is this one.
-fn counts_tags(code: u8, observe: Option<u32>) -> bool
-    ensures { result ≡ (code == GET && not (registers_by observe)) }
-{
-    code == GET && !registers(observe)
-}
-
-/// Whether a request with this value of Observe registers (RFC 7641, section 2).
-fn registers(observe: Option<u32>) -> bool
-    ensures { result ≡ registers_by observe }
-{
-    matches!(observe, Some(0))
 }
 
 /// The verb of a code of class 0 (RFC 7252, section 12.1.1).

@@ -1,8 +1,8 @@
 //! The options that are known, and what is wrong with others.
 
 ghost use Rattle.std.specs.Prelude.{◌≡◌};
-ghost use Rattle.coap_opts.specs.Table.{known_of, has_length, stands_again, may_stand};
-ghost use Rattle.coap_opts.specs.Reading.{fault_of, is_no_block};
+ghost use Rattle.coap_opts.specs.Table.{stands_again, may_stand};
+ghost use Rattle.coap_opts.specs.Reading.{fault_of};
 
 use crate::AskFault;
 use coap_msg::{
@@ -115,25 +115,6 @@ const KNOWN: [Known; 12] = [
     BLOCK1,
 ];
 
-/// The row of an option.
-fn row_of(number: u16) -> Option<Known>
-    ensures { result ≡ known_of number }
-{
-    for row in &KNOWN {
-        if row.number == number {
-            return Some(*row);
-        }
-    }
-    None
-}
-
-/// Whether a value is as long as an option's may be.
-pub fn fits(row: Known, value: &[u8]) -> bool
-    ensures { result ≡ has_length row value.now }
-{
-    row.shortest <= value.len() && value.len() <= row.longest
-}
-
 /// Whether the option before this one has its number.
 fn is_again(before: Option<u16>, number: u16) -> bool
     ensures { result ≡ stands_again before number }
@@ -148,17 +129,13 @@ fn is_again(before: Option<u16>, number: u16) -> bool
 fn is_right(before: Option<u16>, number: u16, value: &[u8]) -> bool
     ensures { result ≡ may_stand before (number, value.now) }
 {
-    match row_of(number) {
-        Some(row) => fits(row, value) && (row.repeats || !is_again(before, number)),
-        None => false,
+    for row in &KNOWN {
+        if row.number == number {
+            let fits = row.shortest <= value.len() && value.len() <= row.longest;
+            return fits && (row.repeats || !is_again(before, number));
+        }
     }
-}
-
-/// Whether an option is a Block option that says no block.
-fn is_no_block(number: u16, value: &[u8]) -> bool
-    ensures { result ≡ is_no_block (number, value.now) }
-{
-    (number == coap_msg::BLOCK1 || number == coap_msg::BLOCK2) && read_block(value).is_none()
+    false
 }
 
 /// What is wrong with an option after one of this number.
@@ -171,7 +148,7 @@ pub fn option_fault(before: Option<u16>, number: u16, value: &[u8]) -> Option<As
     if number % 2 == 1 && !is_right(before, number, value) {
         return Some(AskFault::BadOption(number));
     }
-    if is_no_block(number, value) {
+    if (number == coap_msg::BLOCK1 || number == coap_msg::BLOCK2) && read_block(value).is_none() {
         return Some(AskFault::Block);
     }
     None

@@ -5,7 +5,7 @@ ghost use Rattle.coap_msg.specs.Blocks.{IsBlock, block_of};
 ghost use Rattle.coap_msg.specs.Numbers.{number_of};
 ghost use Rattle.coap_opts.specs.Reading.{number_within};
 
-use crate::known::{Known, fits};
+use crate::known::Known;
 use coap_msg::{Block, number_of, read_block};
 
 /// The number that the first value of this row's option says, if it is there and counts.
@@ -14,24 +14,19 @@ pub fn numeric(row: Known, value: Option<&[u8]>) -> Option<u32>
     ensures { result ≡ option_and_then (number_within row) (option_map (λ v. v.now) value.entry) }
 {
     match value {
-        Some(value) if fits(row, value) => Some(number_of(value)),
-        _ => None,
-    }
-}
-
-/// The block that the first value of a Block option says, if it is there.
-pub fn block_under(value: Option<&[u8]>) -> Option<Block>
-    ensures ok { result ≡ option_and_then block_of (option_map (λ v. v.now) value.entry) }
-    ensures block { IfSome result IsBlock }
-{
-    match value {
-        Some(value) => block_of(value),
+        Some(value) => {
+            if row.shortest <= value.len() && value.len() <= row.longest {
+                Some(number_of(value))
+            } else {
+                None
+            }
+        }
         None => None,
     }
 }
 
 /// The block that a value says.
-fn block_of(value: &[u8]) -> Option<Block>
+pub fn block_of(value: &[u8]) -> Option<Block>
     ensures ok { result ≡ block_of value.now }
     ensures block { IfSome result IsBlock }
 {

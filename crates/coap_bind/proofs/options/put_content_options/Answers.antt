@@ -6,9 +6,9 @@ use Rattle.coap_bind.specs.Blocks.{content_format}
 use Rattle.coap_bind.specs.Writing.{etag_options}
 use Rattle.coap_bind.proofs.options.put_content_options.Goals as goal
 
-pub returns-in_err-put_tag-clause-ok : goal.returns-in_err-put_tag-clause-ok
-returns-in_err-put_tag-clause-ok c =
+pub returns-in_err-put_optional-clause-ok : goal.returns-in_err-put_optional-clause-ok
+returns-in_err-put_optional-clause-ok c =
     let p = err_from_is_err_and c.from_residual.result c.from_residual.ensures.1 in
     rw p.1 (no_room_for_all _ (content_format c.args.format) _ c.args.options.now.room
     (sym (append_assoc c.args.options.now.list (etag_options c.args.version) (content_format c.args.format)))
-    c.in_err-put_tag.ensures.ok)
+    c.in_err-put_optional.ensures.ok)

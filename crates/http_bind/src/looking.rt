@@ -71,7 +71,7 @@ pub fn look(alloc: Global, bytes: &[u8], continued: bool, room: &mut [u8]) -> Fo
     }
 }
 
-/// Whether the 100 reply goes out.
+/// Whether the 100 reply goes out. It is a function because the prover forgets at the end of a `match` what was matched.
 fn wants_continue(scanned: &Scanned<'_>, continued: bool) -> bool
     ensures { result ≡ (expected (front_of scanned.now) && not continued) }
 {

@@ -65,7 +65,19 @@ pub fn put_answer(outcome: &Outcome, size: usize, close: bool, out: &mut [u8; HE
     };
     match put_placed(outcome, basics, out) {
         Some(end) => end,
-        None => put_plain(outcome, basics, out),
+        None => {
+            let mut room = [0; LONGEST_LINE];
+            let reply = Reply {
+                status: basics.status,
+                content_type: media_type(outcome),
+                etag: outcome.version(),
+                location: None,
+                allow: allow(outcome, &mut room),
+                length: Some(basics.size),
+                close: basics.close,
+            };
+            put_short(&reply, out)
+        }
     }
 }
 
@@ -174,27 +186,6 @@ fn put_at(outcome: &Outcome, place: &[u8], basics: Basics, out: &mut [u8]) -> Op
         close: basics.close,
     };
     put_reply(&reply, out)
-}
-
-/// Writes the head of a reply without its place.
-fn put_plain(outcome: &Outcome, basics: Basics, out: &mut [u8]) -> usize
-    requires phrase { IsSome (phrase_of basics.status) }
-    requires size { basics.size ≡ length (payload_of outcome.now) }
-    requires room { length out.old ≡ longest_reply_head }
-    ensures text { take result out.new ≡ http_reply (head_of basics.status basics.close None outcome.now) }
-    ensures within { result ≤ longest_reply_head }
-{
-    let mut room = [0; LONGEST_LINE];
-    let reply = Reply {
-        status: basics.status,
-        content_type: media_type(outcome),
-        etag: outcome.version(),
-        location: None,
-        allow: allow(outcome, &mut room),
-        length: Some(basics.size),
-        close: basics.close,
-    };
-    put_short(&reply, out)
 }
 
 /// Writes the head of a reply that is short.

@@ -46,9 +46,9 @@ pub fn look(alloc: Global, bytes: &[u8], continued: bool, room: &mut [u8]) -> Fo
     if wants_continue(&scanned, continued) {
         return Found::Continue;
     }
-    match scanned {
+    match &scanned {
         Scanned::Short { expect: _ } => Found::Nothing,
-        Scanned::Fault { status, expect: _ } => Found::Fault(status),
+        Scanned::Fault { status, expect: _ } => Found::Fault(*status),
         Scanned::Whole {
             head,
             body,
@@ -56,13 +56,13 @@ pub fn look(alloc: Global, bytes: &[u8], continued: bool, room: &mut [u8]) -> Fo
             expect: _,
         } => {
             let step = Step {
-                used,
+                used: *used,
                 owed: Owed {
                     bodiless: is_head(verb_of(head.method)),
                     closes: head.close,
                 },
             };
-            match request_of(alloc, &head, &body, room) {
+            match request_of(alloc, head, body, room) {
                 Ok(parts) => Found::Message(step, Some(parts)),
                 Err(TargetFault::BadTarget) => Found::Fault(400),
                 Err(TargetFault::NoMemory) => Found::Message(step, None),

@@ -59,7 +59,7 @@ pub fn put_answer(outcome: &Outcome, size: usize, close: bool, out: &mut [u8; HE
     ensures within { result ≤ 4096 }
 {
     let basics = Basics {
-        status: status(outcome),
+        status: http_status(outcome),
         size,
         close,
     };
@@ -197,15 +197,6 @@ fn put_short(reply: &Reply<'_>, out: &mut [u8]) -> usize
     ensures within { result ≤ longest_reply_head }
 {
     put_reply(reply, out).unwrap()
-}
-
-/// The status of an outcome.
-fn status(outcome: &Outcome) -> u16
-    requires { HasStatus outcome.now }
-    ensures status { (answer_of outcome.now).status ≡ Some result }
-    ensures phrase { IsSome (phrase_of result) }
-{
-    http_status(outcome)
 }
 
 /// The media type of the payload of an outcome.

@@ -2,7 +2,6 @@
 
 ghost use Rattle.std.specs.Prelude.{◌≡◌, ◌≤◌, ◌&&◌, not, length};
 ghost use Rattle.http_wire.specs.Scanned.{front_of};
-ghost use Rattle.http_bind.specs.Replying.{is_head as is_head_verb};
 ghost use Rattle.http_bind.specs.Streams.{expected};
 ghost use Rattle.http_bind.specs.Looking.{room_size, Shows, IsWithin};
 
@@ -58,7 +57,7 @@ pub fn look(alloc: Global, bytes: &[u8], continued: bool, room: &mut [u8]) -> Fo
             let step = Step {
                 used: *used,
                 owed: Owed {
-                    bodiless: is_head(verb_of(head.method)),
+                    bodiless: verb_of(head.method) == Verb::Head,
                     closes: head.close,
                 },
             };
@@ -85,11 +84,4 @@ fn wants_continue(scanned: &Scanned<'_>, continued: bool) -> bool
             expect,
         } => *expect && !continued,
     }
-}
-
-/// Whether a verb is HEAD.
-fn is_head(verb: Verb) -> bool
-    ensures { result ≡ is_head_verb verb }
-{
-    matches!(verb, Verb::Head)
 }

@@ -1,7 +1,7 @@
 //! The head and the payload of replies, written into a caller's room.
 
 ghost use Rattle.std.specs.Prelude.{◌≡◌, ◌≤◌, ◌⊎◌, ◌∷◌, [], codes, length, option_map, take, Some, None, IsSome};
-ghost use Rattle.thing_ops.specs.Outcomes.{answer_of, payload_of, HasStatus};
+ghost use Rattle.thing_ops.specs.Outcomes.{payload_of, HasStatus};
 ghost use Rattle.http_wire.specs.Writing.{http_reply, phrase_of};
 ghost use Rattle.http_wire.specs.Replies.{plain_reply};
 ghost use Rattle.http_bind.specs.Places.{path_text};

@@ -2,6 +2,10 @@
 use Rattle.std.proofs.Common.{◌≡◌, ℕ, ◌&&◌, Bool, true, false, List, refl, sym, ap, subst, ◌∙◌, cond}
 use Rattle.std.specs.Prelude.{Option, Some, None, option_map, not, is_some, IsSome}
 use Rattle.thing_ops.specs.Requests.{PlainRequest}
+use Rattle.thing_ops.specs.declared.verb.Verb.{Verb}
+use Rattle.thing_ops.specs.declared.verb.Verb.TheVariants as verb
+use Rattle.thing_ops.specs.contracts.verb.Verb.{the_type}
+use denote.Enum.Bare.{sameb}
 use Rattle.http_wire.specs.Targets.{segments_of}
 use Rattle.http_wire.specs.declared.scanned.Head.{Head}
 use Rattle.http_wire.specs.declared.scanned.Scanned.{Scanned}
@@ -24,6 +28,16 @@ takes_found continued f t is holds = ap (λ (u : Bool). cond u (Some wants_conti
 verb_at : (h : PlainHead) (body : List ℕ) (r : Option (List (List ℕ))) (q : PlainRequest) → option_map (request_at h body) r ≡ Some q → q.verb ≡ verb_of h.method
 verb_at h body None q is = absurd cc
 verb_at h body (Some path) q is = let same : request_at h body path ≡ q = cc in ap (λ (p : PlainRequest). p.verb) (sym same)
+
+-- a comparison with HEAD
+pub same_as_head : (v : Verb) → sameb the_type v verb.Head ≡ is_head v
+same_as_head verb.Get = refl
+same_as_head verb.Head = refl
+same_as_head verb.Put = refl
+same_as_head verb.Post = refl
+same_as_head verb.Patch = refl
+same_as_head verb.Delete = refl
+same_as_head verb.Other = refl
 
 -- a step takes a message
 pub message_step : (h : PlainHead) (body : List ℕ) (n : ℕ) (q : PlainRequest) (bodiless : Bool) → asked h body ≡ Some q → bodiless ≡ is_head (verb_of h.method) →

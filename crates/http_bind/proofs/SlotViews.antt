@@ -1,14 +1,14 @@
 -- What is seen of one slot, and what its methods do to that.
-use Rattle.std.proofs.Common.{◌≡◌, ℕ, ◌+◌, ◌-◌, ◌≤◌, List, length, drop, sym, ap, subst, ◌∙◌, arith}
-use Rattle.std.specs.Prelude.{Option, Some, option_map}
+use Rattle.std.proofs.Common.{◌≡◌, ℕ, ◌+◌, ◌-◌, ◌≤◌, List, length, drop, sym, ap, subst, ◌∙◌, Bool, false, arith}
+use Rattle.std.specs.Prelude.{Option, Some, option_map, is_some}
 use Rattle.std.proofs.lemmas.List.{length-drop, drop-drop}
 use Rattle.http_wire.specs.Heads.{skipped}
 use Rattle.http_bind.specs.declared.slot.State.{State}
 use Rattle.http_bind.specs.declared.looking.Found.{Found}
 use Rattle.http_bind.specs.Kept.{held_with}
 use Rattle.http_bind.specs.Looking.{Shows, IsWithin}
-use Rattle.http_bind.specs.Slots.{Held}
-use Rattle.http_bind.specs.Shown.{after_finding, TakesFront}
+use Rattle.http_bind.specs.Slots.{Held, owed_in}
+use Rattle.http_bind.specs.Shown.{after_finding, TakesFront, Passes, PassesBy}
 use Rattle.http_bind.proofs.Skipping.{skipped_from}
 
 -- where what is left begins in all bytes
@@ -47,3 +47,10 @@ front_taken items start place rest bytes kept st old new what room view is skips
           ∙ ap (λ (k : Option State). option_map (after_finding what) (option_map (held_with (drop place items)) k)) is
           ∙ ap (λ (xs : List ℕ). Some (after_finding what (held_with xs st))) (left ∙ skips),
     )
+
+-- and so it is passed, where no reply is owed
+pub front_passed : (bytes : List ℕ) (kept : Option State) (st : State) (old new : Option Held) (what : Found) (room : List ℕ) →
+    option_map (held_with bytes) kept ≡ old → kept ≡ Some st → is_some st.owed ≡ false → TakesFront old what new room → Passes old what new room
+front_passed bytes kept st old new what room view is unowed takes =
+    subst (λ (t : Bool). PassesBy t old what new room)
+    (sym (ap (λ (k : Option Held). is_some (owed_in k)) (sym view ∙ ap (option_map (held_with bytes)) is) ∙ unowed)) takes

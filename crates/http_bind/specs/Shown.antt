@@ -13,11 +13,6 @@ use Rattle.http_bind.specs.Looking.{Shows, IsWithin}
 use Rattle.http_bind.specs.Streams.{other_waits}
 use Rattle.http_bind.specs.Slots.{Held, Slots, place_at, with_place, held_at, with_held, without_wait_of, without_pairs, owed_in}
 
--- what was found at the front of a connection; nothing, where it isn't open
-abbrev pub ShowsIfOpen : Option Held → Found → List ℕ → Type 0
-ShowsIfOpen None what room = what ≡ seen.Nothing
-ShowsIfOpen (Some h) what room = Shows h.continued h.rest what room
-
 -- a message that was found has no more bytes than are held
 abbrev pub MayPass : Found → Option Held → Type 0
 MayPass what None = Unit {0}

@@ -2,7 +2,6 @@
 
 ghost use Rattle.std.specs.Prelude.{◌≡◌, ◌≤◌, ◌&&◌, not, length};
 ghost use Rattle.http_wire.specs.Scanned.{front_of};
-ghost use Rattle.http_bind.specs.Replying.{is_head as is_head_verb};
 ghost use Rattle.http_bind.specs.Streams.{expected};
 ghost use Rattle.http_bind.specs.Looking.{room_size, Shows, IsWithin};
 
@@ -46,9 +45,9 @@ pub fn look(alloc: Global, bytes: &[u8], continued: bool, room: &mut [u8]) -> Fo
     if wants_continue(&scanned, continued) {
         return Found::Continue;
     }
-    match scanned {
+    match &scanned {
         Scanned::Short { expect: _ } => Found::Nothing,
-        Scanned::Fault { status, expect: _ } => Found::Fault(status),
+        Scanned::Fault { status, expect: _ } => Found::Fault(*status),
         Scanned::Whole {
             head,
             body,
@@ -56,13 +55,13 @@ pub fn look(alloc: Global, bytes: &[u8], continued: bool, room: &mut [u8]) -> Fo
             expect: _,
         } => {
             let step = Step {
-                used,
+                used: *used,
                 owed: Owed {
-                    bodiless: is_head(verb_of(head.method)),
+                    bodiless: verb_of(head.method) == Verb::Head,
                     closes: head.close,
                 },
             };
-            match request_of(alloc, &head, &body, room) {
+            match request_of(alloc, head, body, room) {
                 Ok(parts) => Found::Message(step, Some(parts)),
                 Err(TargetFault::BadTarget) => Found::Fault(400),
                 Err(TargetFault::NoMemory) => Found::Message(step, None),
@@ -71,7 +70,7 @@ pub fn look(alloc: Global, bytes: &[u8], continued: bool, room: &mut [u8]) -> Fo
     }
 }
 
-/// Whether the 100 reply goes out.
+/// Whether the 100 reply goes out. It is a function because the prover forgets at the end of a `match` what was matched.
 fn wants_continue(scanned: &Scanned<'_>, continued: bool) -> bool
     ensures { result ≡ (expected (front_of scanned.now) && not continued) }
 {
@@ -85,11 +84,4 @@ fn wants_continue(scanned: &Scanned<'_>, continued: bool) -> bool
             expect,
         } => *expect && !continued,
     }
-}
-
-/// Whether a verb is HEAD.
-fn is_head(verb: Verb) -> bool
-    ensures { result ≡ is_head_verb verb }
-{
-    matches!(verb, Verb::Head)
 }

@@ -53,7 +53,7 @@ impl Model for Slot {
 impl Slot {
     ghost use Rattle.http_bind.specs.Slots.{held_at_opening, longer, owed_in, is_idle, HasRoomFor};
     ghost use Rattle.http_bind.specs.Looking.{room_size};
-    ghost use Rattle.http_bind.specs.Shown.{after_finding, MayPass, LooksBehind, TakesFront, Passes, Settles};
+    ghost use Rattle.http_bind.specs.Shown.{after_finding, MayPass, LooksBehind, Passes, Settles};
 
     /// A connection that isn't open. Its memory is taken here.
     pub fn new(alloc: Global) -> Result<Slot, NoMemory>
@@ -103,15 +103,24 @@ impl Slot {
         }
     }
 
-    /// Takes what is at the front: a message, or the request for a 100 reply. A fault stays there. Where a reply is
+    /// Takes what is at the front, after CR LF pairs: a message, or the request for a 100 reply. A fault stays there. Where a reply is
     /// owed, nothing is taken, and a connection is given up that has bytes.
     pub fn next(&mut self, alloc: Global, room: &mut [u8]) -> Found
         requires { room_size ≤ length room.old }
         ensures { Passes self.old result self.new room.new }
     {
         match self.state {
-            Some(State { owed: Some(_), .. }) => self.look_behind(),
-            _ => self.take_front(alloc, room),
+            None => Found::Nothing,
+            Some(state) => {
+                if state.owed.is_some() {
+                    return self.look_behind();
+                }
+                let rest = skip_pairs(&self.bytes[self.start..]);
+                self.start = self.bytes.len() - rest.len();
+                let found = look(alloc, &self.bytes[self.start..], state.continued, room);
+                self.pass(&found);
+                found
+            }
         }
     }
 
@@ -120,33 +129,11 @@ impl Slot {
         requires { IsSome (owed_in self.old) }
         ensures { LooksBehind self.old result self.new }
     {
-        if behind(&self.bytes, self.start).is_empty() {
+        if self.bytes[self.start..].is_empty() {
             Found::Nothing
         } else {
             self.state = None;
             Found::Interrupted
-        }
-    }
-
-    /// Takes what is at the front, after CR LF pairs, where no reply is owed.
-    fn take_front(&mut self, alloc: Global, room: &mut [u8]) -> Found
-        requires room { room_size ≤ length room.old }
-        ensures { TakesFront self.old result self.new room.new }
-    {
-        match self.state {
-            None => Found::Nothing,
-            Some(state) => {
-                let rest = skip_pairs(behind(&self.bytes, self.start));
-                self.start = self.bytes.len() - rest.len();
-                let found = look(
-                    alloc,
-                    behind(&self.bytes, self.start),
-                    state.continued,
-                    room,
-                );
-                self.pass(&found);
-                found
-            }
         }
     }
 
@@ -206,14 +193,6 @@ impl Slot {
             }
         }
     }
-}
-
-/// The bytes from a place on.
-fn behind(bytes: &[u8], place: usize) -> &[u8]
-    requires { place ≤ length bytes.now }
-    ensures { result.now ≡ drop place bytes.now }
-{
-    &bytes[place..]
 }
 
 /// Moves the bytes from a place on to the front, and gives up those before it.

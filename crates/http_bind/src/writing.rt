@@ -1,7 +1,7 @@
 //! The head and the payload of replies, written into a caller's room.
 
 ghost use Rattle.std.specs.Prelude.{◌≡◌, ◌≤◌, ◌⊎◌, ◌∷◌, [], codes, length, option_map, take, Some, None, IsSome};
-ghost use Rattle.thing_ops.specs.Outcomes.{answer_of, payload_of, HasStatus};
+ghost use Rattle.thing_ops.specs.Outcomes.{payload_of, HasStatus};
 ghost use Rattle.http_wire.specs.Writing.{http_reply, phrase_of};
 ghost use Rattle.http_wire.specs.Replies.{plain_reply};
 ghost use Rattle.http_bind.specs.Places.{path_text};
@@ -59,13 +59,25 @@ pub fn put_answer(outcome: &Outcome, size: usize, close: bool, out: &mut [u8; HE
     ensures within { result ≤ 4096 }
 {
     let basics = Basics {
-        status: status(outcome),
+        status: http_status(outcome),
         size,
         close,
     };
     match put_placed(outcome, basics, out) {
         Some(end) => end,
-        None => put_plain(outcome, basics, out),
+        None => {
+            let mut room = [0; LONGEST_LINE];
+            let reply = Reply {
+                status: basics.status,
+                content_type: media_type(outcome),
+                etag: outcome.version(),
+                location: None,
+                allow: allow(outcome, &mut room),
+                length: Some(basics.size),
+                close: basics.close,
+            };
+            put_short(&reply, out)
+        }
     }
 }
 
@@ -176,27 +188,6 @@ fn put_at(outcome: &Outcome, place: &[u8], basics: Basics, out: &mut [u8]) -> Op
     put_reply(&reply, out)
 }
 
-/// Writes the head of a reply without its place.
-fn put_plain(outcome: &Outcome, basics: Basics, out: &mut [u8]) -> usize
-    requires phrase { IsSome (phrase_of basics.status) }
-    requires size { basics.size ≡ length (payload_of outcome.now) }
-    requires room { length out.old ≡ longest_reply_head }
-    ensures text { take result out.new ≡ http_reply (head_of basics.status basics.close None outcome.now) }
-    ensures within { result ≤ longest_reply_head }
-{
-    let mut room = [0; LONGEST_LINE];
-    let reply = Reply {
-        status: basics.status,
-        content_type: media_type(outcome),
-        etag: outcome.version(),
-        location: None,
-        allow: allow(outcome, &mut room),
-        length: Some(basics.size),
-        close: basics.close,
-    };
-    put_short(&reply, out)
-}
-
 /// Writes the head of a reply that is short.
 fn put_short(reply: &Reply<'_>, out: &mut [u8]) -> usize
     requires phrase { IsSome (phrase_of reply.now.status) }
@@ -206,15 +197,6 @@ fn put_short(reply: &Reply<'_>, out: &mut [u8]) -> usize
     ensures within { result ≤ longest_reply_head }
 {
     put_reply(reply, out).unwrap()
-}
-
-/// The status of an outcome.
-fn status(outcome: &Outcome) -> u16
-    requires { HasStatus outcome.now }
-    ensures status { (answer_of outcome.now).status ≡ Some result }
-    ensures phrase { IsSome (phrase_of result) }
-{
-    http_status(outcome)
 }
 
 /// The media type of the payload of an outcome.

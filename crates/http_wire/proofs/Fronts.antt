@@ -7,18 +7,17 @@ use Rattle.thing_ops.specs.declared.request.Accept.{Accept}
 use Rattle.thing_ops.specs.declared.request.Format.{Format}
 use Rattle.httparse.specs.Grammar.{RequestHead}
 use Rattle.http_wire.specs.declared.framing.Framing.{Framing}
-use Rattle.http_wire.specs.declared.framing.Judged.{Judged}
-use Rattle.http_wire.specs.Heads.{skipped, length_through, empty_line}
-use Rattle.http_wire.specs.Judging.{FramedHead, IsJudged, has_body, expects}
+use Rattle.http_wire.specs.Heads.{is_newer, skipped, length_through, empty_line}
+use Rattle.http_wire.specs.Judging.{IsJudged, has_body, expects, fields_judged, with_framing, one_head}
 use Rattle.http_wire.specs.declared.heads.HeadParts.{HeadParts}
-use Rattle.http_wire.specs.Fields.{Line, lines_of, asks_for_version, format_of, accept_of}
+use Rattle.http_wire.specs.Fields.{Line, lines_of, said_by, asks_for_version, format_of, accept_of}
 use Rattle.http_wire.specs.Conditions.{asking_lines}
 use Rattle.http_wire.specs.Asked.{asking_lines_in}
 use Rattle.http_wire.specs.Chunks.{BodyFront, unfinished, faulty, whole}
-use Rattle.http_wire.specs.Stream.{Front, short, fault, message, IsFront, IsFrontAfter, one_end, with_head, with_body, body_front, longest_head}
+use Rattle.http_wire.specs.Stream.{Front, short, fault, message, IsFront, IsFrontAfter, one_end, with_head, with_body, longest_head}
 use Rattle.http_wire.specs.Scanned.{IsHeadFront, TakesBetween}
-use Rattle.http_wire.specs.Found.{standing_of, said_in, AreHeadParts, IsSame, IsJudgedAs}
-use Rattle.http_wire.proofs.HeadParts.{expects_is, closes_is}
+use Rattle.http_wire.specs.Found.{standing_of, said_in, AreHeadParts, IsReadAs}
+use Rattle.http_wire.proofs.HeadParts.{expects_is, closes_is, same_fields}
 use Rattle.http_wire.specs.declared.scanned.Scanned.{Scanned}
 use Rattle.http_wire.specs.declared.scanned.Scanned.TheVariants as scanned
 
@@ -33,35 +32,30 @@ front_with_head bytes rest window head after n f rest_is window_is end_is head_i
     (front.2 ∙ ap (with_head (length bytes - length rest + n) front.0) after_is))
 
 -- a head that was judged, with its body
-pub front_of_fault : (head after : List ℕ) (taken status : ℕ) → IsJudgedAs head (Err status) → IsHeadFront head taken after (fault status false)
-front_of_fault head after taken status found = by_case found.0 found.1 found.2
-  where
-    by_case : (r : Result FramedHead ℕ) → IsJudged head r → IsSame r (Err status) → IsHeadFront head taken after (fault status false)
-    by_case (Err s) judged same = (Err s, judged, ap (λ (n : ℕ). fault n false) (sym same))
-    by_case (Ok h) judged same = absurd same
+pub front_of_fault : (head after : List ℕ) (taken status : ℕ) → IsReadAs head (Err status) → IsHeadFront head taken after (fault status false)
+front_of_fault head after taken status judged = (Err status, judged, refl)
 
-pub front_of_head : (head after : List ℕ) (taken : ℕ) (j : Judged) (f : Front) → IsJudgedAs head (Ok j) →
-    ((h : RequestHead) → AreHeadParts h j.head → f ≡ with_body h taken (expects h j.framing) (body_front j.framing after)) → IsHeadFront head taken after f
-front_of_head head after taken j f found is = by_case found.0 found.1 found.2
-  where
-    by_case : (r : Result FramedHead ℕ) → IsJudged head r → IsSame r (Ok j) → IsHeadFront head taken after f
-    by_case (Err s) judged same = absurd same
-    by_case (Ok h) judged same = (
-      Ok h,
-      judged,
-      is h.head same.0 ∙ ap (λ (x : Framing). with_body h.head taken (expects h.head x) (body_front x after)) (sym same.1),
+pub front_of_head : (head after : List ℕ) (taken : ℕ) (p : HeadParts) (framed : Result Framing ℕ) (f : Front) → IsReadAs head (Ok p) →
+    framed ≡ fields_judged p.newer (said_in p.fields) → ((h : RequestHead) → AreHeadParts h p → f ≡ with_head taken (with_framing h framed) after) →
+    IsHeadFront head taken after f
+front_of_head head after taken p framed f read by_fields is =
+    let h = read.0 in
+    let parts = read.4 in (
+      with_framing h (fields_judged (is_newer h) (said_by (lines_of h))),
+      one_head h read.1 read.2 read.3 refl,
+      is h parts ∙ ap (λ (r : Result Framing ℕ). with_head taken (with_framing h r) after) (by_fields ∙ same_fields h p parts),
     )
 
 -- what is at the front by what was found after a head
-pub short_with_body : (h : RequestHead) (j : Judged) (taken : ℕ) (e : Bool) (b : BodyFront) → unfinished ≡ b →
-    e ≡ (j.head.newer && has_body j.framing && (said_in j.head.fields).continues) → AreHeadParts h j.head → short e ≡ with_body h taken (expects h j.framing) b
-short_with_body h j taken e b is asks parts =
-    ap short (expects_is h j.head j.framing e parts asks) ∙ ap (with_body h taken (expects h j.framing)) is
+pub short_with_body : (h : RequestHead) (p : HeadParts) (f : Framing) (taken : ℕ) (e : Bool) (b : BodyFront) → unfinished ≡ b →
+    e ≡ (p.newer && has_body f && (said_in p.fields).continues) → AreHeadParts h p → short e ≡ with_body h taken (expects h f) b
+short_with_body h p f taken e b is asks parts =
+    ap short (expects_is h p f e parts asks) ∙ ap (with_body h taken (expects h f)) is
 
-pub fault_with_body : (h : RequestHead) (j : Judged) (taken status : ℕ) (e : Bool) (b : BodyFront) → faulty status ≡ b →
-    e ≡ (j.head.newer && has_body j.framing && (said_in j.head.fields).continues) → AreHeadParts h j.head → fault status e ≡ with_body h taken (expects h j.framing) b
-fault_with_body h j taken status e b is asks parts =
-    ap (fault status) (expects_is h j.head j.framing e parts asks) ∙ ap (with_body h taken (expects h j.framing)) is
+pub fault_with_body : (h : RequestHead) (p : HeadParts) (f : Framing) (taken status : ℕ) (e : Bool) (b : BodyFront) → faulty status ≡ b →
+    e ≡ (p.newer && has_body f && (said_in p.fields).continues) → AreHeadParts h p → fault status e ≡ with_body h taken (expects h f) b
+fault_with_body h p f taken status e b is asks parts =
+    ap (fault status) (expects_is h p f e parts asks) ∙ ap (with_body h taken (expects h f)) is
 
 -- the lines that ask: where none does, no line is kept
 none_asks : (lines : List Line) → list_any asks_for_version lines ≡ false → asking_lines lines ≡ []
@@ -77,33 +71,33 @@ lines_asking h p parts = by_test p.fields.conditional (λ i. (parts.fields i).co
     by_test true is = parts.lines
     by_test false is = sym (none_asks (lines_of h) (sym is))
 
-pub message_with_body : (h : RequestHead) (j : Judged) (taken used : ℕ) (e close : Bool) (format : Format) (accept : Accept) (body : List ℕ) (b : BodyFront) →
-    whole body used ≡ b → e ≡ (j.head.newer && has_body j.framing && (said_in j.head.fields).continues) →
-    close ≡ (not j.head.newer || (said_in j.head.fields).closes) → format ≡ format_of (standing_of j.head.fields.content_type) →
-    accept ≡ accept_of j.head.fields.accept → AreHeadParts h j.head →
+pub message_with_body : (h : RequestHead) (p : HeadParts) (f : Framing) (taken used : ℕ) (e close : Bool) (format : Format) (accept : Accept) (body : List ℕ) (b : BodyFront) →
+    whole body used ≡ b → e ≡ (p.newer && has_body f && (said_in p.fields).continues) →
+    close ≡ (not p.newer || (said_in p.fields).closes) → format ≡ format_of (standing_of p.fields.content_type) →
+    accept ≡ accept_of p.fields.accept → AreHeadParts h p →
     message
     (record {
-      method = j.head.method.now;
-      target = j.head.target.now;
+      method = p.method.now;
+      target = p.target.now;
       close = close;
       format = format;
       accept = accept;
-      asking = asking_lines_in j.head.fields.conditional j.head.lines.now;
+      asking = asking_lines_in p.fields.conditional p.lines.now;
     })
     body (taken + used) e
-    ≡ with_body h taken (expects h j.framing) b
-message_with_body h j taken used e close format accept body b is asks closing of_type of_accept parts =
+    ≡ with_body h taken (expects h f) b
+message_with_body h p f taken used e close format accept body b is asks closing of_type of_accept parts =
     (λ i. message
     (record {
       method = parts.method i;
       target = parts.target i;
-      close = closes_is h j.head close parts closing i;
+      close = closes_is h p close parts closing i;
       format = (of_type ∙ (λ k. format_of (parts.fields k).content_type)) i;
       accept = (of_accept ∙ (λ k. accept_of (parts.fields k).accept)) i;
-      asking = lines_asking h j.head parts i;
+      asking = lines_asking h p parts i;
     })
-    body (taken + used) (expects_is h j.head j.framing e parts asks i))
-    ∙ ap (with_body h taken (expects h j.framing)) is
+    body (taken + used) (expects_is h p f e parts asks i))
+    ∙ ap (with_body h taken (expects h f)) is
 
 -- what takes bytes between two numbers does so between wider ones
 pub takes_wider : (low high least most : ℕ) (s : Scanned) → least ≤ low → high ≤ most → TakesBetween low high s → TakesBetween least most s

@@ -1,6 +1,6 @@
 -- Heads as code reads and judges them: their lines, their parts, and their first fault.
 use Rattle.std.proofs.Common.{◌≡◌, ◌≢◌, ◌≤◌, ◌<◌, ℕ, ◌&&◌, ◌||◌, Bool, true, false, List, [], length, map, take, refl, sym, ap, subst, ◌∙◌, arith}
-use Rattle.std.specs.Prelude.{◌==◌, not, Some, None, Result, Ok, Err, IfOk, IfErr}
+use Rattle.std.specs.Prelude.{◌==◌, not, Ok, Err}
 use Rattle.std.proofs.lemmas.List.{drop_all, append-nil, length-map, length-take}
 use Rattle.httparse.specs.declared.spans.HeaderSpan.{HeaderSpan}
 use Rattle.httparse.specs.declared.spans.RequestSpans.{RequestSpans}
@@ -9,11 +9,10 @@ use Rattle.httparse.specs.Grammar.{RequestHead, ReadsRequest, print_request}
 use Rattle.httparse.specs.Spans.{span_bytes, header_bytes, name_and_value, IsRequestOf, FindsRequest}
 use Rattle.http_wire.specs.declared.heads.HeadParts.{HeadParts}
 use Rattle.http_wire.specs.declared.framing.Framing.{Framing}
-use Rattle.http_wire.specs.declared.framing.Judged.{Judged}
 use Rattle.http_wire.specs.Heads.{line_feeds, are_paired, IsHead, is_newer}
 use Rattle.http_wire.specs.Fields.{lines_of, said_by}
-use Rattle.http_wire.specs.Judging.{too_many_lines, bare_line_end, no_head, one_head, fields_judged, with_framing, has_body, expects, closes}
-use Rattle.http_wire.specs.Found.{said_in, with_lines, AreHeadParts, IsReadAs, IsJudgedAs}
+use Rattle.http_wire.specs.Judging.{too_many_lines, bare_line_end, no_head, fields_judged, has_body, expects, closes}
+use Rattle.http_wire.specs.Found.{said_in, with_lines, AreHeadParts, IsReadAs}
 use Rattle.http_wire.specs.Conditions.{asking_lines}
 use Rattle.http_wire.specs.Asked.{behind_start, lines_in}
 use Rattle.http_wire.proofs.FieldLines.{all_lines}
@@ -28,14 +27,16 @@ pub record StandsAt (bytes : List ℕ) (headers : List HeaderSpan) (r : RequestS
   pub lines : p.lines.now ≡ behind_start bytes
 
 -- the parts of a head that is all bytes
-pub read_as : (bytes : List ℕ) (headers : List HeaderSpan) (r : RequestSpans) (p : HeadParts) → r.headers ≤ 64 → IsRequestOf bytes headers r →
-    r.len ≡ length bytes → StandsAt bytes headers r p → IsReadAs bytes (Some p)
-read_as bytes headers r p room of whole stands =
+pub read_as : (bytes : List ℕ) (headers : List HeaderSpan) (r : RequestSpans) (p : HeadParts) → line_feeds bytes ≤ 66 → are_paired 0 bytes ≡ true →
+    r.headers ≤ 64 → IsRequestOf bytes headers r → r.len ≡ length bytes → StandsAt bytes headers r p → IsReadAs bytes (Ok p)
+read_as bytes headers r p few paired room of whole stands =
     let h = of.0 in
     let at = of.1 in
     let whole_head = subst (λ (rest : List ℕ). ReadsRequest bytes h rest) (drop_all r.len bytes (omega (arith, whole))) at.reads in
     let lines : length (map (header_bytes bytes) (take r.headers headers)) ≡ length (map name_and_value h.fields) = ap length at.fields in (
       h,
+      few,
+      paired,
       (
         whole_head,
         omega (arith, lines, length-map (take r.headers headers) (header_bytes bytes), length-map h.fields name_and_value, length-take r.headers headers, room),
@@ -58,32 +59,18 @@ not_whole bytes headers r finds isnt h = λ head.
 
 -- ---- how bytes are judged
 
-pub judged_many : (bytes : List ℕ) → 66 < line_feeds bytes → IsJudgedAs bytes (Err 431)
-judged_many bytes many = (Err 431, too_many_lines many refl, refl)
+pub judged_many : (bytes : List ℕ) → 66 < line_feeds bytes → IsReadAs bytes (Err 431)
+judged_many bytes many = too_many_lines many refl
 
-pub judged_bare : (bytes : List ℕ) → line_feeds bytes ≤ 66 → are_paired 0 bytes ≡ false → IsJudgedAs bytes (Err 400)
-judged_bare bytes few bare = (Err 400, bare_line_end few bare refl, refl)
+pub judged_bare : (bytes : List ℕ) → line_feeds bytes ≤ 66 → are_paired 0 bytes ≡ false → IsReadAs bytes (Err 400)
+judged_bare bytes few bare = bare_line_end few bare refl
 
-pub judged_none : (bytes : List ℕ) → line_feeds bytes ≤ 66 → are_paired 0 bytes ≡ true → IsReadAs bytes None → IsJudgedAs bytes (Err 400)
-judged_none bytes few paired none = (Err 400, no_head few paired none refl, refl)
+pub judged_none : (bytes : List ℕ) → line_feeds bytes ≤ 66 → are_paired 0 bytes ≡ true → ((h : RequestHead) → ¬ (IsHead bytes h)) → IsReadAs bytes (Err 400)
+judged_none bytes few paired none = no_head few paired none refl
 
 -- the fields of a head that was read
-same_fields : (h : RequestHead) (p : HeadParts) → AreHeadParts h p → fields_judged p.newer (said_in p.fields) ≡ fields_judged (is_newer h) (said_by (lines_of h))
+pub same_fields : (h : RequestHead) (p : HeadParts) → AreHeadParts h p → fields_judged p.newer (said_in p.fields) ≡ fields_judged (is_newer h) (said_by (lines_of h))
 same_fields h p parts = λ i. fields_judged (parts.newer i) (parts.fields i)
-
-pub judged_head : (bytes : List ℕ) (p : HeadParts) (found : Result Judged ℕ) → line_feeds bytes ≤ 66 → are_paired 0 bytes ≡ true → IsReadAs bytes (Some p) →
-    IfOk found (λ j. (j.head ≡ p) × (fields_judged p.newer (said_in p.fields) ≡ Ok j.framing)) →
-    IfErr found (λ status. fields_judged p.newer (said_in p.fields) ≡ Err status) → IsJudgedAs bytes found
-judged_head bytes p (Ok j) few paired read ok err = (
-  Ok (record { head = read.0; framing = j.framing }),
-  one_head read.0 few paired read.1 (ap (with_framing read.0) (sym ok.1 ∙ same_fields read.0 p read.2)),
-  (subst (AreHeadParts read.0) (sym ok.0) read.2, refl),
-)
-judged_head bytes p (Err status) few paired read ok err = (
-  Err status,
-  one_head read.0 few paired read.1 (ap (with_framing read.0) (sym err ∙ same_fields read.0 p read.2)),
-  refl,
-)
 
 -- ---- what a head asks for
 

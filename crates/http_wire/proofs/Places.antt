@@ -1,13 +1,18 @@
 -- What the searches of `memchr` find, in the words of the definitions.
 use Rattle.std.proofs.Common.{◌≡◌, ℕ, zero, suc, ◌+◌, ◌-◌, ◌<◌, ◌≤◌, ◌&&◌, Bool, true, false, true≢false, List, [], ◌∷◌, length, get_or, take, drop, refl, sym, ap, subst, ◌∙◌, arith, cond}
-use Rattle.std.specs.Prelude.{Option, Some, None, option_map, ◌==◌, nat_eq, slice_index}
-use Rattle.std.specs.List.{position_or_len, starts_with, slice_split}
-use Rattle.std.proofs.lemmas.List.{take_rest}
+use Rattle.std.specs.Prelude.{Option, Some, None, option_map, unwrap_or, ◌==◌, nat_eq, slice_index}
+use Rattle.std.specs.Borrow.{Bor}
+use Rattle.std.specs.Iterator.{MakesProgress, item_count}
+use Rattle.std.specs.declared.iter.Iterator.{can_next-default}
+use Rattle.std.specs.List.{position_or_len, before_first, after_first, starts_with, slice_split}
+use Rattle.std.proofs.lemmas.List.{take_rest, take_all, drop_all}
 use Rattle.std.proofs.lemmas.Bool.{eqb-true, eq-eqb}
 use Rattle.std.proofs.lemmas.List.Sums.{position_or_len_is, fails_before_first}
 use Rattle.std.proofs.lemmas.List.Elements.{All-from_get_or}
 use Rattle.std.proofs.lemmas.List.Splits.{slice_split_first, slice_split_none}
 use Rattle.memchr.specs.Find.{IsFirstByte, is_byte, FindsNeedle, OccursAt}
+use Rattle.http_wire.specs.declared.lines.Pieces.{Pieces}
+use Rattle.http_wire.specs.Pieces.{pieces_left}
 use Rattle.http_wire.specs.Heads.{length_through}
 
 -- what isn't true is false
@@ -29,10 +34,31 @@ place_of_none byte bytes found =
     sym (position_or_len_is (λ b. b == byte) bytes (length bytes) 0 (omega arith)
     (λ k below. isnt_true _ (λ is. found k (omega arith) below is)) (λ within. absurd (omega arith)))
 
+pub place_or_end : (byte : ℕ) (bytes : List ℕ) (r : Option ℕ) → IsFirstByte (is_byte byte) bytes r →
+    unwrap_or r (length bytes) ≡ position_or_len (λ b. b == byte) bytes
+place_or_end byte bytes None found = place_of_none byte bytes found
+place_or_end byte bytes (Some place) found = place_of_first byte bytes place found
+
+-- what is before it, and what is after it
+pub cut_at : (byte : ℕ) (bytes : List ℕ) (place : ℕ) → IsFirstByte (is_byte byte) bytes (Some place) →
+    (take place bytes ≡ before_first (λ b. b == byte) bytes)
+    × (take (length bytes - (place + 1)) (drop (place + 1) bytes) ≡ after_first (λ b. b == byte) bytes)
+cut_at byte bytes place found =
+    let is = place_of_first byte bytes place found in
+    (ap (λ (n : ℕ). take n bytes) is, take_rest bytes (place + 1) ∙ ap (λ (n : ℕ). drop (n + 1) bytes) is)
+
+pub not_cut : (byte : ℕ) (bytes : List ℕ) → IsFirstByte (is_byte byte) bytes None →
+    (bytes ≡ before_first (λ b. b == byte) bytes) × ([] ≡ after_first (λ b. b == byte) bytes)
+not_cut byte bytes found =
+    let is = place_of_none byte bytes found in (
+      sym (take_all (position_or_len (λ b. b == byte) bytes) bytes (omega (arith, is))),
+      sym (drop_all (position_or_len (λ b. b == byte) bytes + 1) bytes (omega (arith, is))),
+    )
+
 -- where there is no such byte, all bytes are one piece
-pub one_piece : (byte : ℕ) (bytes : List ℕ) → length bytes ≤ position_or_len (λ b. b == byte) bytes →
-    slice_split (λ b. b == byte) bytes ≡ bytes ∷ []
-one_piece byte bytes none =
+pub one_piece : (byte : ℕ) (bytes : List ℕ) → IsFirstByte (is_byte byte) bytes None → slice_split (λ b. b == byte) bytes ≡ bytes ∷ []
+one_piece byte bytes found =
+    let none = place_of_none byte bytes found in
     slice_split_none (λ b. b == byte) bytes
     (All-from_get_or (λ b. (b == byte) ≡ false) bytes 0 (λ i within. fails_before_first (λ b. b == byte) bytes i 0 (omega arith)))
 
@@ -142,9 +168,17 @@ through_first mark (b ∷ bytes) r some found =
     through_by_test mark b bytes (λ q f. through_first mark bytes q some f) (starts_with nat_eq (b ∷ bytes) mark) r refl found
 
 -- where there is such a byte, the bytes before it are the first piece
-pub further_pieces : (byte : ℕ) (bytes : List ℕ) (place : ℕ) → place ≡ position_or_len (λ b. b == byte) bytes → place < length bytes →
+pub further_pieces : (byte : ℕ) (bytes : List ℕ) (place : ℕ) → IsFirstByte (is_byte byte) bytes (Some place) →
     slice_split (λ b. b == byte) bytes
     ≡ take place bytes ∷ slice_split (λ b. b == byte) (take (length bytes - (place + 1)) (drop (place + 1) bytes))
-further_pieces byte bytes place is within =
-    slice_split_first (λ b. b == byte) bytes 0 (omega arith)
-    ∙ rw (sym is, take_rest bytes (place + 1)) refl
+further_pieces byte bytes place found =
+    slice_split_first (λ b. b == byte) bytes 0 (omega (arith, place_of_first byte bytes place found, found.0.high))
+    ∙ rw (sym (place_of_first byte bytes place found), take_rest bytes (place + 1)) refl
+
+-- a piece that is taken leaves fewer
+pub goes_on : (s t : Pieces) (item : Bor (List ℕ)) → pieces_left s ≡ item.now ∷ pieces_left t → MakesProgress (can_next-default Pieces (Bor (List ℕ))) (item_count pieces_left) s (Some item) t
+goes_on s t item e = record {
+  on = λ _. (tt, tt, subst (λ (l : List (List ℕ)). length (pieces_left t) < length l) (sym e) (omega arith));
+  keeps = tt;
+  rests = λ _. tt;
+}

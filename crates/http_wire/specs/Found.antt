@@ -1,17 +1,16 @@
 -- What code reads of a head, apart from where it lies in memory.
-use Rattle.std.specs.Prelude.{◌≡◌, ℕ, List, [], ◌∷◌, ◌||◌, Bool, false, codes, Option, Some, None, Result, Ok, Err, if◌then◌else◌}
+use Rattle.std.specs.Prelude.{◌≡◌, ◌≤◌, ℕ, List, [], ◌∷◌, ◌||◌, Bool, true, false, codes, Option, Some, None, Result, Ok, Err, if◌then◌else◌}
 use Rattle.httparse.specs.Grammar.{RequestHead}
 use Rattle.thing_ops.specs.declared.request.Accept.{Accept}
 use Rattle.http_wire.specs.declared.fields.Found.{Found}
 use Rattle.http_wire.specs.declared.fields.Found.TheVariants as found
 use Rattle.http_wire.specs.declared.fields.Fields.{Fields}
 use Rattle.http_wire.specs.declared.heads.HeadParts.{HeadParts}
-use Rattle.http_wire.specs.declared.framing.Judged.{Judged}
-use Rattle.http_wire.specs.Heads.{IsHead, is_newer}
+use Rattle.http_wire.specs.Heads.{IsHead, is_newer, line_feeds, are_paired}
 use Rattle.http_wire.specs.Fields.{Line, lines_of, has_name, Standing, absent, once, often, Said, said_by, is_continue, asks_for_version, has_item, is_close, takes_json, takes_td}
 use Rattle.http_wire.specs.Conditions.{asking_lines}
 use Rattle.http_wire.specs.Asked.{lines_in}
-use Rattle.http_wire.specs.Judging.{FramedHead, IsJudged}
+use Rattle.http_wire.specs.Judging.{IsJudged}
 
 -- how often a field was found
 abbrev pub standing_of : Found → Standing
@@ -88,18 +87,8 @@ pub record AreHeadParts (h : RequestHead) (p : HeadParts) : Type 0 where
   pub fields : said_in p.fields ≡ said_by (lines_of h)
   pub lines : asking_lines (lines_in p.lines.now) ≡ asking_lines (lines_of h)
 
--- the bytes are the head with these parts; or they are none
-abbrev pub IsReadAs : List ℕ → Option HeadParts → Type 0
-IsReadAs bytes None = (h : RequestHead) → ¬ (IsHead bytes h)
-IsReadAs bytes (Some p) = (h : RequestHead) × IsHead bytes h × AreHeadParts h p
-
--- what was found is what was judged
-abbrev pub IsSame : Result FramedHead ℕ → Result Judged ℕ → Type 0
-IsSame (Err status) (Err found) = status ≡ found
-IsSame (Err status) (Ok j) = ⊥
-IsSame (Ok h) (Err found) = ⊥
-IsSame (Ok h) (Ok j) = AreHeadParts h.head j.head × (h.framing ≡ j.framing)
-
--- the bytes are judged so
-abbrev pub IsJudgedAs : List ℕ → Result Judged ℕ → Type 0
-IsJudgedAs bytes found = (r : Result FramedHead ℕ) × IsJudged bytes r × IsSame r found
+-- the bytes are the head with these parts; or what is wrong with them has this status
+abbrev pub IsReadAs : List ℕ → Result HeadParts ℕ → Type 0
+IsReadAs bytes (Err status) = IsJudged bytes (Err status)
+IsReadAs bytes (Ok p) =
+    (h : RequestHead) × (line_feeds bytes ≤ 66) × (are_paired 0 bytes ≡ true) × IsHead bytes h × AreHeadParts h p

@@ -7,7 +7,7 @@ ghost use Rattle.std.specs.Str.Parse.{digits_value};
 ghost use Rattle.httparse.specs.Grammar.{is_extension_byte};
 ghost use Rattle.http_wire.specs.Heads.{empty_line, length_through};
 ghost use Rattle.http_wire.specs.Judging.{longest_body, IsBounded};
-ghost use Rattle.http_wire.specs.Chunks.{size_of_digits, chunk_size, trailers_to, data_before, sized_chunk, chunk_at as chunk_of, chunks};
+ghost use Rattle.http_wire.specs.Chunks.{chunk_size, trailers_to, data_before, sized_chunk, chunk_at as chunk_of, chunks};
 ghost use Rattle.http_wire.specs.Bodies.{decoded, longest_reply, AreOneBody};
 ghost use Rattle.http_wire.specs.Stream.{body_front, stated_body, within_longest, longest_coded};
 ghost use Rattle.http_wire.specs.BodySeen.{body_seen, IsWithin, IsChunkWithin};

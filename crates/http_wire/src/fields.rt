@@ -68,36 +68,31 @@ pub fn fields_in<'a>(head: &'a [u8], headers: &[HeaderSpan]) -> Fields<'a>
 {
     let mut fields: Fields<'a> = NOTHING;
     for header in headers {
-        fields = with_field(fields, header.name.of(head), header.value.of(head));
+        note(&mut fields, header.name.of(head), header.value.of(head));
     }
     fields
 }
 
-/// What is said with one line more.
-fn with_field<'a>(fields: Fields<'a>, name: &[u8], value: &'a [u8]) -> Fields<'a>
-    ensures { said_in result ≡ with_line (name.now, value.now) (said_in fields.entry) }
+/// Notes what a line with this name and value says.
+fn note<'a>(fields: &mut Fields<'a>, name: &[u8], value: &'a [u8])
+    ensures { said_in fields.new ≡ with_line (name.now, value.now) (said_in fields.old) }
 {
-    Fields {
-        host: more(fields.host, is_alike(name, b"host"), value),
-        content_length: more(
-            fields.content_length,
-            is_alike(name, b"content-length"),
-            value,
-        ),
-        transfer_encoding: more(
-            fields.transfer_encoding,
-            is_alike(name, b"transfer-encoding"),
-            value,
-        ),
-        content_type: more(fields.content_type, is_alike(name, b"content-type"), value),
-        continues: fields.continues
-            || is_alike(name, b"expect") && is_alike(value, b"100-continue"),
-        closes: fields.closes || is_alike(name, b"connection") && lists_close(value),
-        accept: more_taken(fields.accept, is_alike(name, b"accept"), value),
-        conditional: fields.conditional
-            || is_alike(name, b"if-match")
-            || is_alike(name, b"if-none-match"),
-    }
+    fields.host = more(fields.host, is_alike(name, b"host"), value);
+    fields.content_length = more(
+        fields.content_length,
+        is_alike(name, b"content-length"),
+        value,
+    );
+    fields.transfer_encoding = more(
+        fields.transfer_encoding,
+        is_alike(name, b"transfer-encoding"),
+        value,
+    );
+    fields.content_type = more(fields.content_type, is_alike(name, b"content-type"), value);
+    fields.accept = more_taken(fields.accept, is_alike(name, b"accept"), value);
+    fields.continues |= is_alike(name, b"expect") && is_alike(value, b"100-continue");
+    fields.closes |= is_alike(name, b"connection") && lists_close(value);
+    fields.conditional |= is_alike(name, b"if-match") || is_alike(name, b"if-none-match");
 }
 
 /// How often a field comes, where a further line has its name or hasn't.

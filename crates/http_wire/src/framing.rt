@@ -1,4 +1,4 @@
-//! How a head is judged, and how the end of the body after it is found.
+//! How the end of the body after a head is found, and which fields a head must have.
 
 ghost use Rattle.std.specs.Prelude.{◌≡◌, ◌≤◌, ◌+◌, ◌*◌, true, ℕ, min, length, Ok, Err, IfOk};
 ghost use Rattle.std.specs.List.{list_all};
@@ -6,16 +6,13 @@ ghost use Rattle.std.specs.Char.{is_ascii_digit, digit_value};
 ghost use Rattle.std.specs.Str.Parse.{digits_value};
 ghost use Rattle.http_wire.specs.Judging.{longest_body, IsBounded, is_length, framing_by, stated_framing, coded_framing, fields_judged, has_body as brings_body};
 ghost use Rattle.http_wire.specs.Bodies.{longest_reply};
-ghost use Rattle.http_wire.specs.Found.{standing_of, said_in, IsJudgedAs};
+ghost use Rattle.http_wire.specs.Found.{standing_of, said_in};
 
 use crate::fields::{Found, is_alike};
-use crate::heads::{HeadParts, count_line_feeds, has_pairs_alone, read_head};
+use crate::heads::HeadParts;
 
 /// The most bytes that a body has when it is decoded.
 pub const LONGEST_BODY: usize = 16384;
-
-/// The line feeds of a head with the most header lines: 64, the start line and the empty line.
-pub const MOST_LINE_FEEDS: usize = 66;
 
 /// How long a body is (RFC 9112, section 6).
 #[derive(Clone, Copy, Debug, PartialEq, Eq, Drop)]
@@ -26,39 +23,8 @@ pub enum Framing {
     Chunked,
 }
 
-/// A head without fault.
-#[derive(Clone, Copy, Drop)]
-pub struct Judged<'a> {
-    /// What it says.
-    pub head: HeadParts<'a>,
-    /// How long the body after it is.
-    pub framing: Framing,
-}
-
-/// The head that bytes are, with the framing of the body after it, or the status of what is wrong with them.
-#[tactic(auto, using(crate::proofs::HeadParts::judged_many, crate::proofs::HeadParts::judged_bare, crate::proofs::HeadParts::judged_none, crate::proofs::HeadParts::judged_head))]
-pub fn judge(head: &[u8]) -> Result<Judged<'_>, u16>
-    ensures ok { IsJudgedAs head.now result }
-    ensures bound { IfOk result (λ j. IsBounded longest_body j.framing) }
-    ensures target { IfOk result (λ j. length j.head.target.now ≤ length head.now) }
-{
-    if count_line_feeds(head) > MOST_LINE_FEEDS {
-        return Err(431);
-    }
-    if !has_pairs_alone(head) {
-        return Err(400);
-    }
-    match read_head(head) {
-        Some(head) => {
-            let framing = framing_of(&head)?;
-            Ok(Judged { head, framing })
-        }
-        None => Err(400),
-    }
-}
-
 /// The framing of the body after a head.
-fn framing_of(head: &HeadParts<'_>) -> Result<Framing, u16>
+pub fn framing_of(head: &HeadParts<'_>) -> Result<Framing, u16>
     ensures ok { result ≡ fields_judged head.now.newer (said_in head.now.fields) }
     ensures bound { IfOk result (IsBounded longest_body) }
 {

@@ -1,6 +1,6 @@
 //! Where a head ends, and whether it is one.
 
-ghost use Rattle.std.specs.Prelude.{◌≡◌, ◌≤◌, ◌<◌, ◌+◌, ◌==◌, length, take, drop, IfSome, Some};
+ghost use Rattle.std.specs.Prelude.{◌≡◌, ◌≤◌, ◌<◌, ◌+◌, ◌==◌, length, take, drop, IfSome, IfOk, Some};
 ghost use Rattle.http_wire.specs.Heads.{skipped, length_through, line_feeds, are_paired};
 ghost use Rattle.http_wire.specs.Found.{IsReadAs};
 
@@ -12,6 +12,9 @@ use memchr::memmem;
 
 /// The most header lines of a head.
 pub const MOST_LINES: usize = 64;
+
+/// The line feeds of a head with the most header lines: 64, the start line and the empty line.
+pub const MOST_LINE_FEEDS: usize = 66;
 
 /// The bytes after the CR LF pairs in front.
 pub fn skip_pairs(bytes: &[u8]) -> &[u8]
@@ -100,18 +103,26 @@ pub struct HeadParts<'a> {
     pub lines: &'a [u8],
 }
 
-/// The parts of a head, where the bytes are exactly one of at most 64 header lines.
-pub fn read_head(head: &[u8]) -> Option<HeadParts<'_>>
+/// What a head says; or the status of what is wrong, where there are too many header lines, a CR or LF isn't part of a
+/// CR LF, or the bytes aren't exactly one head.
+#[tactic(auto, using(crate::proofs::HeadParts::judged_many, crate::proofs::HeadParts::judged_bare, crate::proofs::HeadParts::judged_none))]
+pub fn read_head(head: &[u8]) -> Result<HeadParts<'_>, u16>
     ensures ok { IsReadAs head.now result }
-    ensures target { IfSome result (λ p. length p.target.now ≤ length head.now) }
+    ensures target { IfOk result (λ p. length p.target.now ≤ length head.now) }
 {
+    if count_line_feeds(head) > MOST_LINE_FEEDS {
+        return Err(431);
+    }
+    if !has_pairs_alone(head) {
+        return Err(400);
+    }
     let mut headers = [EMPTY_HEADER_SPAN; MOST_LINES];
     match parse_request(head, &mut headers) {
         Ok(Status::Complete(found)) => {
             if found.len == head.len() {
                 let (_, behind_method) = cut(b' ', head);
                 let (_, lines) = cut(b'\n', behind_method);
-                Some(HeadParts {
+                Ok(HeadParts {
                     method: found.method.of(head),
                     target: found.path.of(head),
                     newer: found.version == 1,
@@ -119,9 +130,9 @@ pub fn read_head(head: &[u8]) -> Option<HeadParts<'_>>
                     lines,
                 })
             } else {
-                None
+                Err(400)
             }
         }
-        _ => None,
+        _ => Err(400),
     }
 }

@@ -1,19 +1,17 @@
 //! The head of a reply, and how the body after it is framed.
 
-ghost use Rattle.std.specs.Prelude.{◌≡◌, ◌≤◌, ◌<◌, ◌==◌, [], map, length, IfOk};
+ghost use Rattle.std.specs.Prelude.{◌≡◌, ◌==◌, [], map, length};
 ghost use Rattle.std.specs.List.{All};
 ghost use Rattle.httparse.specs.Spans.{IsHeaderWithin, header_bytes};
-ghost use Rattle.http_wire.specs.Bodies.{longest_reply};
 ghost use Rattle.http_wire.specs.Fields.{said_by};
 ghost use Rattle.http_wire.specs.Found.{said_in, standing_of, with_lines};
-ghost use Rattle.http_wire.specs.Judging.{framing_by};
 ghost use Rattle.http_wire.specs.ReplyFronts.{IsReplyJudged, with_status, are_absent as are_absent_of, is_bodiless as has_no_body, is_interim as is_interim_of, no_framing as no_framing_of, reply_framing as reply_framing_of, some_framing as some_framing_of};
 ghost use Rattle.http_wire.specs.ReplySeen.{IsReplyReadAs};
 
 use crate::chunks::LONGEST_REPLY;
 use crate::fields::{Fields, Found, fields_in};
-use crate::framing::{Framing, MOST_LINE_FEEDS, read_framing};
-use crate::heads::{MOST_LINES, count_line_feeds};
+use crate::framing::{Framing, read_framing};
+use crate::heads::{MOST_LINE_FEEDS, MOST_LINES, count_line_feeds};
 use httparse::Status;
 use httparse::spans::{EMPTY_HEADER_SPAN, HeaderSpan, ResponseSpans, parse_response};
 

@@ -9,8 +9,8 @@ ghost use Rattle.http_wire.specs.Found.{AreHeadParts};
 
 use crate::chunks::{BodyScan, body_at_front};
 use crate::fields::{EITHER_TYPE, format};
-use crate::framing::{Judged, has_body, judge};
-use crate::heads::{front, length_through_mark, skip_pairs};
+use crate::framing::{Framing, framing_of, has_body};
+use crate::heads::{HeadParts, front, length_through_mark, read_head, skip_pairs};
 use crate::{Head, Scanned};
 
 /// The most bytes of a head.
@@ -38,12 +38,18 @@ pub fn scan(bytes: &[u8]) -> Scanned<'_>
         }
         Some(end) => {
             let (head, after) = rest.split_at(end);
-            match judge(head) {
+            match read_head(head) {
                 Err(status) => Scanned::Fault {
                     status,
                     expect: false,
                 },
-                Ok(judged) => scan_body(&judged, skipped + end, after),
+                Ok(parts) => match framing_of(&parts) {
+                    Err(status) => Scanned::Fault {
+                        status,
+                        expect: false,
+                    },
+                    Ok(framing) => scan_body(&parts, framing, skipped + end, after),
+                },
             }
         }
     }
@@ -51,17 +57,21 @@ pub fn scan(bytes: &[u8]) -> Scanned<'_>
 
 /// What is at the front where a head without fault is followed by its body.
 #[tactic(auto, using(crate::proofs::Fronts::short_with_body, crate::proofs::Fronts::fault_with_body, crate::proofs::Fronts::message_with_body))]
-fn scan_body<'a>(judged: &Judged<'a>, taken: usize, after: &'a [u8]) -> Scanned<'a>
-    requires bound { IsBounded longest_body judged.now.framing }
-    requires short { length judged.now.head.target.now ≤ longest_head }
+fn scan_body<'a>(
+    head: &HeadParts<'a>,
+    framing: Framing,
+    taken: usize,
+    after: &'a [u8],
+) -> Scanned<'a>
+    requires bound { IsBounded longest_body framing }
+    requires short { length head.now.target.now ≤ longest_head }
     requires fits { taken + length after.now < 2 ^ 64 }
-    ensures ok { (h : RequestHead) → AreHeadParts h judged.now.head →
-        front_of result ≡ with_body h taken (expects h judged.now.framing) (body_front judged.now.framing after.now) }
+    ensures ok { (h : RequestHead) → AreHeadParts h head.now →
+        front_of result ≡ with_body h taken (expects h framing) (body_front framing after.now) }
     ensures within { TakesBetween taken (taken + length after.now) result }
 {
-    let head = &judged.head;
-    let expect = head.newer && head.fields.continues && has_body(judged.framing);
-    match body_at_front(judged.framing, after) {
+    let expect = head.newer && has_body(framing) && head.fields.continues;
+    match body_at_front(framing, after) {
         BodyScan::Unfinished => Scanned::Short { expect },
         BodyScan::Faulty(status) => Scanned::Fault { status, expect },
         BodyScan::Whole { body, used } => Scanned::Whole {

@@ -4,7 +4,8 @@ ghost use Rattle.std.specs.Prelude.{◌≡◌, ◌<◌, ◌⊎◌, length, Some,
 ghost use Rattle.http_wire.specs.Targets.{path_behind_authority, path_in, segments_behind as segments_behind_of, segments_of, query_place};
 ghost use Rattle.http_wire.specs.declared.target.TargetFault.TheVariants.{BadTarget, NoMemory as no_memory};
 
-use crate::lines::{cut, cut_at_each, place_of};
+use crate::lines::{cut, cut_at_each};
+use memchr::memchr;
 use percent_encoding::percent_decode;
 use std::alloc::{AllocError, Global};
 use thing_ops::{NoMemory, Segments};
@@ -68,7 +69,7 @@ fn behind_authority(bytes: &[u8]) -> Option<&[u8]>
     ensures ok { option_map (λ p. p.now) result ≡ path_behind_authority bytes.now }
     ensures begins { IfSome result (λ p. 0 < length p.now) }
 {
-    let slash = place_of(b'/', bytes);
+    let slash = memchr(b'/', bytes).unwrap_or(bytes.len());
     if slash > 0 && slash < bytes.len() {
         Some(&bytes[slash..])
     } else {

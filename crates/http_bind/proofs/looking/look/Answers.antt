@@ -8,7 +8,7 @@ use Rattle.http_wire.specs.Stream.{IsFront}
 use Rattle.http_wire.specs.Scanned.{front_of, plain_head}
 use Rattle.http_bind.specs.Streams.{found}
 use Rattle.http_bind.proofs.FaultWords.{fault_said}
-use Rattle.http_bind.proofs.Messages.{takes_continue, takes_found, shows_whole, message_step, something}
+use Rattle.http_bind.proofs.Messages.{takes_continue, takes_found, shows_whole, message_step, same_as_head, something}
 use Rattle.http_bind.proofs.looking.look.Goals as goal
 
 pub returns-then-wants_continue-clause-shows : goal.returns-then-wants_continue-clause-shows
@@ -43,9 +43,9 @@ returns-in-Ok-clause-shows c =
     let q = c.in-Ok.ensures.ok in
     let h = c.in-Whole.head in
     shows_whole c.args.continued c.args.bytes.now c.scan-scanned.result h c.in-Whole.body c.in-Whole.used c.in-Whole.expect c.wants_continue.result
-    (seen.Message (record { used = c.in-Whole.used; owed = record { bodiless = c.is_head.result; closes = c.in-Whole.head.close } }) (Some c.in-Ok.parts)) c.request_of.new.room
+    (seen.Message (record { used = c.in-Whole.used; owed = record { bodiless = c.eq.result; closes = c.in-Whole.head.close } }) (Some c.in-Ok.parts)) c.request_of.new.room
     c.in-Whole.is c.scan-scanned.ensures.ok c.wants_continue.ensures c.if-wants_continue.false
-    (q.0, q.1, message_step (plain_head h) c.in-Whole.body c.in-Whole.used q.0 c.is_head.result q.1 (c.is_head.ensures ∙ ap is_head c.verb_of.ensures), q.2)
+    (q.0, q.1, message_step (plain_head h) c.in-Whole.body c.in-Whole.used q.0 c.eq.result q.1 (c.eq.ensures ∙ same_as_head c.verb_of.result ∙ ap is_head c.verb_of.ensures), q.2)
 
 pub returns-in-Err-BadTarget-clause-shows : goal.returns-in-Err-BadTarget-clause-shows
 returns-in-Err-BadTarget-clause-shows c =
@@ -62,10 +62,10 @@ pub returns-in-Err-NoMemory-clause-shows : goal.returns-in-Err-NoMemory-clause-s
 returns-in-Err-NoMemory-clause-shows c =
     let h = c.in-Whole.head in
     shows_whole c.args.continued c.args.bytes.now c.scan-scanned.result h c.in-Whole.body c.in-Whole.used c.in-Whole.expect c.wants_continue.result
-    (seen.Message (record { used = c.in-Whole.used; owed = record { bodiless = c.is_head.result; closes = c.in-Whole.head.close } }) None) c.request_of.new.room
+    (seen.Message (record { used = c.in-Whole.used; owed = record { bodiless = c.eq.result; closes = c.in-Whole.head.close } }) None) c.request_of.new.room
     c.in-Whole.is c.scan-scanned.ensures.ok c.wants_continue.ensures c.if-wants_continue.false
     (elim c.in-Err-NoMemory.ensures.fault [
       | inl bad ↦ absurd (let same = sym c.in-Err-NoMemory.field-0-is ∙ bad.0 in cc)
       | inr none ↦ let q = something (asked (plain_head h) c.in-Whole.body) none.1 in
-          (q.0, q.1, message_step (plain_head h) c.in-Whole.body c.in-Whole.used q.0 c.is_head.result q.1 (c.is_head.ensures ∙ ap is_head c.verb_of.ensures), tt)
+          (q.0, q.1, message_step (plain_head h) c.in-Whole.body c.in-Whole.used q.0 c.eq.result q.1 (c.eq.ensures ∙ same_as_head c.verb_of.result ∙ ap is_head c.verb_of.ensures), tt)
     ])

@@ -1,4 +1,4 @@
-use Rattle.std.proofs.Common.{◌≡◌, ◌∙◌, ◌==◌, ap, subst, arith, refl}
+use Rattle.std.proofs.Common.{◌≡◌, ◌∙◌, ◌==◌, ap, subst, arith, refl, rules}
 use Rattle.std.specs.Prelude.{Result, Ok}
 use Rattle.std.specs.List.{after_first}
 use Rattle.httparse.specs.declared.Error.{Error}
@@ -25,6 +25,7 @@ returns-then-found-head-clause-ok c =
       fields = c.fields_in.result;
       lines = c.cut-then-found-head.result.1;
     })
+    (omega (arith, c.if-count_line_feeds-gt-MOST_LINE_FEEDS.false, c.count_line_feeds.ensures.ok)) (search rules)
     (omega (arith, within.section.count_fits, c.parse_request.auto.headers)) of c.if-found-head.true
     (record {
       method = c.of.ensures;

@@ -2,7 +2,7 @@
 use Rattle.std.proofs.Common.{◌≡◌, ◌≢◌, ℕ, Bool, false, List, [], ◌∷◌, ◌++◌, refl, sym, ap, ap₂, subst, ◌∙◌, arith, inl, inr}
 use Rattle.std.specs.Prelude.{◌==◌, ◌||◌, Result, Ok, Err, Option, Some, None}
 use Rattle.std.proofs.lemmas.Option.{same_Some}
-use Rattle.servient_base.specs.Moves.{Becomes, Then, Passing, Stays}
+use Rattle.servient_base.specs.Moves.{Becomes, Then, Passing}
 use Rattle.wot_json.specs.Tree.{Json, null, boolean, integer, string, array, object}
 use Rattle.wot_json.specs.Lookup.{element_list, member_list}
 use Rattle.wot_json.specs.Meaning.{json_of}

@@ -1,10 +1,11 @@
 -- Refusals of acts, and of requests that ask for them.
-use Rattle.std.proofs.Common.{◌≡◌, List, [], ◌∷◌, ◌++◌, refl, sym, ap, subst, inl, inr, ◌∙◌}
+use Rattle.std.proofs.Common.{◌≡◌, ℕ, ◌≤◌, ◌<◌, List, [], ◌∷◌, ◌++◌, refl, sym, ap, subst, inl, inr, ◌∙◌, arith}
 use Rattle.std.specs.Prelude.{Option, Some, None, option_and_then}
 use Rattle.thing_ops.specs.declared.outcome.Outcome.{Outcome}
 use Rattle.thing_ops.specs.declared.outcome.Outcome.TheVariants as outcome
 use Rattle.thing_ops.specs.declared.allow.Allow.{Allow}
 use Rattle.thing_ops.specs.declared.routing.RouteKind.{RouteKind}
+use Rattle.thing_ops.specs.declared.conditions.Conditions.{Conditions}
 use Rattle.thing_ops.specs.Requests.{PlainRequest}
 use Rattle.thing_ops.specs.Routes.{route_of}
 use Rattle.thing_ops.specs.Verbs.{verbs_in, verbs_of}
@@ -12,12 +13,14 @@ use Rattle.thing_site.specs.Refusals.{Input}
 use Rattle.thing_site.specs.Places.{act_at, flags_of}
 use Rattle.thing_site.specs.declared.place.Place.{Place}
 use Rattle.thing_site.specs.declared.place.Act.{Act}
+use Rattle.thing_site.specs.declared.place.Act.TheVariants as act
+use Rattle.thing_site.specs.Site.{Placed}
 use Rattle.thing_site.specs.Refusals.{Refusal, condition_failed, no_invocation_left, refusals_by_request, Holding, StandsByRequest, IsAnswer, IsFirst, IsNone}
 use Rattle.thing_site.specs.HandedIn.{IsRefusedByRequest, IsUnrefused}
-use Rattle.thing_core.specs.State.{State, Invocation}
+use Rattle.thing_core.specs.State.{State, Invocation, most_invocations, running_count}
 use Rattle.thing_core.specs.Places.{place_of}
 use Rattle.thing_core.specs.Refusals.{Asked, act_asked, place_asked, refusals, refusals_of_acts, HasFailedCondition, HasNoInvocationLeft, IsRefusedBy, NoneStands, StandsAgainst}
-use Rattle.thing_core.specs.Performing.{IsActRefused, IsFree}
+use Rattle.thing_core.specs.Performing.{IsActRefused, IsFree, IsRefusedByState}
 
 -- ---- from the request alone to the state
 
@@ -35,6 +38,21 @@ pub act_is_full : (act : Act) (s : State) (q : PlainRequest) (inputs : List Inpu
     → IsActRefused act s q outcome.InvocationsFull
 act_is_full act s q inputs given met full =
     inr (inr (given.1.0, inr (given.1.1.0, inr (given.1.1.1.0, inr (given.1.1.1.1.0, inr (given.1.1.1.1.1.0, inr (met, inl (full, refl))))))))
+
+pub act_is_refused_by_state : (act : Act) (s : State) (q : PlainRequest) (inputs : List Input) (o : Outcome) → IsUnrefused act q inputs → IsRefusedByState s q.conditions act o → IsActRefused act s q o
+act_is_refused_by_state act s q inputs o given (inl failed) = subst (λ (x : Outcome). IsActRefused act s q x) (sym failed.1) (act_is_failed act s q inputs given failed.0)
+act_is_refused_by_state act s q inputs o given (inr full) = subst (λ (x : Outcome). IsActRefused act s q x) (sym full.2) (act_is_full act s q inputs given full.0 full.1)
+
+-- as many invocations run as may, or fewer
+pub full_by_count : (s : State) (c : Conditions) (p : Placed) (a : Act) (n : ℕ) → a ≡ act.Invokes p → n ≡ running_count s.invocations → most_invocations ≤ n → IsRefusedByState s c a outcome.InvocationsFull
+full_by_count s c p a n is count full =
+    let many : most_invocations ≤ running_count s.invocations = omega (arith, count, full) in
+    subst (λ (x : Act). IsRefusedByState s c x outcome.InvocationsFull) (sym is) (inr ((λ no. no), many, refl))
+
+pub free_by_count : (s : State) (c : Conditions) (p : Placed) (a : Act) (n : ℕ) → a ≡ act.Invokes p → n ≡ running_count s.invocations → n < most_invocations → (¬ (HasFailedCondition s c a)) × (¬ (HasNoInvocationLeft s a))
+free_by_count s c p a n is count fewer =
+    let few : ¬ (most_invocations ≤ running_count s.invocations) = λ many. absurd (omega (arith, count, fewer, many)) in
+    subst (λ (x : Act). (¬ (HasFailedCondition s c x)) × (¬ (HasNoInvocationLeft s x))) (sym is) ((λ no. no), few)
 
 -- two conditions are the same of these
 abbrev Alike : (Refusal → Type 0) → (Refusal → Type 0) → List Refusal → Type 0

@@ -1,5 +1,5 @@
 -- However the machine moves, versions see texts one after another, and count turns.
-use Rattle.std.proofs.Common.{◌≡◌, ℕ, ◌+◌, ◌<◌, ◌≤◌, List, [], ◌∷◌, ◌++◌, map, Bool, true, false, cond, refl, sym, ap, subst, ◌∙◌, arith, inl, inr}
+use Rattle.std.proofs.Common.{◌≡◌, ℕ, ◌+◌, ◌≤◌, List, [], ◌∷◌, ◌++◌, Bool, true, false, cond, refl, sym, ap, subst, ◌∙◌, arith, inl, inr}
 use Rattle.std.specs.Prelude.{◌==◌, Result, Ok, Err, Option, Some, None, option_map}
 use Rattle.servient_base.specs.Moves.{Then}
 use Rattle.wot_json.specs.Tree.{Json}
@@ -16,7 +16,7 @@ use Rattle.thing_core.specs.State.{Status, running, completed, State, Emission, 
 use Rattle.thing_site.specs.declared.place.Act.{Act}
 use Rattle.thing_site.specs.declared.place.Act.TheVariants.{Describes as describes, ReadsAll as reads_all, WritesMany as writes_many, Reads as reads, Writes as writes, Invokes as invokes, Queries as queries, Cancels as cancels, ReadsEvent as reads_event, Waits as waits}
 use Rattle.thing_site.specs.Refusals.{Input}
-use Rattle.thing_core.specs.Thing.{Move, Done, Called, no_number, no_memory, gives, failure_of, most_turns, Calls, GivesValue, ReadsValue, with_value, ReadsEach, SeesWritten, emissions_of_write, Stops, IfDone, WritesEach, IsInvoked, IsQueried, Queries, IsCancelled, Cancels, Performs, Acts, refuses, has_no_memory, performs, PollsEach}
+use Rattle.thing_core.specs.Thing.{Done, Called, no_number, no_memory, gives, failure_of, most_turns, Calls, GivesValue, ReadsValue, with_value, ReadsEach, SeesWritten, emissions_of_write, Stops, IfDone, WritesEach, IsInvoked, IsQueried, Queries, IsCancelled, Cancels, Performs, Acts, refuses, has_no_memory, performs, PollsEach}
 use Rattle.thing_core.specs.Runs.{Deed, asks, polls, DoesAll, version_in, after_texts, changes, SeesTexts, IsLater}
 use Rattle.thing_core.proofs.ReadLaws.{AfterValue}
 use Rattle.thing_core.proofs.VersionLists.{seen_within}

@@ -16,8 +16,8 @@ use Rattle.thing_core.specs.State.{State, Emission, last_after, versions_after}
 use Rattle.thing_core.specs.Course.{Course}
 use Rattle.thing_site.specs.Refusals.{Input}
 use Rattle.thing_core.specs.Thing.{Move, Done, Called, no_number, no_memory, gives, failure_of, SeesWritten, emissions_of_write, IfDone, Stops, WritesEach}
-use Rattle.thing_core.specs.Performing.{IsUnanswered, Leads, MakesCall, MakesDone, WritesOne, is_done}
-use Rattle.thing_core.proofs.MoveLaws.{leads_none, leads_then, leads_end, made_unseen}
+use Rattle.thing_core.specs.Performing.{IsUnanswered, Leads, MakesCall, MakesDone, OrMemory, WritesOne, is_done}
+use Rattle.thing_core.proofs.MoveLaws.{leads_none, leads_then, leads_end, made_unseen, or_memory}
 
 -- ---- one
 
@@ -136,3 +136,13 @@ all_written all c d a b far =
       made = leads_end (WritesEach [] far.emitted) (WritesEach all []) done c.state d.state d.state a b b far.leads
           (made_unseen (WritesEach [] far.emitted done) d.state d.state b (refl, record { next = refl; saw = refl }));
     }
+
+-- the same from before the room for the emissions was taken
+pub written_after : (move : Done → Move) (o : Outcome) (c d e : Course) (a b : List Seen) → d.state ≡ c.state → d.pending ≡ c.pending → MakesDone move o d e a b → MakesDone (OrMemory move) o c e a b
+written_after move o c d e a b state pending made =
+    or_memory move o c e a b (record {
+      done = made.done;
+      outcome = made.outcome;
+      pending = made.pending ∙ ap (λ (l : List ℕ). l ++ map (λ (x : Emission). x.target) made.done.emissions) pending;
+      made = subst (λ (s : State). Makes RackShows (move made.done) s e.state a b) state made.made;
+    })

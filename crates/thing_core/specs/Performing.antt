@@ -8,6 +8,7 @@ use Rattle.wot_json.specs.Meaning.{json_of}
 use Rattle.wot_json.specs.declared.tree.Tree.{Tree}
 use Rattle.thing_ops.specs.declared.outcome.Outcome.{Outcome}
 use Rattle.thing_ops.specs.declared.outcome.Outcome.TheVariants as outcome
+use Rattle.thing_ops.specs.declared.conditions.Conditions.{Conditions}
 use Rattle.thing_ops.specs.Requests.{PlainRequest}
 use Rattle.thing_handler.specs.declared.handler.CallKind.{CallKind}
 use Rattle.thing_handler.specs.declared.handler.Answer.{Answer}
@@ -21,7 +22,7 @@ use Rattle.thing_core.specs.Course.{Course, HasRoom}
 use Rattle.thing_site.specs.declared.place.Act.{Act}
 use Rattle.thing_site.specs.declared.place.Act.TheVariants as act
 use Rattle.thing_site.specs.Refusals.{Input, longest_value, inputs_of, IsAnswer, IsFirst, IsNone}
-use Rattle.thing_core.specs.Refusals.{Asked, act_asked, refusals, refusals_of_acts, StandsAgainst, IsRefusedBy, NoneStands}
+use Rattle.thing_core.specs.Refusals.{Asked, HasFailedCondition, HasNoInvocationLeft, act_asked, refusals, refusals_of_acts, StandsAgainst, IsRefusedBy, NoneStands}
 use Rattle.thing_core.specs.Thing.{Move, Done, only, Called, no_number, no_memory, gives, Calls, Decides, IsTaken, GivesValue, Answers, WritesEach, ReadsEach, PollsEach, Polls, emissions_of_write, place_of_invocation, IsInvoked, IsQueried, IsCancelled, Acts}
 use Rattle.thing_core.specs.Kept.{Kept}
 
@@ -30,6 +31,12 @@ use Rattle.thing_core.specs.Kept.{Kept}
 -- nothing is against an act, and this is handed in
 abbrev pub IsFree : Act → State → PlainRequest → List Input → Type 0
 IsFree act s q inputs = (inputs_of act q.body ≡ Some inputs) × IsNone (λ r. StandsAgainst r act s q) refusals_of_acts
+
+-- an act is refused as things stand
+abbrev pub IsRefusedByState : State → Conditions → Act → Outcome → Type 0
+IsRefusedByState s c act o =
+    (HasFailedCondition s c act × (o ≡ outcome.PreconditionFailed))
+    ⊎ ((¬ (HasFailedCondition s c act)) × HasNoInvocationLeft s act × (o ≡ outcome.InvocationsFull))
 
 -- an act is refused, or it is out of memory
 abbrev pub IsActRefused : Act → State → PlainRequest → Outcome → Type 0

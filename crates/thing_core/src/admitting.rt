@@ -1,10 +1,10 @@
 //! Why a request is refused before any handler is called.
 
-ghost use Rattle.std.specs.Prelude.{◌≡◌, ◌↔◌, IsTrue, count_by};
+ghost use Rattle.std.specs.Prelude.{◌≡◌, MatchOption, count_by};
 ghost use Rattle.thing_ops.specs.Requests.{plain_request};
 ghost use Rattle.thing_core.specs.State as state;
 ghost use Rattle.thing_core.specs.Refusals as refusal;
-ghost use Rattle.thing_core.specs.Performing.{IsAdmitted};
+ghost use Rattle.thing_core.specs.Performing.{IsAdmitted, IsRefusedByState};
 
 use crate::machine::Machine;
 use crate::standing::place_of;
@@ -41,32 +41,35 @@ pub fn admitted<'a>(
         Ok(inputs) => inputs,
         Err(outcome) => return Err(outcome),
     };
-    if has_failed_condition(&act, machine, &request.conditions) {
-        return Err(Outcome::PreconditionFailed);
-    }
-    if has_none_left(&act, machine.invocations()) {
-        return Err(Outcome::InvocationsFull);
-    }
-    Ok(Task { act, inputs })
-}
-
-/// A property would be written that isn't of a version that the request asks for.
-fn has_failed_condition(act: &Act<'_>, machine: &Machine, conditions: &Conditions) -> bool
-    ensures { IsTrue result ↔ refusal.HasFailedCondition machine.now.state conditions.now act.now }
-{
-    match act {
-        Act::Writes(spot) => conditions.fails_to_write(machine.version_of(spot.slot())),
-        _ => false,
+    match refusal_by_state(&act, machine, &request.conditions) {
+        Some(outcome) => Err(outcome),
+        None => Ok(Task { act, inputs }),
     }
 }
 
-/// An action would be invoked, and no further invocation may run.
-fn has_none_left(act: &Act<'_>, invocations: &[Invocation]) -> bool
-    ensures { (s : state.State) → s.invocations ≡ invocations.now → IsTrue result ↔ refusal.HasNoInvocationLeft s act.now }
+/// Why an act is refused as things stand: a property would be written that isn't of a version that the request asks for,
+/// or an action would be invoked, and no further invocation may run.
+fn refusal_by_state(act: &Act<'_>, machine: &Machine, conditions: &Conditions) -> Option<Outcome>
+    ensures { MatchOption result
+        ((¬ (refusal.HasFailedCondition machine.now.state conditions.now act.now)) × (¬ (refusal.HasNoInvocationLeft machine.now.state act.now)))
+        (λ o. IsRefusedByState machine.now.state conditions.now act.now o) }
 {
     match act {
-        Act::Invokes(_) => MOST_INVOCATIONS <= running_count(invocations),
-        _ => false,
+        Act::Writes(spot) => {
+            if conditions.fails_to_write(machine.version_of(spot.slot())) {
+                Some(Outcome::PreconditionFailed)
+            } else {
+                None
+            }
+        }
+        Act::Invokes(_) => {
+            if MOST_INVOCATIONS <= running_count(machine.invocations()) {
+                Some(Outcome::InvocationsFull)
+            } else {
+                None
+            }
+        }
+        _ => None,
     }
 }
 

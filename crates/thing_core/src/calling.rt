@@ -4,7 +4,7 @@ ghost use Rattle.std.specs.Prelude.{◌≡◌, ◌<◌, length, true, false, Mat
 ghost use Rattle.wot_json.specs.Json.{json_text};
 ghost use Rattle.wot_json.specs.Meaning.{json_of};
 ghost use Rattle.thing_core.specs.Thing.{failure_of, gives, IsTaken};
-ghost use Rattle.thing_core.specs.Performing.{is_done, CallsFor, ComesAs, IsFired, IsValueOf};
+ghost use Rattle.thing_core.specs.Performing.{is_done, CallsFor, ComesAs, IsFired};
 
 use crate::machine::Machine;
 use crate::state::MOST_TURNS;
@@ -25,7 +25,7 @@ pub fn call<R: Handlers>(
     requires { slot < length (R.slots rack.old) }
     ensures { CallsFor (λ called. ComesAs called result) slot what.now machine.old machine.new (R.slots rack.old) (R.slots rack.new) }
 {
-    let number = machine.turns();
+    let number = machine.turns;
     if number == MOST_TURNS {
         return Err(Outcome::CallsUsed);
     }
@@ -50,27 +50,6 @@ pub fn failure(answer: &Answer) -> Outcome
         | Answer::Cancelled
         | Answer::Quiet
         | Answer::Fired(_) => Outcome::BadAnswer,
-    }
-}
-
-/// The value that a device answered with, or the outcome of the request where it gave none.
-pub fn value_of(answer: Answer) -> Result<Tree, Outcome>
-    ensures { IsValueOf (gives answer) result }
-{
-    let failed = failure(&answer);
-    // For the proof: what was lent is moved before it is taken apart.
-    let given = answer;
-    match given {
-        Answer::Value(value) => Ok(value),
-        Answer::Done
-        | Answer::Started
-        | Answer::Running
-        | Answer::Finished(_)
-        | Answer::Cancelled
-        | Answer::Quiet
-        | Answer::Fired(_)
-        | Answer::Refused(_)
-        | Answer::DeviceFault(_) => Err(failed),
     }
 }
 

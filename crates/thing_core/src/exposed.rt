@@ -133,7 +133,8 @@ impl Exposed {
         ensures site { self.new.site ≡ self.old.site }
         ensures state { self.new.state ≡ self.old.state }
     {
-        self.machine.hand_out()
+        let machine = &mut self.machine;
+        machine.pending.pop_front()
     }
 
     /// The text of the last emission of this target, which has at most 1,024 bytes.
@@ -160,6 +161,7 @@ impl Exposed {
     pub fn next_invocation(&self) -> u64
         ensures { result ≡ self.now.state.next_invocation }
     {
-        self.machine.next_invocation()
+        let machine = &self.machine;
+        machine.next_invocation
     }
 }

@@ -12,7 +12,7 @@ ghost use Rattle.thing_core.specs.Ids.{IdsRise};
 use crate::NoMemory;
 use crate::room::Room;
 use crate::state::{Invocation, Latest, MOST_INVOCATIONS, place_by_id};
-use crate::version::{Version, see_one, version_of};
+use crate::version::{Version, place_of_version, see_one};
 use std::alloc::Global;
 use std::collections::VecDeque;
 use std::marker::Model;
@@ -28,12 +28,12 @@ pub struct Machine {
     /// The rooms of further invocations.
     spare: Vec<Room>,
     /// The id of the next invocation, counted over all actions.
-    next_invocation: u64,
+    pub(crate) next_invocation: u64,
     /// One for each affordance that may emit.
     last: Vec<Latest>,
     /// How many turns the run has.
-    turns: u64,
-    pending: VecDeque<u32>,
+    pub(crate) turns: u64,
+    pub(crate) pending: VecDeque<u32>,
 }
 
 impl Model for Machine {
@@ -62,7 +62,7 @@ impl Model for Machine {
 }
 
 impl Machine {
-    ghost use Rattle.std.specs.Prelude.{◌≡◌, ◌≤◌, ◌<◌, ◌+◌, ◌-◌, ◌++◌, ◌∷◌, [], ℕ, length, option_map, IfOk, OnOk, OnErr, MatchOption};
+    ghost use Rattle.std.specs.Prelude.{◌≡◌, ◌≤◌, ◌<◌, ◌+◌, ◌-◌, ◌++◌, ◌∷◌, [], ℕ, length, option_map, IfOk, OnOk, OnErr};
     ghost use Rattle.thing_site.specs.Refusals.{longest_value};
     ghost use Rattle.thing_core.specs.State as spec;
     ghost use Rattle.thing_core.specs.Thing.{most_turns, with_id_used, with_invocations, with_seen};
@@ -151,7 +151,13 @@ impl Machine {
     pub fn version_of(&self, slot: u32) -> u32
         ensures { result ≡ spec.version_of slot self.now.state.versions }
     {
-        version_of(self.versions.as_slice(), slot)
+        match place_of_version(self.versions.as_slice(), slot) {
+            Some(index) => {
+                let version = &self.versions[index];
+                version.number
+            }
+            None => 0,
+        }
     }
 
     /// A value of this text is seen of the property in this slot. The version that it then has.
@@ -183,14 +189,6 @@ impl Machine {
     {
         renew_all(self.last.as_mut_slice(), target, text);
         self.pending.push_back_reserved(target);
-    }
-
-    /// The target of the next emission that wasn't handed out yet.
-    pub fn hand_out(&mut self) -> Option<u32>
-        ensures first { MatchOption result ((self.old.pending ≡ []) × (self.new.pending ≡ [])) (λ target. self.old.pending ≡ target ∷ self.new.pending) }
-        ensures state { self.new.state ≡ self.old.state }
-    {
-        self.pending.pop_front()
     }
 
     /// An invocation was answered, which uses its id.

@@ -8,11 +8,11 @@ ghost use Rattle.thing_core.specs.Thing.{is_readable, read_outcome, readable, Re
 ghost use Rattle.thing_core.specs.Performing.{with_member, room_of_all, AllStand, CallsFor, IsValueOf, MakesDone, OrMemory, ReadsOne};
 
 use crate::NoMemory;
-use crate::calling::{call, taken_text, value_of};
+use crate::calling::{call, failure, taken_text};
 use crate::field::Field;
 use crate::machine::Machine;
 use std::alloc::Global;
-use thing_handler::{CallKind, Handlers};
+use thing_handler::{Answer, CallKind, Handlers};
 use thing_ops::{Conditions, Outcome};
 use thing_site::{HeldThing, LONGEST_VALUE, Spot};
 use wot_json::{Bytes, Tree};
@@ -48,7 +48,7 @@ pub fn read<R: Handlers>(
 }
 
 /// What a read comes to of a property that has this version, with this text, for which there is this room.
-fn judged(conditions: &Conditions, version: u32, room: Vec<u8>, text: &[u8]) -> Outcome
+fn judged(conditions: &Conditions, version: u32, mut room: Vec<u8>, text: &[u8]) -> Outcome
     requires empty { room.items ≡ [] }
     requires room { length text.now ≤ vec_capacity room }
     ensures { result ≡ read_outcome conditions.now version text.now }
@@ -58,8 +58,9 @@ fn judged(conditions: &Conditions, version: u32, room: Vec<u8>, text: &[u8]) -> 
     } else if conditions.known.has(version) {
         Outcome::NotModified(version)
     } else {
+        room.extend_from_slice(text).unwrap();
         Outcome::Content {
-            text: filled(room, text),
+            text: Bytes::from_vec(room),
             tag: Some(version),
         }
     }
@@ -75,19 +76,25 @@ fn read_value<R: Handlers>(
     ensures { CallsFor (λ called. IsValueOf called result) spot.now.slot CallKind.Read machine.old machine.new (R.slots rack.old) (R.slots rack.new) }
 {
     match call(machine, rack, spot.slot(), &CallKind::Read) {
-        Ok(answer) => value_of(answer),
+        Ok(answer) => {
+            let failed = failure(&answer);
+            // For the proof: what was lent is moved before it is taken apart.
+            let given = answer;
+            match given {
+                Answer::Value(value) => Ok(value),
+                Answer::Done
+                | Answer::Started
+                | Answer::Running
+                | Answer::Finished(_)
+                | Answer::Cancelled
+                | Answer::Quiet
+                | Answer::Fired(_)
+                | Answer::Refused(_)
+                | Answer::DeviceFault(_) => Err(failed),
+            }
+        }
         Err(outcome) => Err(outcome),
     }
-}
-
-/// A text in empty room that was taken for it.
-fn filled(mut room: Vec<u8>, text: &[u8]) -> Bytes
-    requires empty { room.items ≡ [] }
-    requires room { length text.now ≤ vec_capacity room }
-    ensures { result ≡ text.now }
-{
-    room.extend_from_slice(text).unwrap();
-    Bytes::from_vec(room)
 }
 
 /// Reads all properties of a Thing that aren't write-only, until one fails. All room is taken before the first call.

@@ -18,17 +18,7 @@ pub fn place_of<'a>(
     requires { IdsRise invocations.now }
     ensures { result ≡ spec.place_of path.now things.now invocations.now }
 {
-    match place_at(things, path) {
-        Some(place) => where_stands(place, invocations),
-        None => None,
-    }
-}
-
-/// A place, unless it is an invocation that isn't there.
-fn where_stands<'a>(place: Place<'a>, invocations: &[Invocation]) -> Option<Place<'a>>
-    requires { IdsRise invocations.now }
-    ensures { result ≡ spec.where_stands invocations.now place.entry }
-{
+    let place = place_at(things, path)?;
     match place {
         Place::Invocation(spot, id) => match invocation_in(invocations, spot.slot(), id) {
             Some(_) => Some(Place::Invocation(spot, id)),

@@ -15,7 +15,7 @@ use thing_site::LONGEST_VALUE;
 pub struct Version {
     slot: u32,
     /// 0 where nothing was seen yet.
-    number: u32,
+    pub(crate) number: u32,
     text: Vec<u8>,
 }
 
@@ -48,20 +48,6 @@ impl Version {
         })
     }
 
-    /// The slot of its property.
-    pub fn slot(&self) -> u32
-        ensures { result ≡ self.now.slot }
-    {
-        self.slot
-    }
-
-    /// Its number.
-    pub fn number(&self) -> u32
-        ensures { result ≡ self.now.number }
-    {
-        self.number
-    }
-
     /// A value of this text is seen. The version's number afterwards.
     pub fn see(&mut self, text: &[u8]) -> u32
         requires length { length text.now ≤ longest_value }
@@ -79,16 +65,6 @@ impl Version {
     }
 }
 
-/// The version of the property in this slot.
-pub fn version_of(versions: &[Version], slot: u32) -> u32
-    ensures { result ≡ version_of_slot slot versions.now }
-{
-    match place_of_version(versions, slot) {
-        Some(index) => versions[index].number(),
-        None => 0,
-    }
-}
-
 /// A value of this text is seen of the property in this slot. The version that the property then has.
 pub fn see_one(versions: &mut [Version], slot: u32, text: &[u8]) -> u32
     requires length { length text.now ≤ longest_value }
@@ -103,8 +79,8 @@ pub fn see_one(versions: &mut [Version], slot: u32, text: &[u8]) -> u32
 }
 
 /// The place of the version of the property in this slot.
-fn place_of_version(versions: &[Version], slot: u32) -> Option<usize>
+pub fn place_of_version(versions: &[Version], slot: u32) -> Option<usize>
     ensures { result ≡ position (λ v. v.slot == slot) versions.now }
 {
-    versions.iter().position(|v| v.slot() == slot)
+    versions.iter().position(|v| v.slot == slot)
 }

@@ -24,18 +24,10 @@ pub fn write_each<R: Handlers>(
     requires { InputsFit (length (R.slots rack.old)) inputs.items }
     ensures { MakesDone (OrMemory (WritesEach inputs.entry.items [])) result machine.old machine.new (R.slots rack.old) (R.slots rack.new) }
 {
-    if machine.reserve(inputs.len()).is_err() {
-        return Outcome::Memory;
+    match machine.reserve(inputs.len()) {
+        Ok(()) => {}
+        Err(_) => return Outcome::Memory,
     }
-    write_all(inputs, machine, rack)
-}
-
-/// The same, where there is room for the emissions.
-fn write_all<R: Handlers>(inputs: Vec<Input<'_>>, machine: &mut Machine, rack: &mut R) -> Outcome
-    requires inputs { InputsFit (length (R.slots rack.old)) inputs.items }
-    requires room { length inputs.items ≤ machine.old.room }
-    ensures { MakesDone (WritesEach inputs.entry.items []) result machine.old machine.new (R.slots rack.old) (R.slots rack.new) }
-{
     for input in inputs {
         match write_one(input, machine, rack) {
             None => {}

@@ -5,7 +5,7 @@ ghost use Rattle.thing_ops.specs.Requests.{plain_request};
 ghost use Rattle.thing_site.specs.Refusals as refusal;
 ghost use Rattle.thing_site.specs.HandedIn.{AreFormatsTaken, AreFormatsRefused};
 
-use thing_ops::{Accept, Format, Outcome, Request};
+use thing_ops::{Format, Outcome, Request};
 
 /// What the answer of an act can be sent as.
 #[derive(Clone, Copy, Debug, PartialEq, Eq, Drop)]
@@ -40,34 +40,22 @@ pub fn judge_formats(
     ensures ok { OnOk result (AreFormatsTaken answer body (plain_request request.now)) }
     ensures fault { IfErr result (λ o. AreFormatsRefused answer body (plain_request request.now) o) }
 {
-    if !is_acceptable(answer, request.accept) {
+    let is_acceptable = match answer {
+        AnswerFormat::Any => true,
+        AnswerFormat::Json => request.accept.json,
+        AnswerFormat::Description => request.accept.json || request.accept.td,
+    };
+    if !is_acceptable {
         return Err(Outcome::NotAcceptable);
     }
-    if !request.body.is_empty() && !is_taken_format(body, request.format) {
-        return Err(Outcome::Format);
-    }
-    Ok(())
-}
-
-/// The sender takes what the answer can be sent as.
-fn is_acceptable(answer: AnswerFormat, accept: Accept) -> bool
-    ensures { result ≡ refusal.is_acceptable answer accept }
-{
-    match answer {
-        AnswerFormat::Any => true,
-        AnswerFormat::Json => accept.json,
-        AnswerFormat::Description => accept.json || accept.td,
-    }
-}
-
-/// A body of this format is taken.
-fn is_taken_format(body: BodyFormat, format: Format) -> bool
-    ensures { result ≡ refusal.is_taken_format body format }
-{
-    match (body, format) {
+    let is_taken = match (body, request.format) {
         (_, Format::Absent | Format::Json) => true,
         (BodyFormat::Description, Format::Td) => true,
         (BodyFormat::Patch, Format::Patch) => true,
         _ => false,
+    };
+    if !is_taken && !request.body.is_empty() {
+        return Err(Outcome::Format);
     }
+    Ok(())
 }

@@ -87,7 +87,17 @@ pub fn act_at<'a>(route: RouteKind, place: Place<'a>, verb: Verb) -> Result<Act<
         (λ act. spec.act_at route place.entry verb ≡ Some act)
         (λ allow. (spec.act_at route place.entry verb ≡ None) × (verbs_in allow ≡ verbs_of route (spec.flags_of place.entry))) }
 {
-    let allow = allowed(route, flags_of(&place));
+    let flags = match &place {
+        Place::Property(spot) => Flags {
+            read_only: spot.affordance().read_only,
+            write_only: spot.affordance().write_only,
+        },
+        _ => Flags {
+            read_only: false,
+            write_only: false,
+        },
+    };
+    let allow = allowed(route, flags);
     if allow.takes(verb) {
         Ok(act_of(place, verb))
     } else {
@@ -111,22 +121,6 @@ fn act_of<'a>(place: Place<'a>, verb: Verb) -> Act<'a>
         (Place::Invocation(spot, id), Verb::Delete) => Act::Cancels(spot, id),
         (Place::Invocation(spot, id), _) => Act::Queries(spot, id),
         (Place::Event(spot), _) => Act::ReadsEvent(spot),
-    }
-}
-
-/// The flags of the property that a place is; false for any other place.
-fn flags_of(place: &Place<'_>) -> Flags
-    ensures { result ≡ spec.flags_of place.now }
-{
-    match place {
-        Place::Property(spot) => Flags {
-            read_only: spot.affordance().read_only,
-            write_only: spot.affordance().write_only,
-        },
-        _ => Flags {
-            read_only: false,
-            write_only: false,
-        },
     }
 }
 

@@ -64,8 +64,8 @@ fn inputs_of<'a>(alloc: Global, act: &Act<'a>, body: &[u8]) -> Result<Vec<Input<
 {
     match act {
         Act::WritesMany(thing) => object_inputs(alloc, thing.thing(), body),
-        Act::Writes(spot) => one_input(alloc, spot.again(), body),
-        Act::Invokes(spot) => invoke_inputs(alloc, spot.again(), body),
+        Act::Writes(spot) => one_input(alloc, spot, body),
+        Act::Invokes(spot) => invoke_inputs(alloc, spot, body),
         Act::Describes(_)
         | Act::ReadsAll(_)
         | Act::Reads(_)
@@ -89,9 +89,9 @@ fn no_inputs<'a>(alloc: Global, body: &[u8]) -> Result<Vec<Input<'a>>, Outcome>
 }
 
 /// What is handed in to an action, which takes a body exactly where it has an input schema.
-fn invoke_inputs<'a>(alloc: Global, spot: Spot<'a>, body: &[u8]) -> Result<Vec<Input<'a>>, Outcome>
-    ensures ok { IfOk result (λ inputs. refusal.invoke_inputs spot.entry spot.entry.affordance.input body.now ≡ Some inputs.items) }
-    ensures fault { IfErr result (λ o. HasNoInputs (refusal.invoke_inputs spot.entry spot.entry.affordance.input body.now) o) }
+fn invoke_inputs<'a>(alloc: Global, spot: &Spot<'a>, body: &[u8]) -> Result<Vec<Input<'a>>, Outcome>
+    ensures ok { IfOk result (λ inputs. refusal.invoke_inputs spot.now spot.now.affordance.input body.now ≡ Some inputs.items) }
+    ensures fault { IfErr result (λ o. HasNoInputs (refusal.invoke_inputs spot.now spot.now.affordance.input body.now) o) }
 {
     match &spot.affordance().input {
         Some(_) => one_input(alloc, spot, body),
@@ -100,11 +100,16 @@ fn invoke_inputs<'a>(alloc: Global, spot: Spot<'a>, body: &[u8]) -> Result<Vec<I
 }
 
 /// The body is one value.
-fn one_input<'a>(alloc: Global, spot: Spot<'a>, body: &[u8]) -> Result<Vec<Input<'a>>, Outcome>
-    ensures ok { IfOk result (λ inputs. option_map (refusal.only_input spot.entry) (tree_of body.now) ≡ Some inputs.items) }
-    ensures fault { IfErr result (λ o. HasNoInputs (option_map (refusal.only_input spot.entry) (tree_of body.now)) o) }
+fn one_input<'a>(alloc: Global, spot: &Spot<'a>, body: &[u8]) -> Result<Vec<Input<'a>>, Outcome>
+    ensures ok { IfOk result (λ inputs. option_map (refusal.only_input spot.now) (tree_of body.now) ≡ Some inputs.items) }
+    ensures fault { IfErr result (λ o. HasNoInputs (option_map (refusal.only_input spot.now) (tree_of body.now)) o) }
 {
     let value = value_in(alloc, body)?;
+    // The same again: a Model on a struct that borrows rules out `Copy`.
+    let spot = Spot {
+        affordance: spot.affordance,
+        slot: spot.slot,
+    };
     let mut inputs = Vec::with_capacity(alloc, 1)?;
     inputs.push_reserved(Input::of(alloc, spot, value)?);
     Ok(inputs)

@@ -14,8 +14,8 @@ use wot_terms::{Affordance, Kind};
 /// An affordance, and the slot of its handler. Contracts see both.
 #[derive(Drop)]
 pub struct Spot<'a> {
-    affordance: &'a Affordance,
-    slot: u32,
+    pub(crate) affordance: &'a Affordance,
+    pub(crate) slot: u32,
 }
 
 impl<'a> Model for Spot<'a> {
@@ -42,16 +42,6 @@ impl<'a> Spot<'a> {
         ensures { result ≡ self.now.slot }
     {
         self.slot
-    }
-
-    /// The same again: a Model on a struct that borrows rules out `Copy`.
-    pub fn again(&self) -> Spot<'a>
-        ensures { result ≡ self.now }
-    {
-        Spot {
-            affordance: self.affordance,
-            slot: self.slot,
-        }
     }
 }
 

@@ -1,18 +1,9 @@
-use Rattle.std.proofs.Common.{subst}
 use Rattle.std.specs.Prelude.{Err}
 use Rattle.thing_handler.specs.declared.handler.CallKind.TheVariants as call
-use Rattle.thing_core.specs.Thing.{Called, gives}
-use Rattle.thing_core.specs.Performing.{ComesAs, HasRoomAfter, IsValueOf}
-use Rattle.thing_core.proofs.MoveLaws.{calls_for, makes_answered, makes_call}
+use Rattle.thing_core.specs.Performing.{ComesAs, IsValueOf}
+use Rattle.thing_core.proofs.MoveLaws.{calls_for, makes_call}
 use Rattle.thing_core.proofs.ReadLaws.{unanswered_value}
 use Rattle.thing_core.proofs.reading.read_value.Goals as goal
-
-pub returns-in-Ok : goal.returns-in-Ok
-returns-in-Ok g c =
-    calls_for (λ called. IsValueOf called c.value_of.result) c.args.spot.now.slot call.Read (gives c.in-Ok.answer) c.args.machine.now c.call.new.machine
-    (g.R.Handlers.slots c.args.rack.now) (g.R.Handlers.slots c.call.new.rack) c.value_of.ensures
-    (subst (λ (x : Called). HasRoomAfter x c.call.new.machine.state) c.in-Ok.ensures.comes c.in-Ok.ensures.versions)
-    (makes_answered c.slot.result c.args.spot.now.slot call.Read c.in-Ok.answer c.args.machine.now c.call.new.machine (g.R.Handlers.slots c.args.rack.now) (g.R.Handlers.slots c.call.new.rack) c.slot.ensures c.in-Ok.ensures)
 
 pub returns-in-Err : goal.returns-in-Err
 returns-in-Err g c =

@@ -1,5 +1,5 @@
-use Rattle.std.proofs.Common.{◌∙◌, ℕ, ap, sym, get_or, slice_set, arith}
-use Rattle.thing_core.specs.State.{Version, after_text, version_of, versions_after}
+use Rattle.std.proofs.Common.{◌∙◌, ap, sym, get_or, slice_set, arith}
+use Rattle.thing_core.specs.State.{Version, version_of}
 use Rattle.thing_core.proofs.VersionLists.{no_version, none_seen, seen_at, version_at, version_seen}
 use Rattle.thing_core.proofs.version.see_one.Goals as goal
 

@@ -1,4 +1,4 @@
-use Rattle.std.proofs.Common.{◌≡◌, ◌∙◌, List, ◌++◌, map, ap, subst}
+use Rattle.std.proofs.Common.{◌≡◌, ◌∙◌, ◌++◌, map, ap, subst}
 use Rattle.std.specs.Prelude.{Err}
 use Rattle.thing_core.specs.State.{Emission, last_after, versions_after}
 use Rattle.thing_handler.specs.declared.handler.CallKind.TheVariants as call

@@ -2,7 +2,7 @@ use Rattle.std.proofs.Common.{◌≡◌, ◌≤◌, length}
 use Rattle.std.specs.Vec.Iter.{into_iter_items, into_iter_len}
 use Rattle.thing_core.specs.Performing.{InputsFit}
 use Rattle.thing_core.proofs.WriteLoop.{WrittenSoFar}
-use Rattle.thing_core.proofs.writing.write_all.Given as goal
+use Rattle.thing_core.proofs.writing.write_each.Given as goal
 
 abbrev pub invariant-loop-input : goal.invariant-loop-input
 invariant-loop-input g l =

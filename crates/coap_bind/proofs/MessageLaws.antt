@@ -4,7 +4,7 @@ use Rattle.std.specs.Prelude.{nat_lt, All, take}
 use Rattle.std.specs.Option.{option_map_or}
 use Rattle.std.proofs.lemmas.List.{length-take}
 use Rattle.std.proofs.lemmas.List.Elements.{All-head, All-tail}
-use Rattle.coap_msg.specs.declared.constants.TheConstants.{LOCATION_PATH, CONTENT_FORMAT, METHOD_NOT_ALLOWED, JSON, LONGEST_SEGMENT, LONGEST_TOKEN}
+use Rattle.coap_msg.specs.declared.constants.TheConstants.{LOCATION_PATH, CONTENT_FORMAT, JSON, LONGEST_SEGMENT, LONGEST_TOKEN}
 use Rattle.coap_msg.specs.declared.message.RequestType.{RequestType}
 use Rattle.coap_msg.specs.declared.message.RequestType.TheVariants.{Confirmable, NonConfirmable}
 use Rattle.coap_msg.specs.Grammar.{CoapOption, AreInOrder, IsWellFormed}
@@ -20,7 +20,7 @@ use Rattle.coap_bind.specs.declared.blocks.BlockOption.TheVariants as option
 use Rattle.coap_bind.specs.declared.blocks.BlockUse.{BlockUse}
 use Rattle.coap_blocks.specs.Bodies.{longest_body}
 use Rattle.coap_bind.specs.declared.links.TheConstants.{LINK_FORMAT}
-use Rattle.coap_bind.specs.Links.{links_content, links_reply, method_reply}
+use Rattle.coap_bind.specs.Links.{links_content, method_reply}
 use Rattle.coap_bind.specs.Blocks.{Portion, given_portion, content_format, content_reply, with_block, answer_reply, block_options, most_bytes, portion_of, reply_with}
 use Rattle.coap_bind.specs.Writing.{Reply, long_reply, whole_reply, place_of, text_format, format_options, etag_options, observe_options, reply_options, reply_id, coap_reply, ReplyHead}
 use Rattle.coap_bind.specs.Laws.{HasShortPlace}

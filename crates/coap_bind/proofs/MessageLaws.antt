@@ -19,8 +19,8 @@ use Rattle.coap_bind.specs.declared.blocks.BlockOption.{BlockOption}
 use Rattle.coap_bind.specs.declared.blocks.BlockOption.TheVariants as option
 use Rattle.coap_bind.specs.declared.blocks.BlockUse.{BlockUse}
 use Rattle.coap_blocks.specs.Bodies.{longest_body}
-use Rattle.coap_bind.specs.declared.links.TheConstants.{LINK_FORMAT, METHOD_NOT_ALLOWED}
-use Rattle.coap_bind.specs.Links.{links_content, links_reply, method_reply}
+use Rattle.coap_bind.specs.declared.links.TheConstants.{LINK_FORMAT}
+use Rattle.coap_bind.specs.Links.{links_content, method_reply}
 use Rattle.coap_bind.specs.Blocks.{Portion, given_portion, content_format, content_reply, with_block, answer_reply, block_options, most_bytes, portion_of, reply_with}
 use Rattle.coap_bind.specs.Writing.{Reply, long_reply, whole_reply, place_of, text_format, format_options, etag_options, observe_options, reply_options, reply_id, coap_reply, ReplyHead}
 use Rattle.coap_bind.specs.Laws.{HasShortPlace}

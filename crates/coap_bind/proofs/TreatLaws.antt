@@ -4,7 +4,6 @@ use Rattle.std.proofs.Common.{arith, ◌≡◌, ◌≢◌, ◌≤◌, ◌<◌, �
 use Rattle.std.specs.Prelude.{◌==◌, ◌||◌, option_map, IfSome, if◌then◌else◌}
 use Rattle.coap_msg.specs.declared.block.Block.{Block}
 use Rattle.coap_msg.specs.declared.constants.TheConstants.{GET, POST, PUT}
-use Rattle.coap_msg.specs.declared.endpoint.Endpoint.{Endpoint}
 use Rattle.coap_msg.specs.Blocks.{IsBlock}
 use Rattle.coap_msg.specs.Grammar.{CoapMessage}
 use Rattle.coap_blocks.specs.Bodies.{body_for}
@@ -25,7 +24,7 @@ use Rattle.coap_bind.specs.declared.observing.Observing.{Observing}
 use Rattle.coap_bind.specs.declared.observing.Observing.TheVariants as observing
 use Rattle.coap_bind.specs.Blocks.{IsUse, added_reply, block2_of, later_reply, use_of, wanted_by_body, wanted_by_get, wanted_of}
 use Rattle.coap_bind.specs.Links.{is_links_path, size_asked, links_reply, method_reply}
-use Rattle.coap_bind.specs.Server.{answered_at_once, asked, observing_in, pending_of, pending_joined, wanted_in, with_parts, with_whole_body, block_arrival, Adds, Replies, no_memory, later_block, joined, takes_no_other_verb, takes_no_body, links_given, Reads, gives_links, asks, asks_whole}
+use Rattle.coap_bind.specs.Server.{answered_at_once, asked, observing_in, pending_of, pending_joined, wanted_in, with_parts, with_whole_body, block_arrival, Replies, no_memory, later_block, joined, takes_no_other_verb, takes_no_body, links_given, Reads, gives_links, asks, asks_whole}
 use Rattle.coap_bind.specs.Observing.{observing_of}
 use Rattle.coap_bind.specs.Settling.{AnswersBlock, answered, for_links, whole, AnswersLinks, gives, refuses, HasWhole, IsAdded, IsReadOf, ReadsAs}
 use Rattle.coap_bind.specs.Telling.{MayAnswer, RepliesAs}

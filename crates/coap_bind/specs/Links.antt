@@ -8,7 +8,8 @@ use Rattle.coap_observe.specs.Watching.{Watching, without_pair}
 use Rattle.coap_opts.specs.Reading.{PlainAsk}
 use Rattle.thing_ops.specs.Outcomes.{coap}
 use Rattle.thing_ops.specs.Routes.{has_form, the}
-use Rattle.coap_bind.specs.declared.links.TheConstants.{LINK_FORMAT, METHOD_NOT_ALLOWED}
+use Rattle.coap_msg.specs.declared.constants.TheConstants.{METHOD_NOT_ALLOWED}
+use Rattle.coap_bind.specs.declared.links.TheConstants.{LINK_FORMAT}
 use Rattle.coap_bind.specs.declared.observing.Observing.{Observing}
 use Rattle.coap_bind.specs.declared.observing.Observing.TheVariants as observing
 use Rattle.coap_bind.specs.Blocks.{block2_of, content_reply, first_block, given_portion}

@@ -1,5 +1,5 @@
 -- Inside the crate: what is found of a datagram before its result is made, and of a request that was admitted.
-use Rattle.std.specs.Prelude.{◌≡◌, ◌≢◌, ◌<◌, ◌≤◌, ◌⊎◌, ℕ, true, false, List, [], length, slice_get, IfSome, Result, Ok, Err, Option, Some, None}
+use Rattle.std.specs.Prelude.{◌≡◌, ◌≢◌, ◌<◌, ◌≤◌, ℕ, true, false, List, [], length, slice_get, IfSome, Result, Ok, Err, Option, Some, None}
 use Rattle.std.specs.List.{remove}
 use Rattle.coap_msg.specs.declared.block.Block.{Block}
 use Rattle.coap_msg.specs.declared.message.Message.{Message}

@@ -7,9 +7,9 @@ use crate::options::text_format;
 use crate::pending::PendingReply;
 use crate::portion::{LONGEST_BODY, first_block, is_representation};
 use crate::server::Server;
-use crate::writing::{CONTENT, put_word};
+use crate::writing::put_word;
 use coap_blocks::Whole;
-use coap_msg::{BAD_OPTION, Endpoint, LONGEST_MESSAGE, RequestType};
+use coap_msg::{BAD_OPTION, CONTENT, Code, Endpoint, LONGEST_MESSAGE, RequestType};
 use coap_observe::Registered;
 use itoa::Buffer;
 use servient_base::put_bytes;
@@ -76,7 +76,7 @@ impl Server {
     pub fn refuse(
         &mut self,
         pending: &PendingReply,
-        code: u8,
+        code: Code,
         word: &[u8],
         out: &mut [u8; LONGEST_MESSAGE],
     ) -> usize

@@ -6,7 +6,7 @@ ghost use Rattle.coap_bind.specs.Blocks.{block2_of, wanted_of};
 ghost use Rattle.coap_bind.specs.Links.{size_asked};
 
 use crate::observing::Observing;
-use coap_msg::{Block, GET, POST, PUT};
+use coap_msg::{Block, Code, GET, POST, PUT};
 use coap_opts::CoapAsk;
 use thing_ops::Segments;
 
@@ -53,7 +53,7 @@ pub enum BlockOption {
 }
 
 /// What a request of this code wants, which wants this of the watchers.
-pub fn wanted_of(code: u8, observing: Observing, ask: &CoapAsk<'_>) -> Wanted
+pub fn wanted_of(code: Code, observing: Observing, ask: &CoapAsk<'_>) -> Wanted
     ensures { result ≡ wanted_of code observing (plain_ask ask.now) }
 {
     match code {

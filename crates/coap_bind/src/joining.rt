@@ -8,22 +8,13 @@ use crate::portion::Portion;
 use crate::server::Server;
 use crate::writing::{Told, put_told};
 use coap_blocks::Added;
-use coap_msg::{Block, LONGEST_MESSAGE, SERVICE_UNAVAILABLE};
+use coap_msg::{
+    BAD_REQUEST, Block, CONTINUE, LONGEST_MESSAGE, REQUEST_ENTITY_INCOMPLETE,
+    REQUEST_ENTITY_TOO_LARGE, SERVICE_UNAVAILABLE,
+};
 use coap_opts::CoapAsk;
 use servient_base::put_bytes;
 use thing_ops::{Request, Segments};
-
-/// 2.31, that others are to come (RFC 7959, section 2.9.1).
-const CONTINUE: u8 = 32 * 2 + 31;
-
-/// 4.00.
-pub const BAD_REQUEST: u8 = 32 * 4;
-
-/// 4.08, that blocks before one are missing (RFC 7959, section 2.9.2).
-const REQUEST_ENTITY_INCOMPLETE: u8 = 32 * 4 + 8;
-
-/// 4.13 (RFC 7959, section 2.9.3).
-const REQUEST_ENTITY_TOO_LARGE: u8 = 32 * 4 + 13;
 
 impl Server {
     ghost use Rattle.std.specs.Prelude.{◌≡◌, ◌<◌, ◌≤◌, ◌/◌, length, option_map, slice_get, IfSome, Some};

@@ -5,17 +5,16 @@ use crate::observing::Observing;
 use crate::pending::PendingReply;
 use crate::portion::{LONGEST_BODY, first_block, given_portion};
 use crate::server::Server;
-use crate::writing::{CONTENT, Told, put_told, put_word};
+use crate::writing::{Told, put_told, put_word};
 use coap_blocks::{Bodies, Whole};
-use coap_msg::{Endpoint, GET, INTERNAL_SERVER_ERROR, LONGEST_MESSAGE};
+use coap_msg::{
+    CONTENT, Code, Endpoint, GET, INTERNAL_SERVER_ERROR, LONGEST_MESSAGE, METHOD_NOT_ALLOWED,
+};
 use coap_opts::CoapAsk;
 use thing_ops::Segments;
 
 /// The content format of links (RFC 6690, section 7.3).
 const LINK_FORMAT: u16 = 40;
-
-/// 4.05.
-const METHOD_NOT_ALLOWED: u8 = 32 * 4 + 5;
 
 impl Server {
     ghost use Rattle.std.specs.Prelude.{◌≡◌, ◌<◌, ◌≤◌, length, IfSome};
@@ -33,7 +32,7 @@ impl Server {
     pub fn answer_links(
         &mut self,
         pending: &PendingReply,
-        code: u8,
+        code: Code,
         ask: &CoapAsk<'_>,
         now: u64,
         out: &mut [u8; LONGEST_MESSAGE],

@@ -4,7 +4,7 @@ ghost use Rattle.std.specs.Prelude.{◌≡◌};
 ghost use Rattle.coap_bind.specs.Observing.{observing_of, may_notify, effect_of};
 ghost use Rattle.coap_bind.specs.declared.observing.Observing.TheVariants as observing;
 
-use coap_msg::{GET, LONGEST_PAYLOAD};
+use coap_msg::{Code, GET, LONGEST_PAYLOAD};
 use thing_ops::Outcome;
 
 /// What a request wants of the watchers (RFC 7641, section 2).
@@ -30,7 +30,7 @@ pub enum Effect {
 }
 
 /// What a request of this code and with this value of Observe wants of the watchers.
-pub fn observing_of(code: u8, observe: Option<u32>) -> Observing
+pub fn observing_of(code: Code, observe: Option<u32>) -> Observing
     ensures { result ≡ observing_of code observe }
 {
     if code != GET {

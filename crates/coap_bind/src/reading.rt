@@ -1,16 +1,19 @@
 //! What is done with a request that was admitted: it is asked, or answered at once.
 
 use crate::blocks::{BlockUse, Giving, Wanted, size_asked, wanted_of};
-use crate::joining::{BAD_REQUEST, with_body};
+use crate::joining::with_body;
 use crate::links::is_links_path;
 use crate::next::{CoapNext, Ticket};
 use crate::observing::observing_of;
 use crate::pending::PendingReply;
 use crate::portion::portion_at;
 use crate::server::Server;
-use crate::writing::{CONTENT, Told, put_told, put_word};
+use crate::writing::{Told, put_told, put_word};
 use coap_blocks::Whole;
-use coap_msg::{Block, GET, LONGEST_MESSAGE, Message, PROXYING_NOT_SUPPORTED, SERVICE_UNAVAILABLE};
+use coap_msg::{
+    BAD_REQUEST, Block, CONTENT, Code, GET, LONGEST_MESSAGE, Message, PROXYING_NOT_SUPPORTED,
+    SERVICE_UNAVAILABLE,
+};
 use coap_opts::{AskFault, CoapAsk, request_of};
 use std::alloc::Global;
 use thing_ops::Segments;
@@ -129,7 +132,7 @@ impl Server {
         &mut self,
         alloc: Global,
         pending: PendingReply,
-        code: u8,
+        code: Code,
         ask: CoapAsk<'a>,
         now: u64,
         out: &mut [u8; LONGEST_MESSAGE],

@@ -8,7 +8,7 @@ use crate::writing::kind_and_id;
 use coap_blocks::{Bodies, Parts};
 use coap_exchange::{Exchanges, Met};
 use coap_msg::{
-    EMPTY, Endpoint, LONGEST_MESSAGE, LONGEST_TOKEN, Message, Opts, Plain, RequestType,
+    Code, EMPTY, Endpoint, LONGEST_MESSAGE, LONGEST_TOKEN, Message, Opts, Plain, RequestType,
     SERVICE_UNAVAILABLE, Type4, decode, encode, put_empty_reply, put_rejection,
 };
 use coap_observe::{Notice, Watchers};
@@ -175,7 +175,7 @@ impl Server {
 }
 
 /// Whether a message of this type and code is a request.
-fn is_request(kind: Type4, code: u8) -> bool
+fn is_request(kind: Type4, code: Code) -> bool
     ensures { result ≡ (may_ask kind && (nat_lt 0 code && nat_lt code 32)) }
 {
     match kind {

@@ -14,14 +14,11 @@ use crate::options::{put_block, put_content_options, put_notification_options, p
 use crate::pending::PendingReply;
 use crate::portion::{Portion, most_bytes, portion_of};
 use coap_msg::{
-    INTERNAL_SERVER_ERROR, LONGEST_MESSAGE, LONGEST_PAYLOAD, Opts, Plain, RequestType, Type4,
-    encode,
+    CONTENT, Code, INTERNAL_SERVER_ERROR, LONGEST_MESSAGE, LONGEST_PAYLOAD, Opts, Plain,
+    RequestType, Type4, encode,
 };
 use coap_observe::Notice;
 use thing_ops::{LONGEST_WORD, Outcome, coap_code, word};
-
-/// 2.05 (RFC 7252, section 5.9.1.5), the code of a notification and of a body that is given in blocks.
-pub const CONTENT: u8 = 32 * 2 + 5;
 
 /// What a reply says.
 #[derive(Clone, Copy)]
@@ -38,7 +35,7 @@ pub struct Said<'a> {
 #[derive(Clone, Copy)]
 pub struct Told<'a> {
     /// The code.
-    pub code: u8,
+    pub code: Code,
     /// The version of what it has, if that has a tag.
     pub version: Option<u32>,
     /// The content format of what it has, if that has one.
@@ -59,7 +56,7 @@ pub fn kind_and_id(kind: RequestType, id: u16, next_id: u16) -> (Type4, u16)
 
 /// Writes a reply that is a word, and returns how many bytes it has.
 pub fn put_word(
-    code: u8,
+    code: Code,
     word: &[u8],
     pending: &PendingReply,
     next_id: u16,

@@ -122,6 +122,8 @@ fn put_field(field: &Field<'_>, out: &mut [u8], at: usize) -> Option<usize>
     }
 }
 
+// The next two are functions because the prover doesn't follow what `map` and `then_some` give into an array.
+
 /// The bytes of a text, if there is one.
 fn bytes_of(text: Option<&str>) -> Option<&[u8]>
     ensures { option_map (λ t. t.now) result ≡ option_map (λ t. t.now) text.entry }
@@ -130,6 +132,13 @@ fn bytes_of(text: Option<&str>) -> Option<&[u8]>
         Some(text) => Some(text.as_bytes()),
         None => None,
     }
+}
+
+/// The value of `Connection`.
+fn closing_value(close: bool) -> Option<&'static [u8]>
+    ensures { option_map (λ t. t.now) result ≡ closing close }
+{
+    if close { Some(b"close") } else { None }
 }
 
 /// The entity tag of a version, if there is one. It is written into `room`.
@@ -159,13 +168,6 @@ fn length_of<'a>(reply: &Reply<'_>, digits: &'a mut Buffer) -> Option<&'a [u8]>
         Some(length) => Some(digits.format(length).as_bytes()),
         None => None,
     }
-}
-
-/// The value of `Connection`.
-fn closing_value(close: bool) -> Option<&'static [u8]>
-    ensures { option_map (λ t. t.now) result ≡ closing close }
-{
-    if close { Some(b"close") } else { None }
 }
 
 /// The status and its reason, if it has one.

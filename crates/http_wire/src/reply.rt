@@ -1,9 +1,8 @@
 //! The head of a reply, written into a caller's slice.
 
-ghost use Rattle.std.specs.Prelude.{◌≡◌, ◌≤◌, ◌++◌, ◌↔◌, length, option_map, IsSome, IsTrue};
+ghost use Rattle.std.specs.Prelude.{◌≡◌, ◌≤◌, ◌↔◌, length, option_map, IsSome, IsTrue};
 ghost use Rattle.std.specs.List.{flat_map};
 ghost use Rattle.std.specs.Fmt.{decimal};
-ghost use Rattle.http_wire.specs.Heads.{line_end};
 ghost use Rattle.servient_base.specs.Writing.{PutsIfRoom};
 ghost use Rattle.http_wire.specs.Conditions.{entity_tag};
 ghost use Rattle.http_wire.specs.Writing.{http_reply, phrase_of, closing, written_length};
@@ -34,7 +33,7 @@ pub struct Reply<'a> {
     pub close: bool,
 }
 
-/// A field, and its value if it is written.
+/// A field, and its value if it is written. The status line is written as one, too.
 #[derive(Clone, Copy, Drop)]
 pub struct Field<'a> {
     /// The name, with a colon and a space.
@@ -51,7 +50,11 @@ pub fn put_reply(reply: &Reply<'_>, out: &mut [u8]) -> Option<usize>
 {
     let mut digits = Buffer::new();
     let mut tag = [0; LONGEST_TAG];
-    let fields = [
+    let lines = [
+        Field {
+            name: b"HTTP/1.1 ",
+            value: phrase(reply.status),
+        },
         Field {
             name: b"Content-Type: ",
             value: bytes_of(reply.content_type),
@@ -77,8 +80,7 @@ pub fn put_reply(reply: &Reply<'_>, out: &mut [u8]) -> Option<usize>
             value: closing_value(reply.close),
         },
     ];
-    let at = put_line(b"HTTP/1.1 ", phrase(reply.status).unwrap(), out, 0)?;
-    let at = put_fields(&fields, out, at)?;
+    let at = put_fields(&lines, out, 0)?;
     put_piece(out, at, b"\r\n")
 }
 
@@ -112,19 +114,15 @@ fn put_field(field: &Field<'_>, out: &mut [u8], at: usize) -> Option<usize>
 {
     match field.value {
         None => Some(at),
-        Some(value) => put_line(field.name, value, out, at),
+        Some(value) => {
+            let at = put_piece(out, at, field.name)?;
+            let at = put_piece(out, at, value)?;
+            put_piece(out, at, b"\r\n")
+        }
     }
 }
 
-/// Writes the line of a field with this value.
-fn put_line(name: &[u8], value: &[u8], out: &mut [u8], at: usize) -> Option<usize>
-    requires { at ≤ length out.old }
-    ensures { PutsIfRoom (name.now ++ (value.now ++ line_end)) at out.old out.new result }
-{
-    let at = put_piece(out, at, name)?;
-    let at = put_piece(out, at, value)?;
-    put_piece(out, at, b"\r\n")
-}
+// The next two are functions because the prover doesn't follow what `map` and `then_some` give into an array.
 
 /// The bytes of a text, if there is one.
 fn bytes_of(text: Option<&str>) -> Option<&[u8]>
@@ -134,6 +132,13 @@ fn bytes_of(text: Option<&str>) -> Option<&[u8]>
         Some(text) => Some(text.as_bytes()),
         None => None,
     }
+}
+
+/// The value of `Connection`.
+fn closing_value(close: bool) -> Option<&'static [u8]>
+    ensures { option_map (λ t. t.now) result ≡ closing close }
+{
+    if close { Some(b"close") } else { None }
 }
 
 /// The entity tag of a version, if there is one. It is written into `room`.
@@ -163,13 +168,6 @@ fn length_of<'a>(reply: &Reply<'_>, digits: &'a mut Buffer) -> Option<&'a [u8]>
         Some(length) => Some(digits.format(length).as_bytes()),
         None => None,
     }
-}
-
-/// The value of `Connection`.
-fn closing_value(close: bool) -> Option<&'static [u8]>
-    ensures { option_map (λ t. t.now) result ≡ closing close }
-{
-    if close { Some(b"close") } else { None }
 }
 
 /// The status and its reason, if it has one.

@@ -53,25 +53,6 @@ pub fn failure(answer: &Answer) -> Outcome
     }
 }
 
-/// The outcome of a request to write where the device answers so and the value wasn't written.
-pub fn write_failure(answer: &Answer) -> Option<Outcome>
-    ensures { MatchOption result (is_done (gives answer.now) ≡ true)
-        (λ o. (is_done (gives answer.now) ≡ false) × (o ≡ failure_of (gives answer.now))) }
-{
-    match answer {
-        Answer::Done => None,
-        Answer::Value(_)
-        | Answer::Started
-        | Answer::Running
-        | Answer::Finished(_)
-        | Answer::Cancelled
-        | Answer::Quiet
-        | Answer::Fired(_)
-        | Answer::Refused(_)
-        | Answer::DeviceFault(_) => Some(failure(answer)),
-    }
-}
-
 /// The value that an event came about with, where the answer to a poll says that it did.
 pub fn fired(answer: Answer) -> Option<Tree>
     ensures { IsFired (gives answer) result }

@@ -12,7 +12,7 @@ ghost use Rattle.thing_core.specs.Ids.{IdsRise};
 use crate::NoMemory;
 use crate::room::Room;
 use crate::state::{Invocation, Latest, MOST_INVOCATIONS, place_by_id};
-use crate::version::{Version, place_of_version, see_one};
+use crate::version::{Version, place_of_version};
 use std::alloc::Global;
 use std::collections::VecDeque;
 use std::marker::Model;
@@ -167,7 +167,10 @@ impl Machine {
         ensures seen { self.new ≡ record self.old { state = with_seen slot text.now self.old.state } }
         ensures version { result ≡ spec.version_of slot self.new.state.versions }
     {
-        see_one(self.versions.as_mut_slice(), slot, text)
+        match place_of_version(self.versions.as_slice(), slot) {
+            Some(index) => self.versions[index].see(text),
+            None => 0,
+        }
     }
 
     /// Takes room for this many further emissions.

@@ -65,19 +65,6 @@ impl Version {
     }
 }
 
-/// A value of this text is seen of the property in this slot. The version that the property then has.
-pub fn see_one(versions: &mut [Version], slot: u32, text: &[u8]) -> u32
-    requires length { length text.now ≤ longest_value }
-    requires room { version_of_slot slot versions.old < most_turns }
-    ensures versions { versions.new ≡ versions_after slot text.now versions.old }
-    ensures number { result ≡ version_of_slot slot versions.new }
-{
-    match place_of_version(versions, slot) {
-        Some(index) => versions[index].see(text),
-        None => 0,
-    }
-}
-
 /// The place of the version of the property in this slot.
 pub fn place_of_version(versions: &[Version], slot: u32) -> Option<usize>
     ensures { result ≡ position (λ v. v.slot == slot) versions.now }

@@ -8,9 +8,9 @@ ghost use Rattle.thing_site.specs.Refusals.{longest_value};
 ghost use Rattle.thing_core.specs.Thing.{WritesEach};
 ghost use Rattle.thing_core.specs.Performing.{emissions_of_text, InputsFit, MakesDone, OrMemory, WritesOne};
 
-use crate::calling::{call, write_failure};
+use crate::calling::{call, failure};
 use crate::machine::Machine;
-use thing_handler::{CallKind, Handlers};
+use thing_handler::{Answer, CallKind, Handlers};
 use thing_ops::Outcome;
 use thing_site::{Input, Spot};
 
@@ -51,12 +51,20 @@ fn write_one<R: Handlers>(input: Input<'_>, machine: &mut Machine, rack: &mut R)
         Ok(answer) => answer,
         Err(outcome) => return Some(outcome),
     };
-    match write_failure(&answer) {
-        None => {
+    match &answer {
+        Answer::Done => {
             keep_written(&spot, text.as_slice(), machine);
             None
         }
-        Some(outcome) => Some(outcome),
+        Answer::Value(_)
+        | Answer::Started
+        | Answer::Running
+        | Answer::Finished(_)
+        | Answer::Cancelled
+        | Answer::Quiet
+        | Answer::Fired(_)
+        | Answer::Refused(_)
+        | Answer::DeviceFault(_) => Some(failure(&answer)),
     }
 }
 

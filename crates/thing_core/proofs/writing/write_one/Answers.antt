@@ -1,16 +1,17 @@
-use Rattle.std.proofs.Common.{◌≡◌, ◌∙◌, ◌++◌, map, ap, subst}
+use Rattle.std.proofs.Common.{◌≡◌, ◌∙◌, ◌++◌, map, ap, subst, false, rules}
 use Rattle.std.specs.Prelude.{Err}
 use Rattle.thing_core.specs.State.{Emission, last_after, versions_after}
+use Rattle.thing_handler.specs.declared.handler.Answer.{Answer}
 use Rattle.thing_handler.specs.declared.handler.CallKind.TheVariants as call
 use Rattle.thing_site.specs.Site.{Placed}
 use Rattle.thing_core.specs.Thing.{Called, emissions_of_write, gives}
-use Rattle.thing_core.specs.Performing.{emissions_of_text, ComesAs, HasRoomAfter}
+use Rattle.thing_core.specs.Performing.{emissions_of_text, is_done, ComesAs, HasRoomAfter}
 use Rattle.thing_core.proofs.MoveLaws.{makes_answered, makes_call}
 use Rattle.thing_core.proofs.WriteLoop.{write_goes_on, write_stops, unanswered_write}
 use Rattle.thing_core.proofs.writing.write_one.Goals as goal
 
-pub returns-in-None-clause-written : goal.returns-in-None-clause-written
-returns-in-None-clause-written g c =
+pub returns-in-Done-clause-written : goal.returns-in-Done-clause-written
+returns-in-Done-clause-written g c =
     let parts = c.into_parts-spot.result in
     let spot : c.slot.result ≡ c.args.input.affordance.slot = c.slot.ensures ∙ ap (λ (p : Placed). p.slot) c.into_parts-spot.ensures.spot in
     let same : emissions_of_text parts.0 c.as_slice.result.now ≡ emissions_of_write c.args.input =
@@ -19,7 +20,7 @@ returns-in-None-clause-written g c =
           ∙ (λ k. c.in-Ok.ensures.pending k ++ map (λ (e : Emission). e.target) (same k)),
       write_goes_on c.args.input parts.1 (gives c.in-Ok.answer) c.args.machine.now c.call.new.machine c.keep_written.new.machine
           (g.R.Handlers.slots c.args.rack.now) (g.R.Handlers.slots c.call.new.rack) c.into_parts-spot.ensures.value
-          (makes_answered c.slot.result c.args.input.affordance.slot (call.Write parts.1) c.in-Ok.answer c.args.machine.now c.call.new.machine (g.R.Handlers.slots c.args.rack.now) (g.R.Handlers.slots c.call.new.rack) spot c.in-Ok.ensures) c.in-None.ensures
+          (makes_answered c.slot.result c.args.input.affordance.slot (call.Write parts.1) c.in-Ok.answer c.args.machine.now c.call.new.machine (g.R.Handlers.slots c.args.rack.now) (g.R.Handlers.slots c.call.new.rack) spot c.in-Ok.ensures) (ap (λ (x : Answer). is_done (gives x)) c.in-Done.is)
           (c.keep_written.ensures.state ∙ (λ k. record c.call.new.machine.state {
             versions = versions_after (c.into_parts-spot.ensures.spot k).slot ((c.as_slice.ensures ∙ c.into_parts-spot.ensures.text) k) c.call.new.machine.state.versions;
             last = last_after (same k) c.call.new.machine.state.last;
@@ -28,12 +29,13 @@ returns-in-None-clause-written g c =
 
 pub returns-clause-written : goal.returns-clause-written
 returns-clause-written g c =
+    let isnt : is_done (gives c.in-Ok.answer) ≡ false = search rules in
     let parts = c.into_parts-spot.result in
     let spot : c.slot.result ≡ c.args.input.affordance.slot = c.slot.ensures ∙ ap (λ (p : Placed). p.slot) c.into_parts-spot.ensures.spot in (
       c.in-Ok.ensures.pending,
-      write_stops c.args.input parts.1 (gives c.in-Ok.answer) c.in-Some.outcome c.args.machine.now c.call.new.machine
+      write_stops c.args.input parts.1 (gives c.in-Ok.answer) c.failure.result c.args.machine.now c.call.new.machine
           (g.R.Handlers.slots c.args.rack.now) (g.R.Handlers.slots c.call.new.rack) c.into_parts-spot.ensures.value
-          (makes_answered c.slot.result c.args.input.affordance.slot (call.Write parts.1) c.in-Ok.answer c.args.machine.now c.call.new.machine (g.R.Handlers.slots c.args.rack.now) (g.R.Handlers.slots c.call.new.rack) spot c.in-Ok.ensures) c.in-Some.ensures.0 c.in-Some.ensures.1,
+          (makes_answered c.slot.result c.args.input.affordance.slot (call.Write parts.1) c.in-Ok.answer c.args.machine.now c.call.new.machine (g.R.Handlers.slots c.args.rack.now) (g.R.Handlers.slots c.call.new.rack) spot c.in-Ok.ensures) isnt c.failure.ensures,
     )
 
 pub returns-in-Err-clause-written : goal.returns-in-Err-clause-written

@@ -10,19 +10,16 @@ use crate::datagrams::{LONGEST_BODY, Origin};
 use case_notation::{message_of, number};
 use coap_bind::{CoapBind, CoapNext};
 use coap_msg::{
-    BLOCK1, BLOCK2, Block, Endpoint, LONGEST_DATAGRAM, LONGEST_MESSAGE, Message, decode, read_block,
+    BLOCK1, BLOCK2, Block, CONTENT, CONTINUE, Endpoint, LONGEST_DATAGRAM, LONGEST_MESSAGE, Message,
+    decode, read_block,
 };
 use std::alloc::{AllocError, Global};
 use std::fmt::Write;
 use thing_ops::Outcome;
 use wot_json::Bytes;
 
-/// 2.04, 2.05 and 2.31.
+/// 2.04.
 const CHANGED: u8 = 68;
-
-const CONTENT: u8 = 69;
-
-const CONTINUE: u8 = 95;
 
 /// Whether a step is one of these.
 pub fn is_step(step: &str) -> bool {

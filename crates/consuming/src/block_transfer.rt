@@ -11,13 +11,10 @@ ghost use Rattle.consuming.specs.Blockwise.{after_block as step_after_block, aft
 use crate::blocks::{Blocks, first_blocks, input_block, part_of};
 use crate::coap_asking::method_code;
 use coap_client::{Ask, Taken, Transfer};
-use coap_msg::{Block, JSON};
+use coap_msg::{Block, CONTINUE, JSON};
 use std::marker::Model;
 use wot_consumer::Chosen;
 use wot_json::Bytes;
-
-/// 2.31, "Continue" (RFC 7959, section 2.9.1).
-const CONTINUE: u8 = 32 * 2 + 31;
 
 /// The first number that no block has: a number has 20 bits.
 const NUMBERS: u32 = 1 << 20;

@@ -19,12 +19,9 @@ use crate::printing::close;
 use crate::waiting::Came;
 use crate::{Consumed, Outcome, Task};
 use coap_client::{Ask, Client, ClientFault, Due, News};
-use coap_msg::{Endpoint, GET, LONGEST_MESSAGE};
+use coap_msg::{CONTENT, Endpoint, GET, LONGEST_MESSAGE};
 use servient_outside::{Net, Out, What};
 use wot_consumer::Chosen;
-
-/// 2.05, the code of a response that has what was asked for (RFC 7252, section 5.9.1.4).
-const CONTENT: u8 = 69;
 
 /// What is awaited.
 #[derive(Drop)]

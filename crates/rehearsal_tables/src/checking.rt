@@ -15,7 +15,7 @@ use crate::asks::{
 };
 use crate::played::{Played, response_in};
 use crate::steps::block_in;
-use coap_msg::{BLOCK2, Block};
+use coap_msg::{BLOCK2, Block, CONTENT};
 use servient_rehearsal::{AskMade, End, SentDatagram, World};
 use std::alloc::AllocError;
 use std::fmt::Write;
@@ -26,9 +26,6 @@ const CREATED: u8 = 65;
 
 /// The code 2.04.
 const CHANGED: u8 = 68;
-
-/// The code 2.05.
-const CONTENT: u8 = 69;
 
 /// What a schedule says of which all holds.
 const HOLDS: &str = "acts once, answered by the act, values in order";

@@ -3,14 +3,8 @@
 //! 2.31, and the last with another code of class 2.
 
 use crate::steps::{Answer, Step, Way};
-use coap_msg::Block;
+use coap_msg::{Block, CONTENT, CONTINUE};
 use std::alloc::{AllocError, Global};
-
-/// The code 2.05.
-const CONTENT: u8 = 69;
-
-/// The code 2.31.
-const CONTINUE: u8 = 95;
 
 /// For how long before a row no other ask may be made that could disturb it, in milliseconds.
 const APART: u64 = 200_000;

@@ -16,16 +16,10 @@ ghost use Rattle.servient_core.specs.Connections.{IsOn, TakesOne, SendsAnswer, S
 use crate::Net;
 use crate::layers::Layers;
 use crate::performing::perform_by_http;
-use http_bind::{HttpBind, HttpNext, HttpOut, NoMemory, ROOM};
+use http_bind::{HEAD_BYTES, HttpBind, HttpNext, HttpOut, NoMemory, ROOM, WORD_BYTES};
 use std::alloc::Global;
 use thing_handler::Handlers;
 use thing_ops::Outcome;
-
-/// The most bytes of the head of a reply.
-const HEAD_BYTES: usize = 4096;
-
-/// The most bytes of the word of an outcome or of a fault.
-const WORD_BYTES: usize = 32;
 
 /// Room for what a message holds and for the reply to it, which is taken once and used for all, because one message is
 /// handled at a time.

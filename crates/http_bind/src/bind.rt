@@ -152,9 +152,10 @@ impl HttpBind {
                 let owed = self.settle(c, now);
                 let payload = payload(outcome, word);
                 let length = put_answer(outcome, payload.len(), owed.closes, out);
+                let body: &[u8] = if owed.bodiless { &[] } else { payload };
                 HttpOut {
                     head: &out[..length],
-                    body: body_of(owed.bodiless, payload),
+                    body,
                     close: owed.closes,
                     waits: false,
                 }
@@ -185,9 +186,10 @@ impl HttpBind {
         self.always_sound();
         let owed = self.settle(c, now);
         let length = put_woken(text, owed.closes, out);
+        let body = if owed.bodiless { &[] } else { text_of(text) };
         HttpOut {
             head: &out[..length],
-            body: body_of(owed.bodiless, text_of(text)),
+            body,
             close: owed.closes,
             waits: false,
         }
@@ -296,13 +298,6 @@ fn first_idle(slots: &[Slot], now: u64) -> Option<usize>
     ensures bound { IfSome result (λ place. place < length slots.now) }
 {
     slots.iter().position(|slot| slot.is_idle(now))
-}
-
-/// The payload, where there is one.
-fn body_of(bodiless: bool, payload: &[u8]) -> &[u8]
-    ensures { result.now ≡ (if bodiless then [] else payload.now) }
-{
-    if bodiless { &[] } else { payload }
 }
 
 /// The text that is sent to a request that waited; nothing, where there is none.

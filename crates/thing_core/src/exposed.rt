@@ -148,7 +148,6 @@ impl Exposed {
     /// How much the machine has done and keeps.
     pub fn accounts(&self) -> Accounts
         ensures calls { result.calls ≡ self.now.state.turns }
-        ensures bound { result.calls ≤ most_turns }
         ensures invocations { result.invocations ≡ length self.now.state.invocations }
     {
         Accounts {

@@ -108,7 +108,7 @@ http_keeps Change s seen t on =
 wait_reply_keeps : (c : ℕ) (text : Option (List ℕ)) (s : State) (seen : List Sighting) (t : State) → RepliesToWait c text s seen t → Keeps [] s seen t
 wait_reply_keeps c text s seen t is =
     let both = is.1 in
-    then_keeps [] [] s both.mid t both.first both.second seen (http_keeps (λ now. Wakes c text now is.0.0 is.0.1) s both.first both.mid both.one)
+    then_keeps [] [] s both.mid t both.first both.second seen (http_keeps (λ now. Wakes c text now is.0.bytes is.0.closes) s both.first both.mid both.one)
     (does_keeps (acts_of_reply c is.0) both.mid both.second t both.other) both.whole
 
 wait_keeps : (target : ℕ) (s : State) (seen : List Sighting) (t : State) → AnswersWait target s seen t → Keeps [] s seen t

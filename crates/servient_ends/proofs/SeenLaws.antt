@@ -64,7 +64,7 @@ each_quiet P each (x ∷ xs) s t seen both =
 
 wait_quiet : (c : ℕ) (text : Option (List ℕ)) (s t : State) (seen : List Sighting) → RepliesToWait c text s seen t → IsQuiet seen
 wait_quiet c text s t seen is =
-    quiet_then seen is.1.first is.1.second is.1.whole (quiet_as [] is.1.first is.1.one.2.saw refl) (quiet_as _ is.1.second is.1.other.saw (reply_quiet c is.0.0 is.0.1))
+    quiet_then seen is.1.first is.1.second is.1.whole (quiet_as [] is.1.first is.1.one.2.saw refl) (quiet_as _ is.1.second is.1.other.saw (reply_quiet c is.0.bytes is.0.closes))
 
 delivers_quiet : (target : ℕ) (s t : State) (seen : List Sighting) → Delivers target s seen t → IsQuiet seen
 delivers_quiet target s t seen both =

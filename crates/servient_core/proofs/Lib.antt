@@ -12,6 +12,8 @@ pub mod NumberLaws
 pub mod MachineLaws
 pub mod PromiseLaws
 pub mod ServingLaws
+pub mod SectionLaws
+pub mod EndlessLaws
 pub mod MeaningLaws
 pub mod RunHistories
 pub mod MissLaws

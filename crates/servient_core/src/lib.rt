@@ -22,6 +22,7 @@ mod capacity;
 mod connections;
 mod delivering;
 mod ending;
+mod endless;
 mod laws;
 mod layers;
 mod links;
@@ -29,6 +30,7 @@ mod performing;
 mod servient;
 mod serving;
 
+pub use endless::{EndlessEnd, serve_endlessly};
 pub use laws::{
     directory_is_apart, duplicates_act_on_nothing, each_run_has_a_history, each_stands_for_a_state,
     failing_is_exact, full_table_acts_on_nothing, links_name_each_thing, misses_are_counted,

@@ -7,6 +7,7 @@ ghost use Rattle.tm_derive.specs.Segments.{is_plain_segment};
 ghost use Rattle.wot_terms.specs.Faults.{IsValid};
 ghost use Rattle.thing_site.specs.Site.{site_of, expose_faults};
 ghost use Rattle.thing_site.specs.Exposing.{kinds_of};
+ghost use Rattle.thing_core.specs.Thing.{most_turns};
 ghost use Rattle.thing_site.specs.Fits.{Fits};
 ghost use Rattle.wot_registry.specs.Dates.{last_millisecond};
 ghost use Rattle.servient_outside.specs.Network.{byte_count, IsEvent};
@@ -133,6 +134,14 @@ impl Servient {
             },
             rooms,
         })
+    }
+
+    /// How many turns the run has so far.
+    pub fn turns(&self) -> u64
+        ensures count { result ≡ self.now.exposed.state.turns }
+        ensures bound { result ≤ most_turns }
+    {
+        self.layers.exposed.accounts().calls
     }
 
     /// Does what one event asks. Where it is out of memory, that shows as a reply or as a poll that is left out.

@@ -10,7 +10,7 @@ use crate::{Net, Next, Servient, What};
 use thing_handler::Handlers;
 
 /// Room for the bytes of one event.
-const BUFFER_BYTES: usize = 4096;
+pub(crate) const BUFFER_BYTES: usize = 4096;
 
 /// How serving ended.
 #[derive(Clone, Copy, Debug, PartialEq, Eq)]

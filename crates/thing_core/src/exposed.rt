@@ -10,6 +10,7 @@ ghost use Rattle.thing_site.specs.Exposing.{kinds_of, IsFirst};
 ghost use Rattle.thing_site.specs.Fits.{Fits};
 ghost use Rattle.thing_core.specs.Performing.{MakesAct, MakesPolls};
 ghost use Rattle.thing_core.specs.Rounds.{PollsNext};
+ghost use Rattle.thing_core.specs.Thing.{most_turns};
 ghost use Rattle.thing_site.specs.Refusals.{longest_value};
 ghost use Rattle.thing_ops.specs.Requests.{plain_request};
 

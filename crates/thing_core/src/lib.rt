@@ -47,4 +47,5 @@ pub use laws::{
 };
 pub use polling::Round;
 pub use servient_base::NoMemory;
+pub use state::MOST_TURNS;
 pub use thing_site::{ExposeFault, Slots};

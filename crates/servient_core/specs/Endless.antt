@@ -1,0 +1,94 @@
+-- Serving without an end: one run of the machine over all its events, in which the handlers forget their turns now and
+-- then, because memory ends and such a run doesn't. The machine knows nothing of that. What the outside shows of the one
+-- run is shown in sections, each of them between two forgettings.
+use Rattle.std.specs.Prelude.{◌≡◌, ◌≤◌, ◌<◌, ◌+◌, ◌-◌, ◌^◌, ◌⊎◌, ℕ, List, [], ◌∷◌, ◌++◌, length, map, Option, Some, None}
+use Rattle.std.specs.List.{filter_map}
+use Rattle.servient_base.specs.Moves.{Becomes, Stays, Then}
+use Rattle.thing_handler.specs.Handler.{Seen, forgotten}
+use Rattle.thing_handler.specs.Turns.{HandlerCall, answered, missed}
+use Rattle.thing_core.specs.Thing.{most_turns}
+use Rattle.servient_outside.specs.declared.net.What.TheVariants as what
+use Rattle.servient_outside.specs.declared.net.EventWithBytes.{EventWithBytes}
+use Rattle.servient_outside.specs.Network.{heard, did, broke, next_event}
+use Rattle.servient_core.specs.Trace.{Sighting, at_network, at_handler, Outside, outside, Shows}
+use Rattle.servient_core.specs.Machine.{Site, State, Run}
+use Rattle.servient_core.specs.Serving.{HasNoStop}
+use Rattle.servient_core.specs.declared.endless.EndlessEnd.{EndlessEnd}
+use Rattle.servient_core.specs.declared.endless.EndlessEnd.TheVariants as ending
+use Rattle.servient_core.specs.declared.endless.TheConstants.{MOST_KEPT}
+
+-- ---- what is shown in sections
+
+-- One thing that the outside shows.
+pub data Shown : Type 0 where
+  saw : Sighting → Shown
+  -- the handlers forgot their turns
+  forgot : Shown
+
+-- what was seen, in order: the trace of the machine
+abbrev pub seen_of : Shown → Option Sighting
+seen_of (saw sighting) = Some sighting
+seen_of forgot = None
+
+abbrev pub seen_in : List Shown → List Sighting
+seen_in = filter_map seen_of
+
+-- these were seen, and nothing was forgotten
+abbrev pub shown_of : List Sighting → List Shown
+shown_of = map saw
+
+-- the outside once the handlers forgot their turns
+abbrev pub after_forgetting : Outside → Outside
+after_forgetting w = outside w.net (map forgotten w.slots)
+
+-- From one time to another this is shown: one section, or one after which the handlers forgot, and then others.
+pub data ShowsInSections : Outside → Outside → List Shown → Type 0 where
+  section : (before now : Outside) (shown : List Shown) (seen : List Sighting) → shown ≡ shown_of seen → Shows before now seen
+      → ShowsInSections before now shown
+  forgets : (before middle now : Outside) (shown rest : List Shown) (seen : List Sighting) → shown ≡ shown_of seen ++ forgot ∷ rest
+      → Shows before middle seen → ShowsInSections (after_forgetting middle) now rest → ShowsInSections before now shown
+
+-- ---- when the handlers forget
+
+-- how many turns a call is
+abbrev pub turn_count : HandlerCall → ℕ
+turn_count (answered turn) = 1
+turn_count (missed slot) = 0
+
+-- The handlers forget only where they keep `MOST_KEPT` turns or more; and where an event is heard they keep fewer, and
+-- the run has numbers left for further turns. They keep this many at first, and the run had so many turns.
+abbrev pub IsInTime : ℕ → ℕ → List Shown → Type 0
+IsInTime kept turns [] = Unit {0}
+IsInTime kept turns (forgot ∷ shown) = (MOST_KEPT ≤ kept) × IsInTime 0 turns shown
+IsInTime kept turns (saw (at_handler call) ∷ shown) = IsInTime (kept + turn_count call) (turns + turn_count call) shown
+IsInTime kept turns (saw (at_network (heard e)) ∷ shown) = (kept < MOST_KEPT) × (turns < most_turns) × IsInTime kept turns shown
+IsInTime kept turns (saw (at_network (did act)) ∷ shown) = IsInTime kept turns shown
+IsInTime kept turns (saw (at_network (broke call)) ∷ shown) = IsInTime kept turns shown
+
+-- Once the run has so many turns, the handlers forget theirs if that is due, and are due to forget again later.
+pub data ForgetsIfDue (turns due later : ℕ) (before after : List Seen) : Type 0 where
+  isnt_due : turns < due → later ≡ due → after ≡ before → ForgetsIfDue turns due later before after
+  is_due : due ≤ turns → later ≡ turns + MOST_KEPT → after ≡ map forgotten before → ForgetsIfDue turns due later before after
+
+-- ---- the run
+
+-- The events that were taken, and how many turns there were at the end: a Stop is the last of them and no other where
+-- serving stopped; and it is spent where there are as many turns as have numbers, or as many events as can be counted.
+abbrev pub AreTakenEndlessly : ℕ → List EventWithBytes → EndlessEnd → Type 0
+AreTakenEndlessly turns took ending.Stopped =
+    (prefix : List EventWithBytes) × (last : EventWithBytes) × (took ≡ prefix ++ last ∷ []) × (last.event.what ≡ what.Stop) × HasNoStop prefix
+AreTakenEndlessly turns took ending.Failed = HasNoStop took
+AreTakenEndlessly turns took ending.Spent = HasNoStop took × ((turns ≡ most_turns) ⊎ (length took ≡ 2 ^ 64 - 1))
+
+-- the network breaks where serving failed, and where it ended otherwise nothing more happens
+abbrev pub EndsEndlessly : EndlessEnd → State → List Sighting → State → Type 0
+EndsEndlessly ending.Stopped s = Stays s
+EndsEndlessly ending.Failed s = Becomes s (at_network (broke next_event) ∷ [])
+EndsEndlessly ending.Spent s = Stays s
+
+-- Serving without an end: one run of the machine over all events, and then its end.
+pub record ServesEndlessly (site : Site) (result : EndlessEnd) (s : State) (shown : List Shown) (t : State) : Type 0 where
+  pub took : List EventWithBytes
+  pub run : Then (Run site took) (EndsEndlessly result) s (seen_in shown) t
+  pub taken : AreTakenEndlessly t.thing.turns took result
+  pub in_time : IsInTime 0 s.thing.turns shown

@@ -149,6 +149,7 @@ impl Exposed {
     /// How much the machine has done and keeps.
     pub fn accounts(&self) -> Accounts
         ensures calls { result.calls ≡ self.now.state.turns }
+        ensures bound { result.calls ≤ most_turns }
         ensures invocations { result.invocations ≡ length self.now.state.invocations }
     {
         Accounts {

@@ -2,5 +2,6 @@ mod ClapForms
 mod ClapRules
 mod ClapValues
 mod ClapWalk
+mod EndlessLaws
 mod RulesMore
 mod WordKinds

@@ -2,18 +2,20 @@
 -- reader would have to know that parser; proofs/ shows once, for every form with different names, that `clap` agrees.
 --
 --     replay SCRIPT [PLAN] [--events N]
---     serve PLAN [--events N] [--idle SECONDS]
+--     serve PLAN [--events N | --endless] [--idle SECONDS]
 --     derive PLAN
 --     check DESCRIPTION
 --     consume DESCRIPTION OPERATION NAME [--scheme SCHEME] [--input FILE] [--count COUNT]
 --     storm SEED N
 --     discover HOST:PORT
-use Rattle.std.specs.Prelude.{◌==◌, ◌&&◌, not, nat_le, ℕ, Bool, false, List, [], ◌∷◌, Option, Some, None, option_and_then, option_map, if◌then◌else◌, codes, decimal}
+use Rattle.std.specs.Prelude.{◌==◌, ◌&&◌, not, nat_le, ℕ, Bool, false, List, [], ◌∷◌, Option, Some, None, option_and_then, option_map, if◌then◌else◌, ◌+◌, take, drop, codes, decimal}
 use Rattle.std.specs.Option.{option_map_or}
 use Rattle.std.specs.Str.{bytes_eq}
 use Rattle.std.specs.Str.Parse.{digits_value}
 use Rattle.host_ports.specs.HostPorts.{point_in}
 use Rattle.command_words.specs.Words.{Form, Values, values_given, value_at}
+use Rattle.command_words.specs.Endless.{endless_place, values_around}
+use Rattle.command_words.specs.declared.command.Budget.TheVariants.{Events, Endless}
 use Rattle.command_words.specs.declared.command.Command.{Command}
 use Rattle.command_words.specs.declared.command.Command.TheVariants.{Replay, Serve, Derive, Check, Consume, Storm, Discover}
 use Rattle.command_words.specs.declared.command.Consumption.{Consumption}
@@ -93,6 +95,10 @@ replay_of values =
     with_part (events_in values) (λ events.
     Some (Replay script (value_at (codes "plan") values) events)))
 
+-- after how many seconds without traffic a run ends; 0 is no such end
+abbrev pub idle_in : Values → Option ℕ
+idle_in = number_or 0 (codes "idle") 0 86400
+
 abbrev pub serve_form : Form
 serve_form = record { places = codes "plan" ∷ []; options = codes "events" ∷ codes "idle" ∷ [] }
 
@@ -100,8 +106,26 @@ abbrev pub serve_of : Values → Option Command
 serve_of values =
     with_part (value_at (codes "plan") values) (λ plan.
     with_part (events_in values) (λ events.
-    with_part (number_or 0 (codes "idle") 0 86400 values) (λ idle.
-    Some (Serve plan events idle))))
+    with_part (idle_in values) (λ idle.
+    Some (Serve plan (Events events) idle))))
+
+-- a run without an end has no number of events
+abbrev pub endless_form : Form
+endless_form = record { places = codes "plan" ∷ []; options = codes "idle" ∷ [] }
+
+abbrev pub endless_of : Values → Option Command
+endless_of values =
+    with_part (value_at (codes "plan") values) (λ plan.
+    with_part (idle_in values) (λ idle.
+    Some (Serve plan Endless idle)))
+
+-- what the words of `serve` mean, by the place of `--endless` among them
+abbrev pub serve_at : List (List ℕ) → Option ℕ → Option Command
+serve_at words None = option_and_then serve_of (values_given serve_form words)
+serve_at words (Some place) = option_and_then endless_of (values_around endless_form (take place words) (drop (place + 1) words))
+
+abbrev pub serve_meaning : List (List ℕ) → Option Command
+serve_meaning words = serve_at words (endless_place words)
 
 abbrev pub derive_form : Form
 derive_form = record { places = codes "plan" ∷ []; options = [] }
@@ -157,7 +181,7 @@ meaning_by form command_of words = option_and_then command_of (values_given form
 abbrev pub meaning_after : List ℕ → List (List ℕ) → Option Command
 meaning_after name words =
     if bytes_eq name (codes "replay") then meaning_by replay_form replay_of words
-    else if bytes_eq name (codes "serve") then meaning_by serve_form serve_of words
+    else if bytes_eq name (codes "serve") then serve_meaning words
     else if bytes_eq name (codes "derive") then meaning_by derive_form derive_of words
     else if bytes_eq name (codes "check") then meaning_by check_form check_of words
     else if bytes_eq name (codes "consume") then meaning_by consume_form consume_of words

@@ -1,14 +1,16 @@
 //! The commands, and the words that say them.
 
-ghost use Rattle.std.specs.Prelude.{◌≡◌, IfOk};
-ghost use Rattle.command_words.specs.Grammar.{check_form, check_of, consume_form, consume_of, consumption_of, derive_form, derive_of, discover_form, discover_of, meaning_after, meaning_by, meaning_of, replay_form, replay_of, serve_form, serve_of, storm_form, storm_of};
+ghost use Rattle.std.specs.Prelude.{◌≡◌, IfOk, Some};
+ghost use Rattle.command_words.specs.Grammar.{check_form, check_of, consume_form, consume_of, consumption_of, derive_form, derive_of, discover_form, discover_of, meaning_after, meaning_by, meaning_of, replay_form, replay_of, serve_at, serve_form, serve_meaning, serve_of, storm_form, storm_of};
+ghost use Rattle.command_words.specs.Endless.{endless_place};
 ghost use Rattle.command_words.specs.Operations.{form_operation};
 ghost use Rattle.command_words.specs.Parts.{Reads, texts};
 ghost use Rattle.command_words.specs.Line.{AreTexts};
 
+use crate::endless::{place_of_endless, words_around};
 use crate::fault::WordsFault;
 use crate::parts::{
-    events, file, name, number, number_or, operation, optional, required, scheme, server,
+    events, file, idle, name, number, number_or, operation, optional, required, scheme, server,
 };
 use crate::values::Given;
 use servient_base::NoMemory;
@@ -26,11 +28,11 @@ pub enum Command {
         plan: Option<Text>,
         events: u32,
     },
-    /// Serves the Things of the plan for `events` events, or until `idle` seconds pass without traffic;
+    /// Serves the Things of the plan until its budget of events is used up, or until `idle` seconds pass without traffic;
     /// 0 seconds is no such end.
     Serve {
         plan: Text,
-        events: u32,
+        budget: Budget,
         idle: u32,
     },
     /// Derives the descriptions of the plan's Things.
@@ -53,6 +55,15 @@ pub enum Command {
         host: Text,
         port: u16,
     },
+}
+
+/// How many events a run of `serve` takes.
+#[derive(Clone, Copy, Debug, Drop, PartialEq, Eq)]
+pub enum Budget {
+    /// At most this many.
+    Events(u32),
+    /// As many as come: the handlers forget their turns now and then.
+    Endless,
 }
 
 /// An operation on the Thing of a description.
@@ -158,13 +169,44 @@ fn replay(alloc: Global, words: &[&str]) -> Result<Command, WordsFault>
 
 fn serve(alloc: Global, words: &[&str]) -> Result<Command, WordsFault>
     requires { AreTexts (texts words.now) }
+    ensures { Reads (serve_meaning (texts words.now)) result }
+{
+    match place_of_endless(words) {
+        Some(place) => serve_endlessly(alloc, words, place),
+        None => serve_counted(alloc, words),
+    }
+}
+
+fn serve_counted(alloc: Global, words: &[&str]) -> Result<Command, WordsFault>
+    requires { AreTexts (texts words.now) }
     ensures { Reads (meaning_by serve_form serve_of (texts words.now)) result }
 {
     let values = Given::read(alloc, &["plan"], &["events", "idle"], words)?;
     let plan = required(alloc, values.get("plan"))?;
     let events = events(values.get("events"))?;
-    let idle = number_or(0, values.get("idle"), 0, 86_400)?;
-    Ok(Command::Serve { plan, events, idle })
+    let idle = idle(values.get("idle"))?;
+    Ok(Command::Serve {
+        plan,
+        budget: Budget::Events(events),
+        idle,
+    })
+}
+
+/// `serve` with `--endless` at this place among its words.
+fn serve_endlessly(alloc: Global, words: &[&str], place: usize) -> Result<Command, WordsFault>
+    requires text { AreTexts (texts words.now) }
+    requires place { endless_place (texts words.now) ≡ Some place }
+    ensures { Reads (serve_at (texts words.now) (Some place)) result }
+{
+    let rest = words_around(alloc, words, place)?;
+    let values = Given::read(alloc, &["plan"], &["idle"], rest.as_slice())?;
+    let plan = required(alloc, values.get("plan"))?;
+    let idle = idle(values.get("idle"))?;
+    Ok(Command::Serve {
+        plan,
+        budget: Budget::Endless,
+        idle,
+    })
 }
 
 fn derive(alloc: Global, words: &[&str]) -> Result<Command, WordsFault>

@@ -13,10 +13,11 @@
 #![tactic(auto)]
 
 mod command;
+mod endless;
 mod fault;
 mod parts;
 mod values;
 
-pub use command::{Command, Consumption, Operation};
+pub use command::{Budget, Command, Consumption, Operation};
 pub use fault::WordsFault;
 pub use wot_forms::Scheme;

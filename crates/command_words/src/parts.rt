@@ -88,6 +88,13 @@ pub fn events(word: Option<&str>) -> Result<u32, WordsFault>
     number_or(100_000, word, 1, 1_000_000)
 }
 
+/// After how many seconds without traffic a run ends; 0 is no such end.
+pub fn idle(word: Option<&str>) -> Result<u32, WordsFault>
+    ensures { Reads (option_map_or (number_between 0 86400) (text_in word.entry) (Some 0)) result }
+{
+    number_or(0, word, 0, 86_400)
+}
+
 /// The scheme that an option may give.
 pub fn scheme(word: Option<&str>) -> Result<Option<Scheme>, WordsFault>
     ensures { Reads (option_map_or scheme_of (text_in word.entry) (Some None)) result }

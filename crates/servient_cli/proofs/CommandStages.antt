@@ -17,13 +17,14 @@ use Rattle.command_words.specs.declared.command.Command.TheVariants.{Replay, Ser
 use Rattle.servient_cli.specs.Stages.{Deed, did_write, sightings_in, HasFailed, Outcome, ends, Around}
 use Rattle.servient_cli.specs.declared.ending.Ending.{Ending}
 use Rattle.servient_cli.specs.declared.ending.Ended.{Ended}
+use Rattle.command_words.specs.declared.command.Budget.{Budget}
 use Rattle.command_words.specs.declared.fault.WordsFault.{WordsFault}
 use Rattle.command_words.specs.declared.fault.WordsFault.TheVariants.{Usage, NoMemory}
 use Rattle.command_words.specs.Parts.{Reads}
 use Rattle.servient_cli.specs.Words.{EndsAs}
 use Rattle.servient_cli.specs.Lines.{memory_line, usage_line}
 use Rattle.servient_cli.specs.Ending.{EndsBy, final_status, final_text, status_of, text_of}
-use Rattle.servient_cli.proofs.StageLaws.{ends_so, line_alone, shows_wrote}
+use Rattle.servient_cli.proofs.StageLaws.{ends_so, line_alone, shows_wrote, shows_net}
 use Rattle.servient_cli.specs.Reading.{ReadsFile, ReadsTree, longest_json}
 use Rattle.servient_cli.specs.Replaying.{plan_name, ReadsInputs, run_events, RunsOn}
 use Rattle.servient_cli.specs.Checking.{Checks, IsFaultlessDescription, Judges}
@@ -43,10 +44,10 @@ IsDoneBy command o = EndsWell o ⊎ ((is_serving command ≡ true) × (o ≡ end
 abbrev IsDone : Command → Outcome (Unit {0}) → Type 0
 IsDone command o = IsDoneBy (Some command) o
 
-served_done : (plan : List ℕ) (events idle : ℕ) (o : Outcome (Unit {0})) → IsServed o → IsDone (Serve plan events idle) o
-served_done plan events idle o (inl zero_is) = inl (inl zero_is)
-served_done plan events idle o (inr (inl nine)) = inl (inr nine)
-served_done plan events idle o (inr (inr eight)) = inr (inl (refl, eight))
+served_done : (plan : List ℕ) (budget : Budget) (idle : ℕ) (o : Outcome (Unit {0})) → IsServed o → IsDone (Serve plan budget idle) o
+served_done plan budget idle o (inl zero_is) = inl (inl zero_is)
+served_done plan budget idle o (inr (inl nine)) = inl (inr nine)
+served_done plan budget idle o (inr (inr eight)) = inr (inl (refl, eight))
 
 -- a command with whose files nothing is wrong
 does_well : (held : Option (List HeldFile)) (files : List HeldFile) (kinds : List Kind) (command : Command) (seen : List Deed) (o : Outcome (Unit {0})) → held ≡ Some files → HasFaultlessFiles files kinds command → ¬ (HasTrouble seen) → Does held kinds command seen o → IsDone command o
@@ -73,7 +74,7 @@ does_well held files kinds (Derive plan) seen o is_held fine quiet stage = inl (
     any_things : (r : Outcome (List (List ℕ × Json))) → GoesOn (λ ts. ts ≡ fine.things) r → GoesOn (λ ts. Unit {0}) r
     any_things r (inl goes) = inl (goes.0, tt, goes.2)
     any_things r (inr nine) = inr nine
-does_well held files kinds (Serve plan events idle) seen o is_held fine quiet stage = served_done plan events idle o (serving_well held files kinds plan events idle fine seen o is_held quiet stage)
+does_well held files kinds (Serve plan budget idle) seen o is_held fine quiet stage = served_done plan budget idle o (serving_well held files kinds plan budget idle fine seen o is_held quiet stage)
 does_well held files kinds (Consume consumption) seen o is_held fine quiet stage = inr (inr (refl, consume_well held files consumption fine seen o is_held quiet stage))
 does_well held files kinds (Discover host port) seen o is_held fine quiet stage = inr (inr (refl, discover_well host port seen o quiet stage))
 does_well held files kinds (Storm seed events) seen o is_held fine quiet stage = inl (storm_well kinds seed events fine seen o quiet stage)
@@ -113,7 +114,7 @@ built_ends words before now out out_now command r result meaning ended reported 
 
 asking_networked : (command : Command) → is_asking (Some command) ≡ true → is_networked (Some command) ≡ true
 asking_networked (Replay script plan events) is = absurd cc
-asking_networked (Serve plan events idle) is = absurd cc
+asking_networked (Serve plan budget idle) is = absurd cc
 asking_networked (Check description) is = absurd cc
 asking_networked (Derive plan) is = absurd cc
 asking_networked (Storm seed events) is = absurd cc
@@ -125,7 +126,7 @@ asking_uses_network words command meaning is none = let bad : true ≡ false = s
 
 discovering_asks : (command : Command) → is_discovering (Some command) ≡ true → is_asking (Some command) ≡ true
 discovering_asks (Replay script plan events) is = absurd cc
-discovering_asks (Serve plan events idle) is = absurd cc
+discovering_asks (Serve plan budget idle) is = absurd cc
 discovering_asks (Check description) is = absurd cc
 discovering_asks (Derive plan) is = absurd cc
 discovering_asks (Storm seed events) is = absurd cc
@@ -185,4 +186,4 @@ ends_well words before now out out_now result e fine kept output = elim e.report
 
     quiet : HasFailed e.seen ⊎ (1 ≤ break_count (happened_in (sightings_in e.seen))) → ⊥
     quiet (inl failed) = kept.no_read (e.shows.failed failed)
-    quiet (inr broken) = kept.no_call (rose_some _ _ _ broken e.shows.outside.net.faults)
+    quiet (inr broken) = kept.no_call (rose_some _ _ _ broken (shows_net before now e.seen e.shows).faults)

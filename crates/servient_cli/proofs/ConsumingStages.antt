@@ -28,7 +28,8 @@ use Rattle.servient_outside.proofs.FilesLaws.{no_read_failed_same}
 use Rattle.servient_outside.proofs.OutLaws.{no_write_failed_then}
 use Rattle.servient_outside.specs.Out.{OutSeen, OutShows, NoWriteFailed}
 use Rattle.servient_outside.proofs.ToldLaws.{continues_same, continues_then}
-use Rattle.servient_core.specs.Trace.{Sighting, at_network, outside, Shows as ShowsOutside}
+use Rattle.servient_core.specs.Trace.{at_network, outside}
+use Rattle.servient_core.specs.Sections.{Shown, saw, shown_of, section}
 use Rattle.consuming.specs.declared.operation.Operation.{Operation}
 use Rattle.consuming.specs.declared.consumed.Consumed.{Consumed}
 use Rattle.consuming.specs.declared.consumed.Consumed.TheVariants as consumed
@@ -40,7 +41,7 @@ use Rattle.consuming.proofs.DeedLaws.{out_none}
 use Rattle.servient_cli.specs.declared.ending.Ending.{Ending}
 use Rattle.servient_cli.specs.declared.ending.Ended.{Ended}
 use Rattle.servient_cli.specs.declared.ending.Ended.TheVariants as ended
-use Rattle.servient_cli.specs.Stages.{Deed, did_write, HasFailed, reads_in, sightings_in, text_in, written_in, Outcome, goes_on, ends, AndThen, ends_first, goes_further, Around, around, ShowsDeeds}
+use Rattle.servient_cli.specs.Stages.{Deed, did_write, HasFailed, reads_in, showings_in, text_in, written_in, Outcome, goes_on, ends, AndThen, ends_first, goes_further, Around, around, ShowsDeeds}
 use Rattle.servient_cli.specs.Ending.{ComesOut, Performs, status_of, text_of, final_status, final_text}
 use Rattle.servient_cli.specs.Command.{IsReported, EndsAndReports}
 use Rattle.servient_cli.specs.Consuming.{ReadsDescription, ConsumesBy, ConsumesThing, Chooses, is_chosen, has_no_affordance, has_no_form, choose_memory, OperatesOn, deeds_of, line_after, status_after, IsAskedFor, EndsAfter, has_ended, line_memory, IsOperated, Operates, IsEndOf, EndsPrinting}
@@ -59,10 +60,10 @@ none_failed [] failed = failed
 none_failed (happens h ∷ deeds) failed = none_failed deeds failed
 none_failed (prints text ∷ deeds) failed = none_failed deeds failed
 
-sightings_of : (deeds : List operation.Deed) → sightings_in (deeds_of deeds) ≡ map (λ h. at_network h) (operation.happened_in deeds)
-sightings_of [] = refl
-sightings_of (happens h ∷ deeds) = ap (λ (more : List Sighting). at_network h ∷ more) (sightings_of deeds)
-sightings_of (prints text ∷ deeds) = sightings_of deeds
+showings_of : (deeds : List operation.Deed) → showings_in (deeds_of deeds) ≡ shown_of (map (λ h. at_network h) (operation.happened_in deeds))
+showings_of [] = refl
+showings_of (happens h ∷ deeds) = ap (λ (more : List Shown). saw (at_network h) ∷ more) (showings_of deeds)
+showings_of (prints text ∷ deeds) = showings_of deeds
 
 text_written : (deeds : List operation.Deed) → text_in (deeds_of deeds) ≡ operation.text_in deeds
 text_written [] = refl
@@ -75,7 +76,7 @@ shows_operation files n m slots o q p deeds shows = record {
   faults = omega arith;
   failed = λ failed. absurd (none_failed deeds failed);
   no_failure = no_read_failed_same files;
-  outside = subst (λ (made : List Sighting). ShowsOutside (outside n slots) (outside m slots) made) (sym (sightings_of deeds)) (shows_network n m slots (operation.happened_in deeds) shows.net);
+  outside = section (outside n slots) (outside m slots) (showings_in (deeds_of deeds)) (map (λ h. at_network h) (operation.happened_in deeds)) (showings_of deeds) (shows_network n m slots (operation.happened_in deeds) shows.net);
 }
 
 -- ---- how an operation ends the command

@@ -26,7 +26,7 @@ use Rattle.servient_core.specs.Machine.{Site}
 use Rattle.servient_cli.specs.declared.derivation.Planned.{Planned}
 use Rattle.servient_cli.specs.declared.replay.Inputs.{Inputs}
 use Rattle.servient_cli.specs.Script.{IsScript}
-use Rattle.servient_cli.specs.Stages.{Deed, did_read, did_fail, did_see, did_write, sightings_in, HasFailed, Outcome, goes_on, ends, AndThen, ends_first, goes_further}
+use Rattle.servient_cli.specs.Stages.{Deed, did_read, did_fail, did_see, did_forget, did_write, sightings_in, HasFailed, Outcome, goes_on, ends, AndThen, ends_first, goes_further}
 use Rattle.servient_cli.specs.Reading.{ReadsFile, is_read, is_absent, is_unreadable, is_long, file_memory, ReadsTree, is_tree, has_no_tree, tree_memory, longest_json, longest_script}
 use Rattle.servient_cli.specs.Replaying.{built_in, Plans, is_built_in, built_in_memory, ReadsEvents, ReadsInputs, HasRead, has_read, ReadsScript, is_script, is_no_script, script_memory, run_events, RunsOn, RunsScript, is_whole, is_spent, run_memory}
 use Rattle.servient_cli.specs.Opening.{Exposes, is_exposed, is_misfit, expose_memory, Opens}
@@ -67,6 +67,7 @@ HasTrouble (did_see (at_network (heard e)) ∷ seen) = HasTrouble seen
 HasTrouble (did_see (at_network (did act)) ∷ seen) = HasTrouble seen
 HasTrouble (did_see (at_network (broke call)) ∷ seen) = Unit {0}
 HasTrouble (did_see (at_handler call) ∷ seen) = HasTrouble seen
+HasTrouble (did_forget ∷ seen) = HasTrouble seen
 HasTrouble (did_write text ∷ seen) = HasTrouble seen
 
 -- it did among the first or among the others, and so among all
@@ -78,6 +79,7 @@ trouble_before (did_see (at_network (heard e)) ∷ a) b trouble = trouble_before
 trouble_before (did_see (at_network (did act)) ∷ a) b trouble = trouble_before a b trouble
 trouble_before (did_see (at_network (broke call)) ∷ a) b trouble = tt
 trouble_before (did_see (at_handler call) ∷ a) b trouble = trouble_before a b trouble
+trouble_before (did_forget ∷ a) b trouble = trouble_before a b trouble
 trouble_before (did_write text ∷ a) b trouble = trouble_before a b trouble
 
 pub trouble_after : (a b : List Deed) → HasTrouble b → HasTrouble (a ++ b)
@@ -88,6 +90,7 @@ trouble_after (did_see (at_network (heard e)) ∷ a) b trouble = trouble_after a
 trouble_after (did_see (at_network (did act)) ∷ a) b trouble = trouble_after a b trouble
 trouble_after (did_see (at_network (broke call)) ∷ a) b trouble = tt
 trouble_after (did_see (at_handler call) ∷ a) b trouble = trouble_after a b trouble
+trouble_after (did_forget ∷ a) b trouble = trouble_after a b trouble
 trouble_after (did_write text ∷ a) b trouble = trouble_after a b trouble
 
 -- a read failed, or the network broke
@@ -99,6 +102,7 @@ what_trouble (did_see (at_network (heard e)) ∷ a) trouble = what_trouble a tro
 what_trouble (did_see (at_network (did act)) ∷ a) trouble = what_trouble a trouble
 what_trouble (did_see (at_network (broke call)) ∷ a) trouble = inr (omega arith)
 what_trouble (did_see (at_handler call) ∷ a) trouble = what_trouble a trouble
+what_trouble (did_forget ∷ a) trouble = what_trouble a trouble
 what_trouble (did_write text ∷ a) trouble = what_trouble a trouble
 
 -- a count that rose by one or more rose

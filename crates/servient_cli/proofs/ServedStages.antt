@@ -2,19 +2,23 @@
 use Rattle.std.proofs.Common.{◌≡◌, ◌*◌, ◌⊎◌, ℕ, List, [], ◌∷◌, ◌++◌, Option, Some, refl, sym, ap, ◌∙◌, subst, inl, inr}
 use Rattle.servient_outside.specs.declared.files.HeldFile.{HeldFile}
 use Rattle.servient_outside.specs.declared.place.Place.{Place}
-use Rattle.servient_outside.specs.Network.{broke, next_event}
+use Rattle.servient_outside.specs.Network.{heard, did, broke, next_event}
 use Rattle.wot_terms.specs.declared.kind.Kind.{Kind}
 use Rattle.thing_site.specs.Site.{expose_faults}
 use Rattle.servient_core.specs.declared.serving.Served.TheVariants as served
 use Rattle.servient_plan.specs.Plan.{place_of}
-use Rattle.servient_core.specs.Trace.{Sighting, at_network}
+use Rattle.servient_core.specs.Trace.{Sighting, at_network, at_handler}
 use Rattle.servient_core.specs.Machine.{Site, State, start}
 use Rattle.servient_core.specs.Serving.{Serves}
+use Rattle.servient_core.specs.declared.sections.SectionsEnd.TheVariants as ending
+use Rattle.servient_core.specs.Sections.{Shown, saw, forgot, seen_in, ServesInSections}
+use Rattle.command_words.specs.declared.command.Budget.{Budget}
+use Rattle.command_words.specs.declared.command.Budget.TheVariants as budgets
 use Rattle.servient_cli.specs.declared.derivation.Planned.{Planned}
-use Rattle.servient_cli.specs.Stages.{Deed, did_see, did_write, sees, Outcome, ends, AndThen}
+use Rattle.servient_cli.specs.Stages.{Deed, did_see, did_write, sees, shows_all, Outcome, ends, AndThen}
 use Rattle.servient_cli.specs.Lines.{network_line}
 use Rattle.servient_cli.specs.Opening.{Opens}
-use Rattle.servient_cli.specs.Listening.{Listens, is_listening, cannot_listen, place_memory, listen_memory, ServesEvents, has_served, ServesPlanned, ServesPlan}
+use Rattle.servient_cli.specs.Listening.{Listens, is_listening, cannot_listen, place_memory, listen_memory, ServesEvents, has_served, Endures, has_endured, ServesBy, ServesPlanned, ServesPlan}
 use Rattle.servient_cli.specs.Deriving.{ReadsPlanned, derived_of}
 use Rattle.servient_cli.specs.Command.{IsFaultlessServing}
 use Rattle.servient_cli.proofs.FaultlessStages.{GoesOn, HasTrouble, trouble_before, trouble_after, then_well, planned_well, open_well}
@@ -51,12 +55,38 @@ serve_well budget exchanges epoch site seen o quiet (has_served served.Failed ra
     absurd (quiet (subst HasTrouble (sym out.0) (trouble_before (sees ran) (did_write network_line ∷ []) (failing_breaks budget site (start site exchanges epoch) end ran serves))))
 serve_well budget exchanges epoch site seen o quiet (has_served served.Spent ran end serves out) = inr (inr out.1)
 
-pub serving_well : (held : Option (List HeldFile)) (files : List HeldFile) (kinds : List Kind) (plan : List ℕ) (budget idle : ℕ) (fine : IsFaultlessServing files kinds plan) (seen : List Deed) (o : Outcome (Unit {0})) → held ≡ Some files → ¬ (HasTrouble seen) → ServesPlan held kinds plan budget idle seen o → IsServed o
+-- the same of a run that is shown in sections: its trace ends with a break
+trouble_shown : (shown : List Shown) → HasTrouble (sees (seen_in shown)) → HasTrouble (shows_all shown)
+trouble_shown [] trouble = trouble
+trouble_shown (forgot ∷ shown) trouble = trouble_shown shown trouble
+trouble_shown (saw (at_handler call) ∷ shown) trouble = trouble_shown shown trouble
+trouble_shown (saw (at_network (heard e)) ∷ shown) trouble = trouble_shown shown trouble
+trouble_shown (saw (at_network (did act)) ∷ shown) trouble = trouble_shown shown trouble
+trouble_shown (saw (at_network (broke call)) ∷ shown) trouble = tt
+
+failing_in_sections : (budget : ℕ) (site : Site) (s t : State) (shown : List Shown) → ServesInSections site budget ending.Failed s shown t → HasTrouble (shows_all shown)
+failing_in_sections budget site s t shown serves =
+    let run = serves.run in
+    let last = at_network (broke next_event) ∷ [] in
+    trouble_shown shown (subst HasTrouble (sym (ap sees (run.whole ∙ ap (λ (more : List Sighting). run.first ++ more) run.other.saw) ∙ sees-append run.first last))
+    (trouble_after (sees run.first) (sees last) tt))
+
+endure_well : (exchanges : ℕ) (epoch : Option ℕ) (site : Site) (seen : List Deed) (o : Outcome (Unit {0})) → ¬ (HasTrouble seen) → Endures exchanges epoch site seen o → IsServed o
+endure_well exchanges epoch site seen o quiet (has_endured ending.Stopped shown end serves out) = inl out.1
+endure_well exchanges epoch site seen o quiet (has_endured ending.Failed shown end serves out) =
+    absurd (quiet (subst HasTrouble (sym out.0) (trouble_before (shows_all shown) (did_write network_line ∷ []) (failing_in_sections _ site (start site exchanges epoch) end shown serves))))
+endure_well exchanges epoch site seen o quiet (has_endured ending.Spent shown end serves out) = inr (inr out.1)
+
+serve_by_well : (budget : Budget) (exchanges : ℕ) (epoch : Option ℕ) (site : Site) (seen : List Deed) (o : Outcome (Unit {0})) → ¬ (HasTrouble seen) → ServesBy budget exchanges epoch site seen o → IsServed o
+serve_by_well (budgets.Events n) exchanges epoch site seen o quiet stage = serve_well n exchanges epoch site seen o quiet stage
+serve_by_well budgets.Endless exchanges epoch site seen o quiet stage = endure_well exchanges epoch site seen o quiet stage
+
+pub serving_well : (held : Option (List HeldFile)) (files : List HeldFile) (kinds : List Kind) (plan : List ℕ) (budget : Budget) (idle : ℕ) (fine : IsFaultlessServing files kinds plan) (seen : List Deed) (o : Outcome (Unit {0})) → held ≡ Some files → ¬ (HasTrouble seen) → ServesPlan held kinds plan budget idle seen o → IsServed o
 serving_well held files kinds plan budget idle fine seen o is_held quiet stage =
     then_well IsServed served_memory (ReadsPlanned held plan) (ServesPlanned plan kinds budget idle) (λ p. p ≡ fine.planned) seen o quiet
     (λ s r q st. planned_well held files plan fine.planned s r is_held fine.by_plan q st)
-    (λ p same s q st. then_well IsServed served_memory (Opens plan kinds p) (λ site. AndThen (Listens (place_of p.plan (idle * 1000))) (λ _. ServesEvents budget p.plan.exchanges p.plan.epoch site)) (λ site. Unit {0}) s o q
+    (λ p same s q st. then_well IsServed served_memory (Opens plan kinds p) (λ site. AndThen (Listens (place_of p.plan (idle * 1000))) (λ _. ServesBy budget p.plan.exchanges p.plan.epoch site)) (λ site. Unit {0}) s o q
     (λ s2 r q2 st2. open_well plan kinds p fine.things s2 r (ap derived_of same ∙ fine.derived_is) (ap (λ (x : Planned). expose_faults kinds x.plan.slots fine.things) same ∙ fine.fits) q2 st2)
-    (λ site any s2 q2 st2. then_well IsServed served_memory (Listens (place_of p.plan (idle * 1000))) (λ _. ServesEvents budget p.plan.exchanges p.plan.epoch site) (λ u. Unit {0}) s2 o q2
+    (λ site any s2 q2 st2. then_well IsServed served_memory (Listens (place_of p.plan (idle * 1000))) (λ _. ServesBy budget p.plan.exchanges p.plan.epoch site) (λ u. Unit {0}) s2 o q2
     (λ s3 r q3 st3. listen_well (place_of p.plan (idle * 1000)) s3 r q3 st3)
-    (λ u also s3 q3 st3. serve_well budget p.plan.exchanges p.plan.epoch site s3 o q3 st3) st2) st) stage
+    (λ u also s3 q3 st3. serve_by_well budget p.plan.exchanges p.plan.epoch site s3 o q3 st3) st2) st) stage

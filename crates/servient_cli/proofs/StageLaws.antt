@@ -11,7 +11,8 @@ use Rattle.thing_handler.proofs.RackLaws.{rack_shows_none}
 use Rattle.servient_outside.specs.Network.{Happening, NetSeen, NetShows}
 use Rattle.servient_outside.proofs.NetLaws.{net_shows_none}
 use Rattle.servient_core.specs.Trace.{Sighting, at_network, at_handler, happened_in, calls_in, Outside, outside, Shows}
-use Rattle.servient_core.proofs.TraceLaws.{shows_in_order}
+use Rattle.servient_core.specs.Sections.{Shown, saw, forgot, seen_in, shown_of, ShowsInSections, section}
+use Rattle.servient_core.proofs.SectionLaws.{sections_in_order, sections_net, seen_of_shown}
 use Rattle.servient_outside.specs.declared.files.FileRead.{FileRead}
 use Rattle.servient_outside.specs.Told.{Continues}
 use Rattle.servient_outside.proofs.ToldLaws.{continues_same, continues_then}
@@ -20,7 +21,7 @@ use Rattle.servient_cli.specs.declared.ending.Ended.{Ended}
 use Rattle.servient_cli.specs.declared.ending.Ended.TheVariants as ended
 use Rattle.servient_cli.specs.Lines.{memory_line}
 use Rattle.servient_base.specs.Count.{Rose}
-use Rattle.servient_cli.specs.Stages.{Deed, did_read, did_fail, did_see, did_write, sees, HasFailed, reads_in, sightings_in, text_in, Outcome, goes_on, ends, AndThen, ends_first, goes_further, Around, around, ShowsDeeds, read_in, sighting_in, written_in}
+use Rattle.servient_cli.specs.Stages.{Deed, did_read, did_fail, did_see, did_forget, did_write, sees, shows_all, HasFailed, reads_in, sightings_in, text_in, Outcome, goes_on, ends, AndThen, ends_first, goes_further, Around, around, ShowsDeeds, read_in, showing_in, showings_in, written_in}
 use Rattle.servient_outside.specs.Files.{FilesSeen, NoReadFailed}
 use Rattle.servient_outside.proofs.FilesLaws.{no_read_failed_same, no_read_failed_then}
 use Rattle.servient_cli.specs.Ending.{ComesOut, Performs, Finishes, EndsBy, status_of, text_of, final_status, final_text}
@@ -30,6 +31,7 @@ failed_before [] b failed = inr failed
 failed_before (did_read file ∷ a) b failed = failed_before a b failed
 failed_before (did_fail file ∷ a) b failed = inl tt
 failed_before (did_see sighting ∷ a) b failed = failed_before a b failed
+failed_before (did_forget ∷ a) b failed = failed_before a b failed
 failed_before (did_write text ∷ a) b failed = failed_before a b failed
 
 -- a count that rose has still risen later
@@ -45,10 +47,10 @@ line_alone line = append-nil line
 
 -- what is shown where only a text was written, and where nothing was done
 pub shows_wrote : (a : Around) (text : List ℕ) → ShowsDeeds a a (did_write text ∷ [])
-shows_wrote a text = record { reads = continues_same a.files.reads; faults = omega arith; failed = λ none. absurd none; no_failure = no_read_failed_same a.files; outside = shows_in_order.none a.outside }
+shows_wrote a text = record { reads = continues_same a.files.reads; faults = omega arith; failed = λ none. absurd none; no_failure = no_read_failed_same a.files; outside = sections_in_order.none a.outside }
 
 pub shows_nothing : (a : Around) → ShowsDeeds a a []
-shows_nothing a = record { reads = continues_same a.files.reads; faults = omega arith; failed = λ none. absurd none; no_failure = no_read_failed_same a.files; outside = shows_in_order.none a.outside }
+shows_nothing a = record { reads = continues_same a.files.reads; faults = omega arith; failed = λ none. absurd none; no_failure = no_read_failed_same a.files; outside = sections_in_order.none a.outside }
 
 -- what is shown at one time and then at another
 pub shows_then : (a b c : Around) (first second : List Deed) → ShowsDeeds a b first → ShowsDeeds b c second → ShowsDeeds a c (first ++ second)
@@ -61,19 +63,19 @@ shows_then a b c first second p q = record {
     | inr after ↦ then_rose a.files.faults b.files.faults c.files.faults p.faults (q.failed after)
   ];
   no_failure = no_read_failed_then a.files b.files c.files p.no_failure q.no_failure;
-  outside = subst (λ (sightings : List Sighting). Shows a.outside c.outside sightings) (sym (filter_map-append sighting_in first second))
-      (shows_in_order.more a.outside b.outside c.outside (sightings_in first) (sightings_in second) p.outside q.outside);
+  outside = subst (λ (showings : List Shown). ShowsInSections a.outside c.outside showings) (sym (filter_map-append showing_in first second))
+      (sections_in_order.more a.outside b.outside c.outside (showings_in first) (showings_in second) p.outside q.outside);
 }
 
 -- a file was read; a read failed; there was none
 pub shows_read : (before now : FilesSeen) (w : Outside) (file : FileRead) → Continues before.reads now.reads (file ∷ []) → before.faults ≤ now.faults → NoReadFailed before now → ShowsDeeds (around before w) (around now w) (did_read file ∷ [])
-shows_read before now w file reads faults never = record { reads = reads; faults = faults; failed = λ none. absurd none; no_failure = never; outside = shows_in_order.none w }
+shows_read before now w file reads faults never = record { reads = reads; faults = faults; failed = λ none. absurd none; no_failure = never; outside = sections_in_order.none w }
 
 pub shows_failed : (before now : FilesSeen) (w : Outside) (file : FileRead) → Continues before.reads now.reads (file ∷ []) → before.faults ≤ now.faults → Rose before.faults now.faults → NoReadFailed before now → ShowsDeeds (around before w) (around now w) (did_fail file ∷ [])
-shows_failed before now w file reads faults rose never = record { reads = reads; faults = faults; failed = λ failed. rose; no_failure = never; outside = shows_in_order.none w }
+shows_failed before now w file reads faults rose never = record { reads = reads; faults = faults; failed = λ failed. rose; no_failure = never; outside = sections_in_order.none w }
 
 pub shows_no_read : (before now : FilesSeen) (w : Outside) → Continues before.reads now.reads [] → before.faults ≤ now.faults → NoReadFailed before now → ShowsDeeds (around before w) (around now w) []
-shows_no_read before now w reads faults never = record { reads = reads; faults = faults; failed = λ none. absurd none; no_failure = never; outside = shows_in_order.none w }
+shows_no_read before now w reads faults never = record { reads = reads; faults = faults; failed = λ none. absurd none; no_failure = never; outside = sections_in_order.none w }
 
 -- ---- stages that go on, or write a line at the end
 
@@ -166,9 +168,9 @@ ends_so P a b (Err e) p = p
 
 -- ---- what is seen at the network and at the handlers, and then what is written
 
-seen_alone : (seen : List Sighting) → sightings_in (sees seen) ≡ seen
+seen_alone : (seen : List Sighting) → showings_in (sees seen) ≡ shown_of seen
 seen_alone [] = refl
-seen_alone (sighting ∷ seen) = ap (λ (more : List Sighting). sighting ∷ more) (seen_alone seen)
+seen_alone (sighting ∷ seen) = ap (λ (more : List Shown). saw sighting ∷ more) (seen_alone seen)
 
 no_reads : (seen : List Sighting) → reads_in (sees seen) ≡ []
 no_reads [] = refl
@@ -188,8 +190,64 @@ shows_seen files w v seen shows = record {
   faults = omega arith;
   failed = λ failed. absurd (none_failed seen failed);
   no_failure = no_read_failed_same files;
-  outside = subst (λ (made : List Sighting). Shows w v made) (sym (seen_alone seen)) shows;
+  outside = section w v (showings_in (sees seen)) seen (seen_alone seen) shows;
 }
+
+-- the network shows what was seen of it, whatever was forgotten
+pub seen_among : (seen : List Deed) → seen_in (showings_in seen) ≡ sightings_in seen
+seen_among [] = refl
+seen_among (did_read file ∷ seen) = seen_among seen
+seen_among (did_fail file ∷ seen) = seen_among seen
+seen_among (did_see sighting ∷ seen) = ap (λ (more : List Sighting). sighting ∷ more) (seen_among seen)
+seen_among (did_forget ∷ seen) = seen_among seen
+seen_among (did_write text ∷ seen) = seen_among seen
+
+pub shows_net : (a b : Around) (seen : List Deed) → ShowsDeeds a b seen → NetShows a.outside.net b.outside.net (happened_in (sightings_in seen))
+shows_net a b seen shows =
+    subst (λ (x : List Sighting). NetShows a.outside.net b.outside.net (happened_in x)) (seen_among seen) (sections_net a.outside b.outside (showings_in seen) shows.outside)
+
+-- ---- what is shown in sections, and then what is written
+
+showings_alone : (shown : List Shown) → showings_in (shows_all shown) ≡ shown
+showings_alone [] = refl
+showings_alone (saw sighting ∷ shown) = ap (λ (more : List Shown). saw sighting ∷ more) (showings_alone shown)
+showings_alone (forgot ∷ shown) = ap (λ (more : List Shown). forgot ∷ more) (showings_alone shown)
+
+no_reads_shown : (shown : List Shown) → reads_in (shows_all shown) ≡ []
+no_reads_shown [] = refl
+no_reads_shown (saw sighting ∷ shown) = no_reads_shown shown
+no_reads_shown (forgot ∷ shown) = no_reads_shown shown
+
+no_text_shown : (shown : List Shown) → text_in (shows_all shown) ≡ []
+no_text_shown [] = refl
+no_text_shown (saw sighting ∷ shown) = no_text_shown shown
+no_text_shown (forgot ∷ shown) = no_text_shown shown
+
+none_failed_shown : (shown : List Shown) → HasFailed (shows_all shown) → ⊥
+none_failed_shown [] failed = failed
+none_failed_shown (saw sighting ∷ shown) failed = none_failed_shown shown failed
+none_failed_shown (forgot ∷ shown) failed = none_failed_shown shown failed
+
+shows_shown : (files : FilesSeen) (w v : Outside) (shown : List Shown) → ShowsInSections w v shown → ShowsDeeds (around files w) (around files v) (shows_all shown)
+shows_shown files w v shown shows = record {
+  reads = subst (λ (made : List FileRead). Continues files.reads files.reads made) (sym (no_reads_shown shown)) (continues_same files.reads);
+  faults = omega arith;
+  failed = λ failed. absurd (none_failed_shown shown failed);
+  no_failure = no_read_failed_same files;
+  outside = subst (λ (made : List Shown). ShowsInSections w v made) (sym (showings_alone shown)) shows;
+}
+
+-- a run was shown in sections, and then a text was written with which the command ends
+pub sections_end : {A : Type 0} (P : List Deed → Outcome A → Type 0) (files : FilesSeen) (w v : Outside) (shown : List Shown) (status : ℕ) (line text : List ℕ) → ShowsInSections w v shown → text ≡ line
+    → P (shows_all shown ++ did_write line ∷ []) (ends status) → ComesOut P (around files w) (around files v) (ends status) text
+sections_end P files w v shown status line text shows is stage = record {
+  seen = shows_all shown ++ did_write line ∷ [];
+  stage = stage;
+  shows = shows_then (around files w) (around files v) (around files v) (shows_all shown) (did_write line ∷ []) (shows_shown files w v shown shows) (shows_wrote (around files v) line);
+  text_is = text_after (shows_all shown) line (no_text_shown shown) ∙ sym is;
+}
+
+-- ---- what is seen, and then what is written
 
 -- something was seen, and then a text was written with which the command ends
 pub seen_end : {A : Type 0} (P : List Deed → Outcome A → Type 0) (files : FilesSeen) (w v : Outside) (seen : List Sighting) (status : ℕ) (line text : List ℕ) → Shows w v seen → text ≡ line

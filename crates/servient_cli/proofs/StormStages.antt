@@ -166,7 +166,7 @@ storm_not kinds seed n seen o stage =
 
 command_not : (held : Option (List HeldFile)) (kinds : List Kind) (command : Command) (seen : List Deed) (o : Outcome (Unit {0})) → is_storm (Some command) ≡ true → Does held kinds command seen o → NotSpent o
 command_not held kinds (Replay script plan events) seen o is stage = absurd cc
-command_not held kinds (Serve plan events idle) seen o is stage = absurd cc
+command_not held kinds (Serve plan budget idle) seen o is stage = absurd cc
 command_not held kinds (Check description) seen o is stage = absurd cc
 command_not held kinds (Derive plan) seen o is stage = absurd cc
 command_not held kinds (Consume consumption) seen o is stage = absurd cc

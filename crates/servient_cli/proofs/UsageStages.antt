@@ -33,7 +33,10 @@ use Rattle.consuming.specs.declared.consumed.Consumed.TheVariants as consumed
 use Rattle.consuming.specs.Deeds as operation
 use Rattle.servient_cli.specs.Consuming.{TakesDescription, is_taken, has_fault, description_memory, DescriptionIn, ReadsDescription, ReadsValue, HasInput, has_input, has_no_input, ReadsInput, Chooses, is_chosen, has_no_affordance, has_no_form, choose_memory, status_after, EndsAfter, has_ended, line_memory, Operates, OperatesOn, ConsumesBy, ConsumesThing}
 use Rattle.servient_cli.specs.Opening.{Exposes, is_exposed, is_misfit, expose_memory, Opens}
-use Rattle.servient_cli.specs.Listening.{Listens, is_listening, cannot_listen, place_memory, listen_memory, ServesEvents, has_served, ServesPlanned}
+use Rattle.servient_cli.specs.Listening.{Listens, is_listening, cannot_listen, place_memory, listen_memory, ServesEvents, has_served, Endures, has_endured, ServesBy, ServesPlanned}
+use Rattle.servient_core.specs.declared.sections.SectionsEnd.TheVariants as ending
+use Rattle.command_words.specs.declared.command.Budget.{Budget}
+use Rattle.command_words.specs.declared.command.Budget.TheVariants as budgets
 use Rattle.servient_cli.specs.Checking.{Checks, Judges, is_valid, is_refused, judge_memory}
 use Rattle.servient_cli.specs.Deriving.{IsPlanned, is_planned, ReadsPlanned, Prints, is_printed, print_memory, DerivesAndPrints, ReadsPlan, is_plan, is_no_plan, plan_memory, AddsModel, is_added, is_not_added, add_memory, TakesModel, TakesModels, Derives, is_derived, derive_memory}
 use Rattle.servient_cli.specs.Deriving as plans
@@ -186,11 +189,20 @@ serve_not budget exchanges epoch site seen o (has_served served.Stopped ran end 
 serve_not budget exchanges epoch site seen o (has_served served.Failed ran end serves e) = by_status o 6 e.1 (omega arith, omega arith)
 serve_not budget exchanges epoch site seen o (has_served served.Spent ran end serves e) = by_status o 8 e.1 (omega arith, omega arith)
 
-serving_not : (name : List ℕ) (kinds : List Kind) (budget idle : ℕ) (p : Planned) (seen : List Deed) (o : Outcome (Unit {0})) → ServesPlanned name kinds budget idle p seen o → EndsPlainly o
+endure_not : (exchanges : ℕ) (epoch : Option ℕ) (site : Site) (seen : List Deed) (o : Outcome (Unit {0})) → Endures exchanges epoch site seen o → EndsPlainly o
+endure_not exchanges epoch site seen o (has_endured ending.Stopped ran end serves e) = by_status o 0 e.1 (omega arith, omega arith)
+endure_not exchanges epoch site seen o (has_endured ending.Failed ran end serves e) = by_status o 6 e.1 (omega arith, omega arith)
+endure_not exchanges epoch site seen o (has_endured ending.Spent ran end serves e) = by_status o 8 e.1 (omega arith, omega arith)
+
+serve_by_not : (budget : Budget) (exchanges : ℕ) (epoch : Option ℕ) (site : Site) (seen : List Deed) (o : Outcome (Unit {0})) → ServesBy budget exchanges epoch site seen o → EndsPlainly o
+serve_by_not (budgets.Events n) exchanges epoch site seen o stage = serve_not n exchanges epoch site seen o stage
+serve_by_not budgets.Endless exchanges epoch site seen o stage = endure_not exchanges epoch site seen o stage
+
+serving_not : (name : List ℕ) (kinds : List Kind) (budget : Budget) (idle : ℕ) (p : Planned) (seen : List Deed) (o : Outcome (Unit {0})) → ServesPlanned name kinds budget idle p seen o → EndsPlainly o
 serving_not name kinds budget idle p seen o stage =
-    then_not (Opens name kinds p) (λ site. AndThen (Listens (place_of p.plan (idle * 1000))) (λ _. ServesEvents budget p.plan.exchanges p.plan.epoch site)) seen o (open_not name kinds p)
-    (λ site s r st. then_not (Listens (place_of p.plan (idle * 1000))) (λ _. ServesEvents budget p.plan.exchanges p.plan.epoch site) s r (listen_not (place_of p.plan (idle * 1000)))
-    (λ u. serve_not budget p.plan.exchanges p.plan.epoch site) st) stage
+    then_not (Opens name kinds p) (λ site. AndThen (Listens (place_of p.plan (idle * 1000))) (λ _. ServesBy budget p.plan.exchanges p.plan.epoch site)) seen o (open_not name kinds p)
+    (λ site s r st. then_not (Listens (place_of p.plan (idle * 1000))) (λ _. ServesBy budget p.plan.exchanges p.plan.epoch site) s r (listen_not (place_of p.plan (idle * 1000)))
+    (λ u. serve_by_not budget p.plan.exchanges p.plan.epoch site) st) stage
 
 storm_run_not : (seed n exchanges : ℕ) (epoch : Option ℕ) (site : Site) (seen : List Deed) (o : Outcome (Unit {0})) → RunsStorm seed n exchanges epoch site seen o → EndsPlainly o
 storm_run_not seed n exchanges epoch site seen o (is_counted ran end a e) = by_status o 0 e.1 (omega arith, omega arith)
@@ -259,8 +271,8 @@ ends_plainly held kinds (Check description) seen o other stage =
 ends_plainly held kinds (Derive plan) seen o other stage =
     then_not (ReadsPlanned held plan) DerivesAndPrints seen o (planned_not held plan)
     (λ p s r st. then_not (Derives p) Prints s r (derive_not p) print_not st) stage
-ends_plainly held kinds (Serve plan events idle) seen o other stage =
-    then_not (ReadsPlanned held plan) (ServesPlanned plan kinds events idle) seen o (planned_not held plan) (serving_not plan kinds events idle) stage
+ends_plainly held kinds (Serve plan budget idle) seen o other stage =
+    then_not (ReadsPlanned held plan) (ServesPlanned plan kinds budget idle) seen o (planned_not held plan) (serving_not plan kinds budget idle) stage
 ends_plainly held kinds (Storm seed events) seen o other stage = storm_not kinds seed events seen o stage
 ends_plainly held kinds (Consume consumption) seen o other stage = absurd cc
 ends_plainly held kinds (Discover host port) seen o other stage = absurd cc
@@ -269,7 +281,7 @@ does_not_end_so : (held : Option (List HeldFile)) (kinds : List Kind) (command :
 does_not_end_so held kinds (Replay script plan events) seen o stage = (ends_plainly held kinds (Replay script plan events) seen o refl stage).0
 does_not_end_so held kinds (Check description) seen o stage = (ends_plainly held kinds (Check description) seen o refl stage).0
 does_not_end_so held kinds (Derive plan) seen o stage = (ends_plainly held kinds (Derive plan) seen o refl stage).0
-does_not_end_so held kinds (Serve plan events idle) seen o stage = (ends_plainly held kinds (Serve plan events idle) seen o refl stage).0
+does_not_end_so held kinds (Serve plan budget idle) seen o stage = (ends_plainly held kinds (Serve plan budget idle) seen o refl stage).0
 does_not_end_so held kinds (Storm seed events) seen o stage = (ends_plainly held kinds (Storm seed events) seen o refl stage).0
 does_not_end_so held kinds (Consume consumption) seen o stage = consume_not held consumption seen o stage
 does_not_end_so held kinds (Discover host port) seen o stage = asked_not _ seen o stage
@@ -343,7 +355,7 @@ discovered_so P seen o (line_memory r deeds a e) = may_discover (status_of o) 9 
 
 does_discover : (held : Option (List HeldFile)) (kinds : List Kind) (command : Command) (seen : List Deed) (o : Outcome (Unit {0})) → is_discovering (Some command) ≡ true → Does held kinds command seen o → MayDiscover (status_of o)
 does_discover held kinds (Replay script plan events) seen o is stage = absurd cc
-does_discover held kinds (Serve plan events idle) seen o is stage = absurd cc
+does_discover held kinds (Serve plan budget idle) seen o is stage = absurd cc
 does_discover held kinds (Check description) seen o is stage = absurd cc
 does_discover held kinds (Derive plan) seen o is stage = absurd cc
 does_discover held kinds (Storm seed events) seen o is stage = absurd cc

@@ -3,7 +3,7 @@
 -- What the words mean is the grammar's, `meaning_of` of `command_words`.
 -- `replay SCRIPT [PLAN]` reads the plan and its models, if a plan is named, and the script, runs its events, and prints
 -- the acts and the turns. `serve PLAN` reads a plan and its models, listens at the plan's place, and serves what comes
--- there. `check TD` reads a Thing Description and says whether it is valid, or its first fault. `derive PLAN` reads a
+-- there, as many events as its budget has. `check TD` reads a Thing Description and says whether it is valid, or its first fault. `derive PLAN` reads a
 -- plan and its models, and prints the descriptions of its Things, or the first fault. `storm SEED N` runs events that
 -- are drawn from a seed on the built-in Thing, and counts what came of them. `consume TD OPERATION NAME` reads a
 -- description, and does an operation on the Thing that it describes. `discover HOST:PORT` asks a server which Things it
@@ -45,7 +45,7 @@ use Rattle.servient_cli.specs.Deriving.{ReadsPlanned, DerivesAndPrints, IsFaultl
 -- handlers of these kinds.
 abbrev pub Does : Option (List HeldFile) → List Kind → Command → List Deed → Outcome (Unit {0}) → Type 0
 Does held kinds (Replay script plan events) = Replays held kinds script plan events
-Does held kinds (Serve plan events idle) = ServesPlan held kinds plan events idle
+Does held kinds (Serve plan budget idle) = ServesPlan held kinds plan budget idle
 Does held kinds (Check description) = AndThen (ReadsFile held longest_json description) (Checks description)
 Does held kinds (Derive plan) = AndThen (ReadsPlanned held plan) DerivesAndPrints
 Does held kinds (Storm seed events) = Storms kinds seed events
@@ -54,7 +54,7 @@ Does held kinds (Discover host port) = DiscoversThings host port
 
 -- the words mean that a plan is served
 abbrev pub is_serving : Option Command → Bool
-is_serving (Some (Serve plan events idle)) = true
+is_serving (Some (Serve plan budget idle)) = true
 is_serving command = false
 
 -- the words mean a storm
@@ -75,7 +75,7 @@ is_discovering command = false
 
 -- the words mean a command that uses the network
 abbrev pub is_networked : Option Command → Bool
-is_networked (Some (Serve plan events idle)) = true
+is_networked (Some (Serve plan budget idle)) = true
 is_networked (Some (Consume consumption)) = true
 is_networked (Some (Discover host port)) = true
 is_networked command = false
@@ -175,7 +175,7 @@ pub record IsFaultlessConsumption (files : List HeldFile) (k : Consumption) : Ty
 -- nothing is wrong with the files that a command reads, nor with what it makes of them
 abbrev pub HasFaultlessFiles : List HeldFile → List Kind → Command → Type 0
 HasFaultlessFiles files kinds (Replay script plan events) = IsFaultlessReplay files kinds script plan events
-HasFaultlessFiles files kinds (Serve plan events idle) = IsFaultlessServing files kinds plan
+HasFaultlessFiles files kinds (Serve plan budget idle) = IsFaultlessServing files kinds plan
 HasFaultlessFiles files kinds (Check description) = HoldsFaultless files longest_json description IsFaultlessDescription
 HasFaultlessFiles files kinds (Derive plan) = IsFaultlessDerivation files plan
 HasFaultlessFiles files kinds (Storm seed events) = IsFaultlessStorm kinds

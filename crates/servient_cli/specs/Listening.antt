@@ -1,5 +1,6 @@
--- `serve PLAN`: the Things of a plan are served at the plan's place, over the network, until a Stop comes.
-use Rattle.std.specs.Prelude.{◌≡◌, ◌*◌, ℕ, List, [], map, Option}
+-- `serve PLAN`: the Things of a plan are served at the plan's place, over the network, until a Stop comes, the budget of
+-- events is taken, or no number is left for a further turn.
+use Rattle.std.specs.Prelude.{◌≡◌, ◌*◌, ◌-◌, ◌^◌, ℕ, List, [], map, Option}
 use Rattle.wot_terms.specs.declared.kind.Kind.{Kind}
 use Rattle.servient_outside.specs.declared.files.HeldFile.{HeldFile}
 use Rattle.servient_outside.specs.declared.net.Listened.TheVariants as listened
@@ -7,13 +8,18 @@ use Rattle.servient_outside.specs.declared.place.Place.{Place}
 use Rattle.servient_outside.specs.Network.{Happening, listens_as}
 use Rattle.servient_core.specs.declared.serving.Served.{Served}
 use Rattle.servient_core.specs.declared.serving.Served.TheVariants as served
+use Rattle.servient_core.specs.declared.sections.SectionsEnd.{SectionsEnd}
+use Rattle.servient_core.specs.declared.sections.SectionsEnd.TheVariants as ending
+use Rattle.servient_core.specs.Sections.{Shown, ServesInSections}
+use Rattle.command_words.specs.declared.command.Budget.{Budget}
+use Rattle.command_words.specs.declared.command.Budget.TheVariants as budget
 use Rattle.servient_plan.specs.Plan.{place_of}
 use Rattle.servient_core.specs.Trace.{Sighting, at_network}
 use Rattle.servient_core.specs.Machine.{Site, State, start}
 use Rattle.servient_core.specs.Serving.{Serves}
 use Rattle.servient_cli.specs.declared.derivation.Planned.{Planned}
 use Rattle.servient_cli.specs.Lines.{network_line, spent_line}
-use Rattle.servient_cli.specs.Stages.{Deed, sees, Outcome, goes_on, EndsWith, RunsOut, AndThen}
+use Rattle.servient_cli.specs.Stages.{Deed, sees, shows_all, Outcome, goes_on, EndsWith, RunsOut, AndThen}
 use Rattle.servient_cli.specs.Deriving.{ReadsPlanned}
 use Rattle.servient_cli.specs.Opening.{Opens}
 
@@ -46,11 +52,37 @@ pub data ServesEvents (budget exchanges : ℕ) (epoch : Option ℕ) (site : Site
   has_served : (result : Served) (ran : List Sighting) (end : State) → Serves site budget result (start site exchanges epoch) ran end
       → EndsWith (sees ran) (status_after result) (line_after result) seen o → ServesEvents budget exchanges epoch site seen o
 
+-- the same where the handlers forget their turns now and then: 8 says that no number is left for a further turn
+abbrev pub status_at_end : SectionsEnd → ℕ
+status_at_end ending.Stopped = 0
+status_at_end ending.Failed = 6
+status_at_end ending.Spent = 8
+
+abbrev pub line_at_end : SectionsEnd → List ℕ
+line_at_end ending.Stopped = []
+line_at_end ending.Failed = network_line
+line_at_end ending.Spent = spent_line
+
+-- as many events as can be counted, which is no bound that a run comes to
+abbrev pub uncounted : ℕ
+uncounted = 2 ^ 64 - 1
+
+-- Serving as many events as come: one run of the machine from its start, shown in sections.
+pub data Endures (exchanges : ℕ) (epoch : Option ℕ) (site : Site) (seen : List Deed) (o : Outcome (Unit {0})) : Type 0 where
+  has_endured : (result : SectionsEnd) (shown : List Shown) (end : State)
+      → ServesInSections site uncounted result (start site exchanges epoch) shown end
+      → EndsWith (shows_all shown) (status_at_end result) (line_at_end result) seen o → Endures exchanges epoch site seen o
+
+-- serving as the budget of the words says
+abbrev pub ServesBy : Budget → ℕ → Option ℕ → Site → List Deed → Outcome (Unit {0}) → Type 0
+ServesBy (budget.Events n) = ServesEvents n
+ServesBy budget.Endless = Endures
+
 -- what is done once the plan is read, where serving ends after n seconds without traffic, or never for 0
-abbrev pub ServesPlanned : List ℕ → List Kind → ℕ → ℕ → Planned → List Deed → Outcome (Unit {0}) → Type 0
+abbrev pub ServesPlanned : List ℕ → List Kind → Budget → ℕ → Planned → List Deed → Outcome (Unit {0}) → Type 0
 ServesPlanned name kinds budget idle p =
-    AndThen (Opens name kinds p) (λ site. AndThen (Listens (place_of p.plan (idle * 1000))) (λ _. ServesEvents budget p.plan.exchanges p.plan.epoch site))
+    AndThen (Opens name kinds p) (λ site. AndThen (Listens (place_of p.plan (idle * 1000))) (λ _. ServesBy budget p.plan.exchanges p.plan.epoch site))
 
 -- Serving a plan on a rack with handlers of these kinds.
-abbrev pub ServesPlan : Option (List HeldFile) → List Kind → List ℕ → ℕ → ℕ → List Deed → Outcome (Unit {0}) → Type 0
+abbrev pub ServesPlan : Option (List HeldFile) → List Kind → List ℕ → Budget → ℕ → List Deed → Outcome (Unit {0}) → Type 0
 ServesPlan held kinds plan budget idle = AndThen (ReadsPlanned held plan) (ServesPlanned plan kinds budget idle)

@@ -8,7 +8,8 @@ use Rattle.servient_base.specs.Moves.{Passing}
 use Rattle.servient_outside.specs.declared.files.FileRead.{FileRead}
 use Rattle.servient_outside.specs.Told.{Continues}
 use Rattle.servient_outside.specs.Files.{FilesSeen, NoReadFailed}
-use Rattle.servient_core.specs.Trace.{Sighting, Outside, Shows}
+use Rattle.servient_core.specs.Trace.{Sighting, Outside}
+use Rattle.servient_core.specs.Sections.{Shown, saw, forgot, ShowsInSections}
 use Rattle.servient_cli.specs.Lines.{memory_line}
 
 -- One thing that a command does.
@@ -20,6 +21,8 @@ pub data Deed : Type 0 where
   -- something happened at the network, or a device handler was called: what the machine sees, as it is; of the network
   -- of a replay, which is its own, only the calls of handlers are deeds
   did_see : Sighting → Deed
+  -- the handlers forgot their turns
+  did_forget : Deed
   -- a text was written
   did_write : List ℕ → Deed
 
@@ -28,6 +31,7 @@ abbrev pub read_in : Deed → Option FileRead
 read_in (did_read file) = Some file
 read_in (did_fail file) = Some file
 read_in (did_see sighting) = None
+read_in did_forget = None
 read_in (did_write text) = None
 
 abbrev pub reads_in : List Deed → List FileRead
@@ -39,6 +43,7 @@ HasFailed [] = ⊥
 HasFailed (did_read file ∷ seen) = HasFailed seen
 HasFailed (did_fail file ∷ seen) = Unit {0}
 HasFailed (did_see sighting ∷ seen) = HasFailed seen
+HasFailed (did_forget ∷ seen) = HasFailed seen
 HasFailed (did_write text ∷ seen) = HasFailed seen
 
 -- what is seen at the network and at the handlers, in order
@@ -46,20 +51,41 @@ abbrev pub sighting_in : Deed → Option Sighting
 sighting_in (did_read file) = None
 sighting_in (did_fail file) = None
 sighting_in (did_see sighting) = Some sighting
+sighting_in did_forget = None
 sighting_in (did_write text) = None
 
 abbrev pub sightings_in : List Deed → List Sighting
 sightings_in = filter_map sighting_in
 
+-- and with the forgettings between them
+abbrev pub showing_in : Deed → Option Shown
+showing_in (did_read file) = None
+showing_in (did_fail file) = None
+showing_in (did_see sighting) = Some (saw sighting)
+showing_in did_forget = Some forgot
+showing_in (did_write text) = None
+
+abbrev pub showings_in : List Deed → List Shown
+showings_in = filter_map showing_in
+
 -- these were seen
 abbrev pub sees : List Sighting → List Deed
 sees = map (λ sighting. did_see sighting)
+
+-- these were shown, forgettings among them
+abbrev pub shows_as : Shown → Deed
+shows_as (saw sighting) = did_see sighting
+shows_as forgot = did_forget
+
+abbrev pub shows_all : List Shown → List Deed
+shows_all = map shows_as
 
 -- all that was written, one text after another
 abbrev pub written_in : Deed → List ℕ
 written_in (did_read file) = []
 written_in (did_fail file) = []
 written_in (did_see sighting) = []
+written_in did_forget = []
 written_in (did_write text) = text
 
 abbrev pub text_in : List Deed → List ℕ
@@ -95,10 +121,10 @@ abbrev pub around : FilesSeen → Outside → Around
 around files outside = record { files = files; outside = outside }
 
 -- From one time to another the files show these reads, and the network and the handlers what was seen of them, and
--- nothing else. Where a read failed, the count of failures rose; it never falls, and stays where no read fails.
+-- nothing else: in one section, unless the handlers forgot their turns. Where a read failed, the count of failures rose; it never falls, and stays where no read fails.
 pub record ShowsDeeds (before now : Around) (seen : List Deed) : Type 0 where
   pub reads : Continues before.files.reads now.files.reads (reads_in seen)
   pub faults : before.files.faults ≤ now.files.faults
   pub failed : HasFailed seen → Rose before.files.faults now.files.faults
   pub no_failure : NoReadFailed before.files now.files
-  pub outside : Shows before.outside now.outside (sightings_in seen)
+  pub outside : ShowsInSections before.outside now.outside (showings_in seen)

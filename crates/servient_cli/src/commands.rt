@@ -44,10 +44,10 @@ pub fn run_command<F: Files, N: Net, R: Handlers>(
             let inputs = read_inputs(alloc, plan, script.as_str(), files)?;
             run_inputs(alloc, plan_name(plan), inputs, u64::from(*events), rack)
         }
-        Command::Serve { plan, events, idle } => {
+        Command::Serve { plan, budget, idle } => {
             let request = Request {
                 plan: plan.as_str(),
-                events: *events,
+                budget: *budget,
                 idle: *idle,
             };
             serve_plan(alloc, request, files, net, rack)

@@ -1,4 +1,4 @@
-//! `serve PLAN`: the Things of a plan are served at the plan's place, over the network.
+//! `serve PLAN`: the Things of a plan are served at the plan's place, over the network, as its budget says.
 
 ghost use Rattle.std.specs.Prelude.{ℕ, List, Option, ◌*◌};
 ghost use Rattle.thing_site.specs.Exposing.{kinds_of};
@@ -10,13 +10,14 @@ ghost use Rattle.servient_core.specs.Machine.{start};
 ghost use Rattle.servient_core.specs.Serving.{StandsFor};
 ghost use Rattle.servient_outside.specs.Files.{FilesSeen};
 ghost use Rattle.servient_cli.specs.Stages.{around};
-ghost use Rattle.servient_cli.specs.Listening.{Listens, ServesEvents, ServesPlan, ServesPlanned};
+ghost use Rattle.servient_cli.specs.Listening.{Endures, Listens, ServesBy, ServesEvents, ServesPlan, ServesPlanned};
 ghost use Rattle.servient_cli.specs.Ending.{EndsBy, Performs};
 
 use crate::derivation::{Planned, read_planned};
 use crate::ending::{Ended, Ending};
 use crate::opening::open;
-use servient_core::{Plan, Served, Servient, serve};
+use command_words::Budget;
+use servient_core::{Plan, SectionsEnd, Served, Servient, serve, serve_in_sections};
 use servient_outside::{Files, Listened, Net};
 use std::alloc::Global;
 use thing_handler::Handlers;
@@ -27,8 +28,8 @@ use wot_json::Bytes;
 pub struct Request<'a> {
     /// The name of the plan's file.
     pub plan: &'a str,
-    /// How many events are taken at most.
-    pub events: u32,
+    /// How many events are taken.
+    pub budget: Budget,
     /// After how many seconds without traffic serving ends; 0 if it never does for lack of traffic.
     pub idle: u32,
 }
@@ -41,7 +42,7 @@ pub fn serve_plan<F: Files, N: Net, R: Handlers>(
     net: &mut N,
     rack: &mut R,
 ) -> Result<Ending, Ended>
-    ensures { EndsBy (ServesPlan (F.seen files.old).held (kinds_of (R.slots rack.old)) request.entry.plan.now request.entry.events request.entry.idle)
+    ensures { EndsBy (ServesPlan (F.seen files.old).held (kinds_of (R.slots rack.old)) request.entry.plan.now request.entry.budget request.entry.idle)
         (around (F.seen files.old) (outside (N.seen net.old) (R.slots rack.old)))
         (around (F.seen files.new) (outside (N.seen net.new) (R.slots rack.new))) result }
 {
@@ -58,13 +59,13 @@ fn serve_planned<N: Net, R: Handlers>(
     rack: &mut R,
 ) -> Result<Ending, Ended>
     requires { MayBeServed planned.now.plan }
-    ensures { (files : FilesSeen) → EndsBy (ServesPlanned request.entry.plan.now (kinds_of (R.slots rack.old)) request.entry.events request.entry.idle planned.now)
+    ensures { (files : FilesSeen) → EndsBy (ServesPlanned request.entry.plan.now (kinds_of (R.slots rack.old)) request.entry.budget request.entry.idle planned.now)
         (around files (outside (N.seen net.old) (R.slots rack.old)))
         (around files (outside (N.seen net.new) (R.slots rack.new))) result }
 {
     let mut servient = open(alloc, request.plan, planned, rack)?;
     listen(alloc, &planned.plan, request.idle, net)?;
-    serve_events(alloc, &mut servient, request.events, net, rack)
+    serve_by(alloc, &mut servient, request.budget, net, rack)
 }
 
 /// Listens at the place of a plan, until `idle` seconds pass without traffic.
@@ -77,6 +78,49 @@ fn listen<N: Net>(alloc: Global, plan: &Plan, idle: u32, net: &mut N) -> Result<
         Listened::Ready => Ok(()),
         Listened::Failed => Err(Ended::Network),
         Listened::NoMemory => Err(Ended::NoMemory),
+    }
+}
+
+/// Serves as the budget says.
+fn serve_by<N: Net, R: Handlers>(
+    alloc: Global,
+    servient: &mut Servient,
+    budget: Budget,
+    net: &mut N,
+    rack: &mut R,
+) -> Result<Ending, Ended>
+    requires fits { Fits servient.old.exposed.site (R.slots rack.old) }
+    ensures { (files : FilesSeen) → (exchanges : ℕ) → (epoch : Option ℕ) → StandsFor servient.old (start servient.old.exposed.site exchanges epoch)
+        → EndsBy (ServesBy budget exchanges epoch servient.old.exposed.site)
+        (around files (outside (N.seen net.old) (R.slots rack.old)))
+        (around files (outside (N.seen net.new) (R.slots rack.new))) result }
+{
+    match budget {
+        Budget::Events(events) => serve_events(alloc, servient, events, net, rack),
+        Budget::Endless => endure(alloc, servient, net, rack),
+    }
+}
+
+/// Serves as many events as come; the handlers forget their turns now and then.
+fn endure<N: Net, R: Handlers>(
+    alloc: Global,
+    servient: &mut Servient,
+    net: &mut N,
+    rack: &mut R,
+) -> Result<Ending, Ended>
+    requires fits { Fits servient.old.exposed.site (R.slots rack.old) }
+    ensures { (files : FilesSeen) → (exchanges : ℕ) → (epoch : Option ℕ) → StandsFor servient.old (start servient.old.exposed.site exchanges epoch)
+        → EndsBy (Endures exchanges epoch servient.old.exposed.site)
+        (around files (outside (N.seen net.old) (R.slots rack.old)))
+        (around files (outside (N.seen net.new) (R.slots rack.new))) result }
+{
+    match serve_in_sections(servient, net, rack, u64::MAX) {
+        SectionsEnd::Stopped => Ok(Ending {
+            status: 0,
+            text: Bytes::new(alloc),
+        }),
+        SectionsEnd::Failed => Err(Ended::Network),
+        SectionsEnd::Spent => Err(Ended::Spent),
     }
 }
 

@@ -13,7 +13,7 @@ pub mod MachineLaws
 pub mod PromiseLaws
 pub mod ServingLaws
 pub mod SectionLaws
-pub mod EndlessLaws
+pub mod SectionsServed
 pub mod MeaningLaws
 pub mod RunHistories
 pub mod MissLaws

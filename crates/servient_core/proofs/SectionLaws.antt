@@ -12,10 +12,11 @@ use Rattle.thing_handler.specs.Turns.{answered, missed, turns_in}
 use Rattle.thing_core.specs.Thing.{most_turns}
 use Rattle.thing_site.specs.Site.{Placed, ExposedThing, Site}
 use Rattle.thing_site.specs.Fits.{FitsSlot, ThingFits, Fits}
-use Rattle.servient_outside.specs.Network.{heard, did, broke, events_in}
-use Rattle.servient_core.specs.Trace.{Sighting, at_network, at_handler, happened_in, calls_in, Outside, Shows}
-use Rattle.servient_core.specs.Endless.{Shown, saw, forgot, seen_of, seen_in, shown_of, after_forgetting, ShowsInSections, section, forgets, turn_count, IsInTime}
-use Rattle.servient_core.specs.declared.endless.TheConstants.{MOST_KEPT}
+use Rattle.servient_outside.specs.Network.{Happening, NetShows, heard, did, broke, events_in}
+use Rattle.servient_outside.proofs.NetLaws.{net_shows_then}
+use Rattle.servient_core.specs.Trace.{Sighting, at_network, at_handler, happening_in, happened_in, calls_in, Outside, Shows}
+use Rattle.servient_core.specs.Sections.{Shown, saw, forgot, seen_of, seen_in, shown_of, after_forgetting, ShowsInSections, section, forgets, turn_count, IsInTime}
+use Rattle.servient_core.specs.declared.sections.TheConstants.{MOST_KEPT}
 use Rattle.servient_core.proofs.TraceLaws.{shows_in_order}
 
 -- what was seen of what was seen alone
@@ -50,6 +51,23 @@ sections_in_order = record { none = sections_none; more = sections_more }
 -- nothing is seen, and the handlers forget
 pub forgotten_section : (w : Outside) → ShowsInSections w (after_forgetting w) (forgot ∷ [])
 forgotten_section w = forgets w w (after_forgetting w) (forgot ∷ []) [] [] refl (shows_in_order.none w) (sections_none (after_forgetting w))
+
+-- the network knows nothing of forgetting
+pub sections_net : (w v : Outside) (shown : List Shown) → ShowsInSections w v shown → NetShows w.net v.net (happened_in (seen_in shown))
+sections_net w v shown (section _ _ _ seen is shows) =
+    subst (λ (x : List Sighting). NetShows w.net v.net (happened_in x)) (sym (seen_of_shown seen) ∙ sym (ap seen_in is)) shows.net
+sections_net w v shown (forgets _ m _ _ rest seen is shows others) =
+    subst (λ (x : List Happening). NetShows w.net v.net x)
+    (sym (filter_map-append happening_in seen (seen_in rest)) ∙ ap (λ (x : List Sighting). happened_in (x ++ seen_in rest)) (sym (seen_of_shown seen))
+    ∙ ap happened_in (sym (filter_map-append seen_of (shown_of seen) (forgot ∷ rest))) ∙ ap (λ (x : List Shown). happened_in (seen_in x)) (sym is))
+    (net_shows_then w.net m.net v.net (happened_in seen) (happened_in (seen_in rest)) shows.net (sections_net (after_forgetting m) v rest others))
+
+-- where nothing is shown, nothing was seen and nothing forgotten
+pub nothing_shown : (w v : Outside) → ShowsInSections w v [] → Shows w v []
+nothing_shown w v (section _ _ _ [] is shows) = shows
+nothing_shown w v (section _ _ _ (x ∷ seen) is shows) = cc
+nothing_shown w v (forgets _ m _ _ rest [] is shows others) = cc
+nothing_shown w v (forgets _ m _ _ rest (x ∷ seen) is shows others) = cc
 
 -- ---- what fits a rack fits it once its handlers forgot
 

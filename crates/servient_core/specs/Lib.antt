@@ -3,7 +3,7 @@ pub mod Links
 pub mod Machine
 pub mod Keeping
 pub mod Serving
-pub mod Endless
+pub mod Sections
 pub mod Connections
 pub mod Promises
 pub mod Meaning

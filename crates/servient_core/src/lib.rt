@@ -22,20 +22,20 @@ mod capacity;
 mod connections;
 mod delivering;
 mod ending;
-mod endless;
 mod laws;
 mod layers;
 mod links;
 mod performing;
+mod sections;
 mod servient;
 mod serving;
 
-pub use endless::{EndlessEnd, serve_endlessly};
 pub use laws::{
     directory_is_apart, duplicates_act_on_nothing, each_run_has_a_history, each_stands_for_a_state,
     failing_is_exact, full_table_acts_on_nothing, links_name_each_thing, misses_are_counted,
     one_meaning, turns_are_numbered,
 };
+pub use sections::{SectionsEnd, serve_in_sections};
 pub use servient::{OpenFault, Servient};
 pub use servient_edge::{
     Act, Calls, Dialled, Event, EventWithBytes, Events, FileRead, Files, FilesMemory, FilesReal,

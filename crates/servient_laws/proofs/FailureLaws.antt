@@ -39,13 +39,18 @@ use Rattle.servient_cli.specs.declared.derivation.Planned.{Planned}
 use Rattle.servient_cli.specs.declared.replay.Inputs.{Inputs}
 use Rattle.servient_cli.specs.declared.storming.TheConstants.{STORM_EXCHANGES}
 use Rattle.servient_cli.specs.Lines.{network_line}
-use Rattle.servient_cli.specs.Stages.{Deed, did_read, did_fail, did_see, did_write, read_in, reads_in, sees, sightings_in, text_in, HasFailed, Outcome, goes_on, ends, AndThen, ends_first, goes_further, Around}
+use Rattle.servient_cli.specs.Stages.{Deed, did_read, did_fail, did_see, did_forget, did_write, read_in, reads_in, sees, shows_all, sightings_in, text_in, HasFailed, Outcome, goes_on, ends, AndThen, ends_first, goes_further, Around}
 use Rattle.servient_cli.specs.Reading.{ReadsFile, is_read, is_absent, is_unreadable, is_long, file_memory, file_read, ReadsTree, is_tree, has_no_tree, tree_memory, longest_json, longest_script}
 use Rattle.servient_cli.specs.Replaying.{Plans, TakesBuiltIn, is_built_in, built_in_memory, plan_name, ReadsEvents, ReadsInputs, HasRead, has_read, RunsOn, ReadsScript, is_script, is_no_script, script_memory, RunsScript, is_whole, is_spent, run_memory}
 use Rattle.servient_cli.specs.Storming.{RunsStorm, is_counted, storm_memory, Storms, StormsOn, with_few_exchanges}
 use Rattle.servient_cli.specs.Consuming.{TakesDescription, is_taken, has_fault, description_memory, DescriptionIn, ReadsDescription, ReadsValue, HasInput, has_input, HasNoInput, has_no_input, ReadsInput, Chooses, is_chosen, has_no_affordance, has_no_form, choose_memory, deeds_of, status_after, line_after, EndsAfter, has_ended, line_memory, IsOperated, Operates, OperatesOn, ConsumesBy, ConsumesThing}
 use Rattle.servient_cli.specs.Opening.{Exposes, is_exposed, is_misfit, expose_memory, Opens}
-use Rattle.servient_cli.specs.Listening.{Listens, is_listening, cannot_listen, place_memory, listen_memory, ServesEvents, has_served, ServesPlanned}
+use Rattle.servient_cli.specs.Listening.{Listens, is_listening, cannot_listen, place_memory, listen_memory, ServesEvents, has_served, Endures, has_endured, ServesBy, ServesPlanned}
+use Rattle.servient_cli.proofs.StageLaws.{shows_net}
+use Rattle.servient_core.specs.Sections.{Shown, saw, forgot, seen_in}
+use Rattle.servient_core.specs.declared.sections.SectionsEnd.TheVariants as ending
+use Rattle.command_words.specs.declared.command.Budget.{Budget}
+use Rattle.command_words.specs.declared.command.Budget.TheVariants as budgets
 use Rattle.servient_cli.specs.Checking.{Checks, Judges, is_valid, is_refused, judge_memory}
 use Rattle.servient_cli.specs.Deriving.{ReadsPlan, is_plan, is_no_plan, plan_memory, AddsModel, is_added, is_not_added, add_memory, TakesModel, TakesModels, IsPlanned, is_planned, ReadsPlanned, Derives, is_derived, derive_memory, Prints, is_printed, print_memory, DerivesAndPrints}
 use Rattle.servient_cli.specs.Deriving as plans
@@ -93,6 +98,7 @@ failed_later [] b failed = failed
 failed_later (did_read file ∷ a) b failed = failed_later a b failed
 failed_later (did_fail file ∷ a) b failed = tt
 failed_later (did_see sighting ∷ a) b failed = failed_later a b failed
+failed_later (did_forget ∷ a) b failed = failed_later a b failed
 failed_later (did_write text ∷ a) b failed = failed_later a b failed
 
 file_later : (held : Option (List HeldFile)) (a b : List Deed) → FileFails held b → FileFails held (a ++ b)
@@ -108,6 +114,7 @@ net_later (did_see (at_network (heard e)) ∷ a) b fails = net_later a b fails
 net_later (did_see (at_network (did act)) ∷ a) b fails = net_later a b fails
 net_later (did_see (at_network (broke call)) ∷ a) b fails = omega arith
 net_later (did_see (at_handler call) ∷ a) b fails = net_later a b fails
+net_later (did_forget ∷ a) b fails = net_later a b fails
 net_later (did_write text ∷ a) b fails = net_later a b fails
 
 later : (held : Option (List HeldFile)) (a b : List Deed) (status : ℕ) → Tells held b status → Tells held (a ++ b) status
@@ -246,6 +253,34 @@ serve_tells held budget exchanges epoch site seen status (has_served served.Fail
     (subst NetFails (sym (e.0 ∙ ap (λ (x : List Sighting). sees x ++ did_write network_line ∷ []) (serves.run.whole ∙ ap (λ (x : List Sighting). serves.run.first ++ x) serves.run.other.saw))) (breaks_last serves.run.first (did_write network_line ∷ [])))
 serve_tells held budget exchanges epoch site seen status (has_served served.Spent ran end serves e) = ended held seen status 8 e.1 (omega arith, omega arith)
 
+-- the same of a run that is shown in sections
+breaks_shown : (shown : List Shown) (rest : List Deed) → 1 ≤ break_count (happened_in (seen_in shown)) → NetFails (shows_all shown ++ rest)
+breaks_shown [] rest breaks = absurd (omega (arith, breaks))
+breaks_shown (forgot ∷ shown) rest breaks = breaks_shown shown rest breaks
+breaks_shown (saw (at_handler call) ∷ shown) rest breaks = breaks_shown shown rest breaks
+breaks_shown (saw (at_network (heard e)) ∷ shown) rest breaks = breaks_shown shown rest breaks
+breaks_shown (saw (at_network (did act)) ∷ shown) rest breaks = breaks_shown shown rest breaks
+breaks_shown (saw (at_network (broke call)) ∷ shown) rest breaks = omega arith
+
+breaks_at_end : (a : List Sighting) → 1 ≤ break_count (happened_in (a ++ at_network (broke next_event) ∷ []))
+breaks_at_end [] = omega arith
+breaks_at_end (at_network (heard e) ∷ a) = breaks_at_end a
+breaks_at_end (at_network (did act) ∷ a) = breaks_at_end a
+breaks_at_end (at_network (broke call) ∷ a) = omega arith
+breaks_at_end (at_handler call ∷ a) = breaks_at_end a
+
+endure_tells : (held : Option (List HeldFile)) (exchanges : ℕ) (epoch : Option ℕ) (site : Site) → Telling held (Endures exchanges epoch site)
+endure_tells held exchanges epoch site seen status (has_endured ending.Stopped shown end serves e) = ended held seen status 0 e.1 (omega arith, omega arith)
+endure_tells held exchanges epoch site seen status (has_endured ending.Failed shown end serves e) =
+    six_only held seen status (same_status status 6 e.1)
+    (subst NetFails (sym e.0) (breaks_shown shown (did_write network_line ∷ [])
+    (subst (λ (x : List Sighting). 1 ≤ break_count (happened_in x)) (sym (serves.run.whole ∙ ap (λ (x : List Sighting). serves.run.first ++ x) serves.run.other.saw)) (breaks_at_end serves.run.first))))
+endure_tells held exchanges epoch site seen status (has_endured ending.Spent shown end serves e) = ended held seen status 8 e.1 (omega arith, omega arith)
+
+serve_by_tells : (held : Option (List HeldFile)) (budget : Budget) (exchanges : ℕ) (epoch : Option ℕ) (site : Site) → Telling held (ServesBy budget exchanges epoch site)
+serve_by_tells held (budgets.Events n) exchanges epoch site = serve_tells held n exchanges epoch site
+serve_by_tells held budgets.Endless exchanges epoch site = endure_tells held exchanges epoch site
+
 breaks_among : (deeds : List operation.Deed) (rest : List Deed) → 1 ≤ break_count (operation.happened_in deeds) → NetFails (deeds_of deeds ++ rest)
 breaks_among [] rest breaks = absurd (omega (arith, breaks))
 breaks_among (happens (heard e) ∷ deeds) rest breaks = breaks_among deeds rest breaks
@@ -304,10 +339,10 @@ does_tell held kinds (Replay script plan events) =
     then_tells held (ReadsInputs held plan script) (RunsOn (plan_name plan) kinds events) (inputs_tell held plan script)
     (λ (read : Inputs). then_tells held (Opens (plan_name plan) kinds read.planned) (RunsScript events read.events read.planned.plan.exchanges read.planned.plan.epoch) (open_tells held (plan_name plan) kinds read.planned)
     (run_tells held events read.events read.planned.plan.exchanges read.planned.plan.epoch))
-does_tell held kinds (Serve plan events idle) =
-    then_tells held (ReadsPlanned held plan) (ServesPlanned plan kinds events idle) (planned_tells held plan)
-    (λ (p : Planned). then_tells held (Opens plan kinds p) (λ site. AndThen (Listens (place_of p.plan (idle * 1000))) (λ _. ServesEvents events p.plan.exchanges p.plan.epoch site)) (open_tells held plan kinds p)
-    (λ site. then_tells held (Listens (place_of p.plan (idle * 1000))) (λ _. ServesEvents events p.plan.exchanges p.plan.epoch site) (listen_tells held (place_of p.plan (idle * 1000))) (λ _. serve_tells held events p.plan.exchanges p.plan.epoch site)))
+does_tell held kinds (Serve plan budget idle) =
+    then_tells held (ReadsPlanned held plan) (ServesPlanned plan kinds budget idle) (planned_tells held plan)
+    (λ (p : Planned). then_tells held (Opens plan kinds p) (λ site. AndThen (Listens (place_of p.plan (idle * 1000))) (λ _. ServesBy budget p.plan.exchanges p.plan.epoch site)) (open_tells held plan kinds p)
+    (λ site. then_tells held (Listens (place_of p.plan (idle * 1000))) (λ _. ServesBy budget p.plan.exchanges p.plan.epoch site) (listen_tells held (place_of p.plan (idle * 1000))) (λ _. serve_by_tells held budget p.plan.exchanges p.plan.epoch site)))
 does_tell held kinds (Check description) =
     then_tells held (ReadsFile held longest_json description) (Checks description) (file_tells held longest_json description)
     (λ content. then_tells held (ReadsTree description content) Judges (tree_tells held description content) (judge_tells held))
@@ -349,5 +384,5 @@ failures_are_counted words before now out out_now result e = ((λ three. of_file
     of_file three (inr broke_off) = absurd (omega (arith, three, broke_off.0))
 
     of_network : result ≡ 6 → IsReported e.status (text_in e.seen) out out_now result → Rose before.outside.net.faults now.outside.net.faults
-    of_network six (inl same) = rose_some _ _ _ (tells.1 (sym same.0 ∙ six)) e.shows.outside.net.faults
+    of_network six (inl same) = rose_some _ _ _ (tells.1 (sym same.0 ∙ six)) (shows_net before now e.seen e.shows).faults
     of_network six (inr broke_off) = absurd (omega (arith, six, broke_off.0))

@@ -21,22 +21,28 @@ use Rattle.servient_core.specs.Trace.{Sighting, happening_in, happened_in, calls
 use Rattle.servient_core.specs.Machine.{Site}
 use Rattle.servient_cli.specs.declared.derivation.Planned.{Planned}
 use Rattle.servient_cli.specs.Lines.{memory_line}
-use Rattle.servient_cli.specs.Stages.{Deed, did_write, sighting_in, sightings_in, text_in, Outcome, goes_on, ends, AndThen, ends_first, goes_further}
+use Rattle.servient_cli.specs.Stages.{Deed, did_write, showing_in, showings_in, sighting_in, sightings_in, text_in, Outcome, goes_on, ends, AndThen, ends_first, goes_further}
 use Rattle.servient_cli.specs.Reading.{ReadsFile, is_read, is_absent, is_unreadable, is_long, file_memory, is_not_read, has_been_read, has_failed, ReadsTree, is_tree, has_no_tree, tree_memory, longest_json}
 use Rattle.servient_cli.specs.Checking.{Judges, is_valid, is_refused as is_judged, judge_memory, Checks}
 use Rattle.servient_cli.specs.Deriving.{ReadsPlan, is_plan, is_no_plan, plan_memory, AddsModel, is_added, is_not_added, add_memory, TakesModel, TakesModels, IsPlanned, is_planned, ReadsPlanned, Derives, is_derived, is_refused, derive_memory, Prints, is_printed, print_memory, DerivesAndPrints}
 use Rattle.servient_cli.specs.Opening.{Exposes, is_exposed, is_misfit, expose_memory, Opens}
-use Rattle.servient_cli.specs.Listening.{Listens, is_listening, cannot_listen, place_memory, listen_memory, ServesEvents, has_served, ServesPlanned}
+use Rattle.servient_cli.specs.Listening.{Listens, is_listening, cannot_listen, place_memory, listen_memory, ServesEvents, has_served, Endures, has_endured, ServesBy, ServesPlanned}
 use Rattle.servient_cli.specs.Command.{Does, Commands, is_no_command, is_command, words_memory, IsNoCommand, is_serving, IsReported}
+use Rattle.servient_cli.proofs.StageLaws.{seen_among}
+use Rattle.servient_core.specs.Sections.{Shown, seen_in, ShowsInSections}
+use Rattle.servient_core.specs.declared.sections.SectionsEnd.TheVariants as ending
+use Rattle.servient_core.proofs.SectionLaws.{nothing_shown}
+use Rattle.command_words.specs.declared.command.Budget.{Budget}
+use Rattle.command_words.specs.declared.command.Budget.TheVariants as budgets
 use Rattle.servient_laws.specs.Untouched.{TookNothing, EndsSo, MayHaveServed, FaultsTakeNoEvent, calls_nothing, HandlersStay}
 
 -- ---- deeds of which nothing is seen
 
 abbrev IsUnseen : List Deed → Type 0
-IsUnseen seen = sightings_in seen ≡ []
+IsUnseen seen = showings_in seen ≡ []
 
 unseen_then : (a b seen : List Deed) → seen ≡ a ++ b → IsUnseen a → IsUnseen b → IsUnseen seen
-unseen_then a b seen whole one other = ap sightings_in whole ∙ filter_map-append sighting_in a b ∙ ap₂ (λ (x y : List Sighting). x ++ y) one other
+unseen_then a b seen whole one other = ap showings_in whole ∙ filter_map-append showing_in a b ∙ ap₂ (λ (x y : List Shown). x ++ y) one other
 
 -- a stage of which nothing is seen
 abbrev Quiet : {A : Type 0} → (List Deed → Outcome A → Type 0) → Type 0
@@ -47,31 +53,31 @@ then_unseen P Q one other seen o (ends_first status stage is) = one seen (ends s
 then_unseen P Q one other seen o (goes_further (x, w)) = unseen_then w.first w.second seen w.whole (one w.first (goes_on x) w.one) (other x w.second o w.other)
 
 file_unseen : (held : Option (List HeldFile)) (limit : ℕ) (name : List ℕ) → Quiet (ReadsFile held limit name)
-file_unseen held limit name seen o (is_read content short holds saw goes) = ap sightings_in saw
-file_unseen held limit name seen o (is_absent holds end) = ap sightings_in end.0
-file_unseen held limit name seen o (is_unreadable end) = ap sightings_in end.0
-file_unseen held limit name seen o (is_long holds end) = ap sightings_in end.0
-file_unseen held limit name seen o (file_memory first (is_not_read none) end) = ap sightings_in end.0 ∙ ap (λ (ds : List Deed). sightings_in (ds ++ did_write memory_line ∷ [])) none
-file_unseen held limit name seen o (file_memory first (has_been_read is) end) = ap sightings_in end.0 ∙ ap (λ (ds : List Deed). sightings_in (ds ++ did_write memory_line ∷ [])) is
-file_unseen held limit name seen o (file_memory first (has_failed is) end) = ap sightings_in end.0 ∙ ap (λ (ds : List Deed). sightings_in (ds ++ did_write memory_line ∷ [])) is
+file_unseen held limit name seen o (is_read content short holds saw goes) = ap showings_in saw
+file_unseen held limit name seen o (is_absent holds end) = ap showings_in end.0
+file_unseen held limit name seen o (is_unreadable end) = ap showings_in end.0
+file_unseen held limit name seen o (is_long holds end) = ap showings_in end.0
+file_unseen held limit name seen o (file_memory first (is_not_read none) end) = ap showings_in end.0 ∙ ap (λ (ds : List Deed). showings_in (ds ++ did_write memory_line ∷ [])) none
+file_unseen held limit name seen o (file_memory first (has_been_read is) end) = ap showings_in end.0 ∙ ap (λ (ds : List Deed). showings_in (ds ++ did_write memory_line ∷ [])) is
+file_unseen held limit name seen o (file_memory first (has_failed is) end) = ap showings_in end.0 ∙ ap (λ (ds : List Deed). showings_in (ds ++ did_write memory_line ∷ [])) is
 
 tree_unseen : (name content : List ℕ) → Quiet (ReadsTree name content)
-tree_unseen name content seen o (is_tree tree read saw goes) = ap sightings_in saw
-tree_unseen name content seen o (has_no_tree what none why end) = ap sightings_in end.0
-tree_unseen name content seen o (tree_memory end) = ap sightings_in end.0
+tree_unseen name content seen o (is_tree tree read saw goes) = ap showings_in saw
+tree_unseen name content seen o (has_no_tree what none why end) = ap showings_in end.0
+tree_unseen name content seen o (tree_memory end) = ap showings_in end.0
 
 plan_unseen : (name : List ℕ) (tree : _) → Quiet (ReadsPlan name tree)
-plan_unseen name tree seen o (is_plan plan is saw goes) = ap sightings_in saw
-plan_unseen name tree seen o (is_no_plan pointer isnt end) = ap sightings_in end.0
-plan_unseen name tree seen o (plan_memory end) = ap sightings_in end.0
+plan_unseen name tree seen o (is_plan plan is saw goes) = ap showings_in saw
+plan_unseen name tree seen o (is_no_plan pointer isnt end) = ap showings_in end.0
+plan_unseen name tree seen o (plan_memory end) = ap showings_in end.0
 
 added_unseen : (models : Models) (url file : List ℕ) (tree : _) → Quiet (AddsModel models url file tree)
-added_unseen models url file tree seen o (is_added may saw goes) = ap sightings_in saw
-added_unseen models url file tree seen o (is_not_added what why end) = ap sightings_in end.0
-added_unseen models url file tree seen o (add_memory end) = ap sightings_in end.0
+added_unseen models url file tree seen o (is_added may saw goes) = ap showings_in saw
+added_unseen models url file tree seen o (is_not_added what why end) = ap showings_in end.0
+added_unseen models url file tree seen o (add_memory end) = ap showings_in end.0
 
 models_unseen : (held : Option (List HeldFile)) (left : List (List ℕ × List ℕ)) (models : Models) → Quiet (TakesModels held left models)
-models_unseen held [] models seen o is = ap sightings_in is.0
+models_unseen held [] models seen o is = ap showings_in is.0
 models_unseen held (model ∷ left) models seen o stage =
     then_unseen (TakesModel held model models) (TakesModels held left)
     (then_unseen (ReadsFile held longest_json model.1) (λ content. AndThen (ReadsTree model.1 content) (AddsModel models model.0 model.1)) (file_unseen held longest_json model.1)
@@ -87,26 +93,26 @@ planned_unseen held name =
     then_unseen (TakesModels held plan.models []) (IsPlanned plan) (models_unseen held plan.models []) (λ models seen o end. put_together plan models seen o end))))
   where
     put_together : (plan : _) (models : Models) → Quiet (IsPlanned plan models)
-    put_together plan models seen o (is_planned saw goes) = ap sightings_in saw
+    put_together plan models seen o (is_planned saw goes) = ap showings_in saw
 
 derived_unseen : (p : Planned) → Quiet (Derives p)
-derived_unseen p seen o (is_derived things is saw goes) = ap sightings_in saw
-derived_unseen p seen o (is_refused fault is end) = ap sightings_in end.0
-derived_unseen p seen o (derive_memory end) = ap sightings_in end.0
+derived_unseen p seen o (is_derived things is saw goes) = ap showings_in saw
+derived_unseen p seen o (is_refused fault is end) = ap showings_in end.0
+derived_unseen p seen o (derive_memory end) = ap showings_in end.0
 
 printed_unseen : (things : _) → Quiet (Prints things)
-printed_unseen things seen o (is_printed end) = ap sightings_in end.0
-printed_unseen things seen o (print_memory end) = ap sightings_in end.0
+printed_unseen things seen o (is_printed end) = ap showings_in end.0
+printed_unseen things seen o (print_memory end) = ap showings_in end.0
 
 exposed_unseen : (name : List ℕ) (kinds : List Kind) (slots : _) (things : _) → Quiet (Exposes name kinds slots things)
-exposed_unseen name kinds slots things seen o (is_exposed none saw goes) = ap sightings_in saw
-exposed_unseen name kinds slots things seen o (is_misfit fault isnt first end) = ap sightings_in end.0
-exposed_unseen name kinds slots things seen o (expose_memory end) = ap sightings_in end.0
+exposed_unseen name kinds slots things seen o (is_exposed none saw goes) = ap showings_in saw
+exposed_unseen name kinds slots things seen o (is_misfit fault isnt first end) = ap showings_in end.0
+exposed_unseen name kinds slots things seen o (expose_memory end) = ap showings_in end.0
 
 judged_unseen : (tree : _) → Quiet (Judges tree)
-judged_unseen tree seen o (is_valid none end) = ap sightings_in end.0
-judged_unseen tree seen o (is_judged number pointer first end) = ap sightings_in end.0
-judged_unseen tree seen o (judge_memory end) = ap sightings_in end.0
+judged_unseen tree seen o (is_valid none end) = ap showings_in end.0
+judged_unseen tree seen o (is_judged number pointer first end) = ap showings_in end.0
+judged_unseen tree seen o (judge_memory end) = ap showings_in end.0
 
 -- ---- commands that call nothing
 
@@ -117,15 +123,15 @@ quiet_command held kinds (Check description) is =
 quiet_command held kinds (Derive plan) is =
     then_unseen (ReadsPlanned held plan) DerivesAndPrints (planned_unseen held plan) (λ p. then_unseen (Derives p) Prints (derived_unseen p) printed_unseen)
 quiet_command held kinds (Replay script plan events) is = absurd cc
-quiet_command held kinds (Serve plan events idle) is = absurd cc
+quiet_command held kinds (Serve plan budget idle) is = absurd cc
 quiet_command held kinds (Storm seed events) is = absurd cc
 quiet_command held kinds (Consume consumption) is = absurd cc
 quiet_command held kinds (Discover host port) is = absurd cc
 
 quiet_words : (held : Option (List HeldFile)) (kinds : List Kind) (words : List (List ℕ)) (seen : List Deed) (o : Outcome (Unit {0})) → IsNoCommand words ⊎ (calls_nothing (meaning_of words) ≡ true)
     → Commands held kinds words seen o → IsUnseen seen
-quiet_words held kinds words seen o known (is_no_command none end) = ap sightings_in end.0
-quiet_words held kinds words seen o known (words_memory end) = ap sightings_in end.0
+quiet_words held kinds words seen o known (is_no_command none end) = ap showings_in end.0
+quiet_words held kinds words seen o known (words_memory end) = ap showings_in end.0
 quiet_words held kinds words seen o (inl none) (is_command command meaning does) = absurd (let apart : None ≡ Some command = sym none ∙ meaning in cc)
 quiet_words held kinds words seen o (inr quiet) (is_command command meaning does) =
     quiet_command held kinds command (sym (ap calls_nothing meaning) ∙ quiet) seen o does
@@ -150,13 +156,13 @@ pub handlers_stay : HandlersStay
 handlers_stay words before now out out_now result ended known =
     let unseen = quiet_words before.files.held (kinds_of before.outside.slots) words ended.seen (ends ended.status) known ended.stage in
     let shows : RackShows before.outside.slots now.outside.slots [] =
-    subst (λ (x : List Sighting). RackShows before.outside.slots now.outside.slots (calls_in x)) unseen ended.shows.outside.rack in
+    (nothing_shown before.outside now.outside (subst (λ (x : List Shown). ShowsInSections before.outside now.outside x) unseen ended.shows.outside)).rack in
     same_slots 0 before.outside.slots now.outside.slots shows.turns shows.misses
 
 -- ---- serving
 
 untaken : (seen : List Deed) → IsUnseen seen → TookNothing seen
-untaken seen unseen = ap (λ (x : List Sighting). events_in (happened_in x)) unseen
+untaken seen unseen = ap (λ (x : List Sighting). events_in (happened_in x)) (sym (seen_among seen) ∙ ap seen_in unseen)
 
 untaken_then : (a b seen : List Deed) → seen ≡ a ++ b → TookNothing a → TookNothing b → TookNothing seen
 untaken_then a b seen whole one other =
@@ -189,17 +195,26 @@ events_settle budget exchanges epoch site seen o (has_served served.Stopped ran 
 events_settle budget exchanges epoch site seen o (has_served served.Failed ran end serves out) = inr (6, out.1, inr (inl refl))
 events_settle budget exchanges epoch site seen o (has_served served.Spent ran end serves out) = inr (8, out.1, inr (inr (inl refl)))
 
-listens_then : (place : Place) (budget exchanges : ℕ) (epoch : Option ℕ) (site : Site) → Settles (AndThen (Listens place) (λ _. ServesEvents budget exchanges epoch site))
+endure_settles : (exchanges : ℕ) (epoch : Option ℕ) (site : Site) → Settles (Endures exchanges epoch site)
+endure_settles exchanges epoch site seen o (has_endured ending.Stopped shown end serves out) = inr (0, out.1, inl refl)
+endure_settles exchanges epoch site seen o (has_endured ending.Failed shown end serves out) = inr (6, out.1, inr (inl refl))
+endure_settles exchanges epoch site seen o (has_endured ending.Spent shown end serves out) = inr (8, out.1, inr (inr (inl refl)))
+
+budgets_settle : (budget : Budget) (exchanges : ℕ) (epoch : Option ℕ) (site : Site) → Settles (ServesBy budget exchanges epoch site)
+budgets_settle (budgets.Events n) exchanges epoch site = events_settle n exchanges epoch site
+budgets_settle budgets.Endless exchanges epoch site = endure_settles exchanges epoch site
+
+listens_then : (place : Place) (budget : Budget) (exchanges : ℕ) (epoch : Option ℕ) (site : Site) → Settles (AndThen (Listens place) (λ _. ServesBy budget exchanges epoch site))
 listens_then place budget exchanges epoch site seen o (ends_first status stage is) = inl (listens_untaken place seen (ends status) stage)
-listens_then place budget exchanges epoch site seen o (goes_further (x, w)) = elim (events_settle budget exchanges epoch site w.second o w.other) [
+listens_then place budget exchanges epoch site seen o (goes_further (x, w)) = elim (budgets_settle budget exchanges epoch site w.second o w.other) [
   | inl none ↦ inl (untaken_then w.first w.second seen w.whole (listens_untaken place w.first (goes_on x) w.one) none)
   | inr served ↦ inr served
 ]
 
-serve_settles : (held : Option (List HeldFile)) (kinds : List Kind) (plan : List ℕ) (budget idle : ℕ) → Settles (Does held kinds (Serve plan budget idle))
+serve_settles : (held : Option (List HeldFile)) (kinds : List Kind) (plan : List ℕ) (budget : Budget) (idle : ℕ) → Settles (Does held kinds (Serve plan budget idle))
 serve_settles held kinds plan budget idle =
     after_unseen (ReadsPlanned held plan) (ServesPlanned plan kinds budget idle) (planned_unseen held plan)
-    (λ p. after_unseen (Opens plan kinds p) (λ site. AndThen (Listens (place_of p.plan (idle * 1000))) (λ _. ServesEvents budget p.plan.exchanges p.plan.epoch site))
+    (λ p. after_unseen (Opens plan kinds p) (λ site. AndThen (Listens (place_of p.plan (idle * 1000))) (λ _. ServesBy budget p.plan.exchanges p.plan.epoch site))
     (then_unseen (Derives p) (Exposes plan kinds p.plan.slots) (derived_unseen p) (exposed_unseen plan kinds p.plan.slots))
     (λ site. listens_then (place_of p.plan (idle * 1000)) budget p.plan.exchanges p.plan.epoch site))
 
@@ -224,8 +239,8 @@ serving_settles held kinds (Discover host port) seen status is does = absurd cc
 
 words_settle : (held : Option (List HeldFile)) (kinds : List Kind) (words : List (List ℕ)) (seen : List Deed) (status : ℕ) → is_serving (meaning_of words) ≡ true → Commands held kinds words seen (ends status)
     → TookNothing seen ⊎ MayHaveServed status
-words_settle held kinds words seen status is (is_no_command none end) = inl (untaken seen (ap sightings_in end.0))
-words_settle held kinds words seen status is (words_memory end) = inl (untaken seen (ap sightings_in end.0))
+words_settle held kinds words seen status is (is_no_command none end) = inl (untaken seen (ap showings_in end.0))
+words_settle held kinds words seen status is (words_memory end) = inl (untaken seen (ap showings_in end.0))
 words_settle held kinds words seen status is (is_command command meaning does) = serving_settles held kinds command seen status (sym (ap is_serving meaning) ∙ is) does
 
 pub faults_take_no_event : FaultsTakeNoEvent

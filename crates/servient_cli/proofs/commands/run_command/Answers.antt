@@ -79,7 +79,7 @@ returns-in-Serve-clause-ends g c =
     let b = around (g.F.Files.seen c.serve_plan.new.files)
     (outside (g.N.Net.seen c.serve_plan.new.net) (g.R.Handlers.slots c.serve_plan.new.rack)) in
     subst (λ (command : Command). EndsBy (Does held kinds command) a b c.serve_plan.result) (sym c.in-Serve.is)
-    (subst (λ (name : List ℕ). EndsBy (Does held kinds (Serve name c.in-Serve.events c.in-Serve.idle)) a b c.serve_plan.result) c.as_str-in-Serve.ensures c.serve_plan.ensures)
+    (subst (λ (name : List ℕ). EndsBy (Does held kinds (Serve name c.in-Serve.budget c.in-Serve.idle)) a b c.serve_plan.result) c.as_str-in-Serve.ensures c.serve_plan.ensures)
 
 pub returns-in-Storm-clause-ends : goal.returns-in-Storm-clause-ends
 returns-in-Storm-clause-ends g c =

@@ -16,7 +16,7 @@ returns-in_err-planned g c =
     let q = c.args.request in
     let kinds = kinds_of w.slots in
     let error = err_from_is_err_and c.from_residual.result c.from_residual.ensures.1 in
-    rw (error.1, error.2) (error_ends (ReadsPlanned held q.plan.now) (ServesPlanned q.plan.now kinds q.events q.idle) a b c.in_err-planned.field-0.0 (c.in_err-planned.ensures.stage w))
+    rw (error.1, error.2) (error_ends (ReadsPlanned held q.plan.now) (ServesPlanned q.plan.now kinds q.budget q.idle) a b c.in_err-planned.field-0.0 (c.in_err-planned.ensures.stage w))
 
 pub returns : goal.returns
 returns g c =
@@ -29,5 +29,5 @@ returns g c =
     let f = around now (outside (g.N.Net.seen c.serve_planned.new.net) (g.R.Handlers.slots c.serve_planned.new.rack)) in
     let q = c.args.request in
     let kinds = kinds_of slots in
-    then_ends (ReadsPlanned held q.plan.now) (ServesPlanned q.plan.now kinds q.events q.idle) a b f c.in_ok-planned.planned c.serve_planned.result (c.in_ok-planned.ensures.stage w)
+    then_ends (ReadsPlanned held q.plan.now) (ServesPlanned q.plan.now kinds q.budget q.idle) a b f c.in_ok-planned.planned c.serve_planned.result (c.in_ok-planned.ensures.stage w)
     (c.serve_planned.ensures now)

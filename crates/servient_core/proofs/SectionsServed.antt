@@ -1,5 +1,5 @@
--- What holds in each round of serving without an end, and how it ends.
-use Rattle.std.proofs.Common.{◌≡◌, ◌≢◌, ℕ, ◌+◌, ◌-◌, ◌^◌, ◌≤◌, ◌<◌, ◌⊎◌, List, [], ◌∷◌, ◌++◌, length, map, refl, sym, ap, subst, ◌∙◌, arith, inl, inr, length-append}
+-- The invariant of serving in sections, and how it ends.
+use Rattle.std.proofs.Common.{◌≡◌, ◌≢◌, ℕ, ◌+◌, ◌≤◌, ◌<◌, ◌⊎◌, List, [], ◌∷◌, ◌++◌, length, map, refl, sym, ap, subst, ◌∙◌, arith, inl, inr, length-append}
 use Rattle.std.proofs.lemmas.List.{append-nil}
 use Rattle.std.proofs.lemmas.List.Elements.{filter_map-append}
 use Rattle.servient_base.specs.Moves.{Becomes, Stays, Then, Makes, Refines}
@@ -16,10 +16,10 @@ use Rattle.servient_core.specs.Machine.{Site, State, Step, EventAndStep, Run}
 use Rattle.servient_core.specs.Keeping.{Comes}
 use Rattle.servient_core.specs.declared.layers.Layers.{Layers}
 use Rattle.servient_core.specs.Serving.{StandsFor, HasNoStop}
-use Rattle.servient_core.specs.Endless.{Shown, saw, forgot, seen_of, seen_in, shown_of, after_forgetting, ShowsInSections, section, IsInTime, ForgetsIfDue, isnt_due, is_due, AreTakenEndlessly, EndsEndlessly, ServesEndlessly}
-use Rattle.servient_core.specs.declared.endless.EndlessEnd.{EndlessEnd}
-use Rattle.servient_core.specs.declared.endless.EndlessEnd.TheVariants as ending
-use Rattle.servient_core.specs.declared.endless.TheConstants.{MOST_KEPT}
+use Rattle.servient_core.specs.Sections.{Shown, saw, forgot, seen_of, seen_in, shown_of, after_forgetting, ShowsInSections, section, IsInTime, ForgetsIfDue, isnt_due, is_due, AreTakenInSections, EndsSections, ServesInSections}
+use Rattle.servient_core.specs.declared.sections.SectionsEnd.{SectionsEnd}
+use Rattle.servient_core.specs.declared.sections.SectionsEnd.TheVariants as ending
+use Rattle.servient_core.specs.declared.sections.TheConstants.{MOST_KEPT}
 use Rattle.servient_core.proofs.MachineLaws.{step_keeps, run_keeps}
 use Rattle.servient_core.proofs.ServingLaws.{no_stop_more}
 use Rattle.servient_core.proofs.SectionLaws.{seen_of_shown, sections_in_order, forgotten_section, fits_forgotten, kept_after, turns_after, kept_then, in_time_then, turns_of_shown, kept_of_seen, quiet_in_time}
@@ -150,8 +150,8 @@ endures_more c d f w n m slots u count due e p early left comes step same fits g
 -- ---- ends
 
 -- nothing more happens after some rounds
-quiet_end : (site : Site) (result : EndlessEnd) (took : List EventWithBytes) (due : ℕ) (c d : Layers) (w v : Outside) → ((s : State) → EndsEndlessly result s ≡ Stays s) → ((t : State) → StandsFor d t → AreTakenEndlessly t.thing.turns took result) → Refines StandsFor ShowsInSections (Rounds site took due) c d w v → Refines StandsFor ShowsInSections (ServesEndlessly site result) c d w v
-quiet_end site result took due c d w v quiet taken rounds = λ s stands.
+quiet_end : (site : Site) (budget : ℕ) (result : SectionsEnd) (took : List EventWithBytes) (due : ℕ) (c d : Layers) (w v : Outside) → ((s : State) → EndsSections result s ≡ Stays s) → ((t : State) → StandsFor d t → AreTakenInSections budget t.thing.turns took result) → Refines StandsFor ShowsInSections (Rounds site took due) c d w v → Refines StandsFor ShowsInSections (ServesInSections site budget result) c d w v
+quiet_end site budget result took due c d w v quiet taken rounds = λ s stands.
     let before = rounds s stands in
     let t = before.0 in
     let made = before.2 in (
@@ -177,24 +177,25 @@ quiet_end site result took due c d w v quiet taken rounds = λ s stands.
     )
 
 -- a stop was taken
-pub endless_stopped : (c d f : Layers) (w : Outside) (n m : NetSeen) (slots : List Seen) (u : Outside) (count due : ℕ) (e : EventWithBytes) → Endures c d w (outside n slots) count due → d.exposed.state.turns < due → d.exposed.state.turns < most_turns → NetShows n m (heard e ∷ []) → Refines StandsFor Shows (Step d.exposed.site e) d f (outside m slots) u → e.event.what ≡ what.Stop → Refines StandsFor ShowsInSections (ServesEndlessly c.exposed.site ending.Stopped) c f w u
-endless_stopped c d f w n m slots u count due e p early left comes step stops =
-    quiet_end c.exposed.site ending.Stopped (p.took ++ e ∷ []) due c f w u (λ s. refl) (λ t stands. (p.took, e, refl, stops, p.going))
+pub sections_stopped : (c d f : Layers) (w : Outside) (n m : NetSeen) (slots : List Seen) (u : Outside) (budget count due : ℕ) (e : EventWithBytes) → Endures c d w (outside n slots) count due → count < budget → d.exposed.state.turns < due → d.exposed.state.turns < most_turns → NetShows n m (heard e ∷ []) → Refines StandsFor Shows (Step d.exposed.site e) d f (outside m slots) u → e.event.what ≡ what.Stop → Refines StandsFor ShowsInSections (ServesInSections c.exposed.site budget ending.Stopped) c f w u
+sections_stopped c d f w n m slots u budget count due e p below early left comes step stops =
+    quiet_end c.exposed.site budget ending.Stopped (p.took ++ e ∷ []) due c f w u (λ s. refl)
+    (λ t stands. (p.took, e, refl, stops, p.going, omega (arith, length-append p.took (e ∷ []), p.count_is, below)))
     (rounds_more c d f w n m slots u count due e p early left comes step)
 
 -- no number is left for a further turn
-pub endless_spent : (c d : Layers) (w v : Outside) (count due : ℕ) → Endures c d w v count due → d.exposed.state.turns ≡ most_turns → Refines StandsFor ShowsInSections (ServesEndlessly c.exposed.site ending.Spent) c d w v
-endless_spent c d w v count due p all =
-    quiet_end c.exposed.site ending.Spent p.took due c d w v (λ s. refl) (λ t stands. (p.going, inl (ap (λ x. x.turns) stands.thing ∙ all))) p.rounds
+pub sections_numbered : (c d : Layers) (w v : Outside) (budget count due : ℕ) → Endures c d w v count due → d.exposed.state.turns ≡ most_turns → Refines StandsFor ShowsInSections (ServesInSections c.exposed.site budget ending.Spent) c d w v
+sections_numbered c d w v budget count due p all =
+    quiet_end c.exposed.site budget ending.Spent p.took due c d w v (λ s. refl) (λ t stands. (p.going, inl (ap (λ x. x.turns) stands.thing ∙ all))) p.rounds
 
--- none is left for a further event
-pub endless_counted : (c d : Layers) (w v : Outside) (count due : ℕ) → Endures c d w v count due → count ≡ 2 ^ 64 - 1 → Refines StandsFor ShowsInSections (ServesEndlessly c.exposed.site ending.Spent) c d w v
-endless_counted c d w v count due p all =
-    quiet_end c.exposed.site ending.Spent p.took due c d w v (λ s. refl) (λ t stands. (p.going, inr (p.count_is ∙ all))) p.rounds
+-- the budget is spent
+pub sections_spent : (c d : Layers) (w v : Outside) (budget count due : ℕ) → Endures c d w v count due → count ≡ budget → Refines StandsFor ShowsInSections (ServesInSections c.exposed.site budget ending.Spent) c d w v
+sections_spent c d w v budget count due p all =
+    quiet_end c.exposed.site budget ending.Spent p.took due c d w v (λ s. refl) (λ t stands. (p.going, inr (p.count_is ∙ all))) p.rounds
 
 -- the network failed
-pub endless_failed : (c d : Layers) (w : Outside) (n m : NetSeen) (slots : List Seen) (count due : ℕ) → Endures c d w (outside n slots) count due → NetShows n m (broke next_event ∷ []) → Refines StandsFor ShowsInSections (ServesEndlessly c.exposed.site ending.Failed) c d w (outside m slots)
-endless_failed c d w n m slots count due p breaks = λ s stands.
+pub sections_failed : (c d : Layers) (w : Outside) (n m : NetSeen) (slots : List Seen) (budget count due : ℕ) → Endures c d w (outside n slots) count due → count < budget → NetShows n m (broke next_event ∷ []) → Refines StandsFor ShowsInSections (ServesInSections c.exposed.site budget ending.Failed) c d w (outside m slots)
+sections_failed c d w n m slots budget count due p below breaks = λ s stands.
     let before = p.rounds s stands in
     let t = before.0 in
     let made = before.2 in
@@ -213,7 +214,7 @@ endless_failed c d w n m slots count due p breaks = λ s stands.
             other = record { next = refl; saw = refl };
             whole = filter_map-append seen_of made.seen last;
           };
-          taken = p.going;
+          taken = (p.going, omega (arith, p.count_is, below));
           in_time = in_time_then made.seen last 0 s.thing.turns made.move.in_time tt;
         };
         shows = sections_in_order.more w (outside n slots) (outside m slots) made.seen last made.shows

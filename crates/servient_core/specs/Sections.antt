@@ -1,7 +1,7 @@
--- Serving without an end: one run of the machine over all its events, in which the handlers forget their turns now and
--- then, because memory ends and such a run doesn't. The machine knows nothing of that. What the outside shows of the one
--- run is shown in sections, each of them between two forgettings.
-use Rattle.std.specs.Prelude.{◌≡◌, ◌≤◌, ◌<◌, ◌+◌, ◌-◌, ◌^◌, ◌⊎◌, ℕ, List, [], ◌∷◌, ◌++◌, length, map, Option, Some, None}
+-- Serving in sections: one run of the machine over all its events, in which the handlers forget their turns now and then,
+-- because memory ends and a run need not. The machine knows nothing of that. The outside shows the one run in sections,
+-- each of them between two forgettings.
+use Rattle.std.specs.Prelude.{◌≡◌, ◌≤◌, ◌<◌, ◌+◌, ◌⊎◌, ℕ, List, [], ◌∷◌, ◌++◌, length, map, Option, Some, None}
 use Rattle.std.specs.List.{filter_map}
 use Rattle.servient_base.specs.Moves.{Becomes, Stays, Then}
 use Rattle.thing_handler.specs.Handler.{Seen, forgotten}
@@ -13,9 +13,9 @@ use Rattle.servient_outside.specs.Network.{heard, did, broke, next_event}
 use Rattle.servient_core.specs.Trace.{Sighting, at_network, at_handler, Outside, outside, Shows}
 use Rattle.servient_core.specs.Machine.{Site, State, Run}
 use Rattle.servient_core.specs.Serving.{HasNoStop}
-use Rattle.servient_core.specs.declared.endless.EndlessEnd.{EndlessEnd}
-use Rattle.servient_core.specs.declared.endless.EndlessEnd.TheVariants as ending
-use Rattle.servient_core.specs.declared.endless.TheConstants.{MOST_KEPT}
+use Rattle.servient_core.specs.declared.sections.SectionsEnd.{SectionsEnd}
+use Rattle.servient_core.specs.declared.sections.SectionsEnd.TheVariants as ending
+use Rattle.servient_core.specs.declared.sections.TheConstants.{MOST_KEPT}
 
 -- ---- what is shown in sections
 
@@ -73,22 +73,24 @@ pub data ForgetsIfDue (turns due later : ℕ) (before after : List Seen) : Type 
 -- ---- the run
 
 -- The events that were taken, and how many turns there were at the end: a Stop is the last of them and no other where
--- serving stopped; and it is spent where there are as many turns as have numbers, or as many events as can be counted.
-abbrev pub AreTakenEndlessly : ℕ → List EventWithBytes → EndlessEnd → Type 0
-AreTakenEndlessly turns took ending.Stopped =
-    (prefix : List EventWithBytes) × (last : EventWithBytes) × (took ≡ prefix ++ last ∷ []) × (last.event.what ≡ what.Stop) × HasNoStop prefix
-AreTakenEndlessly turns took ending.Failed = HasNoStop took
-AreTakenEndlessly turns took ending.Spent = HasNoStop took × ((turns ≡ most_turns) ⊎ (length took ≡ 2 ^ 64 - 1))
+-- serving stopped; it failed below the budget; and it is spent where there are as many turns as have numbers, or as many
+-- events as the budget has.
+abbrev pub AreTakenInSections : ℕ → ℕ → List EventWithBytes → SectionsEnd → Type 0
+AreTakenInSections budget turns took ending.Stopped =
+    (prefix : List EventWithBytes) × (last : EventWithBytes)
+    × (took ≡ prefix ++ last ∷ []) × (last.event.what ≡ what.Stop) × HasNoStop prefix × (length took ≤ budget)
+AreTakenInSections budget turns took ending.Failed = HasNoStop took × (length took < budget)
+AreTakenInSections budget turns took ending.Spent = HasNoStop took × ((turns ≡ most_turns) ⊎ (length took ≡ budget))
 
 -- the network breaks where serving failed, and where it ended otherwise nothing more happens
-abbrev pub EndsEndlessly : EndlessEnd → State → List Sighting → State → Type 0
-EndsEndlessly ending.Stopped s = Stays s
-EndsEndlessly ending.Failed s = Becomes s (at_network (broke next_event) ∷ [])
-EndsEndlessly ending.Spent s = Stays s
+abbrev pub EndsSections : SectionsEnd → State → List Sighting → State → Type 0
+EndsSections ending.Stopped s = Stays s
+EndsSections ending.Failed s = Becomes s (at_network (broke next_event) ∷ [])
+EndsSections ending.Spent s = Stays s
 
--- Serving without an end: one run of the machine over all events, and then its end.
-pub record ServesEndlessly (site : Site) (result : EndlessEnd) (s : State) (shown : List Shown) (t : State) : Type 0 where
+-- Serving at most budget events in sections: one run of the machine over all of them, and then its end.
+pub record ServesInSections (site : Site) (budget : ℕ) (result : SectionsEnd) (s : State) (shown : List Shown) (t : State) : Type 0 where
   pub took : List EventWithBytes
-  pub run : Then (Run site took) (EndsEndlessly result) s (seen_in shown) t
-  pub taken : AreTakenEndlessly t.thing.turns took result
+  pub run : Then (Run site took) (EndsSections result) s (seen_in shown) t
+  pub taken : AreTakenInSections budget t.thing.turns took result
   pub in_time : IsInTime 0 s.thing.turns shown

@@ -1,5 +1,5 @@
-//! Serving without an end: the events of a network are taken one by one, up to a Stop or a failure, and the handlers forget
-//! their turns now and then.
+//! Serving in sections: the events of a network are taken one by one, up to a Stop, a failure or the budget, and the
+//! handlers forget their turns now and then. So a run need not end because its turns fill the memory.
 
 ghost use Rattle.std.specs.Prelude.{◌≡◌, ◌≤◌};
 ghost use Rattle.servient_base.specs.Moves.{Refines};
@@ -7,7 +7,7 @@ ghost use Rattle.thing_site.specs.Fits.{Fits};
 ghost use Rattle.servient_core.specs.Trace.{outside};
 ghost use Rattle.servient_core.specs.Serving.{StandsFor};
 ghost use Rattle.thing_core.specs.Thing.{most_turns};
-ghost use Rattle.servient_core.specs.Endless.{ForgetsIfDue, ServesEndlessly, ShowsInSections};
+ghost use Rattle.servient_core.specs.Sections.{ForgetsIfDue, ServesInSections, ShowsInSections};
 
 use crate::serving::BUFFER_BYTES;
 use crate::{Net, Next, Servient, What};
@@ -17,49 +17,50 @@ use thing_handler::Handlers;
 /// The number of turns at which the handlers forget theirs.
 pub const MOST_KEPT: u64 = 4096;
 
-/// How serving without an end ended.
+/// How serving in sections ended.
 #[derive(Clone, Copy, Debug, PartialEq, Eq)]
-pub enum EndlessEnd {
+pub enum SectionsEnd {
     /// A Stop came; it was the last event that was taken.
     Stopped,
     /// The network failed.
     Failed,
-    /// No number is left for a further turn, or for a further event.
+    /// No number is left for a further turn, or the budget of events was taken and none of them was a Stop.
     Spent,
 }
 
-/// Takes the events of the network one after another, until a Stop or a failure comes or no turn has a number left.
-/// Where it is out of memory, that shows as in `Servient::step`.
-pub fn serve_endlessly<N: Net, R: Handlers>(
+/// Takes the events of the network one after another, until a Stop or a failure comes or no turn has a number left, and at
+/// most `budget` of them. Where it is out of memory, that shows as in `Servient::step`.
+pub fn serve_in_sections<N: Net, R: Handlers>(
     servient: &mut Servient,
     net: &mut N,
     rack: &mut R,
-) -> EndlessEnd
+    budget: u64,
+) -> SectionsEnd
     requires { Fits servient.old.exposed.site (R.slots rack.old) }
-    ensures serves { Refines StandsFor ShowsInSections (ServesEndlessly servient.old.exposed.site result) servient.old servient.new
+    ensures serves { Refines StandsFor ShowsInSections (ServesInSections servient.old.exposed.site budget result) servient.old servient.new
         (outside (N.seen net.old) (R.slots rack.old)) (outside (N.seen net.new) (R.slots rack.new)) }
     ensures site { servient.new.exposed.site ≡ servient.old.exposed.site }
 {
     let mut buffer = [0u8; BUFFER_BYTES];
     let mut due = servient.turns() + MOST_KEPT;
-    for _count in 0..u64::MAX {
+    for count in 0..budget {
         let turns = servient.turns();
         if turns == MOST_TURNS {
-            return EndlessEnd::Spent;
+            return SectionsEnd::Spent;
         }
         due = forget_if_due(rack, turns, due);
         match net.next(&mut buffer) {
-            Next::Failed => return EndlessEnd::Failed,
+            Next::Failed => return SectionsEnd::Failed,
             Next::Got(event) => {
                 let size = event.what.byte_count();
                 servient.step(net, rack, &event, &buffer[..size]);
                 if let What::Stop = event.what {
-                    return EndlessEnd::Stopped;
+                    return SectionsEnd::Stopped;
                 }
             }
         }
     }
-    EndlessEnd::Spent
+    SectionsEnd::Spent
 }
 
 /// Has the handlers forget their turns, once the run has `due` of them. Returns at how many they are to forget again. It is

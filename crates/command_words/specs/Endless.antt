@@ -1,0 +1,33 @@
+-- `--endless` among the words of `serve`: the one option that takes no value.
+use Rattle.std.specs.Prelude.{◌+◌, ◌++◌, ℕ, Bool, true, false, List, [], ◌∷◌, Option, Some, None, option_map, option_and_then, if◌then◌else◌, codes}
+use Rattle.std.specs.Str.{bytes_eq}
+use Rattle.command_words.specs.Words.{WordKind, option, word_kind, Arguments, arguments_after, Form, Values, values_of}
+
+-- The place of the first `--endless`, where the options haven't ended before it.
+abbrev pub endless_place : List (List ℕ) → Option ℕ
+endless_place [] = None
+endless_place (word ∷ words) =
+    if bytes_eq word (codes "--endless") then Some 0
+    else if bytes_eq word (codes "--") then None
+    else option_map (λ place. place + 1) (endless_place words)
+
+-- The arguments of the words before that place and of those after it: each part is arguments by itself, so that no option
+-- before it has its value behind it.
+abbrev pub arguments_around : List (List ℕ) → List (List ℕ) → Option Arguments
+arguments_around before behind =
+    option_and_then (λ first. option_map (λ second. first ++ second) (arguments_after behind None)) (arguments_after before None)
+
+-- the values that they give, where they are arguments of this form
+abbrev pub values_around : Form → List (List ℕ) → List (List ℕ) → Option Values
+values_around form before behind =
+    option_and_then (λ arguments. values_of arguments form.places form.options) (arguments_around before behind)
+
+-- a word that is an option without a value, which the next word gives it
+abbrev pub awaits_value : WordKind → Bool
+awaits_value (option name None) = true
+awaits_value _ = false
+
+-- whether an option awaits its value after these words, where one did or didn't before them
+abbrev pub is_open : Bool → List (List ℕ) → Bool
+is_open before [] = before
+is_open before (word ∷ words) = is_open (awaits_value (word_kind word)) words

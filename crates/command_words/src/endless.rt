@@ -1,0 +1,76 @@
+//! `--endless` among the words of `serve`. It takes no value, which `clap` is never asked about: the word is found and taken
+//! out here, and `clap` reads the others.
+
+ghost use Rattle.std.specs.Prelude.{◌≡◌, ◌++◌, ◌+◌, ◌<◌, false, length, take, drop, Some, None, IfOk, MatchResult};
+ghost use Rattle.command_words.specs.Words.{arguments_after, word_kind};
+ghost use Rattle.command_words.specs.declared.fault.WordsFault.TheVariants.{Usage};
+ghost use Rattle.command_words.specs.Endless.{arguments_around, awaits_value as awaits, endless_place, is_open};
+ghost use Rattle.command_words.specs.Line.{AreTexts};
+ghost use Rattle.command_words.specs.Parts.{texts};
+
+use crate::fault::WordsFault;
+use servient_base::NoMemory;
+use std::alloc::Global;
+
+/// The place of the first `--endless`, where the options haven't ended before it.
+pub fn place_of_endless(words: &[&str]) -> Option<usize>
+    ensures { result ≡ endless_place (texts words.now) }
+{
+    for (index, word) in words.iter().enumerate() {
+        if *word == "--endless" {
+            return Some(index);
+        }
+        if *word == "--" {
+            return None;
+        }
+    }
+    None
+}
+
+/// The other words than that at the place of `--endless`. They are refused where the option before it would have its value
+/// behind it.
+pub fn words_around<'a>(
+    alloc: Global,
+    words: &[&'a str],
+    place: usize,
+) -> Result<Vec<&'a str>, WordsFault>
+    requires text { AreTexts (texts words.now) }
+    requires place { endless_place (texts words.now) ≡ Some place }
+    ensures text { IfOk result (λ rest. AreTexts (texts rest.items)) }
+    ensures arguments { MatchResult result
+        (λ rest. arguments_after (texts rest.items) None ≡ arguments_around (take place (texts words.now)) (drop (place + 1) (texts words.now)))
+        (λ fault. fault ≡ Usage → arguments_around (take place (texts words.now)) (drop (place + 1) (texts words.now)) ≡ None) }
+{
+    if is_open_at(words, place) {
+        return Err(WordsFault::Usage);
+    }
+    Ok(words_but(alloc, words, place)?)
+}
+
+/// The word before this place is an option that awaits its value.
+fn is_open_at(words: &[&str], place: usize) -> bool
+    requires { place < length words.now }
+    ensures { result ≡ is_open false (take place (texts words.now)) }
+{
+    place > 0 && awaits_value(words[place - 1])
+}
+
+/// All words but that at this place.
+fn words_but<'a>(alloc: Global, words: &[&'a str], place: usize) -> Result<Vec<&'a str>, NoMemory>
+    requires { place < length words.now }
+    ensures { IfOk result (λ rest. texts rest.items ≡ take place (texts words.now) ++ drop (place + 1) (texts words.now)) }
+{
+    let mut rest = Vec::new(alloc);
+    rest.extend_from_slice(&words[..place])?;
+    rest.extend_from_slice(&words[place + 1..])?;
+    Ok(rest)
+}
+
+/// The word is an option without a value, which the next word gives it.
+#[tactic(auto, using(crate::proofs::EndlessLaws::awaits_as))]
+fn awaits_value(word: &str) -> bool
+    ensures { result ≡ awaits (word_kind word.now) }
+{
+    let bytes = word.as_bytes();
+    bytes.len() > 2 && bytes.starts_with(b"--") && !bytes.contains(&b'=')
+}

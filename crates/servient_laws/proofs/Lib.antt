@@ -32,3 +32,4 @@ mod SpokenByHttp
 mod InMemoryLaws
 mod StopLaws
 mod FailureLaws
+mod SectionRuns

@@ -9,3 +9,4 @@ pub mod InMemory
 pub mod Transfers
 pub mod Stops
 pub mod Failures
+pub mod Sections

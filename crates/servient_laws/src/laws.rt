@@ -11,6 +11,7 @@ ghost use Rattle.servient_laws.specs.Transfers.{JoinedBodiesActOnce, LaterBlocks
 ghost use Rattle.servient_laws.specs.Stops.{StopsAreCounted};
 ghost use Rattle.servient_laws.specs.Untouched.{FaultsTakeNoEvent, HandlersStay};
 ghost use Rattle.servient_laws.specs.Requests.{RepeatsActOnce, FullTablesActOnNothing};
+ghost use Rattle.servient_laws.specs.Sections.{SectionsKeepPromises};
 
 /// A duplicate of a request that was admitted and lives calls no handler, changes nothing, and is answered with the very
 /// datagram that was sent for the first, if with any (RFC 7252, section 4.5).
@@ -27,6 +28,12 @@ pub fn full_tables_act_on_nothing()
 /// handed in is accepted by its schema and has at most 1,024 bytes.
 pub fn calls_are_fit()
     ensures { CallsAreFit }
+{}
+
+/// A run in which the handlers forget their turns now and then keeps these three: it is one run of the machine over all its
+/// events, whatever was forgotten between them.
+pub fn sections_keep_promises()
+    ensures { SectionsKeepPromises }
 {}
 
 /// A request that was out of memory made no call and left the Things as they were, or the last thing seen of it is that the

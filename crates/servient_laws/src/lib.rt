@@ -8,6 +8,7 @@
 //!   one act gave, `later_blocks_are_of_one_act`, and the blocks of a body lead to one act, `joined_bodies_act_once`.
 //! - A full table of exchanges acts on nothing: `full_tables_act_on_nothing`.
 //! - What its schema refuses reaches no device: `calls_are_fit`, said of the calls alone.
+//! - A run that forgets keeps these three, `sections_keep_promises`.
 //! - A request that was out of memory made no call, or ended at a handler that was: `memory_is_seen`.
 //! - Polls that were left out and operations that stopped at a handler are counted as its misses: `stops_are_counted`.
 //! - An operation has one meaning by either binding: beside `one_meaning` of `servient_core`, it is replied to with one
@@ -27,5 +28,5 @@ pub use laws::{
     calls_are_fit, failures_are_counted, faults_take_no_event, full_tables_act_on_nothing,
     handlers_stay, joined_bodies_act_once, later_blocks_are_of_one_act, memory_is_seen,
     nothing_fails_in_memory, payloads_are_of_outcomes, repeats_act_once, requests_act_once,
-    requests_are_spoken, runs_are_determined, stops_are_counted,
+    requests_are_spoken, runs_are_determined, sections_keep_promises, stops_are_counted,
 };

@@ -1,7 +1,7 @@
 //! Command lines, and what they mean. The words of a line are cut at each single space, so two spaces hold an empty
 //! word; a line that is `no words` has none.
 
-use command_words::{Command, Consumption, WordsFault};
+use command_words::{Budget, Command, Consumption, WordsFault};
 use std::alloc::{AllocError, Global};
 use std::fmt::Write;
 use wot_json::Text;
@@ -45,6 +45,14 @@ fn put_consumption(said: &mut String, consumption: &Consumption) -> Result<(), A
     write!(said, " {}", consumption.count)
 }
 
+/// Writes how many events a run of `serve` takes, with a blank before it.
+fn put_budget(said: &mut String, budget: Budget) -> Result<(), AllocError> {
+    match budget {
+        Budget::Events(events) => write!(said, " {events}"),
+        Budget::Endless => said.push_str(" endless"),
+    }
+}
+
 /// Writes the parts of a command, in one order.
 fn put_command(said: &mut String, command: &Command) -> Result<(), AllocError> {
     match command {
@@ -58,10 +66,11 @@ fn put_command(said: &mut String, command: &Command) -> Result<(), AllocError> {
             put_optional(said, plan)?;
             write!(said, " {events}")
         }
-        Command::Serve { plan, events, idle } => {
+        Command::Serve { plan, budget, idle } => {
             said.push_str("serve")?;
             put_text(said, plan)?;
-            write!(said, " {events} {idle}")
+            put_budget(said, *budget)?;
+            write!(said, " {idle}")
         }
         Command::Derive { plan } => {
             said.push_str("derive")?;

@@ -10,6 +10,7 @@ use Rattle.servient_plan.specs.Plan.{place_of}
 use Rattle.servient_core.specs.Trace.{Sighting, at_network, at_handler}
 use Rattle.servient_core.specs.Machine.{Site, State, start}
 use Rattle.servient_core.specs.Serving.{Serves}
+use Rattle.servient_core.specs.declared.sections.RunBounds.{RunBounds}
 use Rattle.servient_core.specs.declared.sections.SectionsEnd.TheVariants as ending
 use Rattle.servient_core.specs.Sections.{Shown, saw, forgot, seen_in, ServesInSections}
 use Rattle.command_words.specs.declared.command.Budget.{Budget}
@@ -64,8 +65,8 @@ trouble_shown (saw (at_network (heard e)) ∷ shown) trouble = trouble_shown sho
 trouble_shown (saw (at_network (did act)) ∷ shown) trouble = trouble_shown shown trouble
 trouble_shown (saw (at_network (broke call)) ∷ shown) trouble = tt
 
-failing_in_sections : (budget : ℕ) (site : Site) (s t : State) (shown : List Shown) → ServesInSections site budget ending.Failed s shown t → HasTrouble (shows_all shown)
-failing_in_sections budget site s t shown serves =
+failing_in_sections : (bounds : RunBounds) (site : Site) (s t : State) (shown : List Shown) → ServesInSections site bounds ending.Failed s shown t → HasTrouble (shows_all shown)
+failing_in_sections bounds site s t shown serves =
     let run = serves.run in
     let last = at_network (broke next_event) ∷ [] in
     trouble_shown shown (subst HasTrouble (sym (ap sees (run.whole ∙ ap (λ (more : List Sighting). run.first ++ more) run.other.saw) ∙ sees-append run.first last))

@@ -10,6 +10,8 @@ use Rattle.servient_core.specs.declared.serving.Served.{Served}
 use Rattle.servient_core.specs.declared.serving.Served.TheVariants as served
 use Rattle.servient_core.specs.declared.sections.SectionsEnd.{SectionsEnd}
 use Rattle.servient_core.specs.declared.sections.SectionsEnd.TheVariants as ending
+use Rattle.thing_core.specs.Thing.{most_turns}
+use Rattle.servient_core.specs.declared.sections.RunBounds.{RunBounds}
 use Rattle.servient_core.specs.Sections.{Shown, ServesInSections}
 use Rattle.command_words.specs.declared.command.Budget.{Budget}
 use Rattle.command_words.specs.declared.command.Budget.TheVariants as budget
@@ -63,14 +65,14 @@ line_at_end ending.Stopped = []
 line_at_end ending.Failed = network_line
 line_at_end ending.Spent = spent_line
 
--- as many events as can be counted, which is no bound that a run comes to
-abbrev pub uncounted : ℕ
-uncounted = 2 ^ 64 - 1
+-- as many events as can be counted, which is no bound that a run comes to, and as many turns as have numbers
+abbrev pub widest : RunBounds
+widest = record { events = 2 ^ 64 - 1; turns = most_turns }
 
 -- Serving as many events as come: one run of the machine from its start, shown in sections.
 pub data Endures (exchanges : ℕ) (epoch : Option ℕ) (site : Site) (seen : List Deed) (o : Outcome (Unit {0})) : Type 0 where
   has_endured : (result : SectionsEnd) (shown : List Shown) (end : State)
-      → ServesInSections site uncounted result (start site exchanges epoch) shown end
+      → ServesInSections site widest result (start site exchanges epoch) shown end
       → EndsWith (shows_all shown) (status_at_end result) (line_at_end result) seen o → Endures exchanges epoch site seen o
 
 -- serving as the budget of the words says

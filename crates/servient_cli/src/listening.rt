@@ -17,7 +17,7 @@ use crate::derivation::{Planned, read_planned};
 use crate::ending::{Ended, Ending};
 use crate::opening::open;
 use command_words::Budget;
-use servient_core::{Plan, SectionsEnd, Served, Servient, serve, serve_in_sections};
+use servient_core::{MOST_TURNS, Plan, RunBounds, SectionsEnd, Served, Servient, serve, serve_in_sections};
 use servient_outside::{Files, Listened, Net};
 use std::alloc::Global;
 use thing_handler::Handlers;
@@ -114,7 +114,11 @@ fn endure<N: Net, R: Handlers>(
         (around files (outside (N.seen net.old) (R.slots rack.old)))
         (around files (outside (N.seen net.new) (R.slots rack.new))) result }
 {
-    match serve_in_sections(servient, net, rack, u64::MAX) {
+    let bounds = RunBounds {
+        events: u64::MAX,
+        turns: MOST_TURNS,
+    };
+    match serve_in_sections(servient, net, rack, bounds) {
         SectionsEnd::Stopped => Ok(Ending {
             status: 0,
             text: Bytes::new(alloc),

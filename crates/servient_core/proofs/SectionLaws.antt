@@ -9,7 +9,6 @@ use Rattle.servient_base.specs.Moves.{ShowsInOrder}
 use Rattle.wot_terms.specs.declared.kind.Kind.{Kind}
 use Rattle.thing_handler.specs.Handler.{Seen, forgotten}
 use Rattle.thing_handler.specs.Turns.{answered, missed, turns_in}
-use Rattle.thing_core.specs.Thing.{most_turns}
 use Rattle.thing_site.specs.Site.{Placed, ExposedThing, Site}
 use Rattle.thing_site.specs.Fits.{FitsSlot, ThingFits, Fits}
 use Rattle.servient_outside.specs.Network.{Happening, NetShows, heard, did, broke, events_in}
@@ -104,13 +103,13 @@ kept_then (forgot ∷ a) b kept = kept_then a b 0
 kept_then (saw (at_handler call) ∷ a) b kept = kept_then a b (kept + turn_count call)
 kept_then (saw (at_network happening) ∷ a) b kept = kept_then a b kept
 
-pub in_time_then : (a b : List Shown) (kept turns : ℕ) → IsInTime kept turns a → IsInTime (kept_after kept a) (turns_after turns a) b → IsInTime kept turns (a ++ b)
-in_time_then [] b kept turns p q = q
-in_time_then (forgot ∷ a) b kept turns p q = (p.0, in_time_then a b 0 turns p.1 q)
-in_time_then (saw (at_handler call) ∷ a) b kept turns p q = in_time_then a b (kept + turn_count call) (turns + turn_count call) p q
-in_time_then (saw (at_network (heard e)) ∷ a) b kept turns p q = (p.0, p.1, in_time_then a b kept turns p.2 q)
-in_time_then (saw (at_network (did act)) ∷ a) b kept turns p q = in_time_then a b kept turns p q
-in_time_then (saw (at_network (broke call)) ∷ a) b kept turns p q = in_time_then a b kept turns p q
+pub in_time_then : (most : ℕ) (a b : List Shown) (kept turns : ℕ) → IsInTime most kept turns a → IsInTime most (kept_after kept a) (turns_after turns a) b → IsInTime most kept turns (a ++ b)
+in_time_then most [] b kept turns p q = q
+in_time_then most (forgot ∷ a) b kept turns p q = (p.0, in_time_then most a b 0 turns p.1 q)
+in_time_then most (saw (at_handler call) ∷ a) b kept turns p q = in_time_then most a b (kept + turn_count call) (turns + turn_count call) p q
+in_time_then most (saw (at_network (heard e)) ∷ a) b kept turns p q = (p.0, p.1, in_time_then most a b kept turns p.2 q)
+in_time_then most (saw (at_network (did act)) ∷ a) b kept turns p q = in_time_then most a b kept turns p q
+in_time_then most (saw (at_network (broke call)) ∷ a) b kept turns p q = in_time_then most a b kept turns p q
 
 -- the turns of what was seen
 pub turns_of_shown : (shown : List Shown) (turns : ℕ) → turns_after turns shown ≡ turns + length (turns_in (calls_in (seen_in shown)))
@@ -128,9 +127,9 @@ kept_of_seen (at_handler (missed slot) ∷ seen) kept = omega (arith, kept_of_se
 kept_of_seen (at_network happening ∷ seen) kept = kept_of_seen seen kept
 
 -- where no event is heard, nothing is late
-pub quiet_in_time : (seen : List Sighting) (kept turns : ℕ) → events_in (happened_in seen) ≡ [] → IsInTime kept turns (shown_of seen)
-quiet_in_time [] kept turns none = tt
-quiet_in_time (at_handler call ∷ seen) kept turns none = quiet_in_time seen (kept + turn_count call) (turns + turn_count call) none
-quiet_in_time (at_network (heard e) ∷ seen) kept turns none = absurd cc
-quiet_in_time (at_network (did act) ∷ seen) kept turns none = quiet_in_time seen kept turns none
-quiet_in_time (at_network (broke call) ∷ seen) kept turns none = quiet_in_time seen kept turns none
+pub quiet_in_time : (most : ℕ) (seen : List Sighting) (kept turns : ℕ) → events_in (happened_in seen) ≡ [] → IsInTime most kept turns (shown_of seen)
+quiet_in_time most [] kept turns none = tt
+quiet_in_time most (at_handler call ∷ seen) kept turns none = quiet_in_time most seen (kept + turn_count call) (turns + turn_count call) none
+quiet_in_time most (at_network (heard e) ∷ seen) kept turns none = absurd cc
+quiet_in_time most (at_network (did act) ∷ seen) kept turns none = quiet_in_time most seen kept turns none
+quiet_in_time most (at_network (broke call) ∷ seen) kept turns none = quiet_in_time most seen kept turns none

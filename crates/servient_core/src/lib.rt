@@ -35,7 +35,7 @@ pub use laws::{
     failing_is_exact, full_table_acts_on_nothing, links_name_each_thing, misses_are_counted,
     one_meaning, turns_are_numbered,
 };
-pub use sections::{SectionsEnd, serve_in_sections};
+pub use sections::{RunBounds, SectionsEnd, serve_in_sections};
 pub use servient::{OpenFault, Servient};
 pub use servient_edge::{
     Act, Calls, Dialled, Event, EventWithBytes, Events, FileRead, Files, FilesMemory, FilesReal,
@@ -44,4 +44,4 @@ pub use servient_edge::{
 };
 pub use servient_plan::{ModelFiles, Plan, PlanFault};
 pub use serving::{Served, serve};
-pub use thing_core::Slots;
+pub use thing_core::{MOST_TURNS, Slots};

@@ -1,4 +1,4 @@
-//! Serving in sections: the events of a network are taken one by one, up to a Stop, a failure or the budget, and the
+//! Serving in sections: the events of a network are taken one by one, up to a Stop, a failure or a bound, and the
 //! handlers forget their turns now and then. So a run need not end because its turns fill the memory.
 
 ghost use Rattle.std.specs.Prelude.{◌≡◌, ◌≤◌};
@@ -11,11 +11,19 @@ ghost use Rattle.servient_core.specs.Sections.{ForgetsIfDue, ServesInSections, S
 
 use crate::serving::BUFFER_BYTES;
 use crate::{Net, Next, Servient, What};
-use thing_core::MOST_TURNS;
 use thing_handler::Handlers;
 
 /// The number of turns at which the handlers forget theirs.
 pub const MOST_KEPT: u64 = 4096;
+
+/// How much a run that is served in sections takes at most.
+#[derive(Clone, Copy, Debug, PartialEq, Eq)]
+pub struct RunBounds {
+    /// Events.
+    pub events: u64,
+    /// Turns: where the run has so many, or more by its last step, no further event is taken.
+    pub turns: u64,
+}
 
 /// How serving in sections ended.
 #[derive(Clone, Copy, Debug, PartialEq, Eq)]
@@ -24,28 +32,28 @@ pub enum SectionsEnd {
     Stopped,
     /// The network failed.
     Failed,
-    /// No number is left for a further turn, or the budget of events was taken and none of them was a Stop.
+    /// One of the bounds was reached, and no event was a Stop.
     Spent,
 }
 
-/// Takes the events of the network one after another, until a Stop or a failure comes or no turn has a number left, and at
-/// most `budget` of them. Where it is out of memory, that shows as in `Servient::step`.
+/// Takes the events of the network one after another, until a Stop or a failure comes or one of the bounds is reached.
+/// Where it is out of memory, that shows as in `Servient::step`.
 pub fn serve_in_sections<N: Net, R: Handlers>(
     servient: &mut Servient,
     net: &mut N,
     rack: &mut R,
-    budget: u64,
+    bounds: RunBounds,
 ) -> SectionsEnd
     requires { Fits servient.old.exposed.site (R.slots rack.old) }
-    ensures serves { Refines StandsFor ShowsInSections (ServesInSections servient.old.exposed.site budget result) servient.old servient.new
+    ensures serves { Refines StandsFor ShowsInSections (ServesInSections servient.old.exposed.site bounds result) servient.old servient.new
         (outside (N.seen net.old) (R.slots rack.old)) (outside (N.seen net.new) (R.slots rack.new)) }
     ensures site { servient.new.exposed.site ≡ servient.old.exposed.site }
 {
     let mut buffer = [0u8; BUFFER_BYTES];
     let mut due = servient.turns() + MOST_KEPT;
-    for count in 0..budget {
+    for count in 0..bounds.events {
         let turns = servient.turns();
-        if turns == MOST_TURNS {
+        if turns >= bounds.turns {
             return SectionsEnd::Spent;
         }
         due = forget_if_due(rack, turns, due);

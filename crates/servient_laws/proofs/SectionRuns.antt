@@ -60,7 +60,7 @@ quiet_end ending.Failed s t seen end = ap calls_in end.saw
 quiet_end ending.Spent s t seen end = ap calls_in end.saw
 
 pub sections_keep_promises : SectionsKeepPromises
-sections_keep_promises site budget exchanges epoch result shown end serves = (
+sections_keep_promises site bounds exchanges epoch result shown end serves = (
   subst (λ (x : List HandlerCall). All (IsFit site) x) (sym calls) (calls_are_fit site serves.took (start site exchanges epoch) run.mid run.first run.one),
   takes,
 )

@@ -6,6 +6,7 @@ use Rattle.coap_msg.specs.Grammar.{CoapMessage}
 use Rattle.coap_exchange.specs.Admission.{Arrival, Verdict, duplicate, refused, verdict, admitted_among}
 use Rattle.coap_bind.specs.Server.{arrival}
 use Rattle.servient_outside.specs.declared.net.EventWithBytes.{EventWithBytes}
+use Rattle.servient_core.specs.declared.sections.RunBounds.{RunBounds}
 use Rattle.servient_core.specs.declared.sections.SectionsEnd.{SectionsEnd}
 use Rattle.servient_core.specs.Trace.{Sighting, calls_in}
 use Rattle.servient_core.specs.Machine.{Site, State, start, EventAndStep, Run}
@@ -37,7 +38,7 @@ pub record TakesAmong (site : Site) (exchanges : ℕ) (epoch : Option ℕ) (firs
 -- Each event of such a run is taken so, whatever was forgotten before it, and each call of the run is fit for its device.
 abbrev pub SectionsKeepPromises : Type 0
 SectionsKeepPromises =
-    (site : Site) (budget exchanges : ℕ) (epoch : Option ℕ) (result : SectionsEnd) (shown : List Shown) (end : State)
-    → (serves : ServesInSections site budget result (start site exchanges epoch) shown end)
+    (site : Site) (bounds : RunBounds) (exchanges : ℕ) (epoch : Option ℕ) (result : SectionsEnd) (shown : List Shown) (end : State)
+    → (serves : ServesInSections site bounds result (start site exchanges epoch) shown end)
     → All (IsFit site) (calls_in (seen_in shown))
     × ((first rest : List EventWithBytes) (e : EventWithBytes) → serves.took ≡ first ++ e ∷ rest → TakesAmong site exchanges epoch first e (seen_in shown))

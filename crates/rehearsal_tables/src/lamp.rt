@@ -51,7 +51,7 @@ fn things_of(alloc: Global, plan: &Plan) -> Result<Things, AllocError>
 
 /// A new servient of the built-in Thing.
 #[tactic(auto, using(crate::proofs::Beginnings::unused_of, crate::proofs::Beginnings::plain_of))]
-fn servient_on<R: Handlers>(alloc: Global, rack: &R) -> Result<Servient, AllocError>
+pub fn servient_on<R: Handlers>(alloc: Global, rack: &R) -> Result<Servient, AllocError>
     ensures fits { IfOk result (λ s. Fits s.exposed.site (R.slots rack.now)) }
     ensures unused { IfOk result (λ s. IsUnused s) }
 {

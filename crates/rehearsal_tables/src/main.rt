@@ -16,6 +16,8 @@
 //!
 //! `block_schedules` has such schedules of block-wise asks, by `bench/draw-block-schedules`. After ` => ` stands for each row
 //! of them how many turns made what its joined payloads say (`joined.rt`), and at the end how many rows there were.
+//!
+//! `sections` has runs of ticks within bounds, a line each (`sections.rt`).
 #![tactic(auto)]
 
 mod asks;
@@ -29,6 +31,7 @@ mod played;
 mod reading;
 mod rows;
 mod schedules;
+mod sections;
 mod showing;
 mod steps;
 mod totals;
@@ -42,6 +45,7 @@ fn page(alloc: Global, name: &str, lines: &str) -> Result<String, AllocError> {
     match name {
         "block_schedules" => blockwise::put(&mut text, alloc, lines)?,
         "schedules" => schedules::put(&mut text, alloc, lines)?,
+        "sections" => sections::put(&mut text, alloc, lines)?,
         _ => cases::put(&mut text, alloc, lines)?,
     }
     Ok(text)

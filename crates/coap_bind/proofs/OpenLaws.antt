@@ -1,4 +1,4 @@
--- What a datagram asks may be answered at once.
+-- The ask of a datagram may be answered at once.
 use Rattle.std.proofs.Common.{Option, ◌≡◌, ◌∙◌, ℕ, true, Some, None, List, [], ◌∷◌, ◌++◌, refl, sym, ap, subst, arith}
 use Rattle.std.specs.Prelude.{◌==◌, find}
 use Rattle.std.specs.List.{remove}

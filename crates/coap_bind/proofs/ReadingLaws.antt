@@ -1,4 +1,4 @@
--- What a request that was admitted does, by the first fault of its options.
+-- A request that was admitted is treated by the first fault of its options.
 use Rattle.std.proofs.Common.{◌≡◌, ◌≢◌, ◌⊎◌, ◌∙◌, ◌&&◌, not, cond, ℕ, Bool, true, false, Option, Some, None, List, [], ◌∷◌, inl, inr, refl, ap, sym, subst}
 use Rattle.std.specs.Prelude.{slice_get}
 use Rattle.coap_msg.specs.Grammar.{CoapOption, CoapMessage}

@@ -1,4 +1,4 @@
--- Whatever a duplicate is answered was sent first in reply to its request.
+-- A duplicate is only answered by that which was sent first in reply to its request.
 use Rattle.std.proofs.Common.{◌≡◌, ◌≤◌, ◌⊎◌, ◌∙◌, cond, inl, inr, ℕ, Bool, true, false, Option, Some, None, List, [], ◌∷◌, ◌++◌, refl, sym, ap, subst}
 use Rattle.std.specs.Prelude.{◌==◌, find}
 use Rattle.std.specs.Option.{option_or}

@@ -1,4 +1,4 @@
--- What becomes of the parts, over all that a server does.
+-- The fate of the parts, over all that a server does.
 use Rattle.std.proofs.Common.{◌≡◌, ◌∙◌, inl, inr, ℕ, Bool, true, false, Option, Some, None, List, [], ◌∷◌, ◌++◌, refl, sym, ap, subst, remove, slice_get}
 use Rattle.std.specs.Prelude.{◌==◌, ◌||◌, if◌then◌else◌}
 use Rattle.coap_msg.specs.declared.block.Block.{Block}

@@ -1,4 +1,4 @@
--- What a request wants, and what comes of it.
+-- The wish of a request, and its result.
 use Rattle.std.proofs.lemmas.Bool.Decides.{nat_tests}
 use Rattle.std.proofs.Common.{arith, ◌≡◌, ◌≢◌, ◌≤◌, ◌<◌, ◌∙◌, ℕ, Bool, true, false, List, [], length, remove, slice_get, Option, Some, None, Result, Ok, Err, refl, ap, sym, subst}
 use Rattle.std.specs.Prelude.{◌==◌, ◌||◌, option_map, IfSome, if◌then◌else◌}

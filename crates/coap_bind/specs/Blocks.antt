@@ -43,15 +43,15 @@ abbrev pub wanted_by_body : Option Block → Wanted
 wanted_by_body None = wanted.Act
 wanted_by_body (Some b) = wanted.Joining b
 
--- What a request of this code wants. Block2 is read of a GET alone, and Block1 of a PUT and a POST.
+-- The wish of a request of this code. Block2 is read of a GET alone, and Block1 of a PUT and a POST.
 abbrev pub wanted_of : ℕ → Observing → PlainAsk → Wanted
 wanted_of code o a =
     if code == GET then wanted_by_get (block2_of o a)
     else if code == POST || code == PUT then wanted_by_body a.block1
     else wanted.Act
 
--- What blocks are to the reply to an act that is asked for at a moment: the payload for a GET is given in blocks, of the
--- size that it says.
+-- The part that blocks have in the reply to an act that is asked for at a moment: the payload for a GET is given in
+-- blocks, of the size that it says.
 abbrev pub use_of : ℕ → ℕ → Observing → PlainAsk → BlockUse
 use_of now code o a =
     if code == GET then blocks.Gives (record { path = a.request.path; szx = option_map (λ b. b.szx) (block2_of o a); moment = now })
@@ -137,7 +137,7 @@ most_bytes (blocks.Joined b) o = LONGEST_PAYLOAD
 abbrev pub reply_with : Portion → Outcome → Reply
 reply_with p o = record (whole_reply o) { options = with_block p.block (whole_reply o).options; payload = p.payload }
 
--- What is said of an outcome: a payload that is too long for a body, and for a message where it isn't given in blocks, is
+-- The reply that says an outcome: a payload that is too long for a body, and for a message where it isn't given in blocks, is
 -- refused.
 abbrev pub answer_reply : BlockUse → Outcome → Reply
 answer_reply u o = if nat_lt (most_bytes u o) (length (payload_of o)) then long_reply else reply_with (portion_of u o) o

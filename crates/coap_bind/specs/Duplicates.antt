@@ -1,4 +1,4 @@
--- What a server says to duplicates of requests, over all that it does (RFC 7252, section 4.5).
+-- The replies of a server to duplicates of requests, over all that it does (RFC 7252, section 4.5).
 use Rattle.std.specs.Prelude.{◌≡◌, ◌≤◌, ◌⊎◌, ℕ, Bool, true, false, Option, Some, None, List, Contains}
 use Rattle.std.specs.List.{AllByRecursion}
 use Rattle.coap_msg.specs.declared.endpoint.Endpoint.{Endpoint}

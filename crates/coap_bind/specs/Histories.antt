@@ -16,7 +16,7 @@ HearingGoesOn =
     → Did capacity history s → s.exchanges.moment ≤ now → Hears from bytes now heard s t
     → (new : List Arrival) × AreArrivals from bytes now new × Did capacity (history ++ new) t × (t.exchanges.moment ≤ now)
 
--- What is asked for is the request of its datagram, which is admitted now.
+-- The ask of a datagram is the request in it, which is admitted now.
 abbrev pub AskedIsAdmitted : Type 0
 AskedIsAdmitted =
     (capacity : ℕ) (history : List Arrival) (s t : Server) (from : Endpoint) (bytes : List ℕ) (now : ℕ) (what : PlainAsk) (ask : PendingReply)

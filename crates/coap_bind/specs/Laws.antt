@@ -20,7 +20,7 @@ AreArrivals from bytes now [] = (m : CoapMessage) → Spells m bytes → is_requ
 AreArrivals from bytes now (a ∷ []) = (m : CoapMessage) × Spells m bytes × (is_request m ≡ true) × (a ≡ arrival from now m)
 AreArrivals from bytes now (a ∷ b ∷ more) = ⊥
 
--- What was asked may be answered: its exchange has no reply yet, and the request is of the type that was admitted.
+-- An ask may be answered: its exchange has no reply yet, and the request is of the type that was admitted.
 pub record IsOpen (ask : PendingReply) (s : Server) : Type 0 where
   pub exchange : Exchange
   pub there : exchange_in ask.slot s.exchanges ≡ Some exchange
@@ -68,7 +68,7 @@ abbrev pub HasShortPlace : Outcome → Type 0
 HasShortPlace (Started place status) = (length place ≤ 4) × All (λ segment. length segment ≤ LONGEST_SEGMENT) place × (length status ≤ 100)
 HasShortPlace _ = Unit {0}
 
--- What a datagram asks may be answered at once.
+-- The ask of a datagram may be answered at once.
 abbrev pub AsksAreOpen : Type 0
 AsksAreOpen =
     (from : Endpoint) (bytes : List ℕ) (now : ℕ) (what : PlainAsk) (ask : PendingReply) (s t : Server) → Hears from bytes now (asked what ask) s t → IsOpen ask t

@@ -1,4 +1,4 @@
--- What a request wants of the watchers, and what its answer does to them (RFC 7641, sections 2, 3.1, 3.6 and 4.1).
+-- The wish of a request for the watchers, and the effect of its answer on them (RFC 7641, sections 2, 3.1, 3.6 and 4.1).
 use Rattle.std.specs.Prelude.{◌≡◌, ◌==◌, ℕ, nat_le, Bool, true, false, List, length, Option, Some, None, if◌then◌else◌}
 use Rattle.coap_msg.specs.declared.constants.TheConstants.{GET, LONGEST_PAYLOAD}
 use Rattle.coap_msg.specs.declared.endpoint.Endpoint.{Endpoint}
@@ -16,7 +16,7 @@ abbrev pub observing_at : Option ℕ → Observing
 observing_at None = observing.Unchanged
 observing_at (Some n) = if n == 0 then observing.Registers else if n == 1 then observing.Deregisters else observing.Unchanged
 
--- What a request of this code and with this value of Observe wants: only a GET can register or deregister.
+-- The wish of a request of this code and with this value of Observe: only a GET can register or deregister.
 abbrev pub observing_of : ℕ → Option ℕ → Observing
 observing_of code observe = if code == GET then observing_at observe else observing.Unchanged
 

@@ -56,7 +56,7 @@ use Rattle.coap_bind.specs.Writing.{Reply, full_reply, proxy_reply, option_reply
 abbrev pub start : ℕ → ℕ → Server
 start exchanges watchers = record { exchanges = empty_table exchanges; watchers = none_watch watchers; next_id = 0; bodies = []; parts = []; links = [] }
 
--- What is done with a datagram.
+-- The treatment of a datagram.
 pub data Heard : Type 0 where
   -- nothing
   ignored : Heard
@@ -248,7 +248,7 @@ block_arrival from now m b = record {
   moment = now;
 }
 
--- What becomes of a block of a request, and the parts then (RFC 7959, section 2.5).
+-- The fate of a block of a request, and the parts then (RFC 7959, section 2.5).
 abbrev pub Adds : Endpoint → ℕ → CoapMessage → Block → Server → Added → List Part → Type 0
 Adds from now m b s added parts = Gives (after_block (block_arrival from now m b) (living now s.parts)) added parts
 
@@ -289,7 +289,7 @@ pub data IsAnsweredAtOnce (from : Endpoint) (now : ℕ) (m : CoapMessage) (r : R
   takes_no_body : (b : Block) (place : ℕ) (joined_parts : List Part) → faults_of m.options ≡ [] → wanted_in m ≡ wanted.Joining b → asks_links m ≡ true
       → Adds from now m b s (Complete place) joined_parts → r ≡ method_reply → parts ≡ remove joined_parts place → IsAnsweredAtOnce from now m r s parts
 
--- What is done with a request that was admitted.
+-- The treatment of a request that was admitted.
 pub data Reads (from : Endpoint) (now : ℕ) (m : CoapMessage) (slot : ℕ) (heard : Heard) (s t : Server) : Type 0 where
   -- it is answered at once
   replied : (r : Reply) (parts : List Part) (bytes : List ℕ) → IsAnsweredAtOnce from now m r s parts
@@ -313,7 +313,7 @@ pub data Reads (from : Endpoint) (now : ℕ) (m : CoapMessage) (slot : ℕ) (hea
 
 -- ---- any datagram
 
--- What a datagram from an endpoint does at a moment.
+-- A datagram from an endpoint has this effect at a moment.
 pub data Hears (from : Endpoint) (bytes : List ℕ) (now : ℕ) (heard : Heard) (s t : Server) : Type 0 where
   settled : Settles from bytes now heard s t → Hears from bytes now heard s t
   admitted : (m : CoapMessage) (slot : ℕ) (u : Server) → IsMet from bytes now m (Fresh slot) s u → Reads from now m slot heard u t

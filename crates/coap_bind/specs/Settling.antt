@@ -1,4 +1,4 @@
--- Inside the crate: what is found of a datagram before its result is made, and of a request that was admitted.
+-- Inside the crate: the findings on a datagram before its result is made, and on a request that was admitted.
 use Rattle.std.specs.Prelude.{◌≡◌, ◌≢◌, ◌<◌, ◌≤◌, ℕ, true, false, List, [], length, slice_get, IfSome, Result, Ok, Err, Option, Some, None}
 use Rattle.std.specs.List.{remove}
 use Rattle.coap_msg.specs.declared.block.Block.{Block}
@@ -39,7 +39,7 @@ TellsDone (answered_at_once bytes) None old new = ⊥
 TellsDone (answered_at_once bytes) (Some n) old new = IsWritten bytes n old new
 TellsDone (asked what request) reply old new = ⊥
 
--- What was found out of a datagram without memory: it is done with, or it is a request that is admitted and got this slot.
+-- A datagram was judged without memory: it is done with, or it is a request that is admitted and got this slot.
 abbrev pub SettlesOrAdmits : Endpoint → List ℕ → ℕ → Result (Message × ℕ) (Option ℕ) → List ℕ → List ℕ → Server → Server → Type 0
 SettlesOrAdmits from bytes now (Err reply) old new s t = (heard : Heard) × Settles from bytes now heard s t × TellsDone heard reply old new
 SettlesOrAdmits from bytes now (Ok admitted) old new s t =
@@ -81,7 +81,7 @@ pub data AnswersBlock (pending : PendingReply) (path : List (List ℕ)) (b : Blo
   whole : (place : ℕ) → added ≡ Complete place → is_links_path path ≡ false → new ≡ old → t ≡ s → answer ≡ Ok place
       → AnswersBlock pending path b added answer old new s t
 
--- What a request that was admitted does, as the result says.
+-- A request that was admitted has this effect, as the result says.
 abbrev pub ReadsAs : Endpoint → ℕ → CoapMessage → ℕ → CoapNext → List ℕ → List ℕ → Server → Server → Type 0
 ReadsAs from now m slot next old new s t = (heard : Heard) × Reads from now m slot heard s t × Tells heard next old new
 

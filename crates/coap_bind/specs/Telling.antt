@@ -25,13 +25,13 @@ Tells heard Nothing old new = (heard ≡ ignored) × (new ≡ old)
 Tells heard (Send n) old new = (bytes : List ℕ) × (heard ≡ answered_at_once bytes) × IsWritten bytes n old new
 Tells heard (Ask ask ticket) old new = (heard ≡ asked (plain_ask ask) ticket) × (new ≡ old)
 
--- What a datagram does, as the result says.
+-- A datagram has this effect, as the result says.
 pub record HearsAs (from : Endpoint) (bytes : List ℕ) (now : ℕ) (next : CoapNext) (old new : List ℕ) (s t : Server) : Type 0 where
   pub heard : Heard
   pub hears : Hears from bytes now heard s t
   pub tells : Tells heard next old new
 
--- What a datagram that isn't admitted does, as the result says.
+-- A datagram that isn't admitted has this effect, as the result says.
 pub record SettlesAs (from : Endpoint) (bytes : List ℕ) (now : ℕ) (next : CoapNext) (old new : List ℕ) (s t : Server) : Type 0 where
   pub heard : Heard
   pub settles : Settles from bytes now heard s t
@@ -50,7 +50,7 @@ pub record RepliesAs (r : Reply) (pending : PendingReply) (n : ℕ) (old new : L
   pub replies : Replies r (head_in pending) pending.slot bytes s t
   pub written : IsWritten bytes n old new
 
--- What was asked was answered, in n bytes.
+-- The ask was answered, in n bytes.
 pub record AnswersAs (ask : PendingReply) (o : Outcome) (target : Option ℕ) (n : ℕ) (old new : List ℕ) (s t : Server) : Type 0 where
   pub bytes : List ℕ
   pub answers : Answers ask o target bytes s t

@@ -1,4 +1,4 @@
--- What the reply to a request and a notification are on the wire (RFC 7252, sections 4.2, 4.4, 5.2, 5.3.1 and 5.10;
+-- The reply to a request and a notification on the wire (RFC 7252, sections 4.2, 4.4, 5.2, 5.3.1 and 5.10;
 -- RFC 7641, sections 2, 3.2 and 4.2).
 use Rattle.std.specs.Prelude.{ℕ, nat_lt, true, Option, Some, None, List, [], ◌∷◌, ◌++◌, length, take, codes, unwrap_or, if◌then◌else◌}
 use Rattle.std.specs.Fmt.{decimal}
@@ -69,7 +69,7 @@ whole_reply o = record {
   payload = payload_of o;
 }
 
--- What is said of an outcome. A payload has at most 1,024 bytes (section 4.6).
+-- The reply that says an outcome. A payload has at most 1,024 bytes (section 4.6).
 abbrev pub reply_of : Outcome → Reply
 reply_of o = if nat_lt LONGEST_PAYLOAD (length (payload_of o)) then long_reply else whole_reply o
 

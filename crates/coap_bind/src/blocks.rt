@@ -1,4 +1,4 @@
-//! What a request wants of blocks, and what its reply says of them (RFC 7959).
+//! The wish of a request for blocks, and the part that these have in its reply (RFC 7959).
 
 ghost use Rattle.std.specs.Prelude.{◌≡◌};
 ghost use Rattle.coap_opts.specs.PlainAsk.{plain_ask};
@@ -10,18 +10,18 @@ use coap_msg::{Block, Code, GET, POST, PUT};
 use coap_opts::CoapAsk;
 use thing_ops::Segments;
 
-/// What a request wants, by the blocks that it names.
+/// The wish of a request, by the blocks that it names.
 #[derive(Clone, Copy, Debug, PartialEq, Eq)]
 pub enum Wanted {
     /// To be acted on as it is.
     Act,
     /// A block of a response that was given, after its first.
     LaterBlock(Block),
-    /// That this block of it is joined to those before.
+    /// The joining of this block of it to those before.
     Joining(Block),
 }
 
-/// What blocks are to the reply to a request.
+/// The part that blocks have in the reply to a request.
 #[derive(Debug, Drop)]
 pub enum BlockUse {
     /// Nothing: its payload is whole.
@@ -52,7 +52,7 @@ pub enum BlockOption {
     Block1(Block),
 }
 
-/// What a request of this code wants, which wants this of the watchers.
+/// The wish of a request of this code that has this wish for the watchers.
 pub fn wanted_of(code: Code, observing: Observing, ask: &CoapAsk<'_>) -> Wanted
     ensures { result ≡ wanted_of code observing (plain_ask ask.now) }
 {

@@ -107,7 +107,7 @@ ghost use Rattle.thing_ops.specs.Requests.{plain_request};
 ghost use Rattle.coap_opts.specs.PlainAsk.{plain_ask};
 ghost use Rattle.coap_bind.specs.Server.{with_whole_body};
 
-/// What is asked, with this body.
+/// The same ask with this body.
 pub fn with_body<'a>(ask: CoapAsk<'a>, body: &'a [u8]) -> CoapAsk<'a>
     ensures { plain_ask result ≡ with_whole_body body.now (plain_ask ask.entry) }
 {

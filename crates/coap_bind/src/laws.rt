@@ -41,7 +41,7 @@ pub fn only_the_first_reply_is_repeated()
     ensures { OnlyTheFirstReplyIsRepeated }
 {}
 
-/// What a datagram asks may be answered at once: its exchange has no reply yet, and the request is of the type that was
+/// The ask of a datagram may be answered at once: its exchange has no reply yet, and the request is of the type that was
 /// admitted.
 pub fn asks_are_open()
     ensures { AsksAreOpen }
@@ -58,7 +58,7 @@ pub fn hearing_goes_on()
     ensures { HearingGoesOn }
 {}
 
-/// What is asked for is the request of its datagram, which is admitted now (RFC 7252, section 4.5).
+/// The ask of a datagram is the request in it, which is admitted now (RFC 7252, section 4.5).
 pub fn asked_is_admitted()
     ensures { AskedIsAdmitted }
 {}

@@ -28,9 +28,9 @@
 //! }
 //! ```
 //!
-//! What a server holds and what its calls do is one machine, `specs/Server.antt`; what a request wants of the watchers is
-//! `specs/Observing.antt`, what it wants of blocks and which part of a payload a reply has is `specs/Blocks.antt`, what is
-//! said of the links is `specs/Links.antt`, and what a reply and a notification are on the wire is `specs/Writing.antt`.
+//! `specs/Server.antt` is one machine: the contents of a server, and the effect of each call on them. `specs/Observing.antt`
+//! has the wish of a request for the watchers, `specs/Blocks.antt` its wish for blocks and the part of a payload that a reply
+//! has, `specs/Links.antt` the replies on the links, and `specs/Writing.antt` a reply and a notification on the wire.
 //! The contract in a sentence: each call does what the machine does (`Hears`, `Answers`, `SendsNext`), for all that comes in any order. The laws (`specs/Laws.antt`,
 //! `specs/Duplicates.antt`, `specs/Transfers.antt`): the exchanges of a server are those of the admitted requests that
 //! live; a duplicate asks for nothing and changes nothing, and where it is answered it gets the bytes that were sent

@@ -4,7 +4,7 @@ use crate::pending::PendingReply;
 use coap_opts::CoapAsk;
 use std::marker::Model;
 
-/// What is to be done with a datagram.
+/// The task that a datagram leaves to the caller.
 pub enum CoapNext<'a> {
     /// Nothing.
     Nothing,

@@ -1,4 +1,4 @@
-//! What is kept of a request until it is replied to.
+//! The reply to a request that was admitted, until it is sent.
 
 use crate::blocks::BlockUse;
 use crate::observing::Observing;
@@ -17,9 +17,9 @@ pub struct PendingReply {
     pub slot: u32,
     /// Where it came from, and the reply goes.
     pub from: Endpoint,
-    /// What it wants of the watchers.
+    /// Its wish for the watchers.
     pub observing: Observing,
-    /// What blocks are to the reply.
+    /// The part that blocks have in the reply.
     pub blocks: BlockUse,
 }
 
@@ -28,7 +28,7 @@ impl PendingReply {
     ghost use Rattle.coap_msg.specs.MessageOf.{message_of};
     ghost use Rattle.coap_bind.specs.Settling.{pending_at_first};
 
-    /// The reply to a request that got this slot. What its options want isn't known yet.
+    /// The reply to a request that got this slot. The wishes of its options aren't known yet.
     pub fn of(message: &Message<'_>, from: Endpoint, slot: u32) -> PendingReply
         requires { length message.now.token.now ≤ LONGEST_TOKEN }
         ensures { result ≡ pending_at_first from (message_of message.now) slot }

@@ -53,7 +53,7 @@ pub fn is_representation(outcome: &Outcome) -> bool
     }
 }
 
-/// What a reply has of the payload of an outcome.
+/// The part of the payload of an outcome that a reply has.
 pub fn portion_of<'a>(blocks: &BlockUse, outcome: &Outcome, payload: &'a [u8]) -> Portion<'a>
     requires code { HasCode outcome.now }
     requires blocks { IsUse blocks.now }
@@ -100,7 +100,7 @@ fn success_option(outcome: &Outcome, block: Block) -> Option<BlockOption>
     }))
 }
 
-/// What is given of a payload, where a block of this size was asked for, or none.
+/// The part of a payload that is given, where a block of this size was asked for, or none.
 pub fn given_portion(szx: Option<u8>, payload: &[u8]) -> Portion<'_>
     requires { IfSome szx (λ z. z ≤ 6) }
     ensures ok { portion_seen result ≡ given_portion szx payload.now }

@@ -1,4 +1,4 @@
-//! What is done with a request that was admitted: it is asked, or answered at once.
+//! The treatment of a request that was admitted: it is asked, or answered at once.
 
 use crate::blocks::{BlockUse, Giving, Wanted, size_asked, wanted_of};
 use crate::joining::with_body;

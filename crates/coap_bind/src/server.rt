@@ -1,4 +1,4 @@
-//! What a server holds, and what is done with each datagram.
+//! The contents of a server, and the treatment of each datagram.
 
 ghost use Rattle.std.specs.Prelude.{◌≡◌, ◌≤◌, ◌&&◌, nat_lt, length};
 ghost use Rattle.coap_msg.specs.Written.{IsWritten};
@@ -15,12 +15,12 @@ use coap_observe::{Notice, Watchers};
 use servient_base::put_bytes;
 use wot_json::Bytes;
 
-/// What a server holds. What is done to it is specs/Server.antt.
+/// The contents of a server. specs/Server.antt says how the calls change them.
 #[derive(Drop)]
 pub struct Server {
     /// The exchanges that live, with the replies that are kept.
     pub exchanges: Exchanges,
-    /// Who is notified of what.
+    /// Those who are notified, and the target of each.
     pub watchers: Watchers,
     /// The message ID of the next message that isn't an acknowledgement.
     pub next_id: u16,

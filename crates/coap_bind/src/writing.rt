@@ -20,14 +20,14 @@ use coap_msg::{
 use coap_observe::Notice;
 use thing_ops::{LONGEST_WORD, Outcome, coap_code, word};
 
-/// What a reply says.
+/// The contents of a reply.
 #[derive(Clone, Copy)]
 pub struct Said<'a> {
     /// The outcome of its request.
     pub outcome: &'a Outcome,
     /// The sequence number of the registration, where the request registered its sender.
     pub observe: Option<u32>,
-    /// What blocks are to it.
+    /// The part that blocks have in it.
     pub blocks: &'a BlockUse,
 }
 
@@ -36,11 +36,11 @@ pub struct Said<'a> {
 pub struct Told<'a> {
     /// The code.
     pub code: Code,
-    /// The version of what it has, if that has a tag.
+    /// The version of its payload, if that has a tag.
     pub version: Option<u32>,
-    /// The content format of what it has, if that has one.
+    /// The content format of its payload, if that has one.
     pub format: Option<u16>,
-    /// What it has.
+    /// Its payload, or a block of that.
     pub portion: Portion<'a>,
 }
 

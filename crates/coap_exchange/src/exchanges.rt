@@ -88,8 +88,15 @@ impl Exchanges {
         ensures awaited { (slot : ℕ) → result ≡ Met.Fresh slot → IsAwaited slot self.new }
         ensures kept { (slot : ℕ) → result ≡ Met.Repeat (Some slot) → HasReply slot self.new }
     {
+        let kind = RequestType::of(kind);
         self.go_on(now);
-        self.judge(from, id, RequestType::of(kind))
+        if let Some(kept) = self.duplicated(from, id) {
+            return Met::Repeat(kept);
+        }
+        match self.admit(from, id, kind) {
+            Some(slot) => Met::Fresh(slot),
+            None => Met::Full,
+        }
     }
 
     /// Keeps the reply to the request that got this slot.
@@ -113,7 +120,8 @@ impl Exchanges {
         }
     }
 
-    /// Moves on to the moment `now`, and gives up the exchanges that don't live then.
+    /// Moves on to the moment `now`, and gives up the exchanges that don't live then. It is a function of its own, because
+    /// the type's invariant has to hold again before the next call.
     fn go_on(&mut self, now: u64)
         requires { self.old.moment ≤ now }
         ensures { self.new ≡ at_moment now self.old }
@@ -159,19 +167,6 @@ impl Exchanges {
         self.buckets
             .remove(bucket_of(entry.from, entry.id, self.capacity), slot);
         self.order.remove(ALL, slot);
-    }
-
-    /// Judges a request that came now.
-    fn judge(&mut self, from: Endpoint, id: u16, kind: RequestType) -> Met
-        ensures { Meets self.old (record { moment = self.old.moment; from = from; id = id; kind = kind }) result self.new }
-    {
-        if let Some(kept) = self.duplicated(from, id) {
-            return Met::Repeat(kept);
-        }
-        match self.admit(from, id, kind) {
-            Some(slot) => Met::Fresh(slot),
-            None => Met::Full,
-        }
     }
 
     /// The slot of the reply to the exchange of this endpoint and message ID, where one was kept, if that exchange

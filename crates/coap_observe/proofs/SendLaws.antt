@@ -1,5 +1,5 @@
 -- What is sent, by the places of watchers.
-use Rattle.std.proofs.Common.{◌≡◌, ◌<◌, ℕ, Bool, true, false, cond, List, [], ◌∷◌, find, Option, Some, None, option_and_then, inl, inr, ◌∙◌, sym, refl, ap, subst, arith}
+use Rattle.std.proofs.Common.{◌≡◌, ◌<◌, ℕ, Bool, true, false, cond, List, [], ◌∷◌, find, Some, None, option_and_then, inl, inr, ◌∙◌, sym, refl, ap, subst, arith}
 use Rattle.std.specs.List.{list_any}
 use Rattle.std.proofs.lemmas.Bool.{cases_Bool}
 use Rattle.coap_observe.specs.declared.watcher.Watcher.{Watcher}
@@ -7,7 +7,7 @@ use Rattle.coap_observe.specs.declared.notice.Notice.{Notice}
 use Rattle.coap_observe.specs.Places.{Place, Places, watchers_in, IsAt, with_change, FindsFirst, sent_once_more, IsSentOnceMore}
 use Rattle.coap_observe.specs.Watched.{AreWatched}
 use Rattle.coap_observe.specs.Watching.{next_sequence, is_due, is_free, is_given_up, given_up_endpoint, with_first, hopeless, nobody, Sends, same, newer, first, nothing, Notifies, IsNotice, resent, renewed, notified}
-use Rattle.coap_observe.proofs.Counts.{found_passes, none_passes}
+use Rattle.coap_observe.proofs.Counts.{found_passes}
 use Rattle.coap_observe.proofs.Due.{not_given_up, due_was_sent}
 use Rattle.coap_observe.proofs.ViewLaws.{none_found, changed_first, found_watcher}
 
@@ -89,14 +89,3 @@ quiet now id moment ws w before = record {
   gives_up = nobody ws ws (hopeless_none now ws (w.none_due now before)) refl;
   sends = sends_nothing now id ws (w.none_due now before) (w.none_free (omega arith));
 }
-
--- where nothing was sent, none is free
-nothing_free : (now id : ℕ) (ws us : List Watcher) (n : Option Notice) → Sends now id ws n us → n ≡ None → list_any (is_free us) us ≡ false
-nothing_free now id ws _ _ (same w s m us found plain was notice is) e = absurd cc
-nothing_free now id ws _ _ (newer w m us found marked_one notice is) e = absurd cc
-nothing_free now id ws _ _ (first w m us none_due found notice is) e = absurd cc
-nothing_free now id ws _ _ (nothing us none_due none_free is) e =
-    subst (λ (vs : List Watcher). list_any (is_free vs) vs ≡ false) (sym is) (none_passes (is_free ws) ws none_free)
-
-pub none_free_left : (now id : ℕ) (ws us : List Watcher) → Sends now id ws None us → list_any (is_free us) us ≡ false
-none_free_left now id ws us sends = nothing_free now id ws us None sends refl

@@ -30,10 +30,10 @@
 #![tactic(auto)]
 
 mod buckets;
+mod giving_up;
 mod laws;
 mod notice;
 mod notification;
-mod sending;
 mod sequence;
 mod slots;
 mod walks;

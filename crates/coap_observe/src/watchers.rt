@@ -1,7 +1,7 @@
 //! The watchers, in the order in which they registered.
 
+use crate::giving_up::give_up;
 use crate::notice::{Notice, Registered};
-use crate::sending::{give_up, send};
 use crate::slots::WatcherSlots;
 use crate::watcher::Wanted;
 use coap_msg::{Endpoint, LONGEST_TOKEN};
@@ -141,12 +141,15 @@ impl Watchers {
         }
         self.quiet_until = 0;
         give_up(&mut self.slots, now);
-        match send(&mut self.slots, now, id) {
-            Some(notice) => Some(notice),
-            None => {
-                self.quiet_until = self.slots.next_due();
-                None
-            }
+        match self.slots.due_slot(now) {
+            Some(slot) => Some(self.slots.send_again(slot, now, id)),
+            None => match self.slots.free_slot() {
+                Some(free) => Some(self.slots.send_first(free, now, id)),
+                None => {
+                    self.quiet_until = self.slots.next_due();
+                    None
+                }
+            },
         }
     }
 }

@@ -1,4 +1,4 @@
--- What was done to the watchers is the effect of the answer, and a body is kept; nothing else changed.
+-- The answer has its effect on the watchers, and a body is kept; nothing else changed.
 use Rattle.std.proofs.Common.{◌≤◌, ◌∙◌, ℕ, List, length, refl, ap, sym, subst}
 use Rattle.coap_msg.specs.declared.constants.TheConstants.{LONGEST_MESSAGE}
 use Rattle.coap_msg.specs.Grammar.{spelling}

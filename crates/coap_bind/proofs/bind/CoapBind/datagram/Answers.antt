@@ -1,4 +1,4 @@
--- What the held server does is what the server does.
+-- The server does just that which the server inside does.
 use Rattle.std.proofs.Common.{inl, inr, ap, ℕ, List, Option, subst}
 use Rattle.coap_msg.specs.MessageOf.{message_of}
 use Rattle.coap_bind.specs.declared.next.CoapNext.TheVariants.{Nothing, Send}

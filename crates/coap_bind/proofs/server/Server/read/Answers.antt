@@ -1,4 +1,4 @@
--- What is wanted is what the request that was read wants.
+-- The wish that is met is that of the request that was read.
 use Rattle.std.proofs.Common.{◌≤◌, length, slice_get, sym, subst, refl}
 use Rattle.std.specs.Prelude.{IfSome}
 use Rattle.coap_msg.specs.MessageOf.{message_of}

@@ -4,14 +4,14 @@ use Rattle.coap_observe.specs.Watching.{GivesUp}
 use Rattle.coap_observe.specs.Places.{watchers_in}
 use Rattle.coap_observe.specs.declared.watcher.Watcher.{Watcher}
 use Rattle.coap_observe.specs.Unsent.{unsent}
-use Rattle.coap_observe.proofs.sending.give_up.Given as goal
+use Rattle.coap_observe.proofs.giving_up.give_up.Given as goal
 
-abbrev pub invariant-loop-from : goal.invariant-loop-from
-invariant-loop-from l = record {
+abbrev pub invariant-loop-slot : goal.invariant-loop-slot
+invariant-loop-slot l = record {
   gives_up : (us : List Watcher) → GivesUp l.now (watchers_in l.slots) us → GivesUp l.now (watchers_in l.initial.slots) us;
   capacity : l.slots.capacity ≡ l.initial.slots.capacity;
   less : unsent l.now (watchers_in l.slots) ≤ unsent l.now (watchers_in l.initial.slots);
 }
 
-abbrev pub decreases-loop-from : goal.decreases-loop-from
-decreases-loop-from l = length (watchers_in l.slots)
+abbrev pub decreases-loop-slot : goal.decreases-loop-slot
+decreases-loop-slot l = length (watchers_in l.slots)

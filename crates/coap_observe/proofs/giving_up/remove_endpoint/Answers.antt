@@ -3,7 +3,7 @@ use Rattle.std.proofs.Common.{◌<◌, ◌∙◌, length, sym, ap, subst, refl}
 use Rattle.coap_observe.specs.Places.{Places, watchers_in}
 use Rattle.coap_observe.specs.Watching.{is_from, without}
 use Rattle.coap_observe.proofs.ViewLaws.{removed_of_many, fewer_left, all_stay}
-use Rattle.coap_observe.proofs.sending.remove_endpoint.Goals as goal
+use Rattle.coap_observe.proofs.giving_up.remove_endpoint.Goals as goal
 
 pub loop-slot-init : goal.loop-slot-init
 loop-slot-init c = record { left = refl; capacity = refl }

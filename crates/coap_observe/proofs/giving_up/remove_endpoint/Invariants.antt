@@ -2,7 +2,7 @@
 use Rattle.std.proofs.Common.{◌≡◌, length}
 use Rattle.coap_observe.specs.Places.{watchers_in}
 use Rattle.coap_observe.specs.Watching.{is_from, without}
-use Rattle.coap_observe.proofs.sending.remove_endpoint.Given as goal
+use Rattle.coap_observe.proofs.giving_up.remove_endpoint.Given as goal
 
 abbrev pub invariant-loop-slot : goal.invariant-loop-slot
 invariant-loop-slot l = record {

@@ -1,4 +1,4 @@
-//! `scan`: what is at the front of a stream.
+//! `scan` reads the front of a stream.
 
 ghost use Rattle.std.specs.Prelude.{◌≡◌, ◌≤◌, ◌<◌, ◌+◌, ◌^◌, length};
 ghost use Rattle.httparse.specs.Grammar.{RequestHead};
@@ -16,7 +16,7 @@ use crate::{Head, Scanned};
 /// The most bytes of a head.
 const LONGEST_HEAD: usize = 8192;
 
-/// What is at the front of a stream of which these bytes have come. It takes no memory.
+/// Reads the front of a stream of which these bytes have come. It takes no memory.
 pub fn scan(bytes: &[u8]) -> Scanned<'_>
     ensures ok { IsFront bytes.now (front_of result) }
 
@@ -55,7 +55,7 @@ pub fn scan(bytes: &[u8]) -> Scanned<'_>
     }
 }
 
-/// What is at the front where a head without fault is followed by its body.
+/// The front where a head without fault is followed by its body.
 #[tactic(auto, using(crate::proofs::Fronts::short_with_body, crate::proofs::Fronts::fault_with_body, crate::proofs::Fronts::message_with_body))]
 fn scan_body<'a>(
     head: &HeadParts<'a>,

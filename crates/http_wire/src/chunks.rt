@@ -6,14 +6,14 @@ ghost use Rattle.std.specs.Char.{is_ascii_hexdigit, digit_value};
 ghost use Rattle.std.specs.Str.Parse.{digits_value};
 ghost use Rattle.httparse.specs.Grammar.{is_extension_byte};
 ghost use Rattle.http_wire.specs.Heads.{empty_line, length_through};
-ghost use Rattle.http_wire.specs.Judging.{longest_body, IsBounded};
+ghost use Rattle.http_wire.specs.Judging.{longest_body};
 ghost use Rattle.http_wire.specs.Chunks.{chunk_size, trailers_to, data_before, sized_chunk, chunk_at as chunk_of, chunks};
 ghost use Rattle.http_wire.specs.Bodies.{decoded, longest_reply, AreOneBody};
-ghost use Rattle.http_wire.specs.Stream.{body_front, within_longest, longest_coded};
+ghost use Rattle.http_wire.specs.Stream.{within_longest, longest_coded};
 ghost use Rattle.http_wire.specs.BodySeen.{body_seen, IsWithin, IsChunkWithin};
 
 use crate::Body;
-use crate::framing::{Framing, LONGEST_BODY};
+use crate::framing::LONGEST_BODY;
 use crate::heads::{front, length_through_mark, rest_from};
 use crate::lines::cut;
 use servient_base::put_bytes;
@@ -61,20 +61,8 @@ pub enum Chunk {
     },
 }
 
-/// The body at the front of the bytes after a head.
-pub fn body_at_front(framing: Framing, bytes: &[u8]) -> BodyScan<'_>
-    requires { IsBounded longest_body framing }
-    ensures ok { body_seen result ≡ body_front framing bytes.now }
-    ensures within { IsWithin longest_body result (length bytes.now) }
-{
-    match framing {
-        Framing::Stated(size) => Body::stated_at_front(size, bytes),
-        Framing::Chunked => chunked_at_front(bytes),
-    }
-}
-
-/// The body in chunks.
-fn chunked_at_front(bytes: &[u8]) -> BodyScan<'_>
+/// The body in chunks, at the front of the bytes after the head of a request.
+pub fn chunked_at_front(bytes: &[u8]) -> BodyScan<'_>
     ensures ok { body_seen result ≡ within_longest bytes.now (chunks longest_body 0 0 (take longest_coded bytes.now)) }
     ensures within { IsWithin longest_body result (length bytes.now) }
 {

@@ -7,11 +7,11 @@ ghost use Rattle.http_wire.specs.Stream.{IsFront, with_body, body_front, longest
 ghost use Rattle.http_wire.specs.Scanned.{front_of, TakesBetween};
 ghost use Rattle.http_wire.specs.Found.{AreHeadParts};
 
-use crate::chunks::{BodyScan, body_at_front};
+use crate::chunks::{BodyScan, chunked_at_front};
 use crate::fields::{EITHER_TYPE, format};
 use crate::framing::{Framing, framing_of, has_body};
 use crate::heads::{HeadParts, front, length_through_mark, read_head, skip_pairs};
-use crate::{Head, Scanned};
+use crate::{Body, Head, Scanned};
 
 /// The most bytes of a head.
 const LONGEST_HEAD: usize = 8192;
@@ -71,7 +71,11 @@ fn scan_body<'a>(
     ensures within { TakesBetween taken (taken + length after.now) result }
 {
     let expect = head.newer && has_body(framing) && head.fields.continues;
-    match body_at_front(framing, after) {
+    let found = match framing {
+        Framing::Stated(size) => Body::stated_at_front(size, after),
+        Framing::Chunked => chunked_at_front(after),
+    };
+    match found {
         BodyScan::Unfinished => Scanned::Short { expect },
         BodyScan::Faulty(status) => Scanned::Fault { status, expect },
         BodyScan::Whole { body, used } => Scanned::Whole {

@@ -1,4 +1,4 @@
--- What is given of a connection, by what was found at its front.
+-- The answer of `next`, by what was found at the front of a connection.
 use Rattle.std.proofs.Common.{◌≡◌, ◌≢◌, ℕ, ◌-◌, ◌<◌, ◌≤◌, ◌&&◌, Bool, true, false, List, [], ◌∷◌, length, refl, sym, ap, subst, ◌∙◌, arith, cond}
 use Rattle.std.specs.Prelude.{Option, Some, None, is_some, not, IsSome}
 use Rattle.thing_ops.specs.Requests.{PlainRequest}
@@ -114,7 +114,7 @@ open_request c h f q step parts s (Some x) at holds free front is by within =
 
 -- ---- what is given
 
--- what is held of a connection, and what is put there
+-- a connection as it was held, and as it is put back
 pub record Puts (c : ℕ) (b d : Slots) (h x : Option Held) : Type 0 where
   pub within : c < length b.places
   pub was : held_at c b ≡ h
@@ -123,7 +123,7 @@ pub record Puts (c : ℕ) (b d : Slots) (h x : Option Held) : Type 0 where
 put_is : (c : ℕ) (b d : Slots) (h x : Option Held) → Puts c b d h x → held_at c d ≡ x
 put_is c b d h x p = ap (held_at c) p.put ∙ place_after c b.places x p.within
 
--- what is put there leads on
+-- the change leads on
 put_leads : (c : ℕ) (b d : Slots) (h x : Option Held) (Does : Streams → Streams → Type 0) → Puts c b d h x →
     ((s : Streams) → HoldsIfOpen h (connection_at c s) → (y : Option Connection) × HoldsIfOpen x y × Does s (with_connection c y s)) → Leads Does b d
 put_leads c b d h x Does p one =
@@ -140,7 +140,7 @@ take_leads c b d h x Does p free one =
 open_after : (c : ℕ) (b d : Slots) (h : Option Held) (x : Held) → Puts c b d h (Some x) → IsOpen c d
 open_after c b d h x p = subst (λ (k : Option Held). IsSome k) (sym (put_is c b d h (Some x) p)) refl
 
--- what is known of a connection that is owed nothing, and of what is put there
+-- a connection that is owed nothing, and as it is put back
 pub record Frees (c : ℕ) (b d : Slots) (h x : Held) : Type 0 where
   pub puts : Puts c b d (Some h) (Some x)
   pub unowed : h.owed ≡ None
@@ -222,7 +222,7 @@ gives_up c b d h o what room given within was put owed some is lends =
 
 -- ---- what was taken
 
--- what was found at the front of a connection was taken from it
+-- taking what was found at the front of a connection
 pub record Took (c : ℕ) (b d : Slots) (what : Found) (room : List ℕ) : Type 0 where
   pub sound : IsSound b
   pub within : c < 64
@@ -232,7 +232,7 @@ pub record Took (c : ℕ) (b d : Slots) (what : Found) (room : List ℕ) : Type 
 pub both : (c : ℕ) (b d : Slots) (x : Option Held) (ws : List Wait) → d.places ≡ with_place c x b.places → d.waits ≡ ws → d ≡ record { places = with_place c x b.places; waits = ws }
 both c b d x ws places waits = λ i. record { places = places i; waits = waits i }
 
--- what was taken from the front ends no wait
+-- taking from the front ends no wait
 front_waits : (continued : Bool) (f : Front) (what : Found) (room : List ℕ) (c : ℕ) (ws : List Wait) → Fits continued f what room → waits_after what c ws ≡ ws
 front_waits continued f seen.Nothing room c ws fits = refl
 front_waits continued f seen.Interrupted room c ws fits = absurd fits
@@ -280,7 +280,7 @@ gives_by c b d (Some h) x what room given false took was put owed passes lends =
     gives_front c b d h passes.0.0 what room given
     (record { puts = puts; unowed = unowed; waits_not = unowed_waits_not c b took.sound (ap owed_in was ∙ unowed) }) passes.0.1 passes.0.2 passes.1 lends
 
--- What was taken and lent is given.
+-- `next` gives the taken message as it was lent.
 pub gives : (c : ℕ) (b d : Slots) (what : Found) (room : List ℕ) (given : HttpNext) → Took c b d what room → Lends what room given → Gives c given b d
 gives c b d what room given took lends =
     gives_by c b d (held_at c b) took.takes.0 what room given (is_some (owed_in (held_at c b))) took refl took.takes.2 refl took.takes.1 lends

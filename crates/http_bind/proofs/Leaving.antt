@@ -1,4 +1,4 @@
--- What is taken of a connection leaves less to take.
+-- Each call that takes something of a connection leaves less to take.
 use Rattle.std.proofs.Common.{◌≡◌, ℕ, ◌<◌, ◌≤◌, ◌+◌, ◌⊎◌, inl, inr, Bool, true, false, List, [], ◌∷◌, length, take, drop, refl, sym, ap, subst, ◌∙◌, arith}
 use Rattle.std.specs.Prelude.{Option, Some, None, Result, Ok, Err, is_some, IsSome, option_map, unwrap_or, not, ◌&&◌, nat_eq, nat_le, if◌then◌else◌}
 use Rattle.std.specs.List.{starts_with}
@@ -63,7 +63,7 @@ front_takes before bytes f (no_end none is) = subst TakesSome (sym is) (none_tak
 front_takes before bytes f (one_end n r some judged is) =
     subst TakesSome (sym is) (head_takes (before + n) r (drop n bytes) (omega (arith, mark_length empty_line (take longest_head bytes) n some)))
 
--- what asks is a message
+-- only a message asks
 asks_take : (t : Bool) (f : Front) (q : PlainRequest) → TakesSome f → (if t then Some wants_continue else found f) ≡ Some (asks q) → 0 < bytes_used f
 asks_take true f q some is = absurd (cc)
 asks_take false (short expect) q some is = absurd (cc)
@@ -139,7 +139,7 @@ passes_less false (Some h) (seen.Message step parts) after room p =
     subst (λ (a : Option Held). left_in a < left_in (Some h)) (sym p.2)
     (omega (arith, some, least, p.1, skipped_few h.rest, length-drop step.used (skipped h.rest)))
 
--- what was found is what was given
+-- the answer is what was found
 given_less : (what : Found) (room : List ℕ) (given : HttpNext) (before after : ℕ) → Lends what room given → FindsLess what before after → LeavesLess given before after
 given_less seen.Nothing room given before after lends less = subst (λ (g : HttpNext). LeavesLess g before after) (sym lends) tt
 given_less seen.Interrupted room given before after lends less = subst (λ (g : HttpNext). LeavesLess g before after) (sym lends) less
@@ -164,7 +164,7 @@ takes_less c b d what room given took lends =
 
 -- ---- no more is held
 
--- what was taken leaves no more bytes
+-- taking leaves no more bytes
 rest_less : (t : Bool) (old : Option Held) (what : Found) (after : Option Held) (room : List ℕ) → PassesBy t old what after room → HasRoomFor 0 old → HasRoomFor 0 after
 rest_less true None what after room p few = absurd p
 rest_less true (Some h) what after room p few = behind h.rest p
@@ -207,7 +207,7 @@ sound_without : (c : ℕ) (b d : Slots) (what : Found) (room : List ℕ) (took :
 sound_without c b d what room took few gone =
     subst IsSound (sym (both c b d took.takes.0 (other_waits c b.waits) took.takes.2 (took.waits ∙ gone))) (left_sound c took.takes.0 b took.sound few)
 
--- what always holds stays so
+-- the invariant of the connections stays
 pub sound_taking : (c : ℕ) (b d : Slots) (what : Found) (room : List ℕ) → Took c b d what room → IsSound d
 sound_taking c b d what room took = by (owed_after (is_some (owed_in (held_at c b))) (held_at c b) what took.takes.0 room refl took.takes.1) (either_waits c b.waits what)
   where

@@ -1,4 +1,4 @@
--- What is taken at a front, and the request of a whole message.
+-- The message that is taken at a front, and the request of a whole one.
 use Rattle.std.proofs.Common.{◌≡◌, ℕ, ◌&&◌, Bool, true, false, List, refl, sym, ap, subst, ◌∙◌, cond}
 use Rattle.std.specs.Prelude.{Option, Some, None, option_map, not, is_some, IsSome}
 use Rattle.thing_ops.specs.Requests.{PlainRequest}
@@ -48,12 +48,12 @@ message_step h body n q bodiless is head = record {
   closes = refl;
 }
 
--- what is there, is something
+-- an option that is there holds something
 pub something : {A : Type 0} (r : Option A) → is_some r ≡ true → (x : A) × (r ≡ Some x)
 something None is = absurd cc
 something (Some x) is = (x, refl)
 
--- what a whole message is taken for is what can be taken where it is at the front
+-- a whole message at the front can be taken for what it is taken for
 pub shows_message : (continued : Bool) (h : PlainHead) (body : List ℕ) (used : ℕ) (expect : Bool) (what : Found) (room : List ℕ) →
     to_take continued (message h body used expect) ≡ found (message h body used expect) → ShowsMessage h body used what room →
     Fits continued (message h body used expect) what room

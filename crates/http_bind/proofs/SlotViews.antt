@@ -1,4 +1,4 @@
--- What is seen of one slot, and what its methods do to that.
+-- The view of one slot, and how its methods change it.
 use Rattle.std.proofs.Common.{◌≡◌, ℕ, ◌+◌, ◌-◌, ◌≤◌, List, length, drop, sym, ap, subst, ◌∙◌, Bool, false, arith}
 use Rattle.std.specs.Prelude.{Option, Some, option_map, is_some}
 use Rattle.std.proofs.lemmas.List.{length-drop, drop-drop}
@@ -11,7 +11,7 @@ use Rattle.http_bind.specs.Slots.{Held, owed_in}
 use Rattle.http_bind.specs.Shown.{after_finding, TakesFront, Passes, PassesBy}
 use Rattle.http_bind.proofs.Skipping.{skipped_from}
 
--- where what is left begins in all bytes
+-- the place of the rest in all bytes
 pub record IsLeft (items rest : List ℕ) : Type 0 where
   pub within : length rest ≤ length items
   pub is : drop (length items - length rest) items ≡ rest
@@ -33,7 +33,7 @@ left_of items start rest within is =
     place : length rest ≤ length (drop start items) → length items - length rest ≡ start + (length (drop start items) - length rest)
     place few = omega (arith, few, length-drop start items, within)
 
--- what is at the front without the pairs was found and taken
+-- the message at the front without the pairs was found and taken
 pub front_taken : (items : List ℕ) (start place : ℕ) (rest bytes : List ℕ) (kept : Option State) (st : State) (old new : Option Held) (what : Found) (room : List ℕ) →
     option_map (held_with (drop start items)) kept ≡ old → kept ≡ Some st → rest ≡ skipped (drop start items) → drop place items ≡ rest → bytes ≡ drop place items →
     Shows st.continued bytes what room → IsWithin (length bytes) what → new ≡ option_map (after_finding what) (option_map (held_with (drop place items)) kept) →

@@ -1,4 +1,4 @@
--- What always holds of the connections stays so, by what the calls put in place of what was held of one.
+-- The invariant of the connections stays, by what the calls put in place of what was held of one.
 use Rattle.std.proofs.Common.{◌≡◌, ℕ, ◌<◌, ◌≤◌, Bool, List, [], ◌∷◌, ◌++◌, length, get_or, refl, sym, ap, subst, ◌∙◌, arith, length-append}
 use Rattle.std.specs.Prelude.{Option, Some, None, option_map, IsSome}
 use Rattle.std.proofs.lemmas.List.{get_or_read}
@@ -13,7 +13,7 @@ use Rattle.http_bind.proofs.Giving.{Took}
 use Rattle.http_bind.proofs.Sound.{left_sound, kept_sound, wait_sound, wait_fits, waiting_below}
 use Rattle.http_bind.proofs.WaitLists.{oldest_waits}
 
--- what the code found among its slots
+-- a slot as the code found it
 pub found_at : (c : ℕ) (items : List (Option Held)) (h : Option Held) → c < length items → h ≡ get_or items c h → place_at c items ≡ h
 found_at c items h within found = sym (get_or_read items c h within found None)
 
@@ -54,7 +54,7 @@ pub settled_stays : (c now : ℕ) (owed : Owed) (h g : Option Held) (items : Lis
 settled_stays c now owed h g items ws vs sound at gone settles =
     left_stays c g items ws vs sound gone (settled_room 0 now owed h g settles (subst (HasRoomFor 0) at (sound.bounded c)))
 
--- what was found at the front of a connection was taken from it
+-- taking what was found at the front of a connection
 pub took : (c : ℕ) (b : Slots) (items now_items : List (Option Held)) (ws now_ws : List Wait) (what : Found) (room : List ℕ) → record { places = items; waits = ws } ≡ b →
     IsSound (record { places = items; waits = ws }) → c < 64 → TakesAt c items what now_items room → now_ws ≡ waits_after what c ws →
     Took c b (record { places = now_items; waits = now_ws }) what room

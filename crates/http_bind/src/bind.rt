@@ -18,10 +18,10 @@ use std::alloc::Global;
 use std::marker::Model;
 use thing_ops::{NoMemory, Outcome};
 
-/// How many connections may be open.
+/// The most connections that may be open.
 const CONNECTIONS: usize = 64;
 
-/// How many bytes the query and the body of a request have together at most.
+/// The most bytes that the query and the body of a request have together.
 pub const ROOM: usize = 24576;
 
 /// The connections of an HTTP server, numbered from 0 to 63. Contracts see what is held of each, and which requests
@@ -66,8 +66,8 @@ impl HttpBind {
         })
     }
 
-    /// What always holds: of each connection no more bytes are held than may be, and each request that waits is of a
-    /// connection of its own, which is open and owed a reply. It does nothing.
+    /// Of each connection no more bytes are held than may be, and each request that waits is of a connection of its own,
+    /// which is open and owed a reply. This always holds, and the call does nothing.
     pub fn always_sound(&self)
         ensures { IsSound self.now }
     {
@@ -110,10 +110,10 @@ impl HttpBind {
         self.waits.remove(c);
     }
 
-    /// What to do next on a connection. A message is taken, also where its path is out of memory. The query and the
+    /// Says what to do next on a connection. A message is taken, also where its path is out of memory. The query and the
     /// body of a request are written into `room` and lent from there, because a caller would know nothing of `self` if
-    /// a result that owns a path were lent from it (docs/DECISIONS.md, "What the kit can't give"). What is taken leaves
-    /// less to take, so a connection is dry after finitely many calls.
+    /// a result that owns a path were lent from it (docs/DECISIONS.md, "What the kit can't give"). Each message
+    /// leaves less to take, so a connection is dry after finitely many calls.
     pub fn next<'a>(&mut self, c: ConnectionId, room: &'a mut [u8]) -> HttpNext<'a>
         requires connection { c < 64 }
         requires room { ROOM ≤ length room.old }
@@ -125,8 +125,8 @@ impl HttpBind {
         lend(found, room)
     }
 
-    /// What comes of the request that was taken last from a connection: it waits, or it is replied. The head of a reply
-    /// is in `out`; its payload is the outcome's text, or its word in `word`.
+    /// The request that was taken last from a connection waits, or it is replied to. The head of a reply is in `out`; its
+    /// payload is the outcome's text, or its word in `word`.
     pub fn answered<'a>(
         &mut self,
         c: ConnectionId,
@@ -349,7 +349,7 @@ fn take(
     found
 }
 
-/// What was found, with the query and the body of a request, which lie in `room`.
+/// Gives what was found, with the query and the body of a request, which lie in `room`.
 fn lend(found: Found, room: &[u8]) -> HttpNext<'_>
     requires { MayLend found room.now }
     ensures { Lends found room.now result }

@@ -28,7 +28,7 @@
 //! `specs/Streams.antt` says what is done with connections that have their whole streams; the code holds the rest of
 //! each stream, at most 32,768 bytes of it, and stands for them (`StandsFor` of `specs/Slots.antt`). The contract in a
 //! sentence: for all streams that it stood for before a call, it stands afterwards for some to which the relation of
-//! that call leads, and what it writes are the bytes of that relation. The law: the requests taken from a connection
+//! that call leads, and it writes the bytes of that relation. The law: the requests taken from a connection
 //! are those of its whole stream, one after another, in any pieces that it came in. All memory is taken by `new` and
 //! `new_room`, but for the paths of requests.
 #![tactic(auto)]

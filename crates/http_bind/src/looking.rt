@@ -1,4 +1,4 @@
-//! What is at the front of the bytes that are held, with the request that it asks for.
+//! The front of the bytes that are held, with the request that it asks for.
 
 ghost use Rattle.std.specs.Prelude.{◌≡◌, ◌≤◌, ◌&&◌, not, length};
 ghost use Rattle.http_wire.specs.Scanned.{front_of};
@@ -10,16 +10,16 @@ use http_wire::{Head, RequestParts, Scanned, TargetFault, request_of, scan, verb
 use std::alloc::Global;
 use thing_ops::Verb;
 
-/// What taking a message does to its connection.
+/// A step of a connection past a message.
 #[derive(Clone, Copy, Drop)]
 pub struct Step {
-    /// How many bytes the message has.
+    /// The number of bytes of the message.
     pub used: usize,
-    /// What is owed to it.
+    /// The reply that is owed to it.
     pub owed: Owed,
 }
 
-/// What is at the front of the bytes that are held.
+/// The front of the bytes that are held.
 #[derive(Drop)]
 pub enum Found {
     /// Nothing that can be taken.
@@ -34,7 +34,7 @@ pub enum Found {
     Message(Step, Option<RequestParts>),
 }
 
-/// What is at the front of these bytes, where the 100 reply was sent or wasn't. The query and the body of a request are
+/// Reads the front of these bytes, where the 100 reply was sent or wasn't. The query and the body of a request are
 /// written into `room`.
 pub fn look(alloc: Global, bytes: &[u8], continued: bool, room: &mut [u8]) -> Found
     requires { room_size ≤ length room.old }
@@ -70,7 +70,7 @@ pub fn look(alloc: Global, bytes: &[u8], continued: bool, room: &mut [u8]) -> Fo
     }
 }
 
-/// Whether the 100 reply goes out. It is a function because the prover forgets at the end of a `match` what was matched.
+/// Says whether the 100 reply goes out. It is a function because the prover forgets at the end of a `match` what was matched.
 fn wants_continue(scanned: &Scanned<'_>, continued: bool) -> bool
     ensures { result ≡ (expected (front_of scanned.now) && not continued) }
 {

@@ -1,8 +1,8 @@
-//! The answer of `next`: what to do on a connection.
+//! The answer of `next`, which says what to do on a connection.
 
 use thing_ops::Request;
 
-/// What to do next on a connection.
+/// The next thing to do on a connection.
 #[derive(Drop)]
 pub enum HttpNext<'a> {
     /// Nothing: it isn't open, its next message isn't whole, or a request waits and nothing came behind it.

@@ -1,6 +1,6 @@
 //! A reply as it is sent: its head, and its payload.
 
-/// What to send on a connection: the bytes of `head`, and after them those of `body`. While a request waits, both are
+/// The bytes to send on a connection: those of `head`, and after them those of `body`. While a request waits, both are
 /// empty.
 #[derive(Debug, Drop)]
 pub struct HttpOut<'a> {

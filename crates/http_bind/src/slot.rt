@@ -1,4 +1,4 @@
-//! What is held of one connection: the rest of its stream, and what is known of its last message.
+//! One connection as it is held: the rest of its stream, and the state of its last message.
 
 ghost use Rattle.std.specs.Prelude.{◌≡◌, ◌≤◌, length, drop, option_map, vec_capacity, IfOk, IsSome};
 
@@ -12,22 +12,22 @@ use thing_ops::NoMemory;
 /// The most bytes that are held of a connection: those of a message that isn't whole, and a piece.
 pub const LONGEST_REST: usize = 32768;
 
-/// How long a connection may be without activity before it is idle, in milliseconds.
+/// A connection is idle after so many milliseconds without activity.
 const IDLE_AFTER: u64 = 120_000;
 
-/// What is known of an open connection besides its bytes.
+/// The state of an open connection besides its bytes.
 #[derive(Clone, Copy, Drop)]
 pub struct State {
     /// The 100 reply was sent for the message at the front.
     pub continued: bool,
-    /// What is owed to the request taken last, until it is replied to.
+    /// The reply that is owed to the request taken last, until it is sent.
     pub owed: Option<Owed>,
     /// The moment of the last activity.
     pub active: u64,
 }
 
-/// What is held of a connection, if it is open. Contracts see the bytes that weren't taken and what is known besides
-/// them (`Held` of specs/Slots.antt).
+/// A connection as it is held, if it is open. Contracts see the bytes that weren't taken and the state besides them
+/// (`Held` of specs/Slots.antt).
 ///
 /// Taking a message moves no bytes: `start` is after it. The bytes in front of `start` go when more come.
 #[derive(Drop)]
@@ -124,7 +124,7 @@ impl Slot {
         }
     }
 
-    /// Whether bytes came behind a request that a reply is owed to, CR LF pairs too; then the connection is given up.
+    /// Looks for bytes behind a request that a reply is owed to, CR LF pairs too; if some came, gives the connection up.
     fn look_behind(&mut self) -> Found
         requires { IsSome (owed_in self.old) }
         ensures { LooksBehind self.old result self.new }
@@ -182,7 +182,7 @@ impl Slot {
         owed
     }
 
-    /// Whether no reply is owed, and there was no activity for so long that the connection may be closed.
+    /// Says whether no reply is owed, and there was no activity for so long that the connection may be closed.
     pub fn is_idle(&self, now: u64) -> bool
         ensures { result ≡ is_idle now self.now }
     {

@@ -5,10 +5,10 @@ use std::alloc::Global;
 use std::marker::Model;
 use thing_ops::NoMemory;
 
-/// How many requests may wait: one of each connection.
+/// The most requests that may wait: one of each connection.
 const CAPACITY: usize = 64;
 
-/// How long a request waits at most, in milliseconds.
+/// The longest time for which a request waits, in milliseconds.
 const LATE_AFTER: u64 = 60_000;
 
 /// A request that waits.
@@ -16,7 +16,7 @@ const LATE_AFTER: u64 = 60_000;
 pub struct Wait {
     /// The connection that it came on.
     pub connection: ConnectionId,
-    /// What it waits for an emission of.
+    /// The target for whose emission it waits.
     pub target: Target,
     /// When it began to wait, in milliseconds.
     pub since: u64,

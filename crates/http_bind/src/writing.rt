@@ -40,11 +40,11 @@ pub fn payload<'a>(outcome: &'a Outcome, out: &'a mut [u8; WORD_BYTES]) -> &'a [
     }
 }
 
-/// What the head of each reply says.
+/// The parts that the head of each reply has.
 #[derive(Clone, Copy, Drop)]
 struct Basics {
     status: u16,
-    /// How many bytes the payload has.
+    /// The number of bytes of the payload.
     size: usize,
     /// It is the last reply of its connection.
     close: bool,

@@ -46,7 +46,7 @@ front_of_head head after taken p framed f read by_fields is =
       is h parts ∙ ap (λ (r : Result Framing ℕ). with_head taken (with_framing h r) after) (by_fields ∙ same_fields h p parts),
     )
 
--- what is at the front by what was found after a head
+-- the front by what was found after a head
 pub short_with_body : (h : RequestHead) (p : HeadParts) (f : Framing) (taken : ℕ) (e : Bool) (b : BodyFront) → unfinished ≡ b →
     e ≡ (p.newer && has_body f && (said_in p.fields).continues) → AreHeadParts h p → short e ≡ with_body h taken (expects h f) b
 short_with_body h p f taken e b is asks parts =
@@ -99,7 +99,7 @@ message_with_body h p f taken used e close format accept body b is asks closing 
     body (taken + used) (expects_is h p f e parts asks i))
     ∙ ap (with_body h taken (expects h f)) is
 
--- what takes bytes between two numbers does so between wider ones
+-- a front that takes bytes between two numbers does so between wider ones
 pub takes_wider : (low high least most : ℕ) (s : Scanned) → least ≤ low → high ≤ most → TakesBetween low high s → TakesBetween least most s
 takes_wider low high least most (scanned.Short expect) wider higher takes = tt
 takes_wider low high least most (scanned.Whole head body used expect) wider higher takes =

@@ -18,7 +18,7 @@ use Rattle.http_wire.specs.Asked.{behind_start, lines_in}
 use Rattle.http_wire.proofs.FieldLines.{all_lines}
 use Rattle.http_wire.proofs.AskingLines.{asking_of_head}
 
--- what is said of the parts of a head at some spans
+-- the parts of a head at some spans
 pub record StandsAt (bytes : List ℕ) (headers : List HeaderSpan) (r : RequestSpans) (p : HeadParts) : Type 0 where
   pub method : p.method.now ≡ span_bytes bytes r.method
   pub target : p.target.now ≡ span_bytes bytes r.path
@@ -72,7 +72,7 @@ judged_none bytes few paired none = no_head few paired none refl
 pub same_fields : (h : RequestHead) (p : HeadParts) → AreHeadParts h p → fields_judged p.newer (said_in p.fields) ≡ fields_judged (is_newer h) (said_by (lines_of h))
 same_fields h p parts = λ i. fields_judged (parts.newer i) (parts.fields i)
 
--- ---- what a head asks for
+-- ---- the requests of a head besides its method
 
 pub expects_is : (h : RequestHead) (p : HeadParts) (f : Framing) (e : Bool) → AreHeadParts h p →
     e ≡ (p.newer && has_body f && (said_in p.fields).continues) → e ≡ expects h f

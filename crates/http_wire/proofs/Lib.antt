@@ -9,6 +9,7 @@ pub mod MoreData
 pub mod OneFront
 pub mod ReplyHeads
 pub mod ReplySteps
+pub mod ReplyLines
 pub mod OneReply
 pub mod MoreOfAStream
 pub mod FewerBytes

@@ -1,8 +1,7 @@
--- Replies and their lines as code has them.
+-- Replies as code has them.
 use Rattle.std.specs.Prelude.{ℕ, List, option_map}
 use Rattle.http_wire.specs.declared.reply.Reply.{Reply}
-use Rattle.http_wire.specs.declared.reply.Field.{Field}
-use Rattle.http_wire.specs.Writing.{PlainReply, field_line}
+use Rattle.http_wire.specs.Writing.{PlainReply}
 
 -- the reply to write
 abbrev pub plain_reply : Reply → PlainReply
@@ -15,7 +14,3 @@ plain_reply r = record {
   size = r.length;
   close = r.close;
 }
-
--- the line of a field
-abbrev pub line_of : Field → List ℕ
-line_of f = field_line f.name.now (option_map (λ t. t.now) f.value)

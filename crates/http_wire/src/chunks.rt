@@ -6,14 +6,14 @@ ghost use Rattle.std.specs.Char.{is_ascii_hexdigit, digit_value};
 ghost use Rattle.std.specs.Str.Parse.{digits_value};
 ghost use Rattle.httparse.specs.Grammar.{is_extension_byte};
 ghost use Rattle.http_wire.specs.Heads.{empty_line, length_through};
-ghost use Rattle.http_wire.specs.Judging.{longest_body, IsBounded};
+ghost use Rattle.http_wire.specs.Judging.{longest_body};
 ghost use Rattle.http_wire.specs.Chunks.{chunk_size, trailers_to, data_before, sized_chunk, chunk_at as chunk_of, chunks};
 ghost use Rattle.http_wire.specs.Bodies.{decoded, longest_reply, AreOneBody};
-ghost use Rattle.http_wire.specs.Stream.{body_front, stated_body, within_longest, longest_coded};
+ghost use Rattle.http_wire.specs.Stream.{within_longest, longest_coded};
 ghost use Rattle.http_wire.specs.BodySeen.{body_seen, IsWithin, IsChunkWithin};
 
 use crate::Body;
-use crate::framing::{Framing, LONGEST_BODY};
+use crate::framing::LONGEST_BODY;
 use crate::heads::{front, length_through_mark, rest_from};
 use crate::lines::cut;
 use servient_base::put_bytes;
@@ -27,7 +27,7 @@ pub const LONGEST_REPLY: usize = 65536;
 /// The most bytes of a chunk line, with its CR LF.
 const LONGEST_LINE: usize = 64;
 
-/// What is at the front of the bytes after a head.
+/// The front of the bytes after a head.
 #[derive(Drop)]
 pub enum BodyScan<'a> {
     /// The body isn't whole yet.
@@ -38,12 +38,12 @@ pub enum BodyScan<'a> {
     Whole {
         /// The body.
         body: Body<'a>,
-        /// How many bytes it takes.
+        /// The number of bytes that it takes.
         used: usize,
     },
 }
 
-/// What is at the front of bytes where a chunk begins.
+/// The front of bytes at which a chunk begins.
 #[derive(Clone, Copy, Drop)]
 pub enum Chunk {
     /// It isn't whole yet.
@@ -54,42 +54,15 @@ pub enum Chunk {
     Last(usize),
     /// It has data.
     More {
-        /// Where its data begins.
+        /// The place at which its data begins.
         place: usize,
-        /// How many bytes of data it has.
+        /// The number of its bytes of data.
         size: usize,
     },
 }
 
-/// The body at the front of the bytes after a head.
-pub fn body_at_front(framing: Framing, bytes: &[u8]) -> BodyScan<'_>
-    requires { IsBounded longest_body framing }
-    ensures ok { body_seen result ≡ body_front framing bytes.now }
-    ensures within { IsWithin longest_body result (length bytes.now) }
-{
-    match framing {
-        Framing::Stated(size) => stated_at_front(size, bytes),
-        Framing::Chunked => chunked_at_front(bytes),
-    }
-}
-
-/// The body of a stated length.
-pub fn stated_at_front(size: usize, bytes: &[u8]) -> BodyScan<'_>
-    ensures ok { body_seen result ≡ stated_body size bytes.now }
-    ensures within { IsWithin size result (length bytes.now) }
-{
-    if size <= bytes.len() {
-        BodyScan::Whole {
-            body: Body::stated(&bytes[..size]),
-            used: size,
-        }
-    } else {
-        BodyScan::Unfinished
-    }
-}
-
-/// The body in chunks.
-fn chunked_at_front(bytes: &[u8]) -> BodyScan<'_>
+/// The body in chunks, at the front of the bytes after the head of a request.
+pub fn chunked_at_front(bytes: &[u8]) -> BodyScan<'_>
     ensures ok { body_seen result ≡ within_longest bytes.now (chunks longest_body 0 0 (take longest_coded bytes.now)) }
     ensures within { IsWithin longest_body result (length bytes.now) }
 {
@@ -213,14 +186,14 @@ fn size_of(line: &[u8]) -> Option<usize>
     }
 }
 
-/// Whether no byte is a CR or an LF.
+/// Says whether no byte is a CR or an LF.
 fn is_extension(bytes: &[u8]) -> bool
     ensures { result ≡ list_all is_extension_byte bytes.now }
 {
     bytes.iter().all(|byte| !(*byte == b'\r' || *byte == b'\n'))
 }
 
-/// Whether all bytes are hexadecimal digits.
+/// Says whether all bytes are hexadecimal digits.
 fn are_digits(bytes: &[u8]) -> bool
     ensures { result ≡ list_all is_ascii_hexdigit bytes.now }
 {

@@ -1,17 +1,17 @@
-//! What the header lines of a head say, read in one pass over them.
+//! The fields of a head, read in one pass over its header lines.
 
 ghost use Rattle.std.specs.Prelude.{◌≡◌, ◌||◌, [], map, length, true, false, None};
 ghost use Rattle.std.specs.List.{All};
 ghost use Rattle.std.specs.Str.{str_eq_ignore_ascii_case};
 ghost use Rattle.httparse.specs.Spans.{IsHeaderWithin, header_bytes};
 ghost use Rattle.http_wire.specs.Fields.{trimmed, has_item, media_type, format_of_type, is_close, takes_each, takes_json as is_json, takes_td as is_td, format_of, said_by};
-ghost use Rattle.http_wire.specs.Found.{standing_of, said_in, more_if, types_in, both_taken, taken_if, with_line, with_lines};
+ghost use Rattle.http_wire.specs.Found.{standing_of, said_in, more_if, types_in, both_taken, with_line, with_lines};
 
 use crate::lines::{cut, cut_at_each};
 use httparse::spans::HeaderSpan;
 use thing_ops::{Accept, Format};
 
-/// How often a field comes that may come once, with its value.
+/// A field that may come once: absent, with its value, or too often.
 #[derive(Clone, Copy, Drop)]
 pub enum Found<'a> {
     /// There is no such line.
@@ -22,7 +22,7 @@ pub enum Found<'a> {
     Often,
 }
 
-/// What the header lines say.
+/// The fields that the header lines have, as far as they are read.
 #[derive(Clone, Copy, Drop)]
 pub struct Fields<'a> {
     /// `Host`.
@@ -37,19 +37,19 @@ pub struct Fields<'a> {
     pub continues: bool,
     /// A `Connection` has the option `close`.
     pub closes: bool,
-    /// What the lines with `Accept` take, if there are any.
+    /// The types that the lines with `Accept` take, if there are any.
     pub accept: Option<Accept>,
     /// A line asks for a version: it is `If-Match` or `If-None-Match`.
     pub conditional: bool,
 }
 
-/// What is taken in the reply where no line says it.
+/// The types that are taken in the reply where no line says it.
 pub const EITHER_TYPE: Accept = Accept {
     json: true,
     td: true,
 };
 
-/// What no lines say.
+/// The fields of no header lines.
 const NOTHING: Fields<'static> = Fields {
     host: Found::Absent,
     content_length: Found::Absent,
@@ -61,7 +61,7 @@ const NOTHING: Fields<'static> = Fields {
     conditional: false,
 };
 
-/// What the header lines of a head say that are there.
+/// Reads the header lines of a head that are at these spans.
 pub fn fields_in<'a>(head: &'a [u8], headers: &[HeaderSpan]) -> Fields<'a>
     requires { All (IsHeaderWithin (length head.now)) headers.now }
     ensures { said_in result ≡ with_lines (said_by []) (map (header_bytes head.now) headers.now) }
@@ -89,13 +89,15 @@ fn note<'a>(fields: &mut Fields<'a>, name: &[u8], value: &'a [u8])
         value,
     );
     fields.content_type = more(fields.content_type, is_alike(name, b"content-type"), value);
-    fields.accept = more_taken(fields.accept, is_alike(name, b"accept"), value);
+    if is_alike(name, b"accept") {
+        fields.accept = Some(taken_with(fields.accept, types_of(value)));
+    }
     fields.continues |= is_alike(name, b"expect") && is_alike(value, b"100-continue");
     fields.closes |= is_alike(name, b"connection") && lists_close(value);
     fields.conditional |= is_alike(name, b"if-match") || is_alike(name, b"if-none-match");
 }
 
-/// How often a field comes, where a further line has its name or hasn't.
+/// The field after a further line, which has its name or hasn't.
 fn more<'a>(before: Found<'a>, is_named: bool, value: &'a [u8]) -> Found<'a>
     ensures { standing_of result ≡ more_if is_named value.now (standing_of before.entry) }
 {
@@ -108,18 +110,7 @@ fn more<'a>(before: Found<'a>, is_named: bool, value: &'a [u8]) -> Found<'a>
     }
 }
 
-/// What is taken, where a further line is `Accept` or isn't.
-fn more_taken(before: Option<Accept>, is_named: bool, value: &[u8]) -> Option<Accept>
-    ensures { result ≡ taken_if is_named value.now before }
-{
-    if is_named {
-        Some(taken_with(before, types_of(value)))
-    } else {
-        before
-    }
-}
-
-/// What one takes or the other.
+/// The types that one takes or the other.
 fn taken_with(before: Option<Accept>, more: Accept) -> Accept
     ensures { result ≡ both_taken before more }
 {
@@ -132,7 +123,7 @@ fn taken_with(before: Option<Accept>, more: Accept) -> Accept
     }
 }
 
-/// Whether two names differ in nothing but the case of their letters.
+/// Says whether two names differ in nothing but the case of their letters.
 pub fn is_alike(one: &[u8], other: &[u8]) -> bool
     ensures { result ≡ str_eq_ignore_ascii_case one.now other.now }
 {
@@ -146,7 +137,7 @@ pub fn trim(bytes: &[u8]) -> &[u8]
     bytes.trim_ascii()
 }
 
-/// Whether a list with commas has the connection option `close`.
+/// Says whether a list with commas has the connection option `close`.
 fn lists_close(value: &[u8]) -> bool
     ensures { result ≡ has_item is_close value.now }
 {
@@ -171,7 +162,7 @@ fn types_of(value: &[u8]) -> Accept
     Accept { json, td }
 }
 
-/// Whether a media range takes `application/json`.
+/// Says whether a media range takes `application/json`.
 fn takes_json(item: &[u8]) -> bool
     ensures { result ≡ is_json item.now }
 {
@@ -179,7 +170,7 @@ fn takes_json(item: &[u8]) -> bool
     takes_all(range) || is_alike(range, b"application/json")
 }
 
-/// Whether a media range takes `application/td+json`.
+/// Says whether a media range takes `application/td+json`.
 fn takes_td(item: &[u8]) -> bool
     ensures { result ≡ is_td item.now }
 {
@@ -187,7 +178,7 @@ fn takes_td(item: &[u8]) -> bool
     takes_all(range) || is_alike(range, b"application/td+json")
 }
 
-/// Whether a media range takes each type of `application`.
+/// Says whether a media range takes each type of `application`.
 fn takes_all(range: &[u8]) -> bool
     ensures { result ≡ takes_each range.now }
 {

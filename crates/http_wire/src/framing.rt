@@ -1,4 +1,4 @@
-//! How the end of the body after a head is found, and which fields a head must have.
+//! The framing of the body after a head, and the fields that a head must have.
 
 ghost use Rattle.std.specs.Prelude.{◌≡◌, ◌≤◌, ◌+◌, ◌*◌, true, ℕ, min, length, Ok, Err, IfOk};
 ghost use Rattle.std.specs.List.{list_all};
@@ -14,7 +14,7 @@ use crate::heads::HeadParts;
 /// The most bytes that a body has when it is decoded.
 pub const LONGEST_BODY: usize = 16384;
 
-/// How long a body is (RFC 9112, section 6).
+/// The framing of a body, from which its end is found (RFC 9112, section 6).
 #[derive(Clone, Copy, Debug, PartialEq, Eq, Drop)]
 pub enum Framing {
     /// It has this many bytes.
@@ -100,14 +100,14 @@ fn stated(most: usize, value: &[u8]) -> Result<Framing, u16>
     }
 }
 
-/// Whether a value is a decimal digit or more.
+/// Says whether a value is a decimal digit or more.
 fn is_number(value: &[u8]) -> bool
     ensures { result ≡ is_length value.now }
 {
     !value.is_empty() && are_digits(value)
 }
 
-/// Whether all bytes are decimal digits.
+/// Says whether all bytes are decimal digits.
 fn are_digits(bytes: &[u8]) -> bool
     ensures { result ≡ list_all is_ascii_digit bytes.now }
 {
@@ -147,7 +147,7 @@ fn digit(byte: u8) -> usize
     usize::from(byte - b'0')
 }
 
-/// Whether a body is to come.
+/// Says whether a body is to come.
 pub fn has_body(framing: Framing) -> bool
     ensures { result ≡ brings_body framing }
 {

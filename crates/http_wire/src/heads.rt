@@ -1,4 +1,4 @@
-//! Where a head ends, and whether it is one.
+//! Heads of requests: their end, their line ends and their parts.
 
 ghost use Rattle.std.specs.Prelude.{◌≡◌, ◌≤◌, ◌<◌, ◌+◌, ◌==◌, length, take, drop, IfSome, IfOk, Some};
 ghost use Rattle.http_wire.specs.Heads.{skipped, length_through, line_feeds, are_paired};
@@ -49,7 +49,7 @@ pub fn rest_from(bytes: &[u8], place: usize) -> &[u8]
     &bytes[place..]
 }
 
-/// How many bytes there are up to the first mark, the mark among them.
+/// The number of bytes up to the first mark, the mark among them.
 pub fn length_through_mark(mark: &[u8], bytes: &[u8]) -> Option<usize>
     requires { 0 < length mark.now }
     ensures ok { result ≡ length_through mark.now bytes.now }
@@ -62,7 +62,7 @@ pub fn length_through_mark(mark: &[u8], bytes: &[u8]) -> Option<usize>
     }
 }
 
-/// How many line feeds there are.
+/// Counts the line feeds.
 pub fn count_line_feeds(bytes: &[u8]) -> usize
     ensures ok { result ≡ line_feeds bytes.now }
 {
@@ -75,7 +75,7 @@ pub fn count_line_feeds(bytes: &[u8]) -> usize
     count
 }
 
-/// Whether each carriage return and each line feed is part of a CR LF.
+/// Says whether each carriage return and each line feed is part of a CR LF.
 pub fn has_pairs_alone(bytes: &[u8]) -> bool
     ensures { result ≡ are_paired 0 bytes.now }
 {
@@ -88,7 +88,7 @@ pub fn has_pairs_alone(bytes: &[u8]) -> bool
     paired && before != b'\r'
 }
 
-/// What a head says.
+/// The parts of a head.
 #[derive(Clone, Copy, Drop)]
 pub struct HeadParts<'a> {
     /// The method.
@@ -97,13 +97,13 @@ pub struct HeadParts<'a> {
     pub target: &'a [u8],
     /// The version is HTTP/1.1.
     pub newer: bool,
-    /// What the header lines say.
+    /// The fields that its header lines have.
     pub fields: Fields<'a>,
     /// The header lines, with the empty line that ends them.
     pub lines: &'a [u8],
 }
 
-/// What a head says; or the status of what is wrong, where there are too many header lines, a CR or LF isn't part of a
+/// The parts of a head; or the status of its fault, where there are too many header lines, a CR or LF isn't part of a
 /// CR LF, or the bytes aren't exactly one head.
 #[tactic(auto, using(crate::proofs::HeadParts::judged_many, crate::proofs::HeadParts::judged_bare, crate::proofs::HeadParts::judged_none))]
 pub fn read_head(head: &[u8]) -> Result<HeadParts<'_>, u16>

@@ -35,7 +35,7 @@ pub fn tags_are_read_again()
     ensures { TagsAreReadAgain }
 {}
 
-/// What a head asks of a version by the lines that are kept of it, is what all its header lines ask.
+/// The lines that are kept of a head ask the same of a version as all its header lines.
 pub fn no_other_line_asks()
     ensures { NoOtherLineAsks }
 {}

@@ -31,8 +31,8 @@
 //! `Head::conditions` what `conditions_of` of `specs/Conditions.antt` says of its lines, and `put_reply` writes exactly
 //! `http_reply` of `specs/Writing.antt`. The laws: bytes have one front at most, of requests and of replies, and one that
 //! is a whole message or a fault of a request stays the same when more comes after it; a body in chunks is read exactly
-//! where one is spelled by the grammar of `specs/Chunked.antt`; an entity tag that is written is read again. What a head
-//! is and what its lines are, the grammar of `httparse` says. Memory is taken for paths and for the versions that a
+//! where one is spelled by the grammar of `specs/Chunked.antt`; an entity tag that is written is read again. The grammar of
+//! `httparse` says what a head is and what its lines are. Memory is taken for paths and for the versions that a
 //! request names.
 #![tactic(auto)]
 

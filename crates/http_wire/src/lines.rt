@@ -6,7 +6,7 @@ ghost use Rattle.http_wire.specs.Pieces.{pieces_left};
 
 use memchr::memchr;
 
-/// What is before the first such byte, and what is after it; where there is none, all bytes and none.
+/// The bytes before the first such byte, and those after it; where there is none, all bytes and none.
 pub fn cut(byte: u8, bytes: &[u8]) -> (&[u8], &[u8])
     ensures before { result.0.now ≡ before_first (λ b. b == byte) bytes.now }
     ensures after { result.1.now ≡ after_first (λ b. b == byte) bytes.now }

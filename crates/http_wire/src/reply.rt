@@ -1,12 +1,11 @@
 //! The head of a reply, written into a caller's slice.
 
 ghost use Rattle.std.specs.Prelude.{◌≡◌, ◌≤◌, ◌↔◌, length, option_map, IsSome, IsTrue};
-ghost use Rattle.std.specs.List.{flat_map};
 ghost use Rattle.std.specs.Fmt.{decimal};
 ghost use Rattle.servient_base.specs.Writing.{PutsIfRoom};
 ghost use Rattle.http_wire.specs.Conditions.{entity_tag};
-ghost use Rattle.http_wire.specs.Writing.{http_reply, phrase_of, closing, written_length};
-ghost use Rattle.http_wire.specs.Replies.{plain_reply, line_of};
+ghost use Rattle.http_wire.specs.Writing.{http_reply, phrase_of, field_line, written_length};
+ghost use Rattle.http_wire.specs.Replies.{plain_reply};
 
 use itoa::Buffer;
 use servient_base::{put_bytes, put_piece};
@@ -14,7 +13,7 @@ use servient_base::{put_bytes, put_piece};
 /// The most bytes of the entity tag of a version: ten digits and two quotes.
 const LONGEST_TAG: usize = 12;
 
-/// What a reply says before its payload.
+/// A reply but for its payload.
 #[derive(Clone, Copy, Debug, Drop)]
 pub struct Reply<'a> {
     /// The status, one of those that have a reason.
@@ -27,19 +26,10 @@ pub struct Reply<'a> {
     pub location: Option<&'a [u8]>,
     /// The verbs that are taken.
     pub allow: Option<&'a str>,
-    /// How many bytes the payload has. It isn't written in 100, 204 and 304.
+    /// The number of bytes of the payload. It isn't written in 100, 204 and 304.
     pub length: Option<usize>,
     /// The connection is closed after the reply.
     pub close: bool,
-}
-
-/// A field, and its value if it is written. The status line is written as one, too.
-#[derive(Clone, Copy, Drop)]
-pub struct Field<'a> {
-    /// The name, with a colon and a space.
-    pub name: &'a [u8],
-    /// The value.
-    pub value: Option<&'a [u8]>,
 }
 
 /// Writes the head of a reply to the beginning of `out`, and returns its length; there is no answer where it is longer
@@ -50,41 +40,20 @@ pub fn put_reply(reply: &Reply<'_>, out: &mut [u8]) -> Option<usize>
 {
     let mut digits = Buffer::new();
     let mut tag = [0; LONGEST_TAG];
-    let lines = [
-        Field {
-            name: b"HTTP/1.1 ",
-            value: phrase(reply.status),
-        },
-        Field {
-            name: b"Content-Type: ",
-            value: bytes_of(reply.content_type),
-        },
-        Field {
-            name: b"ETag: ",
-            value: tag_of(reply.etag, &mut tag),
-        },
-        Field {
-            name: b"Location: ",
-            value: reply.location,
-        },
-        Field {
-            name: b"Allow: ",
-            value: bytes_of(reply.allow),
-        },
-        Field {
-            name: b"Content-Length: ",
-            value: length_of(reply, &mut digits),
-        },
-        Field {
-            name: b"Connection: ",
-            value: closing_value(reply.close),
-        },
-    ];
-    let at = put_fields(&lines, out, 0)?;
-    put_piece(out, at, b"\r\n")
+    let at = put_line(out, 0, b"HTTP/1.1 ", phrase(reply.status))?;
+    let at = put_line(out, at, b"Content-Type: ", bytes_of(reply.content_type))?;
+    let at = put_line(out, at, b"ETag: ", tag_of(reply.etag, &mut tag))?;
+    let at = put_line(out, at, b"Location: ", reply.location)?;
+    let at = put_line(out, at, b"Allow: ", bytes_of(reply.allow))?;
+    let at = put_line(out, at, b"Content-Length: ", length_of(reply, &mut digits))?;
+    if reply.close {
+        put_piece(out, at, b"Connection: close\r\n\r\n")
+    } else {
+        put_piece(out, at, b"\r\n")
+    }
 }
 
-/// Whether a status has a reason, so that its reply can be written: the test for callers whose
+/// Says whether a status has a reason, so that its reply can be written: the test for callers whose
 /// status comes from elsewhere.
 pub fn has_reason(status: u16) -> bool
     ensures { IsTrue result ↔ IsSome (phrase_of status) }
@@ -92,39 +61,23 @@ pub fn has_reason(status: u16) -> bool
     phrase(status).is_some()
 }
 
-/// Writes the lines of fields.
-fn put_fields(fields: &[Field<'_>], out: &mut [u8], at: usize) -> Option<usize>
+/// Writes the line of a field, if it has a value. The name has a colon and a space; the status line is written as such a
+/// line, too.
+fn put_line(out: &mut [u8], at: usize, name: &[u8], value: Option<&[u8]>) -> Option<usize>
     requires { at ≤ length out.old }
-    ensures { PutsIfRoom (flat_map line_of fields.now) at out.old out.new result }
+    ensures { PutsIfRoom (field_line name.now (option_map (λ t. t.now) value.entry)) at out.old out.new result }
 {
-    let mut end = at;
-    for field in fields {
-        match put_field(field, out, end) {
-            Some(next) => end = next,
-            None => return None,
-        }
-    }
-    Some(end)
-}
-
-/// Writes the line of a field, if it has a value.
-fn put_field(field: &Field<'_>, out: &mut [u8], at: usize) -> Option<usize>
-    requires { at ≤ length out.old }
-    ensures { PutsIfRoom (line_of field.now) at out.old out.new result }
-{
-    match field.value {
+    match value {
         None => Some(at),
         Some(value) => {
-            let at = put_piece(out, at, field.name)?;
+            let at = put_piece(out, at, name)?;
             let at = put_piece(out, at, value)?;
             put_piece(out, at, b"\r\n")
         }
     }
 }
 
-// The next two are functions because the prover doesn't follow what `map` and `then_some` give into an array.
-
-/// The bytes of a text, if there is one.
+/// The bytes of a text, if there is one. It is a function because the prover doesn't follow what `map` gives.
 fn bytes_of(text: Option<&str>) -> Option<&[u8]>
     ensures { option_map (λ t. t.now) result ≡ option_map (λ t. t.now) text.entry }
 {
@@ -132,13 +85,6 @@ fn bytes_of(text: Option<&str>) -> Option<&[u8]>
         Some(text) => Some(text.as_bytes()),
         None => None,
     }
-}
-
-/// The value of `Connection`.
-fn closing_value(close: bool) -> Option<&'static [u8]>
-    ensures { option_map (λ t. t.now) result ≡ closing close }
-{
-    if close { Some(b"close") } else { None }
 }
 
 /// The entity tag of a version, if there is one. It is written into `room`.

@@ -1,4 +1,4 @@
-//! `scan_reply`: what is at the front of a stream of replies.
+//! `scan_reply` reads the front of a stream of replies.
 
 ghost use Rattle.std.specs.Prelude.{◌≡◌, ◌≤◌, ◌<◌, ◌+◌, ◌^◌, length, Some};
 ghost use Rattle.http_wire.specs.BodySeen.{body_seen, TakesAtMost};
@@ -7,12 +7,12 @@ ghost use Rattle.http_wire.specs.ReplyFronts.{IsReply, IsReplyAfter, reply_body,
 ghost use Rattle.http_wire.specs.ReplySeen.{IsReplyStep};
 
 use crate::Body;
-use crate::chunks::{BodyScan, LONGEST_REPLY, chunks_at_front, stated_at_front};
+use crate::chunks::{BodyScan, LONGEST_REPLY, chunks_at_front};
 use crate::framing::Framing;
 use crate::heads::{front, length_through_mark, rest_from};
 use crate::reply_heads::{ReplyHead, is_interim, judge_reply};
 
-/// What is scanned of a stream of replies.
+/// The outcome of scanning a stream of replies.
 #[derive(Drop)]
 pub enum ReplyScan<'a> {
     /// The reply isn't whole yet.
@@ -30,7 +30,7 @@ pub enum ReplyScan<'a> {
     TooLong,
 }
 
-/// What is at the front of the first bytes of a stream.
+/// The front of the first bytes of a stream.
 #[derive(Drop)]
 pub enum ReplyFront<'a> {
     /// The reply isn't whole.
@@ -43,12 +43,12 @@ pub enum ReplyFront<'a> {
         status: u16,
         /// Its body.
         body: Body<'a>,
-        /// How many bytes there are up to its end.
+        /// The number of bytes up to its end.
         used: usize,
     },
 }
 
-/// What comes of a head.
+/// The outcome of reading a head.
 #[derive(Drop)]
 pub enum ReplyStep<'a> {
     /// The front.
@@ -57,7 +57,7 @@ pub enum ReplyStep<'a> {
     Skipped(usize),
 }
 
-/// What is at the front of a stream of replies, of which these bytes have come, and no more come where it ended. Heads
+/// Reads the front of a stream of replies, of which these bytes have come; no more come where it ended. Heads
 /// of interim replies (RFC 9110, section 15.2) are skipped. A reply has at most 65,536 bytes with these heads. It takes
 /// no memory.
 pub fn scan_reply(bytes: &[u8], ended: bool) -> ReplyScan<'_>
@@ -67,7 +67,7 @@ pub fn scan_reply(bytes: &[u8], ended: bool) -> ReplyScan<'_>
     scanned(bytes.len(), found)
 }
 
-/// What is scanned of so many bytes whose first ones have this front.
+/// The outcome of scanning so many bytes whose first ones have this front.
 fn scanned(size: usize, found: ReplyFront<'_>) -> ReplyScan<'_>
     ensures { result ≡ scanned_of size found.entry }
 {
@@ -91,7 +91,7 @@ fn scanned(size: usize, found: ReplyFront<'_>) -> ReplyScan<'_>
     }
 }
 
-/// What is at the front of the first bytes of a stream.
+/// Reads the front of the first bytes of a stream.
 fn reply_in(bytes: &[u8], ended: bool) -> ReplyFront<'_>
     ensures { IsReplyAfter ended result 0 bytes.now }
 {
@@ -104,7 +104,7 @@ fn reply_in(bytes: &[u8], ended: bool) -> ReplyFront<'_>
     }
 }
 
-/// What comes of the head at the front of bytes, after so many of the stream.
+/// Reads the head at the front of bytes, after so many of the stream.
 fn head_at(bytes: &[u8], before: usize, ended: bool) -> ReplyStep<'_>
     requires { before + length bytes.now < 2 ^ 64 }
     ensures { IsReplyStep ended before bytes.now result }
@@ -115,7 +115,7 @@ fn head_at(bytes: &[u8], before: usize, ended: bool) -> ReplyStep<'_>
     }
 }
 
-/// What comes of the head that has this many bytes.
+/// Reads the head that has this many bytes.
 #[tactic(auto, using(crate::proofs::ReplySteps::wrong_step, crate::proofs::ReplySteps::interim_step, crate::proofs::ReplySteps::final_step))]
 fn head_through(bytes: &[u8], before: usize, end: usize, ended: bool) -> ReplyStep<'_>
     requires found { length_through empty_line bytes.now ≡ Some end }
@@ -159,7 +159,7 @@ fn body_of(framing: Option<Framing>, bytes: &[u8], ended: bool) -> BodyScan<'_>
 {
     match framing {
         None => rest_of(bytes, ended),
-        Some(Framing::Stated(size)) => stated_at_front(size, bytes),
+        Some(Framing::Stated(size)) => Body::stated_at_front(size, bytes),
         Some(Framing::Chunked) => chunks_at_front(LONGEST_REPLY, bytes),
     }
 }
@@ -170,10 +170,7 @@ fn rest_of(bytes: &[u8], ended: bool) -> BodyScan<'_>
     ensures within { TakesAtMost result (length bytes.now) }
 {
     if ended {
-        BodyScan::Whole {
-            body: Body::stated(bytes),
-            used: bytes.len(),
-        }
+        Body::stated_at_front(bytes.len(), bytes)
     } else {
         BodyScan::Unfinished
     }

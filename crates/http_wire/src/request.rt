@@ -1,4 +1,4 @@
-//! What the message of a request asks for (RFC 9110, sections 7.1 and 9; RFC 9112, section 3).
+//! The request that a message asks for (RFC 9110, sections 7.1 and 9; RFC 9112, section 3).
 
 ghost use Rattle.std.specs.Prelude.{◌≡◌, ◌≤◌, ◌+◌, ◌⊎◌, length, None, IfOk, IfErr, IsSome};
 ghost use Rattle.http_wire.specs.Judging.{longest_body};
@@ -19,15 +19,15 @@ pub struct RequestParts {
     pub verb: Verb,
     /// Its path.
     pub path: Segments,
-    /// What its sender takes.
+    /// The types that its sender takes.
     pub accept: Accept,
     /// The format of its body.
     pub format: Format,
-    /// What it asks of the version of a property.
+    /// The conditions that it makes on the version of a property.
     pub conditions: Conditions,
-    /// How many bytes its query has.
+    /// The number of bytes of its query.
     pub query_length: usize,
-    /// How many bytes its body has.
+    /// The number of bytes of its body.
     pub body_length: usize,
 }
 

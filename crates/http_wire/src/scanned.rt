@@ -2,12 +2,14 @@
 
 ghost use Rattle.std.specs.Prelude.{◌≡◌, true, length};
 ghost use Rattle.http_wire.specs.Bodies.{decoded, AreOneBody};
+ghost use Rattle.http_wire.specs.BodySeen.{body_seen, IsWithin};
+ghost use Rattle.http_wire.specs.Stream.{stated_body};
 
-use crate::chunks::copy_chunks;
+use crate::chunks::{BodyScan, copy_chunks};
 use std::marker::Model;
 use thing_ops::{Accept, Format};
 
-/// What is at the front of a stream of requests.
+/// The front of a stream of requests.
 #[derive(Drop)]
 pub enum Scanned<'a> {
     /// A message that isn't whole yet.
@@ -21,7 +23,7 @@ pub enum Scanned<'a> {
         head: Head<'a>,
         /// Its body.
         body: Body<'a>,
-        /// How many bytes of the stream it takes, with the CR LF pairs in front of it.
+        /// The number of bytes of the stream that it takes, with the CR LF pairs in front of it.
         used: usize,
         /// A 100 reply is asked for.
         expect: bool,
@@ -75,15 +77,22 @@ impl<'a> Model for Body<'a> {
 }
 
 impl<'a> Body<'a> {
-    /// The body that these bytes are as they come.
-    pub(crate) fn stated(bytes: &'a [u8]) -> Body<'a>
-        ensures ok { result ≡ bytes.now }
-        ensures size { length result ≡ length bytes.now }
+    /// The body of a stated length, at the front of the bytes after a head. It is decoded as it comes.
+    pub(crate) fn stated_at_front(size: usize, bytes: &'a [u8]) -> BodyScan<'a>
+        ensures ok { body_seen result ≡ stated_body size bytes.now }
+        ensures within { IsWithin size result (length bytes.now) }
     {
-        Body {
-            coded: bytes,
-            chunked: false,
-            decoded_length: bytes.len(),
+        if size <= bytes.len() {
+            BodyScan::Whole {
+                body: Body {
+                    coded: &bytes[..size],
+                    chunked: false,
+                    decoded_length: size,
+                },
+                used: size,
+            }
+        } else {
+            BodyScan::Unfinished
         }
     }
 
@@ -100,7 +109,7 @@ impl<'a> Body<'a> {
         }
     }
 
-    /// How many bytes it has when it is decoded.
+    /// The number of bytes that it has when it is decoded.
     pub fn length(&self) -> usize
         ensures { result ≡ length self.now }
     {

@@ -1,4 +1,4 @@
-//! `scan`: what is at the front of a stream.
+//! `scan` reads the front of a stream.
 
 ghost use Rattle.std.specs.Prelude.{◌≡◌, ◌≤◌, ◌<◌, ◌+◌, ◌^◌, length};
 ghost use Rattle.httparse.specs.Grammar.{RequestHead};
@@ -7,16 +7,16 @@ ghost use Rattle.http_wire.specs.Stream.{IsFront, with_body, body_front, longest
 ghost use Rattle.http_wire.specs.Scanned.{front_of, TakesBetween};
 ghost use Rattle.http_wire.specs.Found.{AreHeadParts};
 
-use crate::chunks::{BodyScan, body_at_front};
+use crate::chunks::{BodyScan, chunked_at_front};
 use crate::fields::{EITHER_TYPE, format};
 use crate::framing::{Framing, framing_of, has_body};
 use crate::heads::{HeadParts, front, length_through_mark, read_head, skip_pairs};
-use crate::{Head, Scanned};
+use crate::{Body, Head, Scanned};
 
 /// The most bytes of a head.
 const LONGEST_HEAD: usize = 8192;
 
-/// What is at the front of a stream of which these bytes have come. It takes no memory.
+/// Reads the front of a stream of which these bytes have come. It takes no memory.
 pub fn scan(bytes: &[u8]) -> Scanned<'_>
     ensures ok { IsFront bytes.now (front_of result) }
 
@@ -55,7 +55,7 @@ pub fn scan(bytes: &[u8]) -> Scanned<'_>
     }
 }
 
-/// What is at the front where a head without fault is followed by its body.
+/// The front where a head without fault is followed by its body.
 #[tactic(auto, using(crate::proofs::Fronts::short_with_body, crate::proofs::Fronts::fault_with_body, crate::proofs::Fronts::message_with_body))]
 fn scan_body<'a>(
     head: &HeadParts<'a>,
@@ -71,7 +71,11 @@ fn scan_body<'a>(
     ensures within { TakesBetween taken (taken + length after.now) result }
 {
     let expect = head.newer && has_body(framing) && head.fields.continues;
-    match body_at_front(framing, after) {
+    let found = match framing {
+        Framing::Stated(size) => Body::stated_at_front(size, after),
+        Framing::Chunked => chunked_at_front(after),
+    };
+    match found {
         BodyScan::Unfinished => Scanned::Short { expect },
         BodyScan::Faulty(status) => Scanned::Fault { status, expect },
         BodyScan::Whole { body, used } => Scanned::Whole {

@@ -11,7 +11,7 @@ use std::alloc::{AllocError, Global};
 use thing_ops::{NoMemory, Segments};
 use thiserror::Error;
 
-/// Why the path of a target isn't read.
+/// The reason for which the path of a target isn't read.
 #[derive(Clone, Copy, Debug, PartialEq, Eq, Drop, Error)]
 pub enum TargetFault {
     /// The target has neither the origin form nor `http://` with an authority and a path.
@@ -50,7 +50,7 @@ pub fn segments(alloc: Global, target: &[u8]) -> Result<(Segments, usize), Targe
     }
 }
 
-/// The path in what comes before a query.
+/// The path in what comes before a query. It is a function because the prover forgets at a join which form was found.
 fn path(before: &[u8]) -> Option<&[u8]>
     ensures ok { option_map (λ p. p.now) result ≡ path_in before.now }
     ensures begins { IfSome result (λ p. 0 < length p.now) }

@@ -1,4 +1,4 @@
--- What is retained is what lives.
+-- The list retains the exchanges that live.
 use Rattle.std.proofs.Common.{rules}
 use Rattle.std.proofs.lemmas.Fn.{filter_same}
 use Rattle.exchanges_compared.proofs.plain.keep_living.Goals as goal

@@ -1,37 +1,98 @@
-use Rattle.std.proofs.Common.{◌≡◌, ◌∙◌, ◌++◌, ap, subst, refl, ℕ, List, [], codes, Option, append_assoc}
-use Rattle.std.specs.Prelude.{option_map, Some, None, IsSome}
-use Rattle.servient_base.specs.Writing.{PutsIfRoom}
+use Rattle.std.proofs.Common.{◌≡◌, ◌<◌, ◌+◌, ◌++◌, ℕ, Bool, List, length, codes, subst, sym}
+use Rattle.std.specs.Prelude.{Option, None, option_map}
+use Rattle.std.specs.Fmt.{decimal}
+use Rattle.servient_base.specs.Writing.{Puts, PutsIfRoom}
 use Rattle.servient_base.proofs.Pieces.{puts_then_if_room}
 use Rattle.http_wire.specs.Heads.{line_end}
-use Rattle.http_wire.specs.Writing.{phrase_of, phrase_text, field_line, field_lines, status_line}
+use Rattle.http_wire.specs.Conditions.{entity_tag}
+use Rattle.http_wire.specs.Writing.{phrase_of, field_line, written_length, closing, http_reply}
 use Rattle.http_wire.specs.Replies.{plain_reply}
+use Rattle.http_wire.proofs.ReplyLines.{from_close, from_length, from_allow, from_location, from_tag, from_type, by_lines, no_room_for}
 use Rattle.http_wire.proofs.reply.put_reply.Goals as goal
 
--- the status line is the first of the lines
-first_line : (phrase : Option (List ℕ)) → IsSome phrase → field_line (codes "HTTP/1.1 ") phrase ≡ status_line (phrase_text phrase)
-first_line None is = absurd cc
-first_line (Some text) is = refl
+pub returns-in_err-at : goal.returns-in_err-at
+returns-in_err-at c =
+    let r = plain_reply c.args.reply.now in
+    let none : c.from_residual.result ≡ None = c.from_residual.ensures in
+    subst (λ (n : Option ℕ). PutsIfRoom (http_reply r) 0 c.args.out.now c.put_line.new.out n) (sym none)
+    (subst (λ (t : List ℕ). PutsIfRoom t 0 c.args.out.now c.put_line.new.out None) (sym (by_lines r c.requires))
+    (no_room_for (field_line (codes "HTTP/1.1 ") (phrase_of r.status)) (from_type r) 0 c.args.out.now c.put_line.new.out (subst (λ (o : Option (List ℕ)). length c.args.out.now < 0 + length (field_line (codes "HTTP/1.1 ") o)) c.phrase.ensures c.in_err-at.ensures)))
 
-pub returns : goal.returns
-returns c =
-    let lines : List ℕ =
-    field_line (codes "HTTP/1.1 ") (option_map (λ t. t.now) c.phrase.result)
-    ++ (field_line (codes "Content-Type: ") (option_map (λ t. t.now) c.bytes_of.result)
-    ++ (field_line (codes "ETag: ") (option_map (λ t. t.now) c.tag_of.result)
-    ++ (field_line (codes "Location: ") (option_map (λ t. t.now) c.args.reply.now.location)
-    ++ (field_line (codes "Allow: ") (option_map (λ t. t.now) c.bytes_of-2.result)
-    ++ (field_line (codes "Content-Length: ") (option_map (λ t. t.now) c.length_of.result)
-    ++ (field_line (codes "Connection: ") (option_map (λ t. t.now) c.closing_value.result) ++ [])))))) in
-    let written : lines ≡ status_line (phrase_text (phrase_of c.args.reply.now.status)) ++ field_lines (plain_reply c.args.reply.now) =
-    λ i. (ap (field_line (codes "HTTP/1.1 ")) c.phrase.ensures ∙ first_line (phrase_of c.args.reply.now.status) c.requires) i
-    ++ (field_line (codes "Content-Type: ") (c.bytes_of.ensures i)
-    ++ (field_line (codes "ETag: ") (c.tag_of.ensures i)
-    ++ (field_line (codes "Location: ") (option_map (λ t. t.now) c.args.reply.now.location)
-    ++ (field_line (codes "Allow: ") (c.bytes_of-2.ensures i)
-    ++ (field_line (codes "Content-Length: ") (c.length_of.ensures i)
-    ++ (field_line (codes "Connection: ") (c.closing_value.ensures i) ++ [])))))) in
-    subst (λ (text : List ℕ). PutsIfRoom text 0 c.args.out.now c.put_piece.new.out c.put_piece.result)
-    (ap (λ (xs : List ℕ). xs ++ line_end) written
-    ∙ append_assoc (status_line (phrase_text (phrase_of c.args.reply.now.status))) (field_lines (plain_reply c.args.reply.now)) line_end)
-    (puts_then_if_room lines line_end 0 c.in_ok-at.at c.args.out.now c.put_fields.new.out c.put_piece.new.out c.put_piece.result
-    c.put_fields.auto.out c.in_ok-at.ensures c.put_piece.ensures)
+pub returns-in_err-at-2 : goal.returns-in_err-at-2
+returns-in_err-at-2 c =
+    let r = plain_reply c.args.reply.now in
+    let none : c.from_residual-in_err-at-2.result ≡ None = c.from_residual-in_err-at-2.ensures in
+    subst (λ (n : Option ℕ). PutsIfRoom (http_reply r) 0 c.args.out.now c.put_line-2.new.out n) (sym none)
+    (subst (λ (t : List ℕ). PutsIfRoom t 0 c.args.out.now c.put_line-2.new.out None) (sym (by_lines r c.requires))
+    (puts_then_if_room (field_line (codes "HTTP/1.1 ") (phrase_of r.status)) (from_type r) 0 c.in_ok-at.at c.args.out.now c.put_line.new.out c.put_line-2.new.out None c.put_line.auto.out (subst (λ (o : Option (List ℕ)). Puts (field_line (codes "HTTP/1.1 ") o) 0 c.in_ok-at.at c.args.out.now c.put_line.new.out) c.phrase.ensures c.in_ok-at.ensures)
+    (no_room_for (field_line (codes "Content-Type: ") (r.content_type)) (from_tag r) c.in_ok-at.at c.put_line.new.out c.put_line-2.new.out (subst (λ (o : Option (List ℕ)). length c.put_line.new.out < c.in_ok-at.at + length (field_line (codes "Content-Type: ") o)) c.bytes_of.ensures c.in_err-at-2.ensures))))
+
+pub returns-in_err-at-3 : goal.returns-in_err-at-3
+returns-in_err-at-3 c =
+    let r = plain_reply c.args.reply.now in
+    let none : c.from_residual-in_err-at-3.result ≡ None = c.from_residual-in_err-at-3.ensures in
+    subst (λ (n : Option ℕ). PutsIfRoom (http_reply r) 0 c.args.out.now c.put_line-3.new.out n) (sym none)
+    (subst (λ (t : List ℕ). PutsIfRoom t 0 c.args.out.now c.put_line-3.new.out None) (sym (by_lines r c.requires))
+    (puts_then_if_room (field_line (codes "HTTP/1.1 ") (phrase_of r.status)) (from_type r) 0 c.in_ok-at.at c.args.out.now c.put_line.new.out c.put_line-3.new.out None c.put_line.auto.out (subst (λ (o : Option (List ℕ)). Puts (field_line (codes "HTTP/1.1 ") o) 0 c.in_ok-at.at c.args.out.now c.put_line.new.out) c.phrase.ensures c.in_ok-at.ensures)
+    (puts_then_if_room (field_line (codes "Content-Type: ") (r.content_type)) (from_tag r) c.in_ok-at.at c.in_ok-at-2.at c.put_line.new.out c.put_line-2.new.out c.put_line-3.new.out None c.put_line-2.auto.out (subst (λ (o : Option (List ℕ)). Puts (field_line (codes "Content-Type: ") o) c.in_ok-at.at c.in_ok-at-2.at c.put_line.new.out c.put_line-2.new.out) c.bytes_of.ensures c.in_ok-at-2.ensures)
+    (no_room_for (field_line (codes "ETag: ") (option_map entity_tag r.etag)) (from_location r) c.in_ok-at-2.at c.put_line-2.new.out c.put_line-3.new.out (subst (λ (o : Option (List ℕ)). length c.put_line-2.new.out < c.in_ok-at-2.at + length (field_line (codes "ETag: ") o)) c.tag_of.ensures c.in_err-at-3.ensures)))))
+
+pub returns-in_err-at-4 : goal.returns-in_err-at-4
+returns-in_err-at-4 c =
+    let r = plain_reply c.args.reply.now in
+    let none : c.from_residual-in_err-at-4.result ≡ None = c.from_residual-in_err-at-4.ensures in
+    subst (λ (n : Option ℕ). PutsIfRoom (http_reply r) 0 c.args.out.now c.put_line-4.new.out n) (sym none)
+    (subst (λ (t : List ℕ). PutsIfRoom t 0 c.args.out.now c.put_line-4.new.out None) (sym (by_lines r c.requires))
+    (puts_then_if_room (field_line (codes "HTTP/1.1 ") (phrase_of r.status)) (from_type r) 0 c.in_ok-at.at c.args.out.now c.put_line.new.out c.put_line-4.new.out None c.put_line.auto.out (subst (λ (o : Option (List ℕ)). Puts (field_line (codes "HTTP/1.1 ") o) 0 c.in_ok-at.at c.args.out.now c.put_line.new.out) c.phrase.ensures c.in_ok-at.ensures)
+    (puts_then_if_room (field_line (codes "Content-Type: ") (r.content_type)) (from_tag r) c.in_ok-at.at c.in_ok-at-2.at c.put_line.new.out c.put_line-2.new.out c.put_line-4.new.out None c.put_line-2.auto.out (subst (λ (o : Option (List ℕ)). Puts (field_line (codes "Content-Type: ") o) c.in_ok-at.at c.in_ok-at-2.at c.put_line.new.out c.put_line-2.new.out) c.bytes_of.ensures c.in_ok-at-2.ensures)
+    (puts_then_if_room (field_line (codes "ETag: ") (option_map entity_tag r.etag)) (from_location r) c.in_ok-at-2.at c.in_ok-at-3.at c.put_line-2.new.out c.put_line-3.new.out c.put_line-4.new.out None c.put_line-3.auto.out (subst (λ (o : Option (List ℕ)). Puts (field_line (codes "ETag: ") o) c.in_ok-at-2.at c.in_ok-at-3.at c.put_line-2.new.out c.put_line-3.new.out) c.tag_of.ensures c.in_ok-at-3.ensures)
+    (no_room_for (field_line (codes "Location: ") (r.location)) (from_allow r) c.in_ok-at-3.at c.put_line-3.new.out c.put_line-4.new.out c.in_err-at-4.ensures)))))
+
+pub returns-in_err-at-5 : goal.returns-in_err-at-5
+returns-in_err-at-5 c =
+    let r = plain_reply c.args.reply.now in
+    let none : c.from_residual-in_err-at-5.result ≡ None = c.from_residual-in_err-at-5.ensures in
+    subst (λ (n : Option ℕ). PutsIfRoom (http_reply r) 0 c.args.out.now c.put_line-5.new.out n) (sym none)
+    (subst (λ (t : List ℕ). PutsIfRoom t 0 c.args.out.now c.put_line-5.new.out None) (sym (by_lines r c.requires))
+    (puts_then_if_room (field_line (codes "HTTP/1.1 ") (phrase_of r.status)) (from_type r) 0 c.in_ok-at.at c.args.out.now c.put_line.new.out c.put_line-5.new.out None c.put_line.auto.out (subst (λ (o : Option (List ℕ)). Puts (field_line (codes "HTTP/1.1 ") o) 0 c.in_ok-at.at c.args.out.now c.put_line.new.out) c.phrase.ensures c.in_ok-at.ensures)
+    (puts_then_if_room (field_line (codes "Content-Type: ") (r.content_type)) (from_tag r) c.in_ok-at.at c.in_ok-at-2.at c.put_line.new.out c.put_line-2.new.out c.put_line-5.new.out None c.put_line-2.auto.out (subst (λ (o : Option (List ℕ)). Puts (field_line (codes "Content-Type: ") o) c.in_ok-at.at c.in_ok-at-2.at c.put_line.new.out c.put_line-2.new.out) c.bytes_of.ensures c.in_ok-at-2.ensures)
+    (puts_then_if_room (field_line (codes "ETag: ") (option_map entity_tag r.etag)) (from_location r) c.in_ok-at-2.at c.in_ok-at-3.at c.put_line-2.new.out c.put_line-3.new.out c.put_line-5.new.out None c.put_line-3.auto.out (subst (λ (o : Option (List ℕ)). Puts (field_line (codes "ETag: ") o) c.in_ok-at-2.at c.in_ok-at-3.at c.put_line-2.new.out c.put_line-3.new.out) c.tag_of.ensures c.in_ok-at-3.ensures)
+    (puts_then_if_room (field_line (codes "Location: ") (r.location)) (from_allow r) c.in_ok-at-3.at c.in_ok-at-4.at c.put_line-3.new.out c.put_line-4.new.out c.put_line-5.new.out None c.put_line-4.auto.out c.in_ok-at-4.ensures
+    (no_room_for (field_line (codes "Allow: ") (r.allow)) (from_length r) c.in_ok-at-4.at c.put_line-4.new.out c.put_line-5.new.out (subst (λ (o : Option (List ℕ)). length c.put_line-4.new.out < c.in_ok-at-4.at + length (field_line (codes "Allow: ") o)) c.bytes_of-2.ensures c.in_err-at-5.ensures)))))))
+
+pub returns-in_err-at-6 : goal.returns-in_err-at-6
+returns-in_err-at-6 c =
+    let r = plain_reply c.args.reply.now in
+    let none : c.from_residual-in_err-at-6.result ≡ None = c.from_residual-in_err-at-6.ensures in
+    subst (λ (n : Option ℕ). PutsIfRoom (http_reply r) 0 c.args.out.now c.put_line-6.new.out n) (sym none)
+    (subst (λ (t : List ℕ). PutsIfRoom t 0 c.args.out.now c.put_line-6.new.out None) (sym (by_lines r c.requires))
+    (puts_then_if_room (field_line (codes "HTTP/1.1 ") (phrase_of r.status)) (from_type r) 0 c.in_ok-at.at c.args.out.now c.put_line.new.out c.put_line-6.new.out None c.put_line.auto.out (subst (λ (o : Option (List ℕ)). Puts (field_line (codes "HTTP/1.1 ") o) 0 c.in_ok-at.at c.args.out.now c.put_line.new.out) c.phrase.ensures c.in_ok-at.ensures)
+    (puts_then_if_room (field_line (codes "Content-Type: ") (r.content_type)) (from_tag r) c.in_ok-at.at c.in_ok-at-2.at c.put_line.new.out c.put_line-2.new.out c.put_line-6.new.out None c.put_line-2.auto.out (subst (λ (o : Option (List ℕ)). Puts (field_line (codes "Content-Type: ") o) c.in_ok-at.at c.in_ok-at-2.at c.put_line.new.out c.put_line-2.new.out) c.bytes_of.ensures c.in_ok-at-2.ensures)
+    (puts_then_if_room (field_line (codes "ETag: ") (option_map entity_tag r.etag)) (from_location r) c.in_ok-at-2.at c.in_ok-at-3.at c.put_line-2.new.out c.put_line-3.new.out c.put_line-6.new.out None c.put_line-3.auto.out (subst (λ (o : Option (List ℕ)). Puts (field_line (codes "ETag: ") o) c.in_ok-at-2.at c.in_ok-at-3.at c.put_line-2.new.out c.put_line-3.new.out) c.tag_of.ensures c.in_ok-at-3.ensures)
+    (puts_then_if_room (field_line (codes "Location: ") (r.location)) (from_allow r) c.in_ok-at-3.at c.in_ok-at-4.at c.put_line-3.new.out c.put_line-4.new.out c.put_line-6.new.out None c.put_line-4.auto.out c.in_ok-at-4.ensures
+    (puts_then_if_room (field_line (codes "Allow: ") (r.allow)) (from_length r) c.in_ok-at-4.at c.in_ok-at-5.at c.put_line-4.new.out c.put_line-5.new.out c.put_line-6.new.out None c.put_line-5.auto.out (subst (λ (o : Option (List ℕ)). Puts (field_line (codes "Allow: ") o) c.in_ok-at-4.at c.in_ok-at-5.at c.put_line-4.new.out c.put_line-5.new.out) c.bytes_of-2.ensures c.in_ok-at-5.ensures)
+    (no_room_for (field_line (codes "Content-Length: ") (option_map decimal (written_length r))) (from_close r) c.in_ok-at-5.at c.put_line-5.new.out c.put_line-6.new.out (subst (λ (o : Option (List ℕ)). length c.put_line-5.new.out < c.in_ok-at-5.at + length (field_line (codes "Content-Length: ") o)) c.length_of.ensures c.in_err-at-6.ensures))))))))
+
+pub returns-then-reply : goal.returns-then-reply
+returns-then-reply c =
+    let r = plain_reply c.args.reply.now in
+    subst (λ (t : List ℕ). PutsIfRoom t 0 c.args.out.now c.put_piece.new.out c.put_piece.result) (sym (by_lines r c.requires))
+    (puts_then_if_room (field_line (codes "HTTP/1.1 ") (phrase_of r.status)) (from_type r) 0 c.in_ok-at.at c.args.out.now c.put_line.new.out c.put_piece.new.out c.put_piece.result c.put_line.auto.out (subst (λ (o : Option (List ℕ)). Puts (field_line (codes "HTTP/1.1 ") o) 0 c.in_ok-at.at c.args.out.now c.put_line.new.out) c.phrase.ensures c.in_ok-at.ensures)
+    (puts_then_if_room (field_line (codes "Content-Type: ") (r.content_type)) (from_tag r) c.in_ok-at.at c.in_ok-at-2.at c.put_line.new.out c.put_line-2.new.out c.put_piece.new.out c.put_piece.result c.put_line-2.auto.out (subst (λ (o : Option (List ℕ)). Puts (field_line (codes "Content-Type: ") o) c.in_ok-at.at c.in_ok-at-2.at c.put_line.new.out c.put_line-2.new.out) c.bytes_of.ensures c.in_ok-at-2.ensures)
+    (puts_then_if_room (field_line (codes "ETag: ") (option_map entity_tag r.etag)) (from_location r) c.in_ok-at-2.at c.in_ok-at-3.at c.put_line-2.new.out c.put_line-3.new.out c.put_piece.new.out c.put_piece.result c.put_line-3.auto.out (subst (λ (o : Option (List ℕ)). Puts (field_line (codes "ETag: ") o) c.in_ok-at-2.at c.in_ok-at-3.at c.put_line-2.new.out c.put_line-3.new.out) c.tag_of.ensures c.in_ok-at-3.ensures)
+    (puts_then_if_room (field_line (codes "Location: ") (r.location)) (from_allow r) c.in_ok-at-3.at c.in_ok-at-4.at c.put_line-3.new.out c.put_line-4.new.out c.put_piece.new.out c.put_piece.result c.put_line-4.auto.out c.in_ok-at-4.ensures
+    (puts_then_if_room (field_line (codes "Allow: ") (r.allow)) (from_length r) c.in_ok-at-4.at c.in_ok-at-5.at c.put_line-4.new.out c.put_line-5.new.out c.put_piece.new.out c.put_piece.result c.put_line-5.auto.out (subst (λ (o : Option (List ℕ)). Puts (field_line (codes "Allow: ") o) c.in_ok-at-4.at c.in_ok-at-5.at c.put_line-4.new.out c.put_line-5.new.out) c.bytes_of-2.ensures c.in_ok-at-5.ensures)
+    (puts_then_if_room (field_line (codes "Content-Length: ") (option_map decimal (written_length r))) (from_close r) c.in_ok-at-5.at c.in_ok-at-6.at c.put_line-5.new.out c.put_line-6.new.out c.put_piece.new.out c.put_piece.result c.put_line-6.auto.out (subst (λ (o : Option (List ℕ)). Puts (field_line (codes "Content-Length: ") o) c.in_ok-at-5.at c.in_ok-at-6.at c.put_line-5.new.out c.put_line-6.new.out) c.length_of.ensures c.in_ok-at-6.ensures)
+    (subst (λ (b : Bool). PutsIfRoom (field_line (codes "Connection: ") (closing b) ++ line_end) c.in_ok-at-6.at c.put_line-6.new.out c.put_piece.new.out c.put_piece.result) (sym c.if-reply.true) c.put_piece.ensures)))))))
+
+pub returns-else-reply : goal.returns-else-reply
+returns-else-reply c =
+    let r = plain_reply c.args.reply.now in
+    subst (λ (t : List ℕ). PutsIfRoom t 0 c.args.out.now c.put_piece-else-reply.new.out c.put_piece-else-reply.result) (sym (by_lines r c.requires))
+    (puts_then_if_room (field_line (codes "HTTP/1.1 ") (phrase_of r.status)) (from_type r) 0 c.in_ok-at.at c.args.out.now c.put_line.new.out c.put_piece-else-reply.new.out c.put_piece-else-reply.result c.put_line.auto.out (subst (λ (o : Option (List ℕ)). Puts (field_line (codes "HTTP/1.1 ") o) 0 c.in_ok-at.at c.args.out.now c.put_line.new.out) c.phrase.ensures c.in_ok-at.ensures)
+    (puts_then_if_room (field_line (codes "Content-Type: ") (r.content_type)) (from_tag r) c.in_ok-at.at c.in_ok-at-2.at c.put_line.new.out c.put_line-2.new.out c.put_piece-else-reply.new.out c.put_piece-else-reply.result c.put_line-2.auto.out (subst (λ (o : Option (List ℕ)). Puts (field_line (codes "Content-Type: ") o) c.in_ok-at.at c.in_ok-at-2.at c.put_line.new.out c.put_line-2.new.out) c.bytes_of.ensures c.in_ok-at-2.ensures)
+    (puts_then_if_room (field_line (codes "ETag: ") (option_map entity_tag r.etag)) (from_location r) c.in_ok-at-2.at c.in_ok-at-3.at c.put_line-2.new.out c.put_line-3.new.out c.put_piece-else-reply.new.out c.put_piece-else-reply.result c.put_line-3.auto.out (subst (λ (o : Option (List ℕ)). Puts (field_line (codes "ETag: ") o) c.in_ok-at-2.at c.in_ok-at-3.at c.put_line-2.new.out c.put_line-3.new.out) c.tag_of.ensures c.in_ok-at-3.ensures)
+    (puts_then_if_room (field_line (codes "Location: ") (r.location)) (from_allow r) c.in_ok-at-3.at c.in_ok-at-4.at c.put_line-3.new.out c.put_line-4.new.out c.put_piece-else-reply.new.out c.put_piece-else-reply.result c.put_line-4.auto.out c.in_ok-at-4.ensures
+    (puts_then_if_room (field_line (codes "Allow: ") (r.allow)) (from_length r) c.in_ok-at-4.at c.in_ok-at-5.at c.put_line-4.new.out c.put_line-5.new.out c.put_piece-else-reply.new.out c.put_piece-else-reply.result c.put_line-5.auto.out (subst (λ (o : Option (List ℕ)). Puts (field_line (codes "Allow: ") o) c.in_ok-at-4.at c.in_ok-at-5.at c.put_line-4.new.out c.put_line-5.new.out) c.bytes_of-2.ensures c.in_ok-at-5.ensures)
+    (puts_then_if_room (field_line (codes "Content-Length: ") (option_map decimal (written_length r))) (from_close r) c.in_ok-at-5.at c.in_ok-at-6.at c.put_line-5.new.out c.put_line-6.new.out c.put_piece-else-reply.new.out c.put_piece-else-reply.result c.put_line-6.auto.out (subst (λ (o : Option (List ℕ)). Puts (field_line (codes "Content-Length: ") o) c.in_ok-at-5.at c.in_ok-at-6.at c.put_line-5.new.out c.put_line-6.new.out) c.length_of.ensures c.in_ok-at-6.ensures)
+    (subst (λ (b : Bool). PutsIfRoom (field_line (codes "Connection: ") (closing b) ++ line_end) c.in_ok-at-6.at c.put_line-6.new.out c.put_piece-else-reply.new.out c.put_piece-else-reply.result) (sym c.if-reply.false) c.put_piece-else-reply.ensures)))))))

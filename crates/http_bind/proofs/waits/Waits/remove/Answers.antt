@@ -1,4 +1,4 @@
--- What is retained is what fails the test.
+-- The list retains the waits of all other connections.
 use Rattle.std.proofs.Common.{rules, ap, ◌∙◌}
 use Rattle.std.proofs.lemmas.Fn.{filter_same}
 use Rattle.http_bind.specs.Streams.{other_waits}

@@ -5,11 +5,11 @@ use Rattle.servient_base.specs.Writing.{PutsIfRoom}
 use Rattle.servient_base.proofs.Pieces.{puts_then_if_room}
 use Rattle.http_wire.specs.Heads.{line_end}
 use Rattle.http_wire.specs.Writing.{field_line}
-use Rattle.http_wire.proofs.reply.put_field.Goals as goal
+use Rattle.http_wire.proofs.reply.put_line.Goals as goal
 
 pub returns-in_ok-at-in-Some-2 : goal.returns-in_ok-at-in-Some-2
 returns-in_ok-at-in-Some-2 c =
-    let name = c.args.field.now.name.now in
+    let name = c.args.name.now in
     let value = c.in-Some.value.now in
     subst (λ (v : Option (Bor (List ℕ))). PutsIfRoom (field_line name (option_map (λ t. t.now) v)) c.args.at c.args.out.now c.put_piece-in-Some-2.new.out c.put_piece-in-Some-2.result)
     (sym c.in-Some.is)

@@ -1,6 +1,6 @@
 //! A property in memory, which holds a value.
 
-ghost use Rattle.std.specs.Prelude.{◌≡◌, IfOk, unwrap_or};
+ghost use Rattle.std.specs.Prelude.{◌≡◌};
 ghost use Rattle.thing_handler.specs.Handler.{fresh_handler};
 
 use crate::handler::NOT_ITS_KIND;
@@ -18,7 +18,7 @@ pub struct Cell {
 }
 
 impl Cell {
-    ghost use Rattle.thing_handler.specs.InMemory.{cell_answer, cell_after, cell_seen, value_in};
+    ghost use Rattle.thing_handler.specs.InMemory.{cell_seen, value_in};
 
     /// A cell that holds this value.
     pub fn new(alloc: Global, value: Tree) -> Self
@@ -28,20 +28,6 @@ impl Cell {
         Cell {
             value,
             log: TurnLog::new(alloc),
-        }
-    }
-
-    /// The answer to a call, and the value that is written by it.
-    fn turned(&self, alloc: Global, what: &CallKind) -> Result<(Answer, Option<Tree>), NoMemory>
-        ensures answer { IfOk result (λ t. t.0 ≡ cell_answer (value_in self.now) what.now) }
-        ensures value { IfOk result (λ t. unwrap_or t.1 (value_in self.now) ≡ cell_after (value_in self.now) what.now) }
-    {
-        match what {
-            CallKind::Read => Ok((Answer::Value(copy(alloc, &self.value)?), None)),
-            CallKind::Write(value) => Ok((Answer::Done, Some(copy(alloc, value)?))),
-            CallKind::Invoke(_, _) | CallKind::Query(_) | CallKind::Cancel(_) | CallKind::Poll => {
-                Ok((Answer::Refused(NOT_ITS_KIND), None))
-            }
         }
     }
 }
@@ -63,17 +49,25 @@ impl Handler for Cell {
         ensures value { OnOk result (value_in self.new ≡ cell_after (value_in self.old) what.now) }
         ensures unchanged { OnErr result (value_in self.new ≡ value_in self.old) }
     {
-        match self.turned(alloc, what) {
-            Ok((answer, written)) => {
-                let kept = self.log.keep(alloc, number, what, Ok(answer));
-                if kept.is_ok()
-                    && let Some(value) = written
-                {
-                    self.value = value;
+        match what {
+            CallKind::Read => match copy(alloc, &self.value) {
+                Ok(value) => self.log.keep(alloc, number, what, Ok(Answer::Value(value))),
+                Err(error) => self.log.keep(alloc, number, what, Err(error)),
+            },
+            CallKind::Write(value) => match copy(alloc, value) {
+                Ok(value) => {
+                    let kept = self.log.keep(alloc, number, what, Ok(Answer::Done));
+                    if kept.is_ok() {
+                        self.value = value;
+                    }
+                    kept
                 }
-                kept
+                Err(error) => self.log.keep(alloc, number, what, Err(error)),
+            },
+            CallKind::Invoke(_, _) | CallKind::Query(_) | CallKind::Cancel(_) | CallKind::Poll => {
+                self.log
+                    .keep(alloc, number, what, Ok(Answer::Refused(NOT_ITS_KIND)))
             }
-            Err(error) => self.log.keep(alloc, number, what, Err(error)),
         }
     }
 

@@ -14,16 +14,16 @@ pub struct Rack {
     ghost few: { vec_len list < 2 ^ 32 },
 }
 
-/// What a rack does. The crates above take any rack by this trait, as a type parameter, because the check of the kit
+/// The calls of a rack. The crates above take any rack by this trait, as a type parameter, because the check of the kit
 /// can't judge a function there that takes a rack of boxed handlers by reference.
 pub trait Handlers: Drop {
     ghost use Rattle.std.specs.Prelude.{◌≡◌, ◌<◌, ◌^◌, List, length, map, slice_get, IfSome};
     ghost use Rattle.thing_handler.specs.Handler.{Seen, CallsHandler, forgotten};
 
-    /// What is seen of each handler, in the order of their slots.
+    /// The view of each handler, in the order of their slots.
     ghost slots: { Self → List Seen };
 
-    /// How many slots there are.
+    /// The number of slots.
     fn len(&self) -> usize
         ensures count { result ≡ length (slots self.now) }
         ensures few { result < 2 ^ 32 };

@@ -37,7 +37,7 @@ impl TurnLog {
         }
     }
 
-    /// Keeps the turn of a call and hands its answer on. Where the answer, or keeping the turn, was out of
+    /// Keeps the turn of a call and hands its answer on. If the answer or the keeping of the turn was out of
     /// memory, the call is counted instead.
     pub fn keep(
         &mut self,
@@ -60,8 +60,8 @@ impl TurnLog {
         kept
     }
 
-    /// Takes the memory of a call's turn before its device is touched, so that `finish` takes none. Where there is
-    /// none the call is counted.
+    /// Takes the memory of a call's turn before its device is touched, so that `finish` takes none. If there is
+    /// none, the call is counted.
     pub fn prepare(
         &mut self,
         alloc: Global,
@@ -118,7 +118,7 @@ impl TurnLog {
     }
 }
 
-/// Puts a turn of this call and answer at the end.
+/// Puts a turn with an equal call and an equal answer at the end.
 fn kept_turn(
     alloc: Global,
     turns: &mut Vec<Turn>,
@@ -132,22 +132,13 @@ fn kept_turn(
     ensures unchanged { OnErr result (turns.new.items ≡ turns.old.items) }
 {
     let answer = answer?;
-    let turn = turn_of(alloc, number, what, &answer)?;
+    let turn = Turn {
+        number,
+        what: copy_call(alloc, what)?,
+        answer: copy_answer(alloc, &answer)?,
+    };
     turns.push(turn)?;
     Ok(answer)
-}
-
-/// A turn with an equal call and an equal answer.
-fn turn_of(alloc: Global, number: u64, what: &CallKind, answer: &Answer) -> Result<Turn, NoMemory>
-    ensures { IfOk result (λ t. t ≡ record { number = number; what = what.now; answer = answer.now }) }
-{
-    let what = copy_call(alloc, what)?;
-    let answer = copy_answer(alloc, answer)?;
-    Ok(Turn {
-        number,
-        what,
-        answer,
-    })
 }
 
 /// A turn without its answer, and room for it among the turns.

@@ -95,43 +95,62 @@ last_longer bytes more start (first ∷ second ∷ ends) last end are to =
     ∙ ap (λ (others : List (List ℕ)). slice_range bytes start first ∷ others) (last_longer bytes more first (second ∷ ends) last end are.1 to)
 
 -- a path of one segment, of two, of three and of four
-pub path_of_one : (path : List (List ℕ)) (first : List ℕ) → length path ≡ 1 → slice_get path 0 ≡ Some first → path ≡ first ∷ []
+path_of_one : (path : List (List ℕ)) (first : List ℕ) → length path ≡ 1 → slice_get path 0 ≡ Some first → path ≡ first ∷ []
 path_of_one [] first long = absurd (omega arith)
 path_of_one (a ∷ []) first long = λ p. cc
 path_of_one (a ∷ b ∷ path) first long = absurd (omega arith)
 
-pub path_of_two : (path : List (List ℕ)) (first second : List ℕ) → length path ≡ 2 → slice_get path 0 ≡ Some first → slice_get path 1 ≡ Some second → path ≡ first ∷ second ∷ []
+path_of_two : (path : List (List ℕ)) (first second : List ℕ) → length path ≡ 2 → slice_get path 0 ≡ Some first → slice_get path 1 ≡ Some second → path ≡ first ∷ second ∷ []
 path_of_two [] first second long = absurd (omega arith)
 path_of_two (a ∷ path) first second long = λ p q. cc (path_of_one path second (omega arith) q)
 
-pub path_of_three : (path : List (List ℕ)) (first second third : List ℕ) → length path ≡ 3 → slice_get path 0 ≡ Some first → slice_get path 1 ≡ Some second → slice_get path 2 ≡ Some third → path ≡ first ∷ second ∷ third ∷ []
+path_of_three : (path : List (List ℕ)) (first second third : List ℕ) → length path ≡ 3 → slice_get path 0 ≡ Some first → slice_get path 1 ≡ Some second → slice_get path 2 ≡ Some third → path ≡ first ∷ second ∷ third ∷ []
 path_of_three [] first second third long = absurd (omega arith)
 path_of_three (a ∷ path) first second third long = λ p q r. cc (path_of_two path second third (omega arith) q r)
 
-pub path_of_four : (path : List (List ℕ)) (first second third fourth : List ℕ) → length path ≡ 4 → slice_get path 0 ≡ Some first → slice_get path 1 ≡ Some second → slice_get path 2 ≡ Some third → slice_get path 3 ≡ Some fourth → path ≡ first ∷ second ∷ third ∷ fourth ∷ []
+path_of_four : (path : List (List ℕ)) (first second third fourth : List ℕ) → length path ≡ 4 → slice_get path 0 ≡ Some first → slice_get path 1 ≡ Some second → slice_get path 2 ≡ Some third → slice_get path 3 ≡ Some fourth → path ≡ first ∷ second ∷ third ∷ fourth ∷ []
 path_of_four [] first second third fourth long = absurd (omega arith)
 path_of_four (a ∷ path) first second third fourth long = λ p q r s. cc (path_of_three path second third fourth (omega arith) q r s)
 
--- where a path of one segment leads
-pub leads_by_one : (kind : RouteKind) (path : List (List ℕ)) (first : List ℕ) → length path ≡ 1 → slice_get path 0 ≡ Some first → kind ≡ route_of (first ∷ []) → kind ≡ route_of path
-leads_by_one kind path first long is known = known ∙ ap (λ (p : List (List ℕ)). route_of p) (sym (path_of_one path first long is))
+-- where a path of one segment leads, of two, and of four
+pub leads_by_one : (kind : RouteKind) (bytes ends : List ℕ) (first : List ℕ) → length ends ≡ 1 → slice_get (pieces bytes 0 ends) 0 ≡ Some first → kind ≡ route_of (first ∷ []) → kind ≡ route_of (pieces bytes 0 ends)
+leads_by_one kind bytes ends first long is known =
+    known ∙ ap (λ (p : List (List ℕ)). route_of p) (sym (path_of_one (pieces bytes 0 ends) first (length-pieces bytes 0 ends ∙ long) is))
+
+pub leads_by_two : (kind : RouteKind) (bytes ends : List ℕ) (first second : List ℕ) → length ends ≡ 2 → slice_get (pieces bytes 0 ends) 0 ≡ Some first → slice_get (pieces bytes 0 ends) 1 ≡ Some second → kind ≡ route_of (first ∷ second ∷ []) → kind ≡ route_of (pieces bytes 0 ends)
+leads_by_two kind bytes ends first second long is also known =
+    known ∙ ap (λ (p : List (List ℕ)). route_of p) (sym (path_of_two (pieces bytes 0 ends) first second (length-pieces bytes 0 ends ∙ long) is also))
+
+pub leads_by_four : (kind : RouteKind) (bytes ends : List ℕ) (first second third fourth : List ℕ) → length ends ≡ 4
+    → slice_get (pieces bytes 0 ends) 0 ≡ Some first → slice_get (pieces bytes 0 ends) 1 ≡ Some second → slice_get (pieces bytes 0 ends) 2 ≡ Some third → slice_get (pieces bytes 0 ends) 3 ≡ Some fourth
+    → kind ≡ route_of (first ∷ second ∷ third ∷ fourth ∷ []) → kind ≡ route_of (pieces bytes 0 ends)
+leads_by_four kind bytes ends first second third fourth long is also too last known =
+    known ∙ ap (λ (p : List (List ℕ)). route_of p) (sym (path_of_four (pieces bytes 0 ends) first second third fourth (length-pieces bytes 0 ends ∙ long) is also too last))
 
 -- where a path of three segments leads, which the second of them says
-pub leads_by_kind : (kind : RouteKind) (path : List (List ℕ)) (second : List ℕ) → length path ≡ 3 → slice_get path 1 ≡ Some second → ((thing name : List ℕ) → kind ≡ route_of (thing ∷ second ∷ name ∷ [])) → kind ≡ route_of path
-leads_by_kind kind [] second long = absurd (omega arith)
-leads_by_kind kind (a ∷ []) second long = absurd (omega arith)
-leads_by_kind kind (a ∷ b ∷ []) second long = absurd (omega arith)
-leads_by_kind kind (a ∷ b ∷ c ∷ []) second long = λ is known. let same : second ≡ b = cc in known a c ∙ ap (λ (s : List ℕ). route_of (a ∷ s ∷ c ∷ [])) same
-leads_by_kind kind (a ∷ b ∷ c ∷ d ∷ path) second long = absurd (omega arith)
+of_three : (kind : RouteKind) (path : List (List ℕ)) (second : List ℕ) → length path ≡ 3 → slice_get path 1 ≡ Some second → ((thing name : List ℕ) → kind ≡ route_of (thing ∷ second ∷ name ∷ [])) → kind ≡ route_of path
+of_three kind [] second long = absurd (omega arith)
+of_three kind (a ∷ []) second long = absurd (omega arith)
+of_three kind (a ∷ b ∷ []) second long = absurd (omega arith)
+of_three kind (a ∷ b ∷ c ∷ []) second long = λ is known. let same : second ≡ b = cc in known a c ∙ ap (λ (s : List ℕ). route_of (a ∷ s ∷ c ∷ [])) same
+of_three kind (a ∷ b ∷ c ∷ d ∷ path) second long = absurd (omega arith)
+
+pub leads_by_kind : (kind : RouteKind) (bytes ends : List ℕ) (second : List ℕ) → length ends ≡ 3 → slice_get (pieces bytes 0 ends) 1 ≡ Some second → ((thing name : List ℕ) → kind ≡ route_of (thing ∷ second ∷ name ∷ [])) → kind ≡ route_of (pieces bytes 0 ends)
+leads_by_kind kind bytes ends second long is known = of_three kind (pieces bytes 0 ends) second (length-pieces bytes 0 ends ∙ long) is known
 
 -- no path of no segments or of more than four leads anywhere
-pub leads_nowhere : (path : List (List ℕ)) → length path ≢ 1 → length path ≢ 2 → length path ≢ 3 → length path ≢ 4 → route_of path ≡ route.Nowhere
-leads_nowhere [] = λ a b c d. refl
-leads_nowhere (first ∷ []) = λ a b c d. absurd (a refl)
-leads_nowhere (first ∷ second ∷ []) = λ a b c d. absurd (b refl)
-leads_nowhere (first ∷ second ∷ third ∷ []) = λ a b c d. absurd (c refl)
-leads_nowhere (first ∷ second ∷ third ∷ fourth ∷ []) = λ a b c d. absurd (d refl)
-leads_nowhere (first ∷ second ∷ third ∷ fourth ∷ fifth ∷ path) = λ a b c d. refl
+nowhere : (path : List (List ℕ)) → length path ≢ 1 → length path ≢ 2 → length path ≢ 3 → length path ≢ 4 → route_of path ≡ route.Nowhere
+nowhere [] = λ a b c d. refl
+nowhere (first ∷ []) = λ a b c d. absurd (a refl)
+nowhere (first ∷ second ∷ []) = λ a b c d. absurd (b refl)
+nowhere (first ∷ second ∷ third ∷ []) = λ a b c d. absurd (c refl)
+nowhere (first ∷ second ∷ third ∷ fourth ∷ []) = λ a b c d. absurd (d refl)
+nowhere (first ∷ second ∷ third ∷ fourth ∷ fifth ∷ path) = λ a b c d. refl
+
+pub leads_nowhere : (bytes ends : List ℕ) → length ends ≢ 1 → length ends ≢ 2 → length ends ≢ 3 → length ends ≢ 4 → route.Nowhere ≡ route_of (pieces bytes 0 ends)
+leads_nowhere bytes ends one two three four =
+    let long = length-pieces bytes 0 ends in
+    sym (nowhere (pieces bytes 0 ends) (λ e. one (sym long ∙ e)) (λ e. two (sym long ∙ e)) (λ e. three (sym long ∙ e)) (λ e. four (sym long ∙ e)))
 
 -- a piece after the last one isn't there
 pub no_piece : (path : List (List ℕ)) (i : ℕ) → length path ≤ i → slice_get path i ≡ None

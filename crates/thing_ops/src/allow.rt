@@ -1,4 +1,4 @@
-//! Which verbs are taken where.
+//! The verbs that are taken at each kind of path.
 
 ghost use Rattle.std.specs.Prelude.{◌≡◌, ◌+◌, ◌≤◌, length};
 ghost use Rattle.thing_ops.specs.Verbs.{takes as takes_verb, name_at, names_of, verbs_in, verbs_of};
@@ -17,10 +17,10 @@ const IN_ORDER: [Verb; 6] = [
     Verb::Delete,
 ];
 
-/// How many bytes any list of verbs has room in: the longest has 35.
+/// The number of bytes in which any list of verbs has room: the longest has 35.
 pub const LONGEST_LINE: usize = 48;
 
-/// What a property says of how it is used (TD 1.1, section 5.3.2.1).
+/// The members of a property that say how it is used (TD 1.1, section 5.3.2.1).
 #[derive(Clone, Copy, Debug, PartialEq, Eq, Drop)]
 pub struct Flags {
     /// `readOnly` is true.

@@ -1,4 +1,4 @@
-//! What a request asks of the version that a property has (RFC 9110, section 13.1; RFC 7252, section 5.10.8).
+//! The conditions of a request on the version that a property has (RFC 9110, section 13.1; RFC 7252, section 5.10.8).
 //!
 //! Versions of a property are numbers, which count what was seen of it: 0 before anything was.
 
@@ -70,7 +70,7 @@ impl Tags {
     }
 }
 
-/// What a request asks of the version that a property has. Where it asks nothing, none of this stands.
+/// The conditions of a request on the version that a property has. None of this stands in a request without conditions.
 #[derive(Debug, Drop)]
 pub struct Conditions {
     /// The version is among these, where it asks so: If-Match.

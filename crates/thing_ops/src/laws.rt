@@ -1,4 +1,4 @@
-//! What follows from the tables: contracts of functions that no code needs to call.
+//! Consequences of the tables: contracts of functions that no code needs to call.
 
 ghost use Rattle.std.specs.Prelude.{◌≡◌, ◌≤◌, ◌↔◌, ◌∷◌, [], ℕ, List, codes, decimal, unwrap_or, IsTrue};
 ghost use Rattle.std.specs.List.{Contains};
@@ -23,7 +23,7 @@ pub fn takes_what_is_listed()
     ensures { (allow : Allow) → (verb : Verb) → IsTrue (takes allow verb) ↔ Contains (verbs_in allow) verb }
 {}
 
-/// What is sent of an outcome is the text that it carries, and its word where it carries none.
+/// The payload of an outcome is the text that it carries, and its word where it carries none.
 pub fn payload_is_text_or_word()
     ensures { (o : Outcome) → payload_of o ≡ unwrap_or (text_of o) (word_of o) }
 {}

@@ -1,4 +1,4 @@
-//! What a Thing is asked and what comes of it, over either protocol.
+//! Requests to Things and their outcomes, over either protocol.
 //!
 //! A `Request` has a verb, the segments of a path, and what else HTTP (RFC 9110) and CoAP (RFC 7252) both say.
 //! `route` says what a path leads to, and `allowed` which verbs are taken there. An `Outcome` is the result of a
@@ -20,8 +20,8 @@
 //! `specs/Outcomes.antt`. The contract in a sentence: for each path, each path's kind and each outcome the code gives
 //! exactly what its row says. The laws: the paths to invocations are those that end in the decimal spelling of an id,
 //! the verbs that are taken are those that are listed, and a payload is the text that an outcome carries or its word.
-//! Memory is taken by `Segments` and `Versions` alone. What a request asks of the version of a property (`Conditions`) is
-//! judged by `fails` and `fails_to_write` of `specs/Conditions.antt`.
+//! Memory is taken by `Segments` and `Versions` alone. The conditions of a request on the version of a property
+//! (`Conditions`) are judged by `fails` and `fails_to_write` of `specs/Conditions.antt`.
 #![tactic(auto)]
 
 mod allow;

@@ -4,6 +4,7 @@ ghost use Rattle.std.specs.Prelude.{◌≡◌, ◌<◌, ◌^◌, option_map, IfS
 ghost use Rattle.thing_ops.specs.Outcomes.{text_of, version_of};
 
 use crate::{Allow, NoMemory, Segments};
+use servient_base::Target;
 use wot_json::{Bytes, Text};
 
 /// The outcome of a request. `specs/Outcomes.antt` says how each is answered.
@@ -22,23 +23,23 @@ pub enum Outcome {
     NotModified(u32),
     /// There is no value yet.
     Empty,
-    /// What was asked is done, and there is nothing to say of it.
+    /// The request is done, and there is nothing to say of it.
     Changed,
-    /// What an action gave, as a JSON text.
+    /// The output of an action, as a JSON text.
     Output(Bytes),
     /// An action runs: the path of its invocation, and the invocation's status as a JSON text.
     Started(Segments, Bytes),
-    /// What was at the path is gone.
+    /// The thing at the path is gone.
     Deleted,
     /// The directory has a new entry; its id, where the directory chose it.
     Created(Option<Text>),
     /// The entries of the directory, as a JSON text.
     Listed(Bytes),
-    /// The request waits for the next value or emission of what has this slot.
-    Wait(u32),
+    /// The request waits for the next value or emission of this target.
+    Wait(Target),
     /// There is nothing at the path.
     NotFound,
-    /// What is at the path takes these verbs and not the request's.
+    /// These verbs are taken at the path, and the request's isn't.
     NotAllowed(Allow),
     /// The sender takes no media type that the answer could have.
     NotAcceptable,
@@ -86,7 +87,8 @@ impl From<NoMemory> for Outcome {
 }
 
 impl Outcome {
-    /// The text that the outcome carries and that is its payload. Where it carries none, its payload is its word.
+    /// The text that the outcome carries and that is its payload. An outcome that carries none has its word as its
+    /// payload.
     pub fn text(&self) -> Option<&[u8]>
         ensures { option_map (λ t. t.now) result ≡ text_of self.now }
     {

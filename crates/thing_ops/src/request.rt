@@ -30,18 +30,18 @@ pub struct Accept {
 /// `plain_request` of `specs/Requests.antt` is the same as a record of lists.
 #[derive(Debug, Drop)]
 pub struct Request<'a> {
-    /// What it asks to be done.
+    /// Its method.
     pub verb: Verb,
     /// The segments of its path, decoded.
     pub path: Segments,
     /// Its query as it came, without the `?`; empty where it has none.
     pub query: &'a [u8],
-    /// What its sender takes in an answer.
+    /// The formats that its sender takes in an answer.
     pub accept: Accept,
-    /// What it says that its body is.
+    /// The format that it names for its body.
     pub format: Format,
     /// Its body; empty where it has none.
     pub body: &'a [u8],
-    /// What it asks of the version that a property has, where its path leads to one; elsewhere it isn't looked at.
+    /// Its conditions on the version that a property has, where its path leads to one; elsewhere they aren't looked at.
     pub conditions: Conditions,
 }

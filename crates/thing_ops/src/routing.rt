@@ -1,4 +1,4 @@
-//! What a path leads to, by the table of paths.
+//! The routes of paths, by the table of paths.
 
 ghost use Rattle.std.specs.Prelude.{◌≡◌, ◌∷◌, [], length, if◌then◌else◌};
 ghost use Rattle.std.specs.Str.{is_utf8};
@@ -26,8 +26,7 @@ const OBSERVE: &[u8] = b"observe";
 
 const SUBSCRIBE: &[u8] = b"subscribe";
 
-/// What a path leads to, by its form alone: whether there is such a Thing, affordance, invocation or entry is not said
-/// here.
+/// The route of a path, by its form alone. It doesn't say that there is such a Thing, affordance, invocation or entry.
 #[derive(Clone, Copy, Debug, PartialEq, Eq, Drop)]
 pub enum RouteKind {
     /// `/.well-known/wot`, the description of the first Thing (WoT Discovery, "Well-Known URIs").
@@ -56,7 +55,7 @@ pub enum RouteKind {
     Nowhere,
 }
 
-/// What a path of these pieces leads to. Where two rows of the table fit, the one that names the first segment counts.
+/// The route of a path of these pieces. Of two rows of the table that fit, the one that names the first segment counts.
 pub(crate) fn route_of_pieces(bytes: &[u8], ends: &[usize]) -> RouteKind
     requires { AreEnds 0 ends.now (length bytes.now) }
     ensures { result ≡ route_of (pieces bytes.now 0 ends.now) }
@@ -69,7 +68,19 @@ pub(crate) fn route_of_pieces(bytes: &[u8], ends: &[usize]) -> RouteKind
                 RouteKind::Thing
             }
         }
-        2 => route_of_two(piece(bytes, ends, 0), piece(bytes, ends, 1)),
+        2 => {
+            let first = piece(bytes, ends, 0);
+            let second = piece(bytes, ends, 1);
+            if first == WELL_KNOWN && second == WOT {
+                RouteKind::Root
+            } else if first == THINGS && is_entry_id(second) {
+                RouteKind::Entry
+            } else if second == PROPERTIES {
+                RouteKind::All
+            } else {
+                RouteKind::Nowhere
+            }
+        }
         3 => {
             let kind = piece(bytes, ends, 1);
             if kind == PROPERTIES {
@@ -92,20 +103,6 @@ pub(crate) fn route_of_pieces(bytes: &[u8], ends: &[usize]) -> RouteKind
     }
 }
 
-fn route_of_two(first: &[u8], second: &[u8]) -> RouteKind
-    ensures { result ≡ route_of (first.now ∷ second.now ∷ []) }
-{
-    if first == WELL_KNOWN && second == WOT {
-        RouteKind::Root
-    } else if first == THINGS && is_entry_id(second) {
-        RouteKind::Entry
-    } else if second == PROPERTIES {
-        RouteKind::All
-    } else {
-        RouteKind::Nowhere
-    }
-}
-
 fn route_of_four(thing: &[u8], kind: &[u8], name: &[u8], last: &[u8]) -> RouteKind
     ensures { result ≡ route_of (thing.now ∷ kind.now ∷ name.now ∷ last.now ∷ []) }
 {
@@ -120,7 +117,7 @@ fn route_of_four(thing: &[u8], kind: &[u8], name: &[u8], last: &[u8]) -> RouteKi
     }
 }
 
-/// Where a path to an invocation leads whose last segment is this one.
+/// The route of a path to an invocation whose last segment is this one.
 fn route_of_invocation(last: &[u8]) -> RouteKind
     ensures { result ≡ (if invocation_id last.now then RouteKind.Invocation (digits_value 10 last.now) else RouteKind.Nowhere) }
 {

@@ -12,13 +12,13 @@ use smallvec::SmallVec;
 use std::alloc::Global;
 use std::marker::Model;
 
-/// How many segments a path has without further memory: no path that leads anywhere has more. That a path is one piece
-/// of memory no contract can say.
+/// The number of segments that a path has without further memory: no path that leads anywhere has more. No contract can
+/// say that a path is one piece of memory.
 const FEW: usize = 4;
 
 /// The segments of a path: any bytes each, percent-encoding already taken away (RFC 3986, sections 2.1 and 3.3).
-/// Contracts see the list of them. The bytes lie in one buffer, and the ends of the first four segments beside it. What
-/// the path leads to is judged whenever it changes, so that each layer that asks looks it up.
+/// Contracts see the list of them. The bytes lie in one buffer, and the ends of the first four segments beside it. The
+/// route is judged whenever the path changes, so that each layer that asks looks it up.
 #[derive(Debug, Drop)]
 pub struct Segments {
     bytes: Vec<u8>,
@@ -96,7 +96,7 @@ impl Segments {
         })
     }
 
-    /// How many segments there are.
+    /// The number of segments.
     pub fn len(&self) -> usize
         ensures { result ≡ length self.now }
     {
@@ -122,7 +122,7 @@ impl Segments {
     }
 }
 
-/// What a path leads to. Where two rows of the table fit, the one that names the first segment counts.
+/// The route of a path. Of two rows of the table that fit, the one that names the first segment counts.
 pub fn route(path: &Segments) -> RouteKind
     ensures { result ≡ route_of path.now }
 {

@@ -3,7 +3,7 @@
 ghost use Rattle.std.specs.Prelude.{◌≡◌, ◌≤◌, length};
 ghost use Rattle.thing_ops.specs.Verbs.{verb_name};
 
-/// What a request asks to be done with what is at its path: a method of HTTP (RFC 9110, section 9, and RFC 5789) or of
+/// The method of a request: one of HTTP (RFC 9110, section 9, and RFC 5789) or of
 /// CoAP (RFC 7252, section 5.8, and RFC 8132).
 #[derive(Clone, Copy, Debug, PartialEq, Eq, Drop)]
 pub enum Verb {

@@ -9,7 +9,7 @@ use crate::Outcome;
 use itoa::Buffer;
 use servient_base::put_bytes;
 
-/// How many bytes any word has room in: the longest has 13.
+/// The number of bytes in which any word has room: the longest has 13.
 pub const LONGEST_WORD: usize = 32;
 
 /// Writes the word of an outcome to the beginning of `out`, and returns its length: 0 where the outcome carries a text

@@ -14,6 +14,7 @@ use crate::machine::Machine;
 use crate::reading::{read, read_all};
 use crate::state::Latest;
 use crate::writing::write_each;
+use servient_base::Target;
 use std::alloc::Global;
 use thing_handler::Handlers;
 use thing_ops::{Outcome, Request};
@@ -68,7 +69,7 @@ fn describe(alloc: Global, thing: &HeldThing, td: bool) -> Outcome
 }
 
 /// The last emission of an event.
-fn last_emission(alloc: Global, last: &[Latest], target: u32) -> Outcome
+fn last_emission(alloc: Global, last: &[Latest], target: Target) -> Outcome
     ensures { IsOrMemory (event_outcome (last_of target last.now)) result }
 {
     match last_in(last, target) {
@@ -81,7 +82,7 @@ fn last_emission(alloc: Global, last: &[Latest], target: u32) -> Outcome
 }
 
 /// The text of the last emission of this target, among these.
-pub fn last_in(last: &[Latest], target: u32) -> Option<&[u8]>
+pub fn last_in(last: &[Latest], target: Target) -> Option<&[u8]>
     ensures text { option_map (λ t. t.now) result ≡ last_of target last.now }
     ensures length { IfSome result (λ t. length t.now ≤ longest_value) }
 {

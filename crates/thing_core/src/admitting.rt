@@ -1,4 +1,4 @@
-//! Why a request is refused before any handler is called.
+//! The refusals of a request before any handler is called.
 
 ghost use Rattle.std.specs.Prelude.{◌≡◌, MatchOption, count_by};
 ghost use Rattle.thing_ops.specs.Requests.{plain_request};
@@ -47,7 +47,7 @@ pub fn admitted<'a>(
     }
 }
 
-/// Why an act is refused as things stand: a property would be written that isn't of a version that the request asks for,
+/// The refusal of an act as things stand: a property would be written that isn't of a version that the request asks for,
 /// or an action would be invoked, and no further invocation may run.
 fn refusal_by_state(act: &Act<'_>, machine: &Machine, conditions: &Conditions) -> Option<Outcome>
     ensures { MatchOption result
@@ -73,7 +73,7 @@ fn refusal_by_state(act: &Act<'_>, machine: &Machine, conditions: &Conditions) -
     }
 }
 
-/// How many of these run.
+/// The number of these that run.
 fn running_count(invocations: &[Invocation]) -> usize
     ensures { result ≡ count_by state.is_running invocations.now }
 {

@@ -8,7 +8,7 @@ ghost use Rattle.thing_core.specs.Performing.{is_done, CallsFor, ComesAs, IsFire
 
 use crate::machine::Machine;
 use crate::state::MOST_TURNS;
-use thing_handler::{Answer, CallKind, Handlers};
+use thing_handler::{Answer, CallKind, Handlers, Slot};
 use thing_ops::Outcome;
 use thing_site::{LONGEST_VALUE, is_accepted};
 use wot_json::{Tree, write};
@@ -19,7 +19,7 @@ use wot_schema::Schema;
 pub fn call<R: Handlers>(
     machine: &mut Machine,
     rack: &mut R,
-    slot: u32,
+    slot: Slot,
     what: &CallKind,
 ) -> Result<Answer, Outcome>
     requires { slot < length (R.slots rack.old) }

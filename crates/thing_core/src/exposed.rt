@@ -22,6 +22,7 @@ use crate::polling::{Round, poll_all, poll_next};
 use crate::properties::unseen_all;
 use crate::standing::place_of;
 use crate::{ExposeFault, Slots};
+use servient_base::Target;
 use std::alloc::Global;
 use std::marker::Model;
 use thing_handler::Handlers;
@@ -108,8 +109,8 @@ impl Exposed {
         poll_all(self.things.as_slice(), &mut self.machine, rack);
     }
 
-    /// Polls the handler of the next event of a round, in the order of Things and names. Whether one was left. It takes no
-    /// memory of its own, as `tick`.
+    /// Polls the handler of the next event of a round, in the order of Things and names, and returns true if
+    /// one was left. It takes no memory of its own, as `tick`.
     pub fn poll_next<R: Handlers>(&mut self, rack: &mut R, round: &mut Round) -> bool
         requires fits { Fits self.old.site (R.slots rack.old) }
         requires pending { self.old.pending ≡ [] }
@@ -121,7 +122,7 @@ impl Exposed {
     }
 
     /// The target of the own path of an observable property or an event: the slot of its affordance.
-    pub fn target_of(&self, path: &Segments) -> Option<u32>
+    pub fn target_of(&self, path: &Segments) -> Option<Target>
         ensures { result ≡ target_of_path path.now self.now.site self.now.state.invocations }
     {
         let place = place_of(&self.things, self.machine.invocations(), path);
@@ -129,7 +130,7 @@ impl Exposed {
     }
 
     /// The target of the next emission that wasn't handed out yet, in order: the slot of its affordance.
-    pub fn emitted(&mut self) -> Option<u32>
+    pub fn emitted(&mut self) -> Option<Target>
         ensures first { MatchOption result ((self.old.pending ≡ []) × (self.new.pending ≡ [])) (λ target. self.old.pending ≡ target ∷ self.new.pending) }
         ensures site { self.new.site ≡ self.old.site }
         ensures state { self.new.state ≡ self.old.state }
@@ -139,7 +140,7 @@ impl Exposed {
     }
 
     /// The text of the last emission of this target, which has at most 1,024 bytes.
-    pub fn last(&self, target: u32) -> Option<&[u8]>
+    pub fn last(&self, target: Target) -> Option<&[u8]>
         ensures text { option_map (λ t. t.now) result ≡ last_of target self.now.state.last }
         ensures length { IfSome result (λ t. length t.now ≤ longest_value) }
     {

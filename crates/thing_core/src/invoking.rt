@@ -15,14 +15,14 @@ use crate::state::{Invocation, MOST_TURNS};
 use crate::status::{put_completed, put_running};
 use itoa::Buffer;
 use std::alloc::Global;
-use thing_handler::{Answer, CallKind, Handlers};
+use thing_handler::{Answer, CallKind, Handlers, Slot};
 use thing_ops::{Outcome, Segments};
 use thing_site::{Input, LONGEST_VALUE, Spot};
 use wot_json::{Bytes, Tree};
 use wot_schema::Schema;
 
-/// What an invocation may need once it was answered, taken before the call, so that a request that its device answered
-/// takes no more memory.
+/// The memory that an invocation may need once it was answered. It is taken before the call, so that a request that its
+/// device answered takes no more memory.
 #[derive(Drop)]
 pub struct Prepared {
     /// Its path.
@@ -101,7 +101,7 @@ fn handed_in(inputs: Vec<Input<'_>>) -> Option<Tree>
     }
 }
 
-/// What the answer to an invocation brings about.
+/// Settles an invocation by its answer.
 fn settle(spot: Spot<'_>, prepared: Prepared, answer: Answer, machine: &mut Machine) -> Outcome
     requires id { machine.old.state.next_invocation ≤ machine.old.state.turns }
     requires running { running_count machine.old.state.invocations < most_invocations }
@@ -191,7 +191,7 @@ fn content_in(room: Room) -> Outcome
 }
 
 /// The status of an invocation that runs no more; or else the room.
-fn told(invocations: &[Invocation], slot: u32, id: u32, mut room: Room) -> Result<Outcome, Room>
+fn told(invocations: &[Invocation], slot: Slot, id: u32, mut room: Room) -> Result<Outcome, Room>
     requires room { room ≡ [] }
     requires rise { IdsRise invocations.now }
     ensures { IsTold (invocation_named slot id invocations.now) id result }
@@ -208,7 +208,7 @@ fn told(invocations: &[Invocation], slot: u32, id: u32, mut room: Room) -> Resul
     }
 }
 
-/// What the answer to a query brings about.
+/// Settles a query by its answer.
 fn queried(
     spot: Spot<'_>,
     id: u32,
@@ -270,7 +270,7 @@ pub fn cancel<R: Handlers>(spot: Spot<'_>, id: u32, machine: &mut Machine, rack:
     }
 }
 
-/// What the answer to a cancellation brings about.
+/// Settles a cancellation by its answer.
 fn cancelled(id: u32, answer: &Answer, machine: &mut Machine) -> Outcome
     ensures { SettlesCancel id answer.now result machine.old machine.new }
 {
@@ -292,7 +292,7 @@ fn cancelled(id: u32, answer: &Answer, machine: &mut Machine) -> Outcome
 }
 
 /// The invocation of this id, of the action in this slot, runs.
-fn is_running(invocations: &[Invocation], slot: u32, id: u32) -> bool
+fn is_running(invocations: &[Invocation], slot: Slot, id: u32) -> bool
     requires { IdsRise invocations.now }
     ensures { IfSome (invocation_named slot id invocations.now) (λ i. result ≡ is_running_one i) }
 {

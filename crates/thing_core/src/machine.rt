@@ -1,4 +1,4 @@
-//! What the Thing machine keeps in a run, in places that were all taken at its beginning.
+//! The state that the Thing machine keeps in a run, in places that were all taken at its beginning.
 //!
 //! All that changes is one type with a Model: each of its calls is an equation on the state, and the acts above it see
 //! no vector, no room and no capacity.
@@ -13,9 +13,11 @@ use crate::NoMemory;
 use crate::room::Room;
 use crate::state::{Invocation, Latest, MOST_INVOCATIONS, place_by_id};
 use crate::version::{Version, place_of_version};
+use servient_base::Target;
 use std::alloc::Global;
 use std::collections::VecDeque;
 use std::marker::Model;
+use thing_handler::Slot;
 
 /// The state of the machine, and the targets of emissions that weren't handed out yet. An invocation that goes gives
 /// its room back.
@@ -33,7 +35,7 @@ pub struct Machine {
     last: Vec<Latest>,
     /// How many turns the run has.
     pub(crate) turns: u64,
-    pub(crate) pending: VecDeque<u32>,
+    pub(crate) pending: VecDeque<Target>,
 }
 
 impl Model for Machine {
@@ -100,14 +102,14 @@ impl Machine {
         self.invocations.as_slice()
     }
 
-    /// How many invocations there are, running and completed together.
+    /// The number of invocations that there are, running and completed together.
     pub fn standing(&self) -> u32
         ensures { result ≡ length self.now.state.invocations }
     {
         self.invocations.len() as u32
     }
 
-    /// How many turns the run has.
+    /// The number of turns that the run has.
     pub fn turns(&self) -> u64
         ensures turns { result ≡ self.now.state.turns }
         ensures bound { result ≤ most_turns }
@@ -148,7 +150,7 @@ impl Machine {
     }
 
     /// The version of the property in this slot.
-    pub fn version_of(&self, slot: u32) -> u32
+    pub fn version_of(&self, slot: Slot) -> u32
         ensures { result ≡ spec.version_of slot self.now.state.versions }
     {
         match place_of_version(self.versions.as_slice(), slot) {
@@ -161,7 +163,7 @@ impl Machine {
     }
 
     /// A value of this text is seen of the property in this slot. The version that it then has.
-    pub fn see(&mut self, slot: u32, text: &[u8]) -> u32
+    pub fn see(&mut self, slot: Slot, text: &[u8]) -> u32
         requires length { length text.now ≤ longest_value }
         requires room { HasRoom self.old.state }
         ensures seen { self.new ≡ record self.old { state = with_seen slot text.now self.old.state } }
@@ -183,7 +185,7 @@ impl Machine {
     }
 
     /// The affordance in this slot emits this text.
-    pub fn emit(&mut self, target: u32, text: &[u8])
+    pub fn emit(&mut self, target: Target, text: &[u8])
         requires length { length text.now ≤ longest_value }
         requires room { 0 < self.old.room }
         ensures state { self.new.state ≡ record self.old.state { last = spec.last_after (record { target = target; text = text.now } ∷ []) self.old.state.last } }
@@ -202,9 +204,9 @@ impl Machine {
         self.next_invocation += 1;
     }
 
-    /// The next invocation begins, of the action in this slot. Where there are as many as may be, the oldest that is
+    /// The next invocation begins, of the action in this slot. If there are as many as may be, the oldest that is
     /// completed goes.
-    pub fn start(&mut self, slot: u32)
+    pub fn start(&mut self, slot: Slot)
         requires id { self.old.state.next_invocation ≤ self.old.state.turns }
         requires running { spec.running_count self.old.state.invocations < spec.most_invocations }
         ensures { self.new ≡ record self.old {
@@ -253,7 +255,7 @@ fn empty_rooms(alloc: Global) -> Result<Vec<Room>, NoMemory>
 }
 
 /// Each of these whose affordance is in this slot emits this text.
-fn renew_all(last: &mut [Latest], target: u32, text: &[u8])
+fn renew_all(last: &mut [Latest], target: Target, text: &[u8])
     requires { length text.now ≤ longest_value }
     ensures { last.new ≡ map (spec.renewed (record { target = target; text = text.now })) last.old }
 {
@@ -286,7 +288,7 @@ fn place_of_completed(invocations: &[Invocation]) -> Option<usize>
 }
 
 /// An invocation that runs, in one of these rooms.
-fn running_in(spare: &mut Vec<Room>, id: u32, slot: u32) -> Invocation
+fn running_in(spare: &mut Vec<Room>, id: u32, slot: Slot) -> Invocation
     requires { 0 < vec_len spare.old }
     ensures invocation { result ≡ record { id = id; slot = slot; status = spec.running } }
     ensures len { vec_len spare.new + 1 ≡ vec_len spare.old }

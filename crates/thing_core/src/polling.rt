@@ -43,7 +43,7 @@ pub fn poll_all<R: Handlers>(things: &[HeldThing], machine: &mut Machine, rack: 
     while poll_next(things, machine, rack, &mut round) {}
 }
 
-/// Polls the next event of a round. Whether one was left.
+/// Polls the next event of a round, and returns true if one was left.
 pub fn poll_next<R: Handlers>(
     things: &[HeldThing],
     machine: &mut Machine,

@@ -1,4 +1,4 @@
-//! How properties are read: one, or all of a Thing.
+//! Reads of properties: of one, or of all of a Thing.
 
 ghost use Rattle.std.specs.Prelude.{◌≡◌, ◌≤◌, ◌<◌, ◌+◌, ◌++◌, ◌∷◌, [], length, vec_len, vec_capacity, IfOk, IfSome, OnOk};
 ghost use Rattle.std.specs.List.{filter};
@@ -47,7 +47,7 @@ pub fn read<R: Handlers>(
     }
 }
 
-/// What a read comes to of a property that has this version, with this text, for which there is this room.
+/// The outcome of reading a property that has this version, with this text, for which there is this room.
 fn judged(conditions: &Conditions, version: u32, mut room: Vec<u8>, text: &[u8]) -> Outcome
     requires empty { room.items ≡ [] }
     requires room { length text.now ≤ vec_capacity room }
@@ -235,7 +235,7 @@ fn room_for(alloc: Global, fields: &[Field<'_>]) -> Option<Vec<u8>>
     }
 }
 
-/// How many bytes the text of these properties with their values has at most, where that is a number of bytes.
+/// The most bytes that the text of these properties with their values has, where that is a number of bytes.
 fn size_of_all(fields: &[Field<'_>]) -> Option<usize>
     ensures { IfSome result (λ size. size ≡ room_of_all fields.now) }
 {

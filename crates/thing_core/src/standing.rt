@@ -1,4 +1,4 @@
-//! What the path of a request leads to: an invocation only where there is one of this id.
+//! The place of a request's path: that of an invocation only where there is one of this id.
 
 ghost use Rattle.std.specs.Prelude.{◌≡◌, ◌==◌, Some, None, if◌then◌else◌, option_map};
 ghost use Rattle.thing_core.specs.Places as spec;
@@ -6,10 +6,11 @@ ghost use Rattle.thing_core.specs.State.{invocation_named as invocation_of};
 ghost use Rattle.thing_core.specs.Ids.{IdsRise};
 
 use crate::state::{Invocation, place_by_id};
+use thing_handler::Slot;
 use thing_ops::Segments;
 use thing_site::{IndexedThings, Place, place_at};
 
-/// What a path leads to, where it leads anywhere and there are these invocations.
+/// The place of a path among Things, where it leads anywhere and there are these invocations.
 pub fn place_of<'a>(
     things: &'a IndexedThings,
     invocations: &[Invocation],
@@ -36,7 +37,7 @@ pub fn place_of<'a>(
 
 /// The invocation of this id under the action in this slot, found by binary search over the ids, which rise; its slot
 /// is compared afterwards.
-pub fn invocation_in(invocations: &[Invocation], slot: u32, id: u32) -> Option<&Invocation>
+pub fn invocation_in(invocations: &[Invocation], slot: Slot, id: u32) -> Option<&Invocation>
     requires { IdsRise invocations.now }
     ensures { option_map (λ i. i.now) result ≡ invocation_of slot id invocations.now }
 {
@@ -47,7 +48,7 @@ pub fn invocation_in(invocations: &[Invocation], slot: u32, id: u32) -> Option<&
 }
 
 /// An invocation, where its action is in this slot.
-fn of_slot(invocation: &Invocation, slot: u32) -> Option<&Invocation>
+fn of_slot(invocation: &Invocation, slot: Slot) -> Option<&Invocation>
     ensures { option_map (λ i. i.now) result ≡ (if invocation.now.slot == slot then Some invocation.now else None) }
 {
     if invocation.slot() == slot {

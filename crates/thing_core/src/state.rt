@@ -1,4 +1,4 @@
-//! What changes in a run: the state of the Thing machine.
+//! The parts of the Thing machine's state: invocations and last values.
 
 ghost use Rattle.std.specs.Prelude.{◌≡◌, ◌≤◌, ◌==◌, length, option_map, position, IfOk};
 ghost use Rattle.std.specs.Ordering.{nat_cmp};
@@ -7,14 +7,16 @@ ghost use Rattle.thing_core.specs.Ids.{IdsRise};
 
 use crate::NoMemory;
 use crate::room::Room;
+use servient_base::Target;
 use std::alloc::Global;
 use std::cmp::Ordering;
 use std::marker::Model;
+use thing_handler::Slot;
 
-/// How many invocations may run at a time, and be there at a time.
+/// The most invocations that may run at a time, and be there at a time.
 pub const MOST_INVOCATIONS: usize = 64;
 
-/// How many turns a run may have.
+/// The most turns that a run may have.
 pub const MOST_TURNS: u64 = 4_294_967_295;
 
 /// The progress of an invocation.
@@ -31,7 +33,7 @@ pub enum Progress {
 #[derive(Debug, Drop)]
 pub struct Invocation {
     id: u32,
-    slot: u32,
+    slot: Slot,
     progress: Progress,
     output: Room,
 }
@@ -57,7 +59,7 @@ impl Invocation {
     ghost use Rattle.thing_core.specs.State.{completed, is_running as is_running_one, running};
 
     /// One that runs, in a room that has no longer text than a value.
-    pub fn running(id: u32, slot: u32, output: Room) -> Invocation
+    pub fn running(id: u32, slot: Slot, output: Room) -> Invocation
         requires { length output ≤ longest_value }
         ensures { result ≡ record { id = id; slot = slot; status = running } }
     {
@@ -76,7 +78,7 @@ impl Invocation {
     }
 
     /// The slot of its action.
-    pub fn slot(&self) -> u32
+    pub fn slot(&self) -> Slot
         ensures { result ≡ self.now.slot }
     {
         self.slot
@@ -139,7 +141,7 @@ pub fn place_by_id(invocations: &[Invocation], id: u32) -> Option<usize>
 /// The last value of what may emit.
 #[derive(Debug, Drop)]
 pub struct Latest {
-    target: u32,
+    target: Target,
     has_emitted: bool,
     text: Room,
 }
@@ -165,7 +167,7 @@ impl Latest {
     ghost use Rattle.thing_core.specs.State.{renewed};
 
     /// That of the affordance in this slot, which hasn't emitted yet.
-    pub fn silent(alloc: Global, target: u32) -> Result<Latest, NoMemory>
+    pub fn silent(alloc: Global, target: Target) -> Result<Latest, NoMemory>
         ensures { IfOk result (λ l. l ≡ record { target = target; text = None }) }
     {
         Ok(Latest {
@@ -176,7 +178,7 @@ impl Latest {
     }
 
     /// The slot of its affordance.
-    pub fn target(&self) -> u32
+    pub fn target(&self) -> Target
         ensures { result ≡ self.now.target }
     {
         self.target
@@ -195,7 +197,7 @@ impl Latest {
     }
 
     /// It emits this text, where the emission is of its affordance.
-    pub fn renew(&mut self, target: u32, text: &[u8])
+    pub fn renew(&mut self, target: Target, text: &[u8])
         requires { length text.now ≤ longest_value }
         ensures { self.new ≡ renewed (record { target = target; text = text.now }) self.old }
     {

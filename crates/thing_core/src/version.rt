@@ -8,12 +8,13 @@ ghost use Rattle.thing_site.specs.Refusals.{longest_value};
 use crate::NoMemory;
 use std::alloc::Global;
 use std::marker::Model;
+use thing_handler::Slot;
 use thing_site::LONGEST_VALUE;
 
 /// A property's version. Room for the text is taken once, so that seeing a value takes no memory.
 #[derive(Debug, Drop)]
 pub struct Version {
-    slot: u32,
+    slot: Slot,
     /// 0 where nothing was seen yet.
     pub(crate) number: u32,
     text: Vec<u8>,
@@ -38,7 +39,7 @@ impl Version {
     ghost use Rattle.std.specs.Prelude.{None};
 
     /// That of the property in this slot, of which nothing was seen yet.
-    pub fn unseen(alloc: Global, slot: u32) -> Result<Version, NoMemory>
+    pub fn unseen(alloc: Global, slot: Slot) -> Result<Version, NoMemory>
         ensures { IfOk result (λ v. v ≡ record { slot = slot; number = 0; text = None }) }
     {
         Ok(Version {
@@ -66,7 +67,7 @@ impl Version {
 }
 
 /// The place of the version of the property in this slot.
-pub fn place_of_version(versions: &[Version], slot: u32) -> Option<usize>
+pub fn place_of_version(versions: &[Version], slot: Slot) -> Option<usize>
     ensures { result ≡ position (λ v. v.slot == slot) versions.now }
 {
     versions.iter().position(|v| v.slot == slot)

@@ -1,4 +1,4 @@
-//! How properties are written: one, or several of a Thing.
+//! Writes of properties: of one, or of several of a Thing.
 
 ghost use Rattle.std.specs.Prelude.{◌≡◌, ◌≤◌, ◌<◌, ◌+◌, ◌++◌, [], length, map};
 ghost use Rattle.wot_json.specs.Json.{text_of};

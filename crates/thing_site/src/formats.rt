@@ -7,7 +7,7 @@ ghost use Rattle.thing_site.specs.HandedIn.{AreFormatsTaken, AreFormatsRefused};
 
 use thing_ops::{Format, Outcome, Request};
 
-/// What the answer of an act can be sent as.
+/// The formats in which the answer of an act can be sent.
 #[derive(Clone, Copy, Debug, PartialEq, Eq, Drop)]
 pub enum AnswerFormat {
     /// As anything: it has no text that a sender would have to take.
@@ -18,8 +18,8 @@ pub enum AnswerFormat {
     Description,
 }
 
-/// What the body of an act is taken as. `application/json`, which is also what a body is that names no format, is taken
-/// everywhere.
+/// The formats in which the body of an act is taken. `application/json` is taken everywhere; a body that names no format
+/// is of that one.
 #[derive(Clone, Copy, Debug, PartialEq, Eq, Drop)]
 pub enum BodyFormat {
     /// As that alone.

@@ -4,6 +4,7 @@ use crate::Spot;
 use crate::site::{compare, spot_at, spot_count};
 use std::cmp::Ordering;
 use std::marker::Model;
+use thing_handler::Slot;
 use wot_json::{Text, Tree};
 use wot_terms::{Affordance, Description, Kind};
 
@@ -16,7 +17,7 @@ pub struct HeldThing {
     pub(crate) segment: Text,
     tree: Tree,
     affordances: Description,
-    slots: Vec<u32>,
+    slots: Vec<Slot>,
 }
 
 impl Model for HeldThing {
@@ -46,7 +47,7 @@ impl HeldThing {
     ghost use Rattle.thing_site.specs.Exposing.{placed_all};
 
     /// A Thing with the slots of its affordances, in their order.
-    pub(crate) fn of(segment: Text, tree: Tree, affordances: Description, slots: Vec<u32>) -> Self
+    pub(crate) fn of(segment: Text, tree: Tree, affordances: Description, slots: Vec<Slot>) -> Self
         requires { are_rising affordances ≡ true }
         ensures { result ≡ record { segment = segment; description = json_of tree; affordances = placed_all affordances slots.items } }
     {
@@ -65,7 +66,7 @@ impl HeldThing {
         &self.tree
     }
 
-    /// How many affordances it has.
+    /// The number of its affordances.
     pub fn len(&self) -> usize
         ensures { result ≡ length self.now.affordances }
     {

@@ -84,7 +84,7 @@ impl IndexedThings {
     }
 }
 
-/// Where the number of the Thing of this segment is in an index, or where it would be.
+/// The place in an index of the number of the Thing of this segment, or the place that it would have.
 fn search(things: &[HeldThing], index: &[usize], segment: &[u8]) -> Result<usize, usize>
     ensures bound { IsSearchInRange result (length index.now) }
     ensures place { IsBinarySearchResult (segment_order things.now segment.now) index.now result }

@@ -1,4 +1,4 @@
-//! What the path of a request leads to among Things, and which act its verb asks for there.
+//! The place of a request's path among Things, and the act that its verb asks for there.
 
 ghost use Rattle.std.specs.Prelude.{◌≡◌, Some, None, MatchResult};
 ghost use Rattle.thing_ops.specs.Routes.{route_of};
@@ -6,27 +6,28 @@ ghost use Rattle.thing_ops.specs.Verbs.{verbs_in, verbs_of};
 ghost use Rattle.thing_site.specs.Places as spec;
 
 use crate::{IndexedThings, LentThing, Spot};
+use servient_base::Target;
 use thing_ops::{Allow, Flags, RouteKind, Segments, Verb, allowed, route};
 use wot_terms::Kind;
 
-/// What a path leads to.
+/// The place of a path.
 #[derive(Drop)]
 pub enum Place<'a> {
     Description(LentThing<'a>),
     AllProperties(LentThing<'a>),
     Property(Spot<'a>),
-    /// Where a property is observed.
+    /// The place at which a property is observed.
     Observed(Spot<'a>),
     Action(Spot<'a>),
     /// An invocation of an action, by its id and not by what is there, because a place then borrows the Things alone
     /// and the state may change while it is held.
     Invocation(Spot<'a>, u32),
     Event(Spot<'a>),
-    /// Where an event is subscribed to.
+    /// The place at which an event is subscribed to.
     Subscribed(Spot<'a>),
 }
 
-/// What a request asks to be done.
+/// An act that a request asks for.
 #[derive(Drop)]
 pub enum Act<'a> {
     Describes(LentThing<'a>),
@@ -41,7 +42,7 @@ pub enum Act<'a> {
     Waits(Spot<'a>),
 }
 
-/// What a path leads to, where it leads anywhere: to an invocation of an action also where there is none of this id.
+/// The place of a path, where it leads anywhere. A path leads to an invocation also where there is none of this id.
 pub fn place_at<'a>(things: &'a IndexedThings, path: &Segments) -> Option<Place<'a>>
     ensures { result ≡ spec.place_at (route_of path.now) path.now things.now }
 {
@@ -70,7 +71,7 @@ fn affordance_in<'a>(things: &'a IndexedThings, path: &Segments, kind: Kind) -> 
     thing.affordance(kind, path.get(2)?)
 }
 
-/// Where a property is observed, if it is observable.
+/// The place at which a property is observed, if it is observable.
 fn observed<'a>(property: Spot<'a>) -> Option<Place<'a>>
     ensures { result ≡ spec.where_observable property.entry }
 {
@@ -105,8 +106,8 @@ pub fn act_at<'a>(route: RouteKind, place: Place<'a>, verb: Verb) -> Result<Act<
     }
 }
 
-/// What a verb asks to be done at a place where it is taken. Which verbs these are is `verbs_of`
-/// alone, which `act_at` asks.
+/// The act of a verb at a place where it is taken. The table `verbs_of`, which `act_at` asks, alone says which verbs these
+/// are.
 fn act_of<'a>(place: Place<'a>, verb: Verb) -> Act<'a>
     ensures { result ≡ spec.act_of place.entry verb }
 {
@@ -124,8 +125,8 @@ fn act_of<'a>(place: Place<'a>, verb: Verb) -> Act<'a>
     }
 }
 
-/// What the own path of an observable property or an event means: the slot of its affordance.
-pub fn target_at(place: Option<Place<'_>>) -> Option<u32>
+/// The target of the own path of an observable property or an event: the slot of its affordance.
+pub fn target_at(place: Option<Place<'_>>) -> Option<Target>
     ensures { result ≡ spec.target_at place.entry }
 {
     match place {

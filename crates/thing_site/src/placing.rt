@@ -11,7 +11,7 @@ ghost use Rattle.thing_site.specs.Exposing.{kinds_of, slot_or_0, ArePlaced, Have
 use crate::wanted::{Wanted, wanted_all};
 use crate::{ExposeFault, HeldThing, NoMemory, Slots};
 use std::alloc::Global;
-use thing_handler::{Handlers, Kind};
+use thing_handler::{Handlers, Kind, Slot};
 use wot_json::{Text, copy, tree_is_well_formed};
 use wot_terms::{Description, Thing};
 
@@ -51,7 +51,7 @@ fn place<R: Handlers>(
     rack: &R,
     slots: &Slots,
     thing: &Thing,
-    earlier: &mut Vec<u32>,
+    earlier: &mut Vec<Slot>,
 ) -> Result<HeldThing, ExposeFault>
     requires { IsValid (json_of thing.now.tree) }
     ensures { IsPlaced (kinds_of (R.slots rack.now)) slots.now (kept_thing thing.now) earlier.old.items earlier.new.items result }
@@ -76,8 +76,8 @@ fn judge_all<R: Handlers>(
     alloc: Global,
     rack: &R,
     wanted: Vec<Wanted>,
-    earlier: &mut Vec<u32>,
-) -> Result<Vec<u32>, ExposeFault>
+    earlier: &mut Vec<Slot>,
+) -> Result<Vec<Slot>, ExposeFault>
     ensures slots { IfOk result (λ slots. slots.items ≡ map slot_or_0 wanted.items) }
     ensures ok { OnOk result (HaveNoFault (kinds_of (R.slots rack.now)) earlier.old.items earlier.new.items wanted.items) }
     ensures fault { IfErr result (λ fault. HaveFault (kinds_of (R.slots rack.now)) earlier.old.items wanted.items fault) }
@@ -92,7 +92,7 @@ fn judge_all<R: Handlers>(
 }
 
 /// Puts a slot at the end.
-fn push_slot(slots: &mut Vec<u32>, slot: u32) -> Result<(), NoMemory>
+fn push_slot(slots: &mut Vec<Slot>, slot: Slot) -> Result<(), NoMemory>
     ensures { OnOk result (slots.new.items ≡ slots.old.items ++ slot ∷ []) }
 {
     slots.push(slot)?;
@@ -100,7 +100,7 @@ fn push_slot(slots: &mut Vec<u32>, slot: u32) -> Result<(), NoMemory>
 }
 
 /// The slot of an affordance, where earlier ones have these slots, or its fault.
-fn judge<R: Handlers>(rack: &R, earlier: &[u32], wanted: Wanted) -> Result<u32, ExposeFault>
+fn judge<R: Handlers>(rack: &R, earlier: &[Slot], wanted: Wanted) -> Result<Slot, ExposeFault>
     ensures { IsJudged (kinds_of (R.slots rack.now)) earlier.now wanted result }
 {
     let Wanted {
@@ -124,20 +124,20 @@ fn judge<R: Handlers>(rack: &R, earlier: &[u32], wanted: Wanted) -> Result<u32, 
 }
 
 /// A slot of the rack, and the kind of the handler in it.
-fn handler_at<R: Handlers>(rack: &R, slot: Option<usize>) -> Option<(u32, Kind)>
+fn handler_at<R: Handlers>(rack: &R, slot: Option<usize>) -> Option<(Slot, Kind)>
     ensures kind { option_map (λ h. h.1) result ≡ option_and_then (slice_get (kinds_of (R.slots rack.now))) slot }
     ensures slot { IfSome result (λ h. slot ≡ Some h.0) }
 {
     let slot = slot?;
     if slot < rack.len() {
-        Some((slot as u32, rack.kind(slot)))
+        Some((slot as Slot, rack.kind(slot)))
     } else {
         None
     }
 }
 
 /// The slot is among these.
-fn is_among(earlier: &[u32], slot: u32) -> bool
+fn is_among(earlier: &[Slot], slot: Slot) -> bool
     ensures { result ≡ is_among_those earlier.now (Some slot) }
 {
     for other in earlier {

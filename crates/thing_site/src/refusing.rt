@@ -1,4 +1,4 @@
-//! Why a request is refused in every state of the Things.
+//! The reasons for which a request is refused in every state of the Things.
 
 ghost use Rattle.std.specs.Prelude.{◌≡◌, ◌↔◌, option_map, option_and_then, ◌⊎◌, Some, None, IfOk, IfErr, OnOk, IsTrue};
 ghost use Rattle.wot_json.specs.Reading.{tree_of};
@@ -16,10 +16,10 @@ use wot_json::{Members, ReadFault, Tree, read};
 use wot_schema::Schema;
 use wot_terms::Kind;
 
-/// How long the text of a value may be that is handed in or comes back, in bytes.
+/// The most bytes that the text of a value may have that is handed in or comes back.
 pub const LONGEST_VALUE: usize = 1024;
 
-/// What a request hands in to an act, where nothing is against it that needs no state; else the outcome: it
+/// Reads what a request hands in to an act, where nothing is against it that needs no state; else the outcome: it
 /// isn't acceptable, or its body has another format, isn't as it should be, is too long or refused by a schema, in this
 /// order; or it is out of memory.
 pub fn judge<'a>(
@@ -37,7 +37,7 @@ pub fn judge<'a>(
     Ok(inputs)
 }
 
-/// What the answer of an act can be sent as, and what its body is taken as.
+/// The formats of an act: that of its answer, and that of its body.
 fn formats_of(act: &Act<'_>) -> (AnswerFormat, BodyFormat)
     ensures answer { result.0 ≡ refusal.answer_format act.now }
     ensures body { result.1 ≡ refusal.body_format act.now }
@@ -57,7 +57,7 @@ fn formats_of(act: &Act<'_>) -> (AnswerFormat, BodyFormat)
     }
 }
 
-/// What a body hands in to an act.
+/// Reads what a body hands in to an act.
 fn inputs_of<'a>(alloc: Global, act: &Act<'a>, body: &[u8]) -> Result<Vec<Input<'a>>, Outcome>
     ensures ok { IfOk result (λ inputs. refusal.inputs_of act.now body.now ≡ Some inputs.items) }
     ensures fault { IfErr result (λ o. HasNoInputs (refusal.inputs_of act.now body.now) o) }
@@ -76,7 +76,7 @@ fn inputs_of<'a>(alloc: Global, act: &Act<'a>, body: &[u8]) -> Result<Vec<Input<
     }
 }
 
-/// No body is taken.
+/// An act that takes no body has no inputs, where there is none.
 fn no_inputs<'a>(alloc: Global, body: &[u8]) -> Result<Vec<Input<'a>>, Outcome>
     ensures ok { IfOk result (λ inputs. refusal.no_inputs body.now ≡ Some inputs.items) }
     ensures fault { IfErr result (λ o. HasNoInputs (refusal.no_inputs body.now) o) }
@@ -88,7 +88,7 @@ fn no_inputs<'a>(alloc: Global, body: &[u8]) -> Result<Vec<Input<'a>>, Outcome>
     }
 }
 
-/// What is handed in to an action, which takes a body exactly where it has an input schema.
+/// Reads what is handed in to an action, which takes a body exactly where it has an input schema.
 fn invoke_inputs<'a>(alloc: Global, spot: &Spot<'a>, body: &[u8]) -> Result<Vec<Input<'a>>, Outcome>
     ensures ok { IfOk result (λ inputs. refusal.invoke_inputs spot.now spot.now.affordance.input body.now ≡ Some inputs.items) }
     ensures fault { IfErr result (λ o. HasNoInputs (refusal.invoke_inputs spot.now spot.now.affordance.input body.now) o) }
@@ -99,7 +99,7 @@ fn invoke_inputs<'a>(alloc: Global, spot: &Spot<'a>, body: &[u8]) -> Result<Vec<
     }
 }
 
-/// The body is one value.
+/// Reads a body that is one value.
 fn one_input<'a>(alloc: Global, spot: &Spot<'a>, body: &[u8]) -> Result<Vec<Input<'a>>, Outcome>
     ensures ok { IfOk result (λ inputs. option_map (refusal.only_input spot.now) (tree_of body.now) ≡ Some inputs.items) }
     ensures fault { IfErr result (λ o. HasNoInputs (option_map (refusal.only_input spot.now) (tree_of body.now)) o) }
@@ -129,7 +129,7 @@ pub fn value_in(alloc: Global, body: &[u8]) -> Result<Tree, Outcome>
     }
 }
 
-/// The body is an object whose members name properties that may be written.
+/// Reads a body that is an object whose members name properties that may be written.
 fn object_inputs<'a>(
     alloc: Global,
     thing: &'a HeldThing,

@@ -1,4 +1,4 @@
-//! What is constant in a run: the Things, their affordances and the slots of their handlers.
+//! The constants of a run: the Things, their affordances and the slots of their handlers.
 
 ghost use Rattle.std.specs.Prelude.{◌≡◌, length, slice_get};
 ghost use Rattle.thing_site.specs.Site.{is_emitter as is_emitter_of, is_kind as is_kind_of};
@@ -9,13 +9,14 @@ ghost use Rattle.thing_site.specs.Exposing.{placed_all};
 
 use std::cmp::Ordering;
 use std::marker::Model;
+use thing_handler::Slot;
 use wot_terms::{Affordance, Kind};
 
 /// An affordance, and the slot of its handler. Contracts see both.
 #[derive(Drop)]
 pub struct Spot<'a> {
     pub(crate) affordance: &'a Affordance,
-    pub(crate) slot: u32,
+    pub(crate) slot: Slot,
 }
 
 impl<'a> Model for Spot<'a> {
@@ -38,15 +39,15 @@ impl<'a> Spot<'a> {
     }
 
     /// The slot of its handler.
-    pub fn slot(&self) -> u32
+    pub fn slot(&self) -> Slot
         ensures { result ≡ self.now.slot }
     {
         self.slot
     }
 }
 
-/// How many of these affordances have a slot.
-pub(crate) fn spot_count(affordances: &[Affordance], slots: &[u32]) -> usize
+/// The number of these affordances that have a slot.
+pub(crate) fn spot_count(affordances: &[Affordance], slots: &[Slot]) -> usize
     ensures { result ≡ length (placed_all affordances.now slots.now) }
 {
     if slots.len() < affordances.len() {
@@ -59,7 +60,7 @@ pub(crate) fn spot_count(affordances: &[Affordance], slots: &[u32]) -> usize
 /// The affordance with this number, where it has a slot.
 pub(crate) fn spot_at<'a>(
     affordances: &'a [Affordance],
-    slots: &[u32],
+    slots: &[Slot],
     index: usize,
 ) -> Option<Spot<'a>>
     ensures { result ≡ slice_get (placed_all affordances.now slots.now) index }
@@ -75,7 +76,7 @@ pub(crate) fn spot_at<'a>(
     }
 }
 
-/// How an affordance compares to one of this kind and name, in the order in which a Thing keeps them.
+/// The order of an affordance and one of this kind and name, as a Thing keeps them.
 pub(crate) fn compare(affordance: &Affordance, kind: Kind, name: &[u8]) -> Ordering
     ensures { result ≡ slice_cmp nat_cmp (key_of affordance.now) (key kind name.now) }
 {

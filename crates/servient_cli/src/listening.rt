@@ -28,7 +28,7 @@ use wot_json::Bytes;
 pub struct Request<'a> {
     /// The name of the plan's file.
     pub plan: &'a str,
-    /// How many events are taken.
+    /// The bound on the events that are taken.
     pub budget: Budget,
     /// After how many seconds without traffic serving ends; 0 if it never does for lack of traffic.
     pub idle: u32,

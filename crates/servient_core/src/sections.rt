@@ -16,12 +16,12 @@ use thing_handler::Handlers;
 /// The number of turns at which the handlers forget theirs.
 pub const MOST_KEPT: u64 = 4096;
 
-/// How much a run that is served in sections takes at most.
+/// The bounds of a run that is served in sections.
 #[derive(Clone, Copy, Debug, PartialEq, Eq)]
 pub struct RunBounds {
-    /// Events.
+    /// It takes at most so many events.
     pub events: u64,
-    /// Turns: where the run has so many, or more by its last step, no further event is taken.
+    /// Once it has so many turns, or more by its last step, it takes no further event.
     pub turns: u64,
 }
 
@@ -37,7 +37,7 @@ pub enum SectionsEnd {
 }
 
 /// Takes the events of the network one after another, until a Stop or a failure comes or one of the bounds is reached.
-/// Where it is out of memory, that shows as in `Servient::step`.
+/// Being out of memory shows as in `Servient::step`.
 pub fn serve_in_sections<N: Net, R: Handlers>(
     servient: &mut Servient,
     net: &mut N,

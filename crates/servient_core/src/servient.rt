@@ -136,7 +136,7 @@ impl Servient {
         })
     }
 
-    /// How many turns the run has so far.
+    /// The number of turns that the run has so far.
     pub fn turns(&self) -> u64
         ensures count { result ≡ self.now.exposed.state.turns }
         ensures bound { result ≤ most_turns }

@@ -1,5 +1,5 @@
--- What holds of whole runs holds of a run in which the handlers forget their turns now and then: it is one run of the
--- machine over all its events, and the sections in which the outside shows it are joined to its trace.
+-- A run in which the handlers forget their turns now and then keeps the laws of whole runs: it is one run of the machine over
+-- all its events, and the sections in which the outside shows it are joined to its trace.
 use Rattle.std.specs.Prelude.{◌≡◌, ℕ, Option, List, ◌∷◌, ◌++◌, All}
 use Rattle.coap_msg.specs.declared.endpoint.Endpoint.{Endpoint}
 use Rattle.coap_msg.specs.Grammar.{CoapMessage}

@@ -32,9 +32,9 @@ ActedOnce =
 abbrev pub IsExcuse : ℕ → List ℕ → Type 0
 IsExcuse code payload = (code ≡ coap 5 03) × ((payload ≡ codes "full") ⊎ (payload ≡ codes "memory"))
 
--- What blocks are to the reply to an act (RFC 7959, sections 2.3 and 2.4): what a GET reads is given in blocks, of the size that
--- it asks for and else of 1,024 bytes; and the reply to a request that came in blocks says which was the last. For whom and when
--- a body is kept isn't said in the reply.
+-- The use of blocks in the reply to an act (RFC 7959, sections 2.3 and 2.4): a GET reads its value in blocks, of the size that it
+-- asks for and else of 1,024 bytes; and the reply to a request that came in blocks says which was the last. The reply doesn't
+-- say for whom and when a body is kept.
 abbrev pub blocks_joined : Option Block → BlockUse
 blocks_joined None = blocks.Whole
 blocks_joined (Some b) = blocks.Joined b

@@ -29,7 +29,7 @@ use Rattle.servient_outside.proofs.OutLaws.{no_write_failed_then}
 use Rattle.servient_outside.specs.Out.{OutSeen, OutShows, NoWriteFailed}
 use Rattle.servient_outside.proofs.ToldLaws.{continues_same, continues_then}
 use Rattle.servient_core.specs.Trace.{at_network, outside}
-use Rattle.servient_core.specs.Sections.{Shown, saw, shown_of, section}
+use Rattle.servient_core.specs.Sections.{Shown, saw as was_seen, shown_of, section}
 use Rattle.consuming.specs.declared.operation.Operation.{Operation}
 use Rattle.consuming.specs.declared.consumed.Consumed.{Consumed}
 use Rattle.consuming.specs.declared.consumed.Consumed.TheVariants as consumed
@@ -62,7 +62,7 @@ none_failed (prints text ∷ deeds) failed = none_failed deeds failed
 
 showings_of : (deeds : List operation.Deed) → showings_in (deeds_of deeds) ≡ shown_of (map (λ h. at_network h) (operation.happened_in deeds))
 showings_of [] = refl
-showings_of (happens h ∷ deeds) = ap (λ (more : List Shown). saw (at_network h) ∷ more) (showings_of deeds)
+showings_of (happens h ∷ deeds) = ap (λ (more : List Shown). was_seen (at_network h) ∷ more) (showings_of deeds)
 showings_of (prints text ∷ deeds) = showings_of deeds
 
 text_written : (deeds : List operation.Deed) → text_in (deeds_of deeds) ≡ operation.text_in deeds

@@ -12,7 +12,7 @@ use Rattle.servient_core.specs.Machine.{Site, State, start}
 use Rattle.servient_core.specs.Serving.{Serves}
 use Rattle.servient_core.specs.declared.sections.RunBounds.{RunBounds}
 use Rattle.servient_core.specs.declared.sections.SectionsEnd.TheVariants as ending
-use Rattle.servient_core.specs.Sections.{Shown, saw, forgot, seen_in, ServesInSections}
+use Rattle.servient_core.specs.Sections.{Shown, saw as was_seen, forgot, seen_in, ServesInSections}
 use Rattle.command_words.specs.declared.command.Budget.{Budget}
 use Rattle.command_words.specs.declared.command.Budget.TheVariants as budgets
 use Rattle.servient_cli.specs.declared.derivation.Planned.{Planned}
@@ -60,10 +60,10 @@ serve_well budget exchanges epoch site seen o quiet (has_served served.Spent ran
 trouble_shown : (shown : List Shown) → HasTrouble (sees (seen_in shown)) → HasTrouble (shows_all shown)
 trouble_shown [] trouble = trouble
 trouble_shown (forgot ∷ shown) trouble = trouble_shown shown trouble
-trouble_shown (saw (at_handler call) ∷ shown) trouble = trouble_shown shown trouble
-trouble_shown (saw (at_network (heard e)) ∷ shown) trouble = trouble_shown shown trouble
-trouble_shown (saw (at_network (did act)) ∷ shown) trouble = trouble_shown shown trouble
-trouble_shown (saw (at_network (broke call)) ∷ shown) trouble = tt
+trouble_shown (was_seen (at_handler call) ∷ shown) trouble = trouble_shown shown trouble
+trouble_shown (was_seen (at_network (heard e)) ∷ shown) trouble = trouble_shown shown trouble
+trouble_shown (was_seen (at_network (did act)) ∷ shown) trouble = trouble_shown shown trouble
+trouble_shown (was_seen (at_network (broke call)) ∷ shown) trouble = tt
 
 failing_in_sections : (bounds : RunBounds) (site : Site) (s t : State) (shown : List Shown) → ServesInSections site bounds ending.Failed s shown t → HasTrouble (shows_all shown)
 failing_in_sections bounds site s t shown serves =

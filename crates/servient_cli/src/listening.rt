@@ -17,7 +17,9 @@ use crate::derivation::{Planned, read_planned};
 use crate::ending::{Ended, Ending};
 use crate::opening::open;
 use command_words::Budget;
-use servient_core::{MOST_TURNS, Plan, RunBounds, SectionsEnd, Served, Servient, serve, serve_in_sections};
+use servient_core::{
+    MOST_TURNS, Plan, RunBounds, SectionsEnd, Served, Servient, serve, serve_in_sections,
+};
 use servient_outside::{Files, Listened, Net};
 use std::alloc::Global;
 use thing_handler::Handlers;

@@ -47,7 +47,7 @@ use Rattle.servient_cli.specs.Consuming.{TakesDescription, is_taken, has_fault, 
 use Rattle.servient_cli.specs.Opening.{Exposes, is_exposed, is_misfit, expose_memory, Opens}
 use Rattle.servient_cli.specs.Listening.{Listens, is_listening, cannot_listen, place_memory, listen_memory, ServesEvents, has_served, Endures, has_endured, ServesBy, ServesPlanned}
 use Rattle.servient_cli.proofs.StageLaws.{shows_net}
-use Rattle.servient_core.specs.Sections.{Shown, saw, forgot, seen_in}
+use Rattle.servient_core.specs.Sections.{Shown, saw as was_seen, forgot, seen_in}
 use Rattle.servient_core.specs.declared.sections.SectionsEnd.TheVariants as ending
 use Rattle.command_words.specs.declared.command.Budget.{Budget}
 use Rattle.command_words.specs.declared.command.Budget.TheVariants as budgets
@@ -257,10 +257,10 @@ serve_tells held budget exchanges epoch site seen status (has_served served.Spen
 breaks_shown : (shown : List Shown) (rest : List Deed) → 1 ≤ break_count (happened_in (seen_in shown)) → NetFails (shows_all shown ++ rest)
 breaks_shown [] rest breaks = absurd (omega (arith, breaks))
 breaks_shown (forgot ∷ shown) rest breaks = breaks_shown shown rest breaks
-breaks_shown (saw (at_handler call) ∷ shown) rest breaks = breaks_shown shown rest breaks
-breaks_shown (saw (at_network (heard e)) ∷ shown) rest breaks = breaks_shown shown rest breaks
-breaks_shown (saw (at_network (did act)) ∷ shown) rest breaks = breaks_shown shown rest breaks
-breaks_shown (saw (at_network (broke call)) ∷ shown) rest breaks = omega arith
+breaks_shown (was_seen (at_handler call) ∷ shown) rest breaks = breaks_shown shown rest breaks
+breaks_shown (was_seen (at_network (heard e)) ∷ shown) rest breaks = breaks_shown shown rest breaks
+breaks_shown (was_seen (at_network (did act)) ∷ shown) rest breaks = breaks_shown shown rest breaks
+breaks_shown (was_seen (at_network (broke call)) ∷ shown) rest breaks = omega arith
 
 breaks_at_end : (a : List Sighting) → 1 ≤ break_count (happened_in (a ++ at_network (broke next_event) ∷ []))
 breaks_at_end [] = omega arith

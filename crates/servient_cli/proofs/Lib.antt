@@ -3,7 +3,7 @@ mod FieldTexts
 mod LineTexts
 mod EventFields
 mod ScriptTexts
-mod StageLaws
+pub mod StageLaws
 mod FaultlessStages
 mod ServedStages
 mod CommandStages

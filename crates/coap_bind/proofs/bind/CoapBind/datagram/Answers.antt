@@ -45,7 +45,7 @@ returns-in-Err-Some-clause-memory c =
     (record { heard = h.0; settles = h.1; tells = tells_send h.0 c.in-Err-Some.size c.args.out.now c.settle.new.out (subst T c.in-Err-Some.field-0-is h.2) })))
 
 pub read-requires-clause-head : goal.read-requires-clause-head
-read-requires-clause-head c = λ i. record { kind = c.of.ensures i; id = c.in-Ok.message.id; token = c.of-2.ensures i }
+read-requires-clause-head c = λ i. record { kind = c.of.ensures i; id = c.in-Ok.message.id; token = c.of-in-Ok.ensures i }
 
 pub read-requires-clause-path : goal.read-requires-clause-path
 read-requires-clause-path c =

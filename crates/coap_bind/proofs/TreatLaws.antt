@@ -14,6 +14,7 @@ use Rattle.coap_blocks.specs.declared.added.Added.TheVariants.{Complete}
 use Rattle.coap_exchange.specs.Table.{IsAwaited}
 use Rattle.coap_opts.specs.Reading.{HasBlocks, PlainAsk, faults_of, asked as what_is_asked}
 use Rattle.thing_ops.specs.declared.outcome.Outcome.TheVariants.{Memory}
+use Rattle.coap_bind.specs.declared.blocks.BlockUse.{BlockUse}
 use Rattle.coap_bind.specs.declared.blocks.BlockUse.TheVariants as use_of_blocks
 use Rattle.coap_bind.specs.declared.blocks.Wanted.{Wanted}
 use Rattle.coap_bind.specs.declared.blocks.Wanted.TheVariants as wanted
@@ -24,7 +25,7 @@ use Rattle.coap_bind.specs.declared.observing.Observing.{Observing}
 use Rattle.coap_bind.specs.declared.observing.Observing.TheVariants as observing
 use Rattle.coap_bind.specs.Blocks.{IsUse, added_reply, block2_of, later_reply, use_of, wanted_by_body, wanted_by_get, wanted_of}
 use Rattle.coap_bind.specs.Links.{is_links_path, size_asked, links_reply, method_reply}
-use Rattle.coap_bind.specs.Server.{answered_at_once, asked, observing_in, pending_of, pending_joined, wanted_in, with_parts, with_whole_body, block_arrival, Replies, no_memory, later_block, joined, takes_no_other_verb, takes_no_body, links_given, Reads, gives_links, asks, asks_whole}
+use Rattle.coap_bind.specs.Server.{answered_at_once, asked, observing_in, pending_with, pending_of, pending_joined, wanted_in, with_parts, with_whole_body, block_arrival, Replies, no_memory, later_block, joined, takes_no_other_verb, takes_no_body, links_given, Reads, gives_links, asks, asks_whole}
 use Rattle.coap_bind.specs.Observing.{observing_of}
 use Rattle.coap_bind.specs.Settling.{AnswersBlock, answered, for_links, whole, AnswersLinks, gives, refuses, HasWhole, IsAdded, IsReadOf, ReadsAs}
 use Rattle.coap_bind.specs.Telling.{MayAnswer, RepliesAs}
@@ -49,6 +50,21 @@ is_read p o what m head what_is none is = record {
   faultless = none;
 }
 
+-- the reply that is pending is that to the request, where blocks have this part in it
+abbrev with_use : BlockUse → PendingReply → PendingReply
+with_use u p = record p { blocks = u }
+
+pending_is : (p : PendingReply) (m : CoapMessage) (u v : BlockUse) → head_in p ≡ head_of m → p.observing ≡ observing_in m → u ≡ v → with_use u p ≡ pending_with v p.from m p.slot
+pending_is p m u v head observing same = λ i. record {
+  kind = (head i).kind;
+  id = (head i).id;
+  token = (head i).token;
+  slot = p.slot;
+  from = p.from;
+  observing = observing i;
+  blocks = same i;
+}
+
 -- what is pending of a request that wants an act
 abbrev pub asked_pending : PendingReply → ℕ → ℕ → PlainAsk → PendingReply
 asked_pending p now code what = record p { blocks = use_of now code p.observing what }
@@ -57,15 +73,8 @@ pub treat_asks : (p : PendingReply) (now code : ℕ) (what : PlainAsk) (ticket :
     → wanted_in m ≡ wanted.Act → is_links_path what.request.path ≡ false → ticket ≡ asked_pending p now code what → Reads p.from now m p.slot (asked what ticket) s s
 treat_asks p now code what ticket m s r act apart is =
     let which : ticket ≡ pending_of p.from now m p.slot =
-    is ∙ (λ i. record {
-      kind = (r.head i).kind;
-      id = (r.head i).id;
-      token = (r.head i).token;
-      slot = p.slot;
-      from = p.from;
-      observing = r.observing i;
-      blocks = use_of now (r.code_is i) (r.observing i) (r.what_is i);
-    }) in
+    is ∙ pending_is p m (use_of now code p.observing what) (use_of now m.code (observing_in m) (what_is_asked m)) r.head r.observing
+    (λ i. use_of now (r.code_is i) (r.observing i) (r.what_is i)) in
     asks r.faultless act (path_is r.what_is false apart) (λ i. asked (r.what_is i) (which i)) refl
 
 pub treat_out_of_memory : (p : PendingReply) (now code : ℕ) (what : PlainAsk) (m : CoapMessage) (n : ℕ) (old new : List ℕ) (s t : Server) → IsReadOf p code what m
@@ -209,16 +218,7 @@ pub treat_whole : (p : PendingReply) (now : ℕ) (what whole_ask : PlainAsk) (ti
     → Reads p.from now m p.slot (asked whole_ask ticket) s t
 treat_whole p now what whole_ask ticket m b place bytes s u t apart is there whole_is after r =
     let part = part_there (slice_get u.parts place) bytes there in
-    let which : ticket ≡ pending_joined p.from m p.slot b =
-    is ∙ (λ i. record {
-      kind = (r.head i).kind;
-      id = (r.head i).id;
-      token = (r.head i).token;
-      slot = p.slot;
-      from = p.from;
-      observing = r.observing i;
-      blocks = use_of_blocks.Joined b;
-    }) in
+    let which : ticket ≡ pending_joined p.from m p.slot b = is ∙ pending_is p m (use_of_blocks.Joined b) (use_of_blocks.Joined b) r.head r.observing refl in
     let what_of : whole_ask ≡ with_whole_body part.0.bytes (what_is_asked m) = whole_is ∙ (λ i. with_whole_body (sym part.2 i) (r.what_is i)) in
     asks_whole b place u.parts part.0 r.faultless r.wanted (path_is r.what_is false apart) r.adds part.1
     (λ i. asked (what_of i) (which i)) (after ∙ ap (λ (x : Server). with_parts (remove u.parts place) x) r.after)

@@ -18,17 +18,15 @@ use Rattle.thing_ops.specs.declared.outcome.Outcome.TheVariants.{Memory}
 use Rattle.coap_opts.specs.declared.fault.AskFault.{AskFault}
 use Rattle.coap_opts.specs.declared.fault.AskFault.TheVariants as fault
 use Rattle.coap_opts.specs.Reading.{PlainAsk, faults_of, asked as what_is_asked}
-use Rattle.coap_bind.specs.declared.blocks.BlockUse.TheVariants.{Whole}
 use Rattle.coap_bind.specs.declared.blocks.Wanted.TheVariants.{Joining}
 use Rattle.coap_bind.specs.declared.next.CoapNext.{CoapNext}
 use Rattle.coap_bind.specs.declared.next.CoapNext.TheVariants.{Nothing, Send, Ask}
-use Rattle.coap_bind.specs.declared.observing.Observing.TheVariants.{Unchanged}
 use Rattle.coap_bind.specs.declared.pending.PendingReply.{PendingReply}
 use Rattle.coap_bind.specs.declared.server.Server.{Server}
 use Rattle.coap_bind.specs.Blocks.{added_reply, block_reply}
 use Rattle.coap_bind.specs.Links.{is_links_path, size_asked, links_reply, method_reply}
 use Rattle.coap_bind.specs.Writing.{Reply, option_reply, proxy_reply, reply_of, head_of, head_in}
-use Rattle.coap_bind.specs.Server.{Heard, ignored, answered_at_once, asked, with_parts, pending_with, IsMet, Settles, Reads, Adds, links_given, observing_in, wanted_in}
+use Rattle.coap_bind.specs.Server.{Heard, ignored, answered_at_once, asked, with_parts, IsMet, Settles, Reads, Adds, links_given, observing_in, wanted_in}
 use Rattle.coap_bind.specs.Telling.{RepliesAs, Tells}
 
 -- n bytes are to be sent, or nothing
@@ -44,10 +42,6 @@ abbrev pub SettlesOrAdmits : Endpoint → List ℕ → ℕ → Result (Message �
 SettlesOrAdmits from bytes now (Err reply) old new s t = (heard : Heard) × Settles from bytes now heard s t × TellsDone heard reply old new
 SettlesOrAdmits from bytes now (Ok admitted) old new s t =
     IsMet from bytes now (message_of admitted.0) (Fresh admitted.1) s t × IsAwaited admitted.1 t.exchanges × (new ≡ old)
-
--- what is kept for the reply to a request before its options are read
-abbrev pub pending_at_first : Endpoint → CoapMessage → ℕ → PendingReply
-pending_at_first from m slot = record (pending_with Whole from m slot) { observing = Unchanged }
 
 -- a request that was admitted, and what is read of it
 pub record IsReadOf (pending : PendingReply) (code : ℕ) (what : PlainAsk) (m : CoapMessage) : Type 0 where

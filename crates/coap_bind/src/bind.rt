@@ -1,14 +1,17 @@
 //! The CoAP server: what a datagram asks for, the reply to it, and notifications.
 
 use crate::NoMemory;
+use crate::blocks::BlockUse;
 use crate::next::{CoapNext, Ticket};
-use crate::observing::effect_of;
-use crate::pending::PendingReply;
+use crate::observing::{Observing, effect_of};
+use crate::pending::{PendingReply, Received};
 use crate::server::Server;
 use crate::writing::{Said, put_notification, put_outcome};
 use coap_blocks::{Bodies, Parts};
 use coap_exchange::Exchanges;
-use coap_msg::{Endpoint, LONGEST_DATAGRAM, LONGEST_MESSAGE, LONGEST_PAYLOAD};
+use coap_msg::{
+    BoundedBytes, Endpoint, LONGEST_DATAGRAM, LONGEST_MESSAGE, LONGEST_PAYLOAD, RequestType,
+};
 use coap_observe::{Notice, Watchers};
 use std::alloc::Global;
 use std::marker::Model;
@@ -106,9 +109,21 @@ impl CoapBind {
             Err(None) => CoapNext::Nothing,
             Err(Some(size)) => CoapNext::Send(size),
             Ok((message, slot)) => {
-                let pending = PendingReply::of(&message, from, slot);
-                self.server
-                    .read(self.alloc, pending, &message, now, out, room)
+                let pending = PendingReply {
+                    kind: RequestType::of(message.kind),
+                    id: message.id,
+                    token: BoundedBytes::of(message.token),
+                    slot,
+                    from,
+                    // What its options want isn't known yet.
+                    observing: Observing::Unchanged,
+                    blocks: BlockUse::Whole,
+                };
+                let received = Received {
+                    message: &message,
+                    moment: now,
+                };
+                self.server.read(self.alloc, pending, received, out, room)
             }
         }
     }
@@ -161,7 +176,15 @@ impl CoapBind {
         ensures exchanges { self.new.exchanges ≡ self.old.exchanges }
         ensures less { IfSome result (λ n. unsent now self.new.watchers.list < unsent now self.old.watchers.list) }
     {
-        self.server.next_send(now)
+        match self.server.watchers.next_send(now, self.server.next_id) {
+            Some(notice) => {
+                if notice.fresh {
+                    self.server.use_next_id();
+                }
+                Some(notice)
+            }
+            None => None,
+        }
     }
 
     /// Writes a notification that says this value to the beginning of `out`, and returns how many bytes it has.

@@ -5,14 +5,13 @@ use crate::joining::with_body;
 use crate::links::is_links_path;
 use crate::next::{CoapNext, Ticket};
 use crate::observing::observing_of;
-use crate::pending::PendingReply;
+use crate::pending::{PendingReply, Received};
 use crate::portion::portion_at;
 use crate::server::Server;
 use crate::writing::{Told, put_told, put_word};
 use coap_blocks::Whole;
 use coap_msg::{
-    BAD_REQUEST, Block, CONTENT, Code, GET, LONGEST_MESSAGE, Message, PROXYING_NOT_SUPPORTED,
-    SERVICE_UNAVAILABLE,
+    BAD_REQUEST, Block, CONTENT, GET, LONGEST_MESSAGE, PROXYING_NOT_SUPPORTED, SERVICE_UNAVAILABLE,
 };
 use coap_opts::{AskFault, CoapAsk, request_of};
 use std::alloc::Global;
@@ -43,20 +42,23 @@ impl Server {
         &mut self,
         alloc: Global,
         pending: PendingReply,
-        message: &Message<'a>,
-        now: u64,
+        received: Received<'_, 'a>,
         out: &mut [u8; LONGEST_MESSAGE],
         room: &'a mut [u8],
     ) -> CoapNext<'a>
-        requires request { is_request (message_of message.now) ≡ true }
-        requires head { head_in pending ≡ head_of (message_of message.now) }
+        requires request { is_request (message_of received.message.now) ≡ true }
+        requires head { head_in pending ≡ head_of (message_of received.message.now) }
         requires token { length pending.token ≤ 8 }
-        requires path { path_size (what_is_asked (message_of message.now)).request.path ≤ largest_path }
+        requires path { path_size (what_is_asked (message_of received.message.now)).request.path ≤ largest_path }
         requires slot { IsAwaited pending.slot self.old.exchanges }
         requires room { longest_request ≤ length room.old }
-        ensures ok { ReadsAs pending.from now (message_of message.now) pending.slot result out.old out.new self.old self.new }
+        ensures ok { ReadsAs pending.from received.entry.moment (message_of received.entry.message.now) pending.slot result out.old out.new self.old self.new }
         ensures open { TicketIsOpen result self.new }
     {
+        let Received {
+            message,
+            moment: now,
+        } = received;
         let ask = match request_of(alloc, message) {
             Ok(ask) => ask,
             Err(fault) => return self.refuse_fault(&pending, fault, out),
@@ -67,7 +69,7 @@ impl Server {
             ..pending
         };
         match wanted_of(message.code, observing, &ask) {
-            Wanted::Act => self.ask(alloc, pending, message.code, ask, now, out),
+            Wanted::Act => self.ask(alloc, pending, received, ask, out),
             Wanted::LaterBlock(block) => {
                 let path = &ask.request.path;
                 CoapNext::Send(self.give_later(&pending, path, block, now, out))
@@ -132,19 +134,19 @@ impl Server {
         &mut self,
         alloc: Global,
         pending: PendingReply,
-        code: Code,
+        received: Received<'_, '_>,
         ask: CoapAsk<'a>,
-        now: u64,
         out: &mut [u8; LONGEST_MESSAGE],
     ) -> CoapNext<'a>
         requires token { length pending.token ≤ 8 }
         requires blocks { HasBlocks (plain_ask ask) }
         requires path { path_size ask.request.path ≤ largest_path }
         requires slot { IsAwaited pending.slot self.old.exchanges }
-        ensures ok { (m : CoapMessage) → IsReadOf pending code (plain_ask ask.entry) m → wanted_in m ≡ Act →
-            ReadsAs pending.from now m pending.slot result out.old out.new self.old self.new }
+        ensures ok { (m : CoapMessage) → IsReadOf pending received.entry.message.now.code (plain_ask ask.entry) m → wanted_in m ≡ Act →
+            ReadsAs pending.from received.entry.moment m pending.slot result out.old out.new self.old self.new }
         ensures open { TicketIsOpen result self.new }
     {
+        let (code, now) = (received.message.code, received.moment);
         if is_links_path(&ask.request.path) {
             return CoapNext::Send(self.answer_links(&pending, code, &ask, now, out));
         }

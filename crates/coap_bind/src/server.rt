@@ -6,12 +6,12 @@ ghost use Rattle.coap_bind.specs.Server.{may_ask};
 
 use crate::writing::kind_and_id;
 use coap_blocks::{Bodies, Parts};
-use coap_exchange::{Exchanges, Met};
+use coap_exchange::{ExchangeSlot, Exchanges, Met};
 use coap_msg::{
     Code, EMPTY, Endpoint, LONGEST_MESSAGE, LONGEST_TOKEN, Message, Opts, Plain, RequestType,
     SERVICE_UNAVAILABLE, Type4, decode, encode, put_empty_reply, put_rejection,
 };
-use coap_observe::{Notice, Watchers};
+use coap_observe::Watchers;
 use servient_base::put_bytes;
 use wot_json::Bytes;
 
@@ -38,9 +38,7 @@ impl Server {
     ghost use Rattle.coap_msg.specs.Grammar.{spelling};
     ghost use Rattle.coap_msg.specs.Requests.{request_type};
     ghost use Rattle.coap_exchange.specs.Table.{Exchange, exchange_in, HasReply, IsAwaited};
-    ghost use Rattle.coap_observe.specs.Unsent.{unsent};
-    ghost use Rattle.coap_observe.specs.Watching.{IsSendable};
-    ghost use Rattle.coap_bind.specs.Server.{is_request, duplicate_reply, with_id_used, with_watchers, told_by_empty, with_report, with_notice_sent, SendsNext};
+    ghost use Rattle.coap_bind.specs.Server.{is_request, duplicate_reply, with_id_used, with_watchers, told_by_empty, with_report};
     ghost use Rattle.coap_bind.specs.Writing.{full_reply, head_of, coap_reply};
     ghost use Rattle.coap_bind.specs.Settling.{TellsDone, SettlesOrAdmits};
 
@@ -52,7 +50,7 @@ impl Server {
         bytes: &'a [u8],
         now: u64,
         out: &mut [u8; LONGEST_MESSAGE],
-    ) -> Result<(Message<'a>, u32), Option<usize>>
+    ) -> Result<(Message<'a>, ExchangeSlot), Option<usize>>
         requires { self.old.exchanges.moment ≤ now }
         ensures { SettlesOrAdmits from bytes.now now result out.old out.new self.old self.new }
     {
@@ -124,40 +122,12 @@ impl Server {
         }
     }
 
-    /// What is to be sent to watchers now, with the next message ID where it is a message that wasn't sent before.
-    pub fn next_send(&mut self, now: u64) -> Option<Notice>
-        ensures sends { SendsNext now result self.old self.new }
-        ensures bounds { IfSome result IsSendable }
-        ensures exchanges { self.new.exchanges ≡ self.old.exchanges }
-        ensures less { IfSome result (λ n. unsent now self.new.watchers.list < unsent now self.old.watchers.list) }
-    {
-        let sent = self.watchers.next_send(now, self.next_id);
-        self.use_id_of(sent);
-        sent
-    }
-
-    /// Uses the next message ID in what is sent to watchers, where that has it.
-    fn use_id_of(&mut self, sent: Option<Notice>)
-        ensures ok { self.new ≡ with_notice_sent sent self.old }
-        ensures exchanges { self.new.exchanges ≡ self.old.exchanges }
-        ensures watchers { self.new.watchers ≡ self.old.watchers }
-    {
-        match sent {
-            Some(notice) => {
-                if notice.fresh {
-                    self.use_next_id();
-                }
-            }
-            None => {}
-        }
-    }
-
     /// Answers a duplicate of a request by the reply that is kept in this slot, if it is answered:
     /// gives how many bytes to send.
     fn answer_duplicate(
         &self,
         kind: RequestType,
-        kept: Option<u32>,
+        kept: Option<ExchangeSlot>,
         out: &mut [u8; LONGEST_MESSAGE],
     ) -> Option<usize>
         requires { (slot : ℕ) → kept ≡ Some slot → HasReply slot self.now.exchanges }

@@ -1,11 +1,9 @@
 -- The server does just that which the server inside does.
-use Rattle.std.proofs.Common.{inl, inr, ap, ℕ, List, Option, subst}
+use Rattle.std.proofs.Common.{inl, inr, ℕ, List, Option, subst}
 use Rattle.coap_msg.specs.MessageOf.{message_of}
 use Rattle.coap_bind.specs.declared.next.CoapNext.TheVariants.{Nothing, Send}
-use Rattle.coap_bind.specs.declared.pending.PendingReply.{PendingReply}
 use Rattle.coap_bind.specs.declared.server.Server.{Server}
 use Rattle.coap_msg.specs.declared.constants.TheConstants.{LONGEST_DATAGRAM, URI_PATH}
-use Rattle.coap_bind.specs.Writing.{head_in}
 use Rattle.coap_bind.specs.Server.{settled, admitted}
 use Rattle.coap_bind.specs.Telling.{HearsAs, SettlesAs, IsAdmitted}
 use Rattle.coap_bind.specs.Settling.{ReadsAs, TellsDone}
@@ -47,7 +45,7 @@ returns-in-Err-Some-clause-memory c =
     (record { heard = h.0; settles = h.1; tells = tells_send h.0 c.in-Err-Some.size c.args.out.now c.settle.new.out (subst T c.in-Err-Some.field-0-is h.2) })))
 
 pub read-requires-clause-head : goal.read-requires-clause-head
-read-requires-clause-head c = ap head_in c.of-pending.ensures
+read-requires-clause-head c = λ i. record { kind = c.of.ensures i; id = c.in-Ok.message.id; token = c.of-in-Ok.ensures i }
 
 pub read-requires-clause-path : goal.read-requires-clause-path
 read-requires-clause-path c =
@@ -57,9 +55,8 @@ pub returns-in-Ok-clause-ok : goal.returns-in-Ok-clause-ok
 returns-in-Ok-clause-ok c =
     let h = c.in-Ok.ensures in
     let m = message_of c.in-Ok.message in
-    let F : PendingReply → Type 0 = λ p. ReadsAs p.from c.args.now m p.slot c.read.result c.settle.new.out c.read.new.out c.settle.new.self c.read.new.self in
     let T : List ℕ → Type 0 = λ out. ReadsAs c.args.from c.args.now m c.in-Ok.slot c.read.result out c.read.new.out c.settle.new.self c.read.new.self in
-    let reads = subst T h.2 (subst F c.of-pending.ensures c.read.ensures.ok) in
+    let reads = subst T h.2 c.read.ensures.ok in
     let P : Server → Type 0 = λ s. HearsAs c.args.from c.args.bytes.now c.args.now c.read.result c.args.out.now c.read.new.out s c.read.new.self in
     subst P c.self.view_is (record { heard = reads.0; hears = admitted m c.in-Ok.slot c.settle.new.self h.0 reads.1; tells = reads.2 })
 

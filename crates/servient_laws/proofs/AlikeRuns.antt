@@ -39,7 +39,8 @@ use Rattle.servient_core.specs.Machine.{Site, State, start, OnHttp, OnCoap, Does
 use Rattle.servient_core.specs.Keeping.{Comes}
 use Rattle.servient_laws.specs.Determined.{TellsOfMemory, by_coap, by_http, HadMemory, Fits, RunsAreDetermined}
 use Rattle.servient_laws.proofs.AlikeStates.{Alike, Agree, AgreeAs, alike_self, coap_changed, fits_first, fits_rest, becomes_agree, joined, then_agree, each_agree, until_agree, passing_agree, passing_same, on_http, http_agree}
-use Rattle.servient_laws.proofs.AlikeServers.{SameAsk, SameHeard, IsAmple, same_hearing}
+use Rattle.servient_laws.proofs.AlikeAnswers.{SameAsk, SameHeard, IsAmple}
+use Rattle.servient_laws.proofs.AlikeServers.{same_hearing}
 use Rattle.servient_laws.proofs.AlikeWatchers.{same_answers}
 use Rattle.servient_laws.proofs.AlikeStreams.{taken_once, dry_takes, answered_once}
 use Rattle.servient_laws.proofs.AlikeMoves.{does_agree, sends_agree, if_any_agree, deliveries_agree, ends_agree}

@@ -29,7 +29,7 @@ use Rattle.coap_bind.specs.Writing.{observed, observe_options, notification, Rep
 use Rattle.coap_bind.specs.Server.{Replies, Answers, with_watchers, with_next_id, with_notice_sent, with_emitted, SendsNext}
 use Rattle.coap_observe.specs.Watching.{with_emission}
 use Rattle.servient_laws.proofs.AlikeStates.{SameServer}
-use Rattle.servient_laws.proofs.AlikeServers.{moved, same_replies, SameAsk}
+use Rattle.servient_laws.proofs.AlikeAnswers.{moved, same_replies, SameAsk}
 
 -- ---- registrations
 

@@ -10,6 +10,7 @@ mod RunCalls
 mod MemoryLaws
 mod AlikeStates
 mod AlikeTables
+mod AlikeAnswers
 mod AlikeServers
 mod AlikeWatchers
 mod AlikeStreams

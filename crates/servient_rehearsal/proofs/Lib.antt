@@ -1,6 +1,7 @@
 pub mod NotedLaws
 pub mod TurnLaws
 pub mod ClientLaws
+pub mod StepLaws
 pub mod EventLaws
 pub mod TakenLaws
 pub mod LoopLaws

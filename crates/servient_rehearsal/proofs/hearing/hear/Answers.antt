@@ -3,7 +3,7 @@ use Rattle.std.proofs.lemmas.Result.{on_ok_weaker}
 use Rattle.servient_outside.specs.NetMemory.{net_seen}
 use Rattle.servient_ends.specs.Ends.{event_at}
 use Rattle.servient_rehearsal.specs.Noted.{noted_of}
-use Rattle.servient_rehearsal.proofs.EventLaws.{stepped, heard_all}
+use Rattle.servient_rehearsal.proofs.StepLaws.{stepped, heard_all}
 use Rattle.servient_rehearsal.proofs.PlayLaws.{on_error}
 use Rattle.servient_rehearsal.proofs.hearing.hear.Goals as goal
 

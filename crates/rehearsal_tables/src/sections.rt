@@ -20,18 +20,15 @@ struct Row {
     bounds: RunBounds,
 }
 
-/// The number after the next word.
-fn number_after<'a, I: Iterator<Item = &'a str>>(words: &mut I) -> u64 {
-    let _name = words.next();
-    number(words.next())
-}
-
-/// The row of a line.
+/// The row of a line, whose second, fourth and sixth word are numbers.
 fn row_of(line: &str) -> Row {
     let mut words = line.split(' ');
-    let ticks = number_after(&mut words);
-    let events = number_after(&mut words);
-    let turns = number_after(&mut words);
+    let _ticks = words.next();
+    let ticks = number(words.next());
+    let _events = words.next();
+    let events = number(words.next());
+    let _turns = words.next();
+    let turns = number(words.next());
     Row {
         ticks: u16::try_from(ticks).unwrap_or(0),
         bounds: RunBounds { events, turns },
